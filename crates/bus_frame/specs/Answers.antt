@@ -39,10 +39,13 @@ IfBad (Err NoMemory) P = Unit {0}
 
 -- bytes at the front break a rule
 abbrev pub BeginsBroken : List ℕ → FrameRule → Type 0
-BeginsBroken bytes rule = (message : List ℕ) × (rest : List ℕ) × (bytes ≡ message ++ rest) × Breaks message rule
+BeginsBroken bytes rule =
+    (message : List ℕ) × (rest : List ℕ) × (bytes ≡ message ++ rest) × Breaks message rule
 
 -- so many bytes lack: to the fixed part, or to the length of the message whose fixed part is sound
 abbrev pub Lacks : List ℕ → ℕ → Type 0
 Lacks bytes n =
     ((length bytes < 16) × (length bytes + n ≡ 16))
-    ⊎ ((16 ≤ length bytes) × (fixed_fault (fixed_of bytes) ≡ None) × (length bytes < message_len (fixed_of bytes)) × (length bytes + n ≡ message_len (fixed_of bytes)))
+    ⊎ ((16 ≤ length bytes) × (fixed_fault (fixed_of bytes) ≡ None)
+    × (length bytes < message_len (fixed_of bytes))
+    × (length bytes + n ≡ message_len (fixed_of bytes)))

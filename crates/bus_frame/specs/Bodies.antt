@@ -37,7 +37,8 @@ pub record BeginsWithText (h : Header) (message text : List ℕ) : Type 0 where
 abbrev pub AreTexts : Bool → ℕ → List (List ℕ) → List ℕ → Type 0
 AreTexts little at [] bytes = bytes ≡ []
 AreTexts little at (text ∷ texts) bytes =
-    (first : List ℕ) × (rest : List ℕ) × (bytes ≡ first ++ rest) × IsLongText little at text first × AreTexts little (at + length first) texts rest
+    (first : List ℕ) × (rest : List ℕ) × (bytes ≡ first ++ rest) × IsLongText little at text first
+    × AreTexts little (at + length first) texts rest
 
 -- three texts, of the signature `sss`
 pub record AreThreeTexts (h : Header) (message a b c : List ℕ) : Type 0 where
@@ -50,7 +51,8 @@ pub record AreNames (h : Header) (message : List ℕ) (names : List (List ℕ)) 
   pub elements : List ℕ
   pub fits : length elements ≤ MOST_ARRAY_BYTES
   pub spelled : body_bytes h message ≡ array_head h.little 4 h.body_at (length elements) ++ elements
-  pub are : AreTexts h.little (h.body_at + length (array_head h.little 4 h.body_at (length elements))) names elements
+  pub are : AreTexts h.little
+      (h.body_at + length (array_head h.little 4 h.body_at (length elements))) names elements
 
 -- ---- reading them
 
@@ -71,14 +73,16 @@ three_texts_at little p = do
 
 -- the texts of a body of the signature `sss`
 unfoldable pub three_texts : Header → List ℕ → Option (List ℕ × List ℕ × List ℕ)
-three_texts h message = if has_signature h (codes "sss") then three_texts_at h.little (body_place h message) else None
+three_texts h message =
+    if has_signature h (codes "sss") then three_texts_at h.little (body_place h message) else None
 
 -- texts one after another, up to the last byte; each has at least one byte
 unfoldable pub texts_at : Bool → ℕ → Place → Option (List (List ℕ))
 texts_at little zero p = if length p.rest == 0 then Some [] else None
 texts_at little (suc n) p =
     if length p.rest == 0 then Some []
-    else (long_text_at little p >>= λ text. option_map (λ more. text.0 ∷ more) (texts_at little n text.1))
+    else (long_text_at little p >>= λ text. option_map (λ more. text.0 ∷ more)
+    (texts_at little n text.1))
 
 -- the elements of an array of texts, after which nothing stands
 unfoldable pub elements_place : Bool → Place → Option Place
@@ -89,7 +93,8 @@ elements_place little p = do
 
 -- the elements of a body of the signature `as` that is one array
 unfoldable pub names_place : Header → List ℕ → Option Place
-names_place h message = if has_signature h (codes "as") then elements_place h.little (body_place h message) else None
+names_place h message =
+    if has_signature h (codes "as") then elements_place h.little (body_place h message) else None
 
 -- the texts of such a body
 unfoldable pub names_in : Header → List ℕ → Option (List (List ℕ))

@@ -15,8 +15,8 @@ use Rattle.bus_frame.specs.Steps.{◌>>=◌, first_of}
 use Rattle.bus_frame.specs.Places.{Place, byte_at, aligned_at, number_at, long_text_at, short_text_at}
 use Rattle.bus_frame.specs.Values.{value_at, variant_type_at}
 
--- what a field says: a text of the type s, o or g, by the code of the type; a number of the type u; or a value of
--- another type
+-- what a field says: a text of the type s, o or g, by the code of the type; a number of the type u;
+-- or a value of another type
 pub data Content : Type 0 where
   word : ℕ → List ℕ → Content
   number : ℕ → Content
@@ -38,10 +38,12 @@ field_of f = record { code = f.code; content = content_of f.content }
 unfoldable pub content_at : Bool → List ℕ → Place → Option (Content × Place)
 content_at little types p = do
   code ← first_of types
-  if code.0 == 115 || code.0 == 111 then option_map (λ t. (word code.0 t.0, t.1)) (long_text_at little p)
+  if code.0 == 115 || code.0 == 111
+      then option_map (λ t. (word code.0 t.0, t.1)) (long_text_at little p)
       else (if code.0 == 103 then option_map (λ t. (word code.0 t.0, t.1)) (short_text_at p)
       else (if code.0 == 117 then option_map (λ n. (number n.0, n.1)) (number_at little p)
-      else option_map (λ r. (other, r.1)) (value_at little (MOST_CONTAINERS - 1) MOST_ARRAYS MOST_STRUCTS types p)))
+      else option_map (λ r. (other, r.1))
+      (value_at little (MOST_CONTAINERS - 1) MOST_ARRAYS MOST_STRUCTS types p)))
 
 -- a code and a variant, at a multiple of 8
 unfoldable pub field_at : Bool → Place → Option (Field × Place)
@@ -91,7 +93,8 @@ none_known = record {
 }
 
 infixl 10 ◌>=>◌
-abbrev pub ◌>=>◌ : {A B : Type 0} → Result A FrameRule → (A → Result B FrameRule) → Result B FrameRule
+abbrev pub ◌>=>◌ : {A B : Type 0} → Result A FrameRule → (A → Result B FrameRule)
+    → Result B FrameRule
 (Ok x) >=> f = f x
 (Err rule) >=> f = Err rule
 
@@ -105,7 +108,8 @@ good_text grammar.Signature = is_signature
 
 -- the text of a field of this type, which is to be good
 abbrev pub word_in : ℕ → (List ℕ → Bool) → Content → Result (List ℕ) FrameRule
-word_in type good (word code text) = if code == type then (if good text then Ok text else Err Value) else Err Kind
+word_in type good (word code text) =
+    if code == type then (if good text then Ok text else Err Value) else Err Kind
 word_in type good (number n) = Err Kind
 word_in type good other = Err Kind
 
@@ -124,15 +128,27 @@ once None new = new >=> λ x. Ok (Some x)
 unfoldable pub add_field : Known → Field → Result Known FrameRule
 add_field k f =
     if f.code == 0 then Err Code
-    else (if f.code == 1 then (once k.path (word_in 111 (good_text grammar.Path) f.content) >=> λ x. Ok (record k { path = x }))
-    else (if f.code == 2 then (once k.interface (word_in 115 (good_text grammar.Interface) f.content) >=> λ x. Ok (record k { interface = x }))
-    else (if f.code == 3 then (once k.member (word_in 115 (good_text grammar.Member) f.content) >=> λ x. Ok (record k { member = x }))
-    else (if f.code == 4 then (once k.error_name (word_in 115 (good_text grammar.Interface) f.content) >=> λ x. Ok (record k { error_name = x }))
-    else (if f.code == 5 then (once k.reply_serial (number_in false f.content) >=> λ x. Ok (record k { reply_serial = x }))
-    else (if f.code == 6 then (once k.destination (word_in 115 (good_text grammar.Bus) f.content) >=> λ x. Ok (record k { destination = x }))
-    else (if f.code == 7 then (once k.sender (word_in 115 (good_text grammar.Bus) f.content) >=> λ x. Ok (record k { sender = x }))
-    else (if f.code == 8 then (once k.signature (word_in 103 (good_text grammar.Signature) f.content) >=> λ x. Ok (record k { signature = x }))
-    else (if f.code == 9 then (once k.unix_fds (number_in true f.content) >=> λ x. Ok (record k { unix_fds = x }))
+    else (if f.code == 1 then (once k.path (word_in 111 (good_text grammar.Path) f.content)
+    >=> λ x. Ok (record k { path = x }))
+    else (if f.code == 2 then
+    (once k.interface (word_in 115 (good_text grammar.Interface) f.content)
+    >=> λ x. Ok (record k { interface = x }))
+    else (if f.code == 3 then (once k.member (word_in 115 (good_text grammar.Member) f.content)
+    >=> λ x. Ok (record k { member = x }))
+    else (if f.code == 4 then
+    (once k.error_name (word_in 115 (good_text grammar.Interface) f.content)
+    >=> λ x. Ok (record k { error_name = x }))
+    else (if f.code == 5 then (once k.reply_serial (number_in false f.content)
+    >=> λ x. Ok (record k { reply_serial = x }))
+    else (if f.code == 6 then (once k.destination (word_in 115 (good_text grammar.Bus) f.content)
+    >=> λ x. Ok (record k { destination = x }))
+    else (if f.code == 7 then (once k.sender (word_in 115 (good_text grammar.Bus) f.content)
+    >=> λ x. Ok (record k { sender = x }))
+    else (if f.code == 8 then
+    (once k.signature (word_in 103 (good_text grammar.Signature) f.content)
+    >=> λ x. Ok (record k { signature = x }))
+    else (if f.code == 9 then (once k.unix_fds (number_in true f.content)
+    >=> λ x. Ok (record k { unix_fds = x }))
     else Ok k)))))))))
 
 -- what is there, or else the rule that is broken
@@ -140,9 +156,11 @@ abbrev pub or_rule : {A : Type 0} → FrameRule → Option A → Result A FrameR
 or_rule rule (Some x) = Ok x
 or_rule rule None = Err rule
 
--- Fields up to the last byte: the known ones, or the first rule that is broken. Each field has at least one byte.
+-- Fields up to the last byte: the known ones, or the first rule that is broken. Each field has at
+-- least one byte.
 unfoldable pub fields_at : Bool → ℕ → Known → Place → Result Known FrameRule
 fields_at little zero k p = if length p.rest == 0 then Ok k else Err Fields
 fields_at little (suc n) k p =
     if length p.rest == 0 then Ok k
-    else (or_rule Fields (field_at little p) >=> λ f. add_field k f.0 >=> λ more. fields_at little n more f.1)
+    else (or_rule Fields (field_at little p) >=> λ f. add_field k f.0
+    >=> λ more. fields_at little n more f.1)

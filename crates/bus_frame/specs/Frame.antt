@@ -1,4 +1,5 @@
--- What a message is, and which rule bytes break first: the D-Bus specification's "Message Protocol".
+-- What a message is, and which rule bytes break first: the D-Bus specification's "Message
+-- Protocol".
 use Rattle.std.specs.Prelude.{◌≡◌, ◌≢◌, ◌⊎◌, ℕ, ◌+◌, ◌≤◌, Bool, true, false, ◌||◌, ◌&&◌, ◌==◌, not, nat_lt, if◌then◌else◌, List, [], ◌∷◌, ◌++◌, length, take, drop, Option, Some, None, is_some, option_map}
 use Rattle.std.specs.List.{list_all}
 use Rattle.fp_base.specs.declared.frame_rule.FrameRule.{FrameRule}
@@ -85,7 +86,8 @@ is_typing (Some other) = false
 
 -- ---- the parts of a message
 
--- bytes as long as the message that their first 16 begin: the field array, what leads to a multiple of 8, and the body
+-- bytes as long as the message that their first 16 begin: the field array, what leads to a multiple
+-- of 8, and the body
 pub record HasParts (bytes array gap body : List ℕ) : Type 0 where
   pub sound : fixed_fault (fixed_of bytes) ≡ None
   pub spelled : bytes ≡ take 16 bytes ++ array ++ gap ++ body
@@ -153,13 +155,18 @@ rest_fault kind fields gap body =
     else (if not (length body == 0 || is_typing (given 8 fields)) then Some Body
     else None))
 
--- The rule that bytes break first: one of the fixed part, or, in bytes as long as their message, that something else
--- than a field stands at a field's place, one that a field breaks, or one after the fields.
+-- The rule that bytes break first: one of the fixed part, or, in bytes as long as their message,
+-- that something else than a field stands at a field's place, one that a field breaks, or one after
+-- the fields.
 pub data Breaks (bytes : List ℕ) (rule : FrameRule) : Type 0 where
   fixed_part : 16 ≤ length bytes → fixed_fault (fixed_of bytes) ≡ Some rule → Breaks bytes rule
-  no_field : (before : List Field) (at : ℕ) (rest : List ℕ) → FineUpTo bytes before at rest → rest ≢ []
-      → ((f : Field) (x y : List ℕ) → rest ≡ x ++ y → IsField (is_little (fixed_of bytes)) at f x → ⊥) → rule ≡ Fields → Breaks bytes rule
-  broken_field : (before : List Field) (at : ℕ) (x y : List ℕ) (f : Field) → FineUpTo bytes before at (x ++ y) → IsField (is_little (fixed_of bytes)) at f x
+  no_field : (before : List Field) (at : ℕ) (rest : List ℕ)
+      → FineUpTo bytes before at rest → rest ≢ []
+      → ((f : Field) (x y : List ℕ) → rest ≡ x ++ y → IsField (is_little (fixed_of bytes)) at f x
+      → ⊥) → rule ≡ Fields → Breaks bytes rule
+  broken_field : (before : List Field) (at : ℕ) (x y : List ℕ) (f : Field)
+      → FineUpTo bytes before at (x ++ y) → IsField (is_little (fixed_of bytes)) at f x
       → field_fault before f ≡ Some rule → Breaks bytes rule
-  broken_rest : (array gap body : List ℕ) (fields : List Field) → HasParts bytes array gap body → AreFields (is_little (fixed_of bytes)) 16 fields array → AreFine [] fields
+  broken_rest : (array gap body : List ℕ) (fields : List Field) → HasParts bytes array gap body
+      → AreFields (is_little (fixed_of bytes)) 16 fields array → AreFine [] fields
       → rest_fault (type_of (fixed_of bytes)) fields gap body ≡ Some rule → Breaks bytes rule

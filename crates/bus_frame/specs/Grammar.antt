@@ -1,5 +1,5 @@
--- What values and fields are, by the bytes that spell them at a place: the D-Bus specification's "Marshaling" and
--- "Message Protocol". Places are counted from the message's first byte.
+-- What values and fields are, by the bytes that spell them at a place: the D-Bus specification's
+-- "Marshaling" and "Message Protocol". Places are counted from the message's first byte.
 use Rattle.std.specs.Prelude.{◌≡◌, ◌⊎◌, ℕ, zero, suc, ◌+◌, ◌-◌, ◌^◌, ◌<◌, ◌≤◌, Bool, true, false, ◌||◌, ◌&&◌, ◌==◌, MatchBool, List, [], ◌∷◌, ◌++◌, length}
 use Rattle.std.specs.List.{concat}
 use Rattle.bus_frame.specs.declared.limits.TheConstants.{MOST_ARRAY_BYTES, MOST_CONTAINERS, MOST_ARRAYS, MOST_STRUCTS}
@@ -58,23 +58,27 @@ array_head little align at len =
     count ++ zeros align (at + length count)
 
 -- an array of at most 64 MiB
-pub record IsArray (little : Bool) (align : ℕ) (P : ℕ → List ℕ → Type 0) (at : ℕ) (bytes : List ℕ) : Type 0 where
+pub record IsArray (little : Bool) (align : ℕ) (P : ℕ → List ℕ → Type 0) (at : ℕ)
+    (bytes : List ℕ) : Type 0 where
   pub elements : List (List ℕ)
   pub fits : length (concat elements) ≤ MOST_ARRAY_BYTES
   pub spelled : bytes ≡ array_head little align at (length (concat elements)) ++ concat elements
-  pub each : AreInRow P (at + length (array_head little align at (length (concat elements)))) elements
+  pub each : AreInRow P (at + length (array_head little align at (length (concat elements))))
+      elements
 
 -- values of these types one after another
 abbrev pub AreMembers : (Ty → ℕ → List ℕ → Type 0) → Tys → ℕ → List ℕ → Type 0
 AreMembers P none at bytes = bytes ≡ []
 AreMembers P (more t ts) at bytes =
-    (first : List ℕ) × (rest : List ℕ) × (bytes ≡ first ++ rest) × P t at first × AreMembers P ts (at + length first) rest
+    (first : List ℕ) × (rest : List ℕ) × (bytes ≡ first ++ rest) × P t at first
+    × AreMembers P ts (at + length first) rest
 
 -- a struct or an entry: its members from a multiple of 8 on
-pub record IsStruct (P : Ty → ℕ → List ℕ → Type 0) (ts : Tys) (at : ℕ) (bytes : List ℕ) : Type 0 where
-  pub members : List ℕ
-  pub spelled : bytes ≡ zeros 8 at ++ members
-  pub each : AreMembers P ts (at + length (zeros 8 at)) members
+pub record IsStruct (P : Ty → ℕ → List ℕ → Type 0) (ts : Tys) (at : ℕ) (bytes : List ℕ) : Type 0
+  where
+    pub members : List ℕ
+    pub spelled : bytes ≡ zeros 8 at ++ members
+    pub each : AreMembers P ts (at + length (zeros 8 at)) members
 
 -- the text of a complete type, with its length before it and a zero byte after it
 pub record IsTypeText (t : Ty) (bytes : List ℕ) : Type 0 where
@@ -100,7 +104,8 @@ type_alignment (entry key t) = 8
 -- a value of a type, with room for so many containers, arrays and structs
 abbrev pub IsValue : Bool → (all arrays structs : ℕ) → Ty → ℕ → List ℕ → Type 0
 IsValue little all arrays structs (basic c) at bytes = IsBasic little c at bytes
-IsValue little (suc all) arrays structs variant at bytes = IsVariant (IsValue little all arrays structs) at bytes
+IsValue little (suc all) arrays structs variant at bytes =
+    IsVariant (IsValue little all arrays structs) at bytes
 IsValue little (suc all) (suc arrays) structs (array t) at bytes =
     IsArray little (type_alignment t) (IsValue little all arrays structs t) at bytes
 IsValue little (suc all) arrays (suc structs) (struct t ts) at bytes =
@@ -117,13 +122,16 @@ is_telling (array t) = false
 is_telling (struct t ts) = false
 is_telling (entry key t) = false
 
--- what a field with a value of this type says; the field's variant is the first of the 64 containers
+-- what a field with a value of this type says; the field's variant is the first of the 64
+-- containers
 abbrev pub IsContent : Bool → Ty → ℕ → Content → List ℕ → Type 0
 IsContent little t at (word code text) bytes =
     ((t ≡ basic code) × ((code ≡ 115) ⊎ (code ≡ 111)) × IsLongText little at text bytes)
     ⊎ ((t ≡ basic code) × (code ≡ 103) × IsShortText text bytes)
 IsContent little t at (number n) bytes = (t ≡ basic 117) × IsNumber little at n bytes
-IsContent little t at other bytes = (is_telling t ≡ false) × IsValue little (MOST_CONTAINERS - 1) MOST_ARRAYS MOST_STRUCTS t at bytes
+IsContent little t at other bytes =
+    (is_telling t ≡ false) × IsValue little (MOST_CONTAINERS - 1) MOST_ARRAYS
+    MOST_STRUCTS t at bytes
 
 -- a field: a code and a variant, at a multiple of 8
 pub record IsField (little : Bool) (at : ℕ) (f : Field) (bytes : List ℕ) : Type 0 where
@@ -138,4 +146,5 @@ pub record IsField (little : Bool) (at : ℕ) (f : Field) (bytes : List ℕ) : T
 abbrev pub AreFields : Bool → ℕ → List Field → List ℕ → Type 0
 AreFields little at [] bytes = bytes ≡ []
 AreFields little at (f ∷ fs) bytes =
-    (first : List ℕ) × (rest : List ℕ) × (bytes ≡ first ++ rest) × IsField little at f first × AreFields little (at + length first) fs rest
+    (first : List ℕ) × (rest : List ℕ) × (bytes ≡ first ++ rest) × IsField little at f first
+    × AreFields little (at + length first) fs rest

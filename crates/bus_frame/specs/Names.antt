@@ -19,7 +19,8 @@ has_dash Unique = true
 has_dash Path = false
 
 abbrev pub continues_element : Alphabet → ℕ → Bool
-continues_element alphabet c = is_letter c || is_digit c || c == 95 || (has_dash alphabet && c == 45)
+continues_element alphabet c =
+    is_letter c || is_digit c || c == 95 || (has_dash alphabet && c == 45)
 
 -- a digit begins an element of unique names and of paths alone
 abbrev pub has_first_digit : Alphabet → Bool
@@ -29,7 +30,8 @@ has_first_digit Unique = true
 has_first_digit Path = true
 
 abbrev pub begins_element : Alphabet → ℕ → Bool
-begins_element alphabet c = continues_element alphabet c && (has_first_digit alphabet || not (is_digit c))
+begins_element alphabet c =
+    continues_element alphabet c && (has_first_digit alphabet || not (is_digit c))
 
 abbrev pub is_element : Alphabet → List ℕ → Bool
 is_element alphabet [] = false
@@ -37,7 +39,8 @@ is_element alphabet (c ∷ cs) = begins_element alphabet c && list_all (continue
 
 -- what stands between the separators is elements
 abbrev pub are_elements : Alphabet → ℕ → List ℕ → Bool
-are_elements alphabet separator bytes = list_all (is_element alphabet) (slice_split (λ c. c == separator) bytes)
+are_elements alphabet separator bytes =
+    list_all (is_element alphabet) (slice_split (λ c. c == separator) bytes)
 
 -- at least one dot, and so two elements or more
 abbrev pub is_dotted : Alphabet → List ℕ → Bool
@@ -52,7 +55,8 @@ is_member bytes = nat_le (length bytes) MOST_NAME_BYTES && is_element Interface 
 -- `:`, and then elements
 unfoldable pub is_unique : List ℕ → Bool
 is_unique [] = false
-is_unique (c ∷ name) = c == 58 && nat_le (length (c ∷ name)) MOST_NAME_BYTES && is_dotted Unique name
+is_unique (c ∷ name) =
+    c == 58 && nat_le (length (c ∷ name)) MOST_NAME_BYTES && is_dotted Unique name
 
 unfoldable pub is_well_known : List ℕ → Bool
 is_well_known bytes = nat_le (length bytes) MOST_NAME_BYTES && is_dotted WellKnown bytes

@@ -1,5 +1,5 @@
--- What stands at a place of a message, after the D-Bus specification's "Marshaling". Alignment is counted from the
--- message's first byte.
+-- What stands at a place of a message, after the D-Bus specification's "Marshaling". Alignment is
+-- counted from the message's first byte.
 use Rattle.std.specs.Prelude.{ℕ, ◌+◌, Bool, ◌&&◌, ◌==◌, nat_lt, if◌then◌else◌, List, length, take, drop, Option, Some, None}
 use Rattle.bus_frame.specs.Numbers.{padding, are_zero, number_from, is_text}
 use Rattle.bus_frame.specs.declared.cursor.Cursor.{Cursor}
@@ -15,7 +15,8 @@ place_of c = record { at = c.at; rest = c.rest.now }
 
 -- n bytes, and the place after them
 abbrev pub bytes_at : ℕ → Place → Option (List ℕ × Place)
-bytes_at n p = if nat_lt (length p.rest) n then None else Some (take n p.rest, record { at = p.at + n; rest = drop n p.rest })
+bytes_at n p = if nat_lt (length p.rest) n then None
+    else Some (take n p.rest, record { at = p.at + n; rest = drop n p.rest })
 
 abbrev pub byte_at : Place → Option (ℕ × Place)
 byte_at p = do

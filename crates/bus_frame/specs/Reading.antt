@@ -1,4 +1,5 @@
--- Reading a message, after the D-Bus specification's "Message Protocol": what stands at the front of some bytes.
+-- Reading a message, after the D-Bus specification's "Message Protocol": what stands at the front
+-- of some bytes.
 use Rattle.std.specs.Prelude.{◌≡◌, ℕ, ◌+◌, ◌-◌, Bool, true, false, ◌||◌, ◌&&◌, ◌==◌, not, nat_lt, if◌then◌else◌, List, [], length, take, drop, slice_index, Option, Some, None, is_none, option_map, unwrap_or, Result, Ok, Err}
 use Rattle.bus_frame.specs.declared.limits.TheConstants.{MOST_ARRAY_BYTES, MOST_MESSAGE_BYTES}
 use Rattle.fp_base.specs.declared.frame_rule.FrameRule.{FrameRule}
@@ -51,7 +52,8 @@ fixed_fault f =
     else (if f.kind == 0 then Some ZeroType
     else (if not (f.version == 1) then Some Version
     else (if f.serial == 0 then Some Serial
-    else (if nat_lt MOST_ARRAY_BYTES f.array_len || nat_lt MOST_MESSAGE_BYTES (message_len f) then Some Length
+    else (if nat_lt MOST_ARRAY_BYTES f.array_len || nat_lt MOST_MESSAGE_BYTES (message_len f)
+    then Some Length
     else None))))
 
 -- whether a field that messages of this type need isn't there
@@ -77,8 +79,10 @@ unless_broken (Some rule) x = Err rule
 -- the known fields of a whole message, or the first rule after the fixed part that is broken
 unfoldable pub known_in : Fixed → List ℕ → Result Known FrameRule
 known_in f bytes =
-    fields_at (is_little f) f.array_len none_known (record { at = 16; rest = take f.array_len (drop 16 bytes) })
-    >=> λ k. unless_broken (end_fault f k (take (body_start f - array_end f) (drop (array_end f) bytes))) k
+    fields_at (is_little f) f.array_len none_known
+    (record { at = 16; rest = take f.array_len (drop 16 bytes) })
+    >=> λ k. unless_broken (end_fault f k
+    (take (body_start f - array_end f) (drop (array_end f) bytes))) k
 
 abbrev pub header_of : Fixed → Known → Header
 header_of f k = record {
@@ -98,8 +102,8 @@ header_of f k = record {
   body_len = f.body_len;
 }
 
--- what stands at the front of some bytes: less than a message, of which so many bytes lack at least; a broken rule; or
--- a message with this header and of this many bytes
+-- what stands at the front of some bytes: less than a message, of which so many bytes lack at
+-- least; a broken rule; or a message with this header and of this many bytes
 pub data Read : Type 0 where
   need : ℕ → Read
   bad : FrameRule → Read
@@ -111,7 +115,8 @@ read_known f (Err rule) = bad rule
 
 abbrev pub read_fixed : Fixed → Option FrameRule → List ℕ → Read
 read_fixed f (Some rule) bytes = bad rule
-read_fixed f None bytes = if nat_lt (length bytes) (message_len f) then need (message_len f - length bytes) else read_known f (known_in f bytes)
+read_fixed f None bytes = if nat_lt (length bytes) (message_len f)
+    then need (message_len f - length bytes) else read_known f (known_in f bytes)
 
 unfoldable pub frame_of : List ℕ → Read
 frame_of bytes =

@@ -7,10 +7,11 @@ use Rattle.bus_frame.specs.Steps.{◌>>=◌, or_else, first_of, remainder_byte}
 -- the code of a basic type: y b n q i u x t d s o g h
 abbrev pub is_basic : ℕ → Bool
 is_basic c =
-    c == 121 || c == 98 || c == 110 || c == 113 || c == 105 || c == 117 || c == 120 || c == 116 || c == 100 || c == 115 || c == 111 || c == 103 || c == 104
+    c == 121 || c == 98 || c == 110 || c == 113 || c == 105 || c == 117 || c == 120 || c == 116
+    || c == 100 || c == 115 || c == 111 || c == 103 || c == 104
 
--- A complete type: a basic one by its code, a variant, an array, a struct of one member or more, or a dictionary entry
--- from a basic key, which is a type only as the element of an array.
+-- A complete type: a basic one by its code, a variant, an array, a struct of one member or more, or
+-- a dictionary entry from a basic key, which is a type only as the element of an array.
 mutual
   pub data Ty : Type 0 where
     basic : ℕ → Ty
@@ -41,13 +42,17 @@ abbrev mutual
   pub is_type : Bool → Ty → ℕ → ℕ → Bool
   is_type as_element (basic c) arrays structs = is_basic c
   is_type as_element variant arrays structs = true
-  is_type as_element (array t) arrays structs = nat_lt 0 arrays && is_type true t (arrays - 1) structs
-  is_type as_element (struct t ts) arrays structs = nat_lt 0 structs && is_type false t arrays (structs - 1) && are_types ts arrays (structs - 1)
-  is_type as_element (entry key t) arrays structs = as_element && is_basic key && is_type false t arrays structs
+  is_type as_element (array t) arrays structs =
+      nat_lt 0 arrays && is_type true t (arrays - 1) structs
+  is_type as_element (struct t ts) arrays structs =
+      nat_lt 0 structs && is_type false t arrays (structs - 1) && are_types ts arrays (structs - 1)
+  is_type as_element (entry key t) arrays structs =
+      as_element && is_basic key && is_type false t arrays structs
 
   pub are_types : Tys → ℕ → ℕ → Bool
   are_types none arrays structs = true
-  are_types (more t ts) arrays structs = is_type false t arrays structs && are_types ts arrays structs
+  are_types (more t ts) arrays structs =
+      is_type false t arrays structs && are_types ts arrays structs
 
 -- Reading: what follows the complete type that stands at the front.
 
@@ -69,16 +74,20 @@ members_after one (suc n) types = do
   or_else (remainder_byte 41 rest) (members_after one n rest)
 
 -- with room for so many containers, and what reads the types within
-abbrev pub type_step : (all arrays structs : ℕ) → (ℕ → ℕ → List ℕ → Option (List ℕ)) → List ℕ → Option (List ℕ)
+abbrev pub type_step : (all arrays structs : ℕ) → (ℕ → ℕ → List ℕ → Option (List ℕ)) → List ℕ
+    → Option (List ℕ)
 type_step all arrays structs inner types = do
   code ← first_of types
-  if code.0 == 97 then (if all == 0 || arrays == 0 then None else element_after (inner (arrays - 1) structs) code.1)
-      else (if code.0 == 40 then (if all == 0 || structs == 0 then None else members_after (inner arrays (structs - 1)) (length code.1) code.1)
+  if code.0 == 97 then (if all == 0 || arrays == 0 then None
+      else element_after (inner (arrays - 1) structs) code.1)
+      else (if code.0 == 40 then (if all == 0 || structs == 0 then None
+      else members_after (inner arrays (structs - 1)) (length code.1) code.1)
       else (if is_basic code.0 || code.0 == 118 then Some code.1 else None))
 
 unfoldable pub type_after : (all arrays structs : ℕ) → List ℕ → Option (List ℕ)
 type_after zero arrays structs types = type_step 0 arrays structs (λ _ _ _. None) types
-type_after (suc all) arrays structs types = type_step (suc all) arrays structs (type_after all) types
+type_after (suc all) arrays structs types =
+    type_step (suc all) arrays structs (type_after all) types
 
 -- what follows a whole type: at most 32 arrays and 32 structs nest
 abbrev pub whole_type_after : List ℕ → Option (List ℕ)
@@ -91,8 +100,10 @@ is_one_type types = option_map_or (λ rest. length rest == 0) (whole_type_after 
 -- complete types one after another
 abbrev pub are_types_text : ℕ → List ℕ → Bool
 are_types_text zero types = length types == 0
-are_types_text (suc n) types = length types == 0 || option_map_or (are_types_text n) (whole_type_after types) false
+are_types_text (suc n) types =
+    length types == 0 || option_map_or (are_types_text n) (whole_type_after types) false
 
 -- a signature: complete types in at most 255 bytes
 unfoldable pub is_signature : List ℕ → Bool
-is_signature types = nat_le (length types) MOST_SIGNATURE_BYTES && are_types_text (length types) types
+is_signature types =
+    nat_le (length types) MOST_SIGNATURE_BYTES && are_types_text (length types) types

@@ -1,5 +1,5 @@
--- Reading a value of a type, after the D-Bus specification's "Marshaling": what follows the type and where the value
--- ends. The types are well formed, as reading them has shown before.
+-- Reading a value of a type, after the D-Bus specification's "Marshaling": what follows the type
+-- and where the value ends. The types are well formed, as reading them has shown before.
 use Rattle.std.specs.Prelude.{ℕ, zero, suc, ◌-◌, Bool, ◌||◌, ◌&&◌, ◌==◌, nat_lt, if◌then◌else◌, List, length, Option, Some, None, option_map}
 use Rattle.bus_frame.specs.declared.limits.TheConstants.{MOST_ARRAY_BYTES}
 use Rattle.bus_frame.specs.Steps.{◌>>=◌, or_else, first_of}
@@ -66,9 +66,11 @@ elements_at one (suc n) types p = do
   if length r.1.rest == 0 then Some r.0 else elements_at one n types r.1
 
 -- what follows the type of an array's elements
-abbrev pub array_type_after : (List ℕ → Place → Option Ended) → List ℕ → ℕ → List ℕ → Option (List ℕ)
+abbrev pub array_type_after : (List ℕ → Place → Option Ended) → List ℕ → ℕ → List ℕ
+    → Option (List ℕ)
 array_type_after one types at body =
-    if length body == 0 then element_after whole_type_after types else elements_at one (length body) types (record { at = at; rest = body })
+    if length body == 0 then element_after whole_type_after types
+    else elements_at one (length body) types (record { at = at; rest = body })
 
 -- how many bytes the elements have, at most 64 MiB, and the place of the first
 unfoldable pub array_head_at : Bool → List ℕ → Place → Option (ℕ × Place)
@@ -105,15 +107,22 @@ struct_at one types p = do
   members_at one (length types) types q
 
 -- a value, with room for so many containers and what reads the values within
-abbrev pub value_step : Bool → (all arrays structs : ℕ) → (ℕ → ℕ → List ℕ → Place → Option Ended) → List ℕ → Place → Option Ended
+abbrev pub value_step : Bool → (all arrays structs : ℕ) → (ℕ → ℕ → List ℕ → Place → Option Ended)
+    → List ℕ → Place → Option Ended
 value_step little all arrays structs inner types p = do
   code ← first_of types
-  if code.0 == 97 then (if all == 0 || arrays == 0 then None else array_at little (inner (arrays - 1) structs) code.1 p)
-      else (if code.0 == 40 then (if all == 0 || structs == 0 then None else struct_at (inner arrays (structs - 1)) code.1 p)
-      else (if code.0 == 123 then (if all == 0 then None else struct_at (inner arrays structs) code.1 p)
-      else (if code.0 == 118 then (if all == 0 then None else option_map (λ q. (code.1, q)) (variant_at (inner arrays structs) p))
+  if code.0 == 97 then (if all == 0 || arrays == 0 then None
+      else array_at little (inner (arrays - 1) structs) code.1 p)
+      else (if code.0 == 40 then (if all == 0 || structs == 0 then None
+      else struct_at (inner arrays (structs - 1)) code.1 p)
+      else (if code.0 == 123 then (if all == 0 then None
+      else struct_at (inner arrays structs) code.1 p)
+      else (if code.0 == 118 then (if all == 0 then None
+      else option_map (λ q. (code.1, q)) (variant_at (inner arrays structs) p))
       else option_map (λ q. (code.1, q)) (basic_at little code.0 p))))
 
 unfoldable pub value_at : Bool → (all arrays structs : ℕ) → List ℕ → Place → Option Ended
-value_at little zero arrays structs types p = value_step little 0 arrays structs (λ _ _ _ _. None) types p
-value_at little (suc all) arrays structs types p = value_step little (suc all) arrays structs (value_at little all) types p
+value_at little zero arrays structs types p =
+    value_step little 0 arrays structs (λ _ _ _ _. None) types p
+value_at little (suc all) arrays structs types p =
+    value_step little (suc all) arrays structs (value_at little all) types p

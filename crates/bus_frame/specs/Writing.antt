@@ -44,16 +44,19 @@ fields_bytes little = in_row (field_bytes little)
 -- the fixed part: byte order, message type, flags, version 1, and the three numbers
 abbrev pub fixed_bytes : Bool → MessageType → Flags → (body_len serial array_len : ℕ) → List ℕ
 fixed_bytes little kind flags body_len serial array_len =
-    (if little then 108 else 66) ∷ type_code kind ∷ flags.bits ∷ 1 ∷ number_bytes little body_len ++ number_bytes little serial ++ number_bytes little array_len
+    (if little then 108 else 66) ∷ type_code kind ∷ flags.bits ∷ 1 ∷ number_bytes little body_len
+    ++ number_bytes little serial ++ number_bytes little array_len
 
 abbrev pub field_of_peer : Option (List ℕ) → List Field
 field_of_peer None = []
 field_of_peer (Some peer) = record { code = 6; content = word 115 peer } ∷ []
 
--- the fields of the answer to a refused call: the error's name, the call's serial, the caller, and the bus
+-- the fields of the answer to a refused call: the error's name, the call's serial, the caller, and
+-- the bus
 abbrev pub error_fields : List ℕ → ℕ → Option (List ℕ) → List Field
 error_fields name reply to =
-    record { code = 4; content = word 115 name } ∷ record { code = 5; content = number reply } ∷ field_of_peer to
+    record { code = 4; content = word 115 name } ∷ record { code = 5; content = number reply }
+    ∷ field_of_peer to
     ++ record { code = 7; content = word 115 (codes "org.freedesktop.DBus") } ∷ []
 
 -- a message with these fields and no body
@@ -64,7 +67,8 @@ bare_bytes little kind flags serial fields =
 
 -- the answer: an error that wants no reply, with the greatest serial
 unfoldable pub error_bytes : Bool → List ℕ → ℕ → Option (List ℕ) → List ℕ
-error_bytes little name reply to = bare_bytes little type.Error NO_REPLY_EXPECTED GREATEST_SERIAL (error_fields name reply to)
+error_bytes little name reply to =
+    bare_bytes little type.Error NO_REPLY_EXPECTED GREATEST_SERIAL (error_fields name reply to)
 
 -- the elements of an array of texts, from a place on
 abbrev pub element_bytes : Bool → ℕ → List ℕ → List ℕ
@@ -75,11 +79,13 @@ elements_bytes little = in_row (element_bytes little)
 
 -- an array of texts at a multiple of 4
 unfoldable pub names_bytes : Bool → ℕ → List (List ℕ) → List ℕ
-names_bytes little at names = number_bytes little (length (elements_bytes little (at + 4) names)) ++ elements_bytes little (at + 4) names
+names_bytes little at names = number_bytes little (length (elements_bytes little (at + 4) names))
+    ++ elements_bytes little (at + 4) names
 
 -- a message with another body and its length
 abbrev pub with_body : Header → List ℕ → List ℕ → List ℕ
-with_body h message body = take 4 message ++ number_bytes h.little (length body) ++ take (h.body_at - 8) (drop 8 message) ++ body
+with_body h message body = take 4 message ++ number_bytes h.little (length body)
+    ++ take (h.body_at - 8) (drop 8 message) ++ body
 
 -- a message with these names as its body
 unfoldable pub with_names_bytes : Header → List ℕ → List (List ℕ) → List ℕ

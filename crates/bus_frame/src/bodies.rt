@@ -47,8 +47,8 @@ fn text_at_start<'m>(header: &Header, message: &'m [u8]) -> Option<&'m str>
     Some(text)
 }
 
-/// The text at the start of the body. There is none exactly where the signature doesn't begin with `s`, or no text
-/// stands there. It takes no memory.
+/// The text at the start of the body. There is none exactly where the signature doesn't begin with
+/// `s`, or no text stands there. It takes no memory.
 pub fn first_string<'m>(header: &Header, message: &'m [u8]) -> Option<&'m str>
     ensures exact { Gives (λ t. t.now) result (first_text header.now message.now) }
     ensures text { (text : List ℕ) → (option_map (λ t. t.now) result ≡ Some text) ↔ BeginsWithText
@@ -81,8 +81,8 @@ fn texts_of_three<'m>(header: &Header, message: &'m [u8]) -> Option<(&'m str, &'
     three(header.little, body(header, message))
 }
 
-/// The three texts of the body. There are none exactly where the signature isn't `sss`, or the body isn't exactly
-/// three texts. It takes no memory.
+/// The three texts of the body. There are none exactly where the signature isn't `sss`, or the body
+/// isn't exactly three texts. It takes no memory.
 pub fn three_strings<'m>(header: &Header, message: &'m [u8]) -> Option<(&'m str, &'m str, &'m str)>
     ensures exact { Gives (λ t. (t.0.now, t.1.now, t.2.now)) result
         (three_texts header.now message.now) }
@@ -190,7 +190,8 @@ fn names_of(
     }
 }
 
-/// The texts of a body that is one array of them, in order; there are none exactly where `is_names` is false.
+/// The texts of a body that is one array of them, in order; there are none exactly where `is_names`
+/// is false.
 pub fn names_body(
     alloc: Global,
     header: &Header,

@@ -55,7 +55,8 @@ fn word<'a>(
     content: RawContent<'a>,
 ) -> Result<Option<&'a str>, FrameRule>
     ensures { Reads (λ t. option_map (λ u. u.now) t) result
-        (once (option_map (λ u. u.now) before.entry) (word_in type_code (good_text grammar) (content_of content.entry))) }
+        (once (option_map (λ u. u.now) before.entry)
+        (word_in type_code (good_text grammar) (content_of content.entry))) }
 {
     if before.is_some() {
         return Err(FrameRule::Double);

@@ -1,4 +1,5 @@
-//! D-Bus messages: what a whole message is, its header, and the few bodies that a filter reads or writes.
+//! D-Bus messages: what a whole message is, its header, and the few bodies that a filter reads or
+//! writes.
 #![tactic(auto)]
 
 mod bodies;

@@ -14,7 +14,8 @@ pub enum MessageType {
     Error,
     /// A signal.
     Signal,
-    /// A type that the specification doesn't name, by its number. Whoever gets such a message ignores it.
+    /// A type that the specification doesn't name, by its number. Whoever gets such a message
+    /// ignores it.
     Unknown(u8),
 }
 

@@ -69,8 +69,8 @@ fn dotted(alphabet: Alphabet, bytes: &[u8]) -> bool
     bytes.contains(&b'.') && elements(alphabet, b'.', bytes)
 }
 
-/// Whether the bytes are an interface's or an error's name: at most 255 bytes, two elements or more with a dot between,
-/// each a letter or `_` and then letters, digits and `_`.
+/// Whether the bytes are an interface's or an error's name: at most 255 bytes, two elements or more
+/// with a dot between, each a letter or `_` and then letters, digits and `_`.
 #[tactic(auto, unfolding(crate::specs::Names::is_interface))]
 pub fn is_interface_name(bytes: &[u8]) -> bool
     ensures { result ≡ is_interface bytes.now }
@@ -86,8 +86,8 @@ pub fn is_member_name(bytes: &[u8]) -> bool
     bytes.len() <= MOST_NAME_BYTES && element(Alphabet::Interface, bytes)
 }
 
-/// Whether the bytes are a unique bus name: at most 255 bytes, `:` and then two elements or more of letters, digits,
-/// `_` and `-`.
+/// Whether the bytes are a unique bus name: at most 255 bytes, `:` and then two elements or more of
+/// letters, digits, `_` and `-`.
 #[tactic(auto, unfolding(crate::specs::Names::is_unique))]
 pub fn is_unique_name(bytes: &[u8]) -> bool
     ensures { result ≡ is_unique bytes.now }
@@ -98,7 +98,8 @@ pub fn is_unique_name(bytes: &[u8]) -> bool
     }
 }
 
-/// Whether the bytes are a bus name that isn't unique: as an interface's, with `-` among the letters.
+/// Whether the bytes are a bus name that isn't unique: as an interface's, with `-` among the
+/// letters.
 #[tactic(auto, unfolding(crate::specs::Names::is_well_known))]
 pub fn is_well_known_name(bytes: &[u8]) -> bool
     ensures { result ≡ is_well_known bytes.now }
@@ -106,7 +107,8 @@ pub fn is_well_known_name(bytes: &[u8]) -> bool
     bytes.len() <= MOST_NAME_BYTES && dotted(Alphabet::WellKnown, bytes)
 }
 
-/// Whether the bytes are elements of a bus name that isn't unique: one or more with dots between, and of any length.
+/// Whether the bytes are elements of a bus name that isn't unique: one or more with dots between,
+/// and of any length.
 pub fn are_name_elements(bytes: &[u8]) -> bool
     ensures { result ≡ are_elements Alphabet.WellKnown 46 bytes.now }
 {
@@ -121,7 +123,8 @@ pub fn is_bus_name(bytes: &[u8]) -> bool
     is_unique_name(bytes) || is_well_known_name(bytes)
 }
 
-/// Whether the bytes are an object path: `/`, or `/` before each of one or more elements of letters, digits and `_`.
+/// Whether the bytes are an object path: `/`, or `/` before each of one or more elements of
+/// letters, digits and `_`.
 #[tactic(auto, unfolding(crate::specs::Names::is_path))]
 pub fn is_object_path(bytes: &[u8]) -> bool
     ensures { result ≡ is_path bytes.now }

@@ -163,8 +163,9 @@ fn frame_at_front(alloc: Global, bytes: &[u8]) -> Result<ReadFrame, FrameError>
 
 /// Reads the message at the front of some bytes.
 ///
-/// With fewer than 16 bytes it answers how many lack to 16. Then come the rules of the fixed part; then how many bytes
-/// lack to the message's length; then the other rules. Only a message that breaks none of them takes memory.
+/// With fewer than 16 bytes it answers how many lack to 16. Then come the rules of the fixed part;
+/// then how many bytes lack to the message's length; then the other rules. Only a message that
+/// breaks none of them takes memory.
 pub fn read_frame(alloc: Global, bytes: &[u8]) -> Result<ReadFrame, FrameError>
     ensures exact { AnswersFrame result (frame_of bytes.now) }
 

@@ -23,7 +23,10 @@ impl Room {
     /// The room within an array.
     pub fn in_array(self) -> Option<Self>
         ensures { result ≡ (if self.containers == 0 || self.arrays == 0 then None
-            else Some (record self { containers = self.containers - 1; arrays = self.arrays - 1 })) }
+            else Some (record self {
+              containers = self.containers - 1;
+              arrays = self.arrays - 1;
+            })) }
     {
         if self.containers == 0 || self.arrays == 0 {
             return None;
@@ -38,7 +41,10 @@ impl Room {
     /// The room within a struct.
     pub fn in_struct(self) -> Option<Self>
         ensures { result ≡ (if self.containers == 0 || self.structs == 0 then None
-            else Some (record self { containers = self.containers - 1; structs = self.structs - 1 })) }
+            else Some (record self {
+              containers = self.containers - 1;
+              structs = self.structs - 1;
+            })) }
     {
         if self.containers == 0 || self.structs == 0 {
             return None;

@@ -130,7 +130,8 @@ pub fn value<'t, 'm>(
     place: Cursor<'m>,
 ) -> Option<(&'t [u8], Cursor<'m>)>
     ensures { Gives (λ x. (x.0.now, place_of x.1)) result
-        (value_at little room.containers room.arrays room.structs types.now (place_of place.entry)) }
+        (value_at little room.containers room.arrays room.structs types.now
+        (place_of place.entry)) }
 {
     let (code, rest) = first_byte(types)?;
     match code {
@@ -146,7 +147,8 @@ pub fn value<'t, 'm>(
 #[tactic(auto, unfolding(crate::specs::Values::variant_at))]
 fn variant(room: Room, little: bool, place: Cursor<'_>) -> Option<Cursor<'_>>
     ensures { Gives place_of result
-        (variant_at (value_at little room.containers room.arrays room.structs) (place_of place.entry)) }
+        (variant_at (value_at little room.containers room.arrays room.structs)
+        (place_of place.entry)) }
 {
     let (types, first) = variant_type(place)?;
     let (_, remainder) = value(room, little, types, first)?;
@@ -162,7 +164,8 @@ fn structure<'t, 'm>(
     place: Cursor<'m>,
 ) -> Option<(&'t [u8], Cursor<'m>)>
     ensures { Gives (λ x. (x.0.now, place_of x.1)) result
-        (struct_at (value_at little room.containers room.arrays room.structs) types.now (place_of place.entry)) }
+        (struct_at (value_at little room.containers room.arrays room.structs) types.now
+        (place_of place.entry)) }
 {
     let first = place.aligned(8)?;
     members(room, little, types, first)
@@ -176,7 +179,8 @@ fn members<'t, 'm>(
     place: Cursor<'m>,
 ) -> Option<(&'t [u8], Cursor<'m>)>
     ensures { Gives (λ x. (x.0.now, place_of x.1)) result
-        (members_at (value_at little room.containers room.arrays room.structs) (length types.now) types.now (place_of place.entry)) }
+        (members_at (value_at little room.containers room.arrays room.structs)
+        (length types.now) types.now (place_of place.entry)) }
 {
     let mut left = types;
     let mut next = place;
@@ -200,7 +204,8 @@ fn array<'t, 'm>(
     place: Cursor<'m>,
 ) -> Option<(&'t [u8], Cursor<'m>)>
     ensures { Gives (λ x. (x.0.now, place_of x.1)) result
-        (array_at little (value_at little room.containers room.arrays room.structs) types.now (place_of place.entry)) }
+        (array_at little (value_at little room.containers room.arrays room.structs) types.now
+        (place_of place.entry)) }
 {
     let (count, first) = array_head(little, types, place)?;
     let (body, remainder) = first.bytes(count)?;
@@ -224,7 +229,8 @@ fn after_elements<'t>(
     place: Cursor<'_>,
 ) -> Option<&'t [u8]>
     ensures { Gives (λ rest. rest.now) result
-        (elements_at (value_at little room.containers room.arrays room.structs) (length place.entry.rest.now) types.now (place_of place.entry)) }
+        (elements_at (value_at little room.containers room.arrays room.structs)
+        (length place.entry.rest.now) types.now (place_of place.entry)) }
 {
     let mut next = place;
     for _ in 0..place.rest.len() {

@@ -55,7 +55,8 @@ fn put_word(fields: &mut Vec<u8>, little: bool, code: u8, text: &str) -> Result<
     requires room { length fields.old.items < 2 ^ 32 }
     requires text_len { length text.now ≤ MOST_NAME_BYTES }
     ensures { OnOk result (fields.new.items ≡ fields.old.items
-        ++ field_bytes little (16 + length fields.old.items) (record { code = code; content = word_content 115 text.now })) }
+        ++ field_bytes little (16 + length fields.old.items)
+        (record { code = code; content = word_content 115 text.now })) }
 {
     let at = 16 + fields.len();
     put_zeros(fields, 8, at)?;
@@ -67,7 +68,8 @@ fn put_word(fields: &mut Vec<u8>, little: bool, code: u8, text: &str) -> Result<
 fn put_number(fields: &mut Vec<u8>, little: bool, code: u8, number: u32) -> Result<(), AllocError>
     requires { length fields.old.items < 2 ^ 32 }
     ensures { OnOk result (fields.new.items ≡ fields.old.items
-        ++ field_bytes little (16 + length fields.old.items) (record { code = code; content = number_content number })) }
+        ++ field_bytes little (16 + length fields.old.items)
+        (record { code = code; content = number_content number })) }
 {
     let at = 16 + fields.len();
     put_zeros(fields, 8, at)?;
@@ -122,8 +124,9 @@ fn put_fixed(
     Ok(())
 }
 
-/// The answer to a refused call: an error with this name, for the call with the serial `reply`, to the caller where
-/// its name is known, from the bus. It wants no reply and has no body; its serial is the greatest.
+/// The answer to a refused call: an error with this name, for the call with the serial `reply`, to
+/// the caller where its name is known, from the bus. It wants no reply and has no body; its serial
+/// is the greatest.
 #[tactic(auto, unfolding(crate::specs::Writing::error_bytes))]
 pub fn error_frame(
     alloc: Global,

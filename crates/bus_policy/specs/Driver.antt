@@ -30,17 +30,24 @@ is_among name = list_any (bytes_eq name)
 abbrev pub own_handler : List ℕ → Handler
 own_handler member =
     if is_among member (codes "Hello" ∷ codes "RemoveMatch" ∷ codes "GetId" ∷ []) then handler.Pass
-    else (if is_among member (codes "ListNames" ∷ codes "ListActivatableNames" ∷ []) then handler.FilterNameListReply
+    else (if is_among member (codes "ListNames" ∷ codes "ListActivatableNames" ∷ [])
+    then handler.FilterNameListReply
     else (if is_among member (codes "AddMatch" ∷ []) then handler.ValidateMatch
-    else (if is_among member (codes "NameHasOwner" ∷ codes "GetNameOwner" ∷ codes "GetConnectionUnixProcessID" ∷ codes "GetConnectionUnixUser" ∷ codes "GetConnectionCredentials" ∷ []) then handler.Validate level.See
+    else (if is_among member
+    (codes "NameHasOwner" ∷ codes "GetNameOwner" ∷ codes "GetConnectionUnixProcessID"
+    ∷ codes "GetConnectionUnixUser" ∷ codes "GetConnectionCredentials" ∷ [])
+    then handler.Validate level.See
     else (if is_among member (codes "StartServiceByName" ∷ []) then handler.Validate level.Talk
-    else (if is_among member (codes "RequestName" ∷ codes "ReleaseName" ∷ codes "ListQueuedOwners" ∷ []) then handler.Validate level.Own
+    else (if is_among member
+    (codes "RequestName" ∷ codes "ReleaseName" ∷ codes "ListQueuedOwners" ∷ [])
+    then handler.Validate level.Own
     else handler.Deny)))))
 
 -- those of its other interfaces
 abbrev pub other_handler : (interface member : List ℕ) → Handler
 other_handler interface member =
-    if (bytes_eq interface (codes "org.freedesktop.DBus.Introspectable") && bytes_eq member (codes "Introspect"))
+    if (bytes_eq interface (codes "org.freedesktop.DBus.Introspectable")
+    && bytes_eq member (codes "Introspect"))
     || (bytes_eq interface (codes "org.freedesktop.DBus.Peer")
     && (bytes_eq member (codes "Ping") || bytes_eq member (codes "GetMachineId"))) then handler.Pass
     else handler.Deny

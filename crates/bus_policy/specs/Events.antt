@@ -1,5 +1,5 @@
--- What is known of names and calls from the events before: the messages of both sides, each with its verdict, the latest
--- first.
+-- What is known of names and calls from the events before: the messages of both sides, each with
+-- its verdict, the latest first.
 use Rattle.std.specs.Prelude.{ℕ, ◌%◌, Bool, true, false, ◌||◌, ◌&&◌, ◌==◌, not, if◌then◌else◌, List, [], ◌∷◌, ◌++◌, codes, Option, Some, None, is_some}
 use Rattle.std.specs.Option.{option_map_or}
 use Rattle.std.specs.List.{list_any, filter_map}
@@ -84,17 +84,21 @@ wants_no_reply h = flags_want_none h.flags
 -- a signal of the bus that a name has another owner, by its fields
 abbrev pub tells_owner : Header → Bool
 tells_owner h =
-    is_signal h && says h.sender driver && says h.interface driver && says h.member (codes "NameOwnerChanged")
+    is_signal h && says h.sender driver && says h.interface driver
+    && says h.member (codes "NameOwnerChanged")
 
 -- the name and its new owner, of such a signal whose body is three texts
 abbrev pub new_owner : Event → Option (List ℕ × List ℕ)
 new_owner e =
-    if is_bus_side e.side && tells_owner e.header then option_map_or (λ t. Some (t.0, t.2)) (three_texts e.header e.bytes) None
+    if is_bus_side e.side && tells_owner e.header
+    then option_map_or (λ t. Some (t.0, t.2)) (three_texts e.header e.bytes) None
     else None
 
 -- the name that an event gives to an owner
 abbrev pub name_given : List ℕ → Event → Option (List ℕ)
-name_given owner e = option_map_or (λ given. if bytes_eq given.1 owner then Some given.0 else None) (new_owner e) None
+name_given owner e =
+    option_map_or (λ given. if bytes_eq given.1 owner then Some given.0 else None)
+    (new_owner e) None
 
 abbrev pub name_owned : List ℕ → List ℕ × List ℕ → Option (List ℕ)
 name_owned owner row = if bytes_eq row.1 owner then Some row.0 else None
@@ -102,14 +106,16 @@ name_owned owner row = if bytes_eq row.1 owner then Some row.0 else None
 -- the names that a unique name had at the opening or got since
 abbrev pub names_of : List (List ℕ × List ℕ) → List Judged → List ℕ → List (List ℕ)
 names_of owners noted owner =
-    if is_unique_like owner then filter_map (λ j. name_given owner j.event) noted ++ filter_map (name_owned owner) owners
+    if is_unique_like owner then filter_map (λ j. name_given owner j.event) noted
+    ++ filter_map (name_owned owner) owners
     else []
 
 -- ---- who wrote
 
 -- a message of the bus side from a peer to a destination
 abbrev pub is_addressed_by : List ℕ → Event → Bool
-is_addressed_by peer e = is_bus_side e.side && says e.header.sender peer && is_some e.header.destination
+is_addressed_by peer e =
+    is_bus_side e.side && says e.header.sender peer && is_some e.header.destination
 
 abbrev pub has_written : List Judged → List ℕ → Bool
 has_written noted peer = is_unique_like peer && list_any (λ j. is_addressed_by peer j.event) noted
@@ -135,7 +141,8 @@ is_client_call serial j =
 
 abbrev pub is_bus_reply : ℕ → Judged → Bool
 is_bus_reply serial j =
-    is_bus_side j.event.side && is_reply j.event.header && is_serial j.event.header.reply_serial serial && is_forwarded j.verdict
+    is_bus_side j.event.side && is_reply j.event.header
+    && is_serial j.event.header.reply_serial serial && is_forwarded j.verdict
 
 -- The calls of the client with this serial that wait, the latest first. A reply ends all of them.
 abbrev pub client_calls : List Judged → ℕ → List Header
@@ -147,12 +154,14 @@ client_calls (j ∷ before) serial =
 -- a call from a peer to the client with this serial that wants a reply, and a forwarded reply to it
 abbrev pub is_bus_call : List ℕ → ℕ → Judged → Bool
 is_bus_call peer serial j =
-    is_bus_side j.event.side && is_call j.event.header && says j.event.header.sender peer && j.event.header.serial == serial
+    is_bus_side j.event.side && is_call j.event.header && says j.event.header.sender peer
+    && j.event.header.serial == serial
     && not (wants_no_reply j.event.header) && is_forwarded j.verdict
 
 abbrev pub is_client_reply : List ℕ → ℕ → Judged → Bool
 is_client_reply peer serial j =
-    not (is_bus_side j.event.side) && is_reply j.event.header && says j.event.header.destination peer
+    not (is_bus_side j.event.side) && is_reply j.event.header
+    && says j.event.header.destination peer
     && is_serial j.event.header.reply_serial serial && is_forwarded j.verdict
 
 -- whether a call from a peer with this serial waits

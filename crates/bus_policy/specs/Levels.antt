@@ -41,7 +41,8 @@ stem pattern = take (length pattern - 2) pattern
 
 -- A pattern is a name that isn't unique, or one element or more and `.*`.
 unfoldable pub is_pattern : List ℕ → Bool
-is_pattern pattern = is_well_known pattern || (is_open pattern && are_elements WellKnown 46 (stem pattern))
+is_pattern pattern =
+    is_well_known pattern || (is_open pattern && are_elements WellKnown 46 (stem pattern))
 
 -- A name matches itself. `NAME.*` matches NAME and what begins with `NAME.`.
 unfoldable pub pattern_matches : List ℕ → List ℕ → Bool
@@ -57,7 +58,8 @@ given_level (grant.Level l) = l
 given_level (grant.Rule kind rule) = level.See
 
 abbrev pub level_by : PolicyRule → List ℕ → Level
-level_by rule name = if pattern_matches rule.pattern name then given_level rule.grant else level.None
+level_by rule name =
+    if pattern_matches rule.pattern name then given_level rule.grant else level.None
 
 -- the greatest level that the rules give to a name
 abbrev pub rules_level : List PolicyRule → List ℕ → Level

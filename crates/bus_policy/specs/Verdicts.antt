@@ -19,9 +19,9 @@ use Rattle.bus_policy.specs.Levels.{is_at_least}
 use Rattle.bus_policy.specs.Driver.{driver, handler_of}
 use Rattle.bus_policy.specs.Events.{Event, is_bus_side, is_return, wants_no_reply, tells_owner}
 
--- What is known before an event: the level of a name; whether a rule for calls or broadcasts gives leave to a message of a
--- peer; whether calls of the client with a serial wait for a reply, and if so, whether one of them lists names; whether a
--- call of a peer waits.
+-- What is known before an event: the level of a name; whether a rule for calls or broadcasts gives
+-- leave to a message of a peer; whether calls of the client with a serial wait for a reply, and if
+-- so, whether one of them lists names; whether a call of a peer waits.
 pub record Sight : Type 0 where
   pub level_of : List ℕ → Level
   pub gives_leave : RuleKind → List ℕ → Header → Bool
@@ -34,8 +34,8 @@ has_level sight wanted name = is_at_least wanted (sight.level_of name)
 abbrev pub pass_if : Bool → Verdict
 pass_if leave = if leave then verdict.Pass else verdict.Drop
 
--- A refused call that wants no reply is dropped. Else it is denied where the name may be seen, and the name is hidden
--- where not.
+-- A refused call that wants no reply is dropped. Else it is denied where the name may be seen, and
+-- the name is hidden where not.
 abbrev pub refused : Sight → Header → List ℕ → Verdict
 refused sight header name =
     if wants_no_reply header then verdict.Drop
@@ -51,11 +51,13 @@ holds_word word (b ∷ bs) = starts_with nat_eq (b ∷ bs) word || holds_word wo
 
 abbrev pub match_call : Sight → Header → Option (List ℕ) → Verdict
 match_call sight header None = refused sight header driver
-match_call sight header (Some rule) = if holds_word (codes "eavesdrop") rule then refused sight header driver else verdict.Pass
+match_call sight header (Some rule) =
+    if holds_word (codes "eavesdrop") rule then refused sight header driver else verdict.Pass
 
 abbrev pub name_call : Sight → Header → Level → Option (List ℕ) → Verdict
 name_call sight header wanted None = refused sight header driver
-name_call sight header wanted (Some name) = if has_level sight wanted name then verdict.Pass else refused sight header name
+name_call sight header wanted (Some name) =
+    if has_level sight wanted name then verdict.Pass else refused sight header name
 
 -- by its handler, and its first argument
 abbrev pub driver_call : Sight → Header → Handler → Option (List ℕ) → Verdict
@@ -73,9 +75,11 @@ call_to sight header name =
     else refused sight header name
 
 abbrev pub client_call : Sight → Event → Option (List ℕ) → Verdict
-client_call sight e None = driver_call sight e.header (handler_of e.header) (first_text e.header e.bytes)
+client_call sight e None =
+    driver_call sight e.header (handler_of e.header) (first_text e.header e.bytes)
 client_call sight e (Some name) =
-    if bytes_eq name driver then driver_call sight e.header (handler_of e.header) (first_text e.header e.bytes)
+    if bytes_eq name driver
+    then driver_call sight e.header (handler_of e.header) (first_text e.header e.bytes)
     else call_to sight e.header name
 
 abbrev pub client_reply : Sight → Option (List ℕ) → Option ℕ → Bool
@@ -89,8 +93,10 @@ client_signal sight (Some name) = has_level sight level.Talk name
 
 abbrev pub of_client : Sight → Event → MessageType → Verdict
 of_client sight e type.MethodCall = client_call sight e e.header.destination
-of_client sight e type.MethodReturn = pass_if (client_reply sight e.header.destination e.header.reply_serial)
-of_client sight e type.Error = pass_if (client_reply sight e.header.destination e.header.reply_serial)
+of_client sight e type.MethodReturn =
+    pass_if (client_reply sight e.header.destination e.header.reply_serial)
+of_client sight e type.Error =
+    pass_if (client_reply sight e.header.destination e.header.reply_serial)
 of_client sight e type.Signal = pass_if (client_signal sight e.header.destination)
 of_client sight e (type.Unknown n) = verdict.Drop
 
@@ -99,12 +105,14 @@ of_client sight e (type.Unknown n) = verdict.Drop
 -- a reply to calls that wait; where one of them lists names, the names of a return are filtered
 abbrev pub reply_to : Event → Bool → Verdict
 reply_to e for_names =
-    if is_return e.header && for_names then (if is_some (names_in e.header e.bytes) then verdict.FilterNameList else verdict.Drop)
+    if is_return e.header && for_names
+    then (if is_some (names_in e.header e.bytes) then verdict.FilterNameList else verdict.Drop)
     else verdict.Pass
 
 abbrev pub bus_reply : Sight → Event → Option ℕ → Verdict
 bus_reply sight e None = verdict.Drop
-bus_reply sight e (Some serial) = option_map_or (reply_to e) (sight.client_waits serial) verdict.Drop
+bus_reply sight e (Some serial) =
+    option_map_or (reply_to e) (sight.client_waits serial) verdict.Drop
 
 abbrev pub owner_signal : Sight → Option (List ℕ × List ℕ × List ℕ) → Bool
 owner_signal sight None = false
@@ -113,7 +121,8 @@ owner_signal sight (Some texts) = has_level sight level.See texts.0
 -- a signal to everybody from a peer
 abbrev pub broadcast : Sight → Header → Option (List ℕ) → Bool
 broadcast sight header None = false
-broadcast sight header (Some peer) = has_level sight level.Talk peer || sight.gives_leave kind.Broadcast peer header
+broadcast sight header (Some peer) =
+    has_level sight level.Talk peer || sight.gives_leave kind.Broadcast peer header
 
 abbrev pub bus_signal : Sight → Event → Bool
 bus_signal sight e =
@@ -128,4 +137,5 @@ of_bus sight e type.Signal = pass_if (bus_signal sight e)
 of_bus sight e (type.Unknown n) = verdict.Drop
 
 unfoldable pub verdict_in : Sight → Event → Verdict
-verdict_in sight e = if is_bus_side e.side then of_bus sight e e.header.kind else of_client sight e e.header.kind
+verdict_in sight e =
+    if is_bus_side e.side then of_bus sight e e.header.kind else of_client sight e e.header.kind

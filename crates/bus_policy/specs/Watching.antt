@@ -35,12 +35,13 @@ names_level rules (name ∷ names) = greater (name_level rules name) (names_leve
 abbrev pub level_if : Bool → Level → Level
 level_if b l = if b then l else level.None
 
--- The level of a name: of the bus, of a unique name by the names that it had, whether it wrote and whether it is the
--- client's, and of another name by the rules.
+-- The level of a name: of the bus, of a unique name by the names that it had, whether it wrote and
+-- whether it is the client's, and of another name by the rules.
 abbrev pub level_by_parts : List PolicyRule → Option (List ℕ) → List ℕ → Level → Bool → Level
 level_by_parts rules client name had wrote =
     if bytes_eq name driver then level.Talk
-    else (if is_unique_like name then greater had (greater (level_if wrote level.See) (level_if (says client name) level.Talk))
+    else (if is_unique_like name
+    then greater had (greater (level_if wrote level.See) (level_if (says client name) level.Talk))
     else rules_level rules name)
 
 abbrev pub Owners : Type 0
@@ -48,15 +49,18 @@ Owners = List (List ℕ × List ℕ)
 
 abbrev pub level_after : List PolicyRule → Option (List ℕ) → Owners → List Judged → List ℕ → Level
 level_after rules client owners noted name =
-    level_by_parts rules client name (names_level rules (names_of owners noted name)) (has_written noted name)
+    level_by_parts rules client name (names_level rules (names_of owners noted name))
+    (has_written noted name)
 
 -- a rule's pattern matches a peer, or a name that the peer had
 abbrev pub is_meant : List (List ℕ) → List ℕ → PolicyRule → Bool
-is_meant names peer rule = pattern_matches rule.pattern peer || list_any (pattern_matches rule.pattern) names
+is_meant names peer rule =
+    pattern_matches rule.pattern peer || list_any (pattern_matches rule.pattern) names
 
 abbrev pub leave_after : List PolicyRule → Owners → List Judged → RuleKind → List ℕ → Header → Bool
 leave_after rules owners noted kind peer header =
-    list_any (λ rule. allows kind header rule.grant && is_meant (names_of owners noted peer) peer rule) rules
+    list_any (λ rule. allows kind header rule.grant
+    && is_meant (names_of owners noted peer) peer rule) rules
 
 -- whether calls wait, and if so, whether one of them lists names
 abbrev pub awaited : List Header → Option Bool
@@ -72,7 +76,8 @@ sight_after rules client owners noted = record {
 }
 
 -- what becomes of a message after others
-abbrev pub verdict_after : List PolicyRule → Option (List ℕ) → Owners → List Judged → Event → Verdict
+abbrev pub verdict_after : List PolicyRule → Option (List ℕ) → Owners → List Judged
+    → Event → Verdict
 verdict_after rules client owners noted e = verdict_in (sight_after rules client owners noted) e
 
 -- the events of a filter, the latest first, each with its verdict
@@ -90,8 +95,8 @@ rules_of w = w.policy
 abbrev pub client_of : {S H : Type 0} → Watch S H → Option (List ℕ)
 client_of w = w.client
 
--- what is known of a peer: the level of the names that it had, whether it wrote, which rules' patterns match a name that
--- it had, and which of its calls wait
+-- what is known of a peer: the level of the names that it had, whether it wrote, which rules'
+-- patterns match a name that it had, and which of its calls wait
 pub record Known : Type 0 where
   pub had : Level
   pub wrote : Bool
@@ -99,7 +104,12 @@ pub record Known : Type 0 where
   pub waits : ℕ → Bool
 
 abbrev pub unknown : List PolicyRule → Known
-unknown rules = record { had = level.None; wrote = false; meant = map (λ rule. false) rules; waits = λ serial. false }
+unknown rules = record {
+  had = level.None;
+  wrote = false;
+  meant = map (λ rule. false) rules;
+  waits = λ serial. false;
+}
 
 abbrev pub known_of : {S H : Type 0} → List PolicyRule → Option (Peer S H) → Known
 known_of rules None = unknown rules
@@ -120,16 +130,21 @@ known_by rules names wrote waits = record {
 }
 
 abbrev pub known_after : List PolicyRule → Owners → List Judged → List ℕ → Known
-known_after rules owners noted name = known_by rules (names_of owners noted name) (has_written noted name) (peer_waits noted name)
+known_after rules owners noted name =
+    known_by rules (names_of owners noted name) (has_written noted name) (peer_waits noted name)
 
--- what is known with a name more, with a message more, with a call that waits, and with one that waits no more
+-- what is known with a name more, with a message more, with a call that waits, and with one that
+-- waits no more
 abbrev pub or_each : (PolicyRule → Bool) → List PolicyRule → List Bool → List Bool
 or_each test [] flags = flags
 or_each test (rule ∷ rules) [] = []
 or_each test (rule ∷ rules) (flag ∷ flags) = (test rule || flag) ∷ or_each test rules flags
 
 abbrev pub with_name : List PolicyRule → List ℕ → Known → Known
-with_name rules name k = record k { had = greater (name_level rules name) k.had; meant = or_each (λ rule. pattern_matches rule.pattern name) rules k.meant }
+with_name rules name k = record k {
+  had = greater (name_level rules name) k.had;
+  meant = or_each (λ rule. pattern_matches rule.pattern name) rules k.meant;
+}
 
 abbrev pub with_message : Known → Known
 with_message k = record k { wrote = true }
@@ -152,7 +167,8 @@ abbrev pub with_call_if : Option ℕ → Known → Known
 with_call_if None k = k
 with_call_if (Some serial) k = with_call serial k
 
--- what an event tells of a peer: a name that it has now; or a message of its, and whether that is a call that waits
+-- what an event tells of a peer: a name that it has now; or a message of its, and whether that is a
+-- call that waits
 abbrev pub with_news : List PolicyRule → RawNews → Known → Known
 with_news rules (raw.Name name) k = with_name rules name.now k
 with_news rules (raw.Message wrote call) k = with_message_if wrote (with_call_if call k)
@@ -169,15 +185,18 @@ name_told peer j = if is_unique_like peer then name_given peer j.event else None
 abbrev pub with_event : List PolicyRule → Judged → List ℕ → Known → Known
 with_event rules j peer k = record (with_name_if rules (name_told peer j) k) {
   wrote = (is_unique_like peer && is_addressed_by peer j.event) || k.wrote;
-  waits = λ serial. if is_bus_call peer serial j then true else (if is_client_reply peer serial j then false else k.waits serial);
+  waits = λ serial. if is_bus_call peer serial j then true
+      else (if is_client_reply peer serial j then false else k.waits serial);
 }
 
 -- the serial of a call that waits from now on
 abbrev pub waiting_call : Header → Verdict → Option ℕ
-waiting_call h verdict = if is_call h && not (wants_no_reply h) && is_forwarded verdict then Some h.serial else None
+waiting_call h verdict =
+    if is_call h && not (wants_no_reply h) && is_forwarded verdict then Some h.serial else None
 
 abbrev pub judged_event : Side → Header → List ℕ → Verdict → Judged
-judged_event side header bytes verdict = record { event = record { side = side; header = header; bytes = bytes }; verdict = verdict }
+judged_event side header bytes verdict =
+    record { event = record { side = side; header = header; bytes = bytes }; verdict = verdict }
 
 -- what is known of a call of the client with an event more
 abbrev pub call_with_event : Judged → ℕ → Option Bool → Option Bool
@@ -186,18 +205,25 @@ call_with_event j serial waits =
     else (if is_bus_reply serial j then None else waits)
 
 -- a watch knows what is known after these events
-pub record WatchAt {S H : Type 0} (w : Watch S H) (owners : Owners) (noted : List Judged) : Type 0 where
-  pub peers : (name : List ℕ) → known_of (rules_of w) (get_by_text w.peers name) ≡ known_after (rules_of w) owners noted name
-  pub calls : (serial : ℕ) → get nat_eq w.waiting serial ≡ awaited (client_calls noted serial)
+pub record WatchAt {S H : Type 0} (w : Watch S H) (owners : Owners) (noted : List Judged) : Type 0
+  where
+    pub peers : (name : List ℕ) → known_of (rules_of w) (get_by_text w.peers name)
+        ≡ known_after (rules_of w) owners noted name
+    pub calls : (serial : ℕ) → get nat_eq w.waiting serial ≡ awaited (client_calls noted serial)
 
 -- ---- what it answers by
 
 abbrev pub any_leave : RuleKind → List ℕ → Header → List PolicyRule → List Bool → Bool
 any_leave kind peer header [] meant = false
-any_leave kind peer header (rule ∷ rules) [] = (allows kind header rule.grant && pattern_matches rule.pattern peer) || any_leave kind peer header rules []
-any_leave kind peer header (rule ∷ rules) (m ∷ meant) = (allows kind header rule.grant && (pattern_matches rule.pattern peer || m)) || any_leave kind peer header rules meant
+any_leave kind peer header (rule ∷ rules) [] =
+    (allows kind header rule.grant && pattern_matches rule.pattern peer)
+    || any_leave kind peer header rules []
+any_leave kind peer header (rule ∷ rules) (m ∷ meant) =
+    (allows kind header rule.grant && (pattern_matches rule.pattern peer || m))
+    || any_leave kind peer header rules meant
 
-abbrev pub sight_by : List PolicyRule → Option (List ℕ) → (List ℕ → Known) → (ℕ → Option Bool) → Sight
+abbrev pub sight_by : List PolicyRule → Option (List ℕ) → (List ℕ → Known)
+    → (ℕ → Option Bool) → Sight
 sight_by rules client known waits = record {
   level_of = λ name. level_by_parts rules client name (known name).had (known name).wrote;
   gives_leave = λ kind peer header. any_leave kind peer header rules (known peer).meant;
@@ -206,7 +232,9 @@ sight_by rules client known waits = record {
 }
 
 unfoldable pub sight_of : {S H : Type 0} → Watch S H → Sight
-sight_of w = sight_by (rules_of w) (client_of w) (λ name. known_of (rules_of w) (get_by_text w.peers name)) (λ serial. get nat_eq w.waiting serial)
+sight_of w = sight_by (rules_of w) (client_of w)
+    (λ name. known_of (rules_of w) (get_by_text w.peers name))
+    (λ serial. get nat_eq w.waiting serial)
 
 abbrev pub event : Side → Header → List ℕ → Event
 event side header bytes = record { side = side; header = header; bytes = bytes }

@@ -7,7 +7,8 @@ ghost use Rattle.bus_policy.specs.declared.verdict.Verdict.TheVariants as verdic
 ghost use Rattle.bus_policy.specs.Driver.{driver, handler_of};
 ghost use Rattle.bus_policy.specs.Rows.{HoldsNames, call_header, call, reply, verdict_on};
 
-/// A call without an interface is one of the bus's own; a call of another interface or member is denied.
+/// A call without an interface is one of the bus's own; a call of another interface or member is
+/// denied.
 pub fn calls_of_the_bus()
     ensures no_interface { handler_of (call_header None (codes "ListNames"))
         ≡ handler.FilterNameListReply }
@@ -19,7 +20,8 @@ pub fn calls_of_the_bus()
         ≡ handler.Deny }
 {}
 
-/// Of several calls with one serial it doesn't matter which one lists names: the names of the reply are filtered.
+/// Of several calls with one serial it doesn't matter which one lists names: the names of the reply
+/// are filtered.
 pub fn one_call_of_several_lists_names()
     ensures earlier { (bytes : List ℕ) → HoldsNames bytes
         → verdict_on (call (codes "GetId") ∷ call (codes "ListNames") ∷ [])

@@ -214,7 +214,8 @@ fn is_same_kind(kind: RuleKind, other: RuleKind) -> bool
     )
 }
 
-/// Whether a rule gives leave to a message of a peer. The flags tell which rules' patterns match a name that it had.
+/// Whether a rule gives leave to a message of a peer. The flags tell which rules' patterns match a
+/// name that it had.
 pub fn any_gives_leave(
     rules: &[PolicyRule],
     flags: &[bool],

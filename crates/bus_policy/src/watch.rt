@@ -27,18 +27,20 @@ use indexmap::IndexMap;
 use std::alloc::{AllocError, Global};
 use std::hash::{BuildHasher, BuildHasherDefault, FoldHasher};
 
-/// The hasher of `Watch::new`. Its seed is fixed, so an application can choose names and serials that make its own
-/// filter slow, and nobody else's.
+/// The hasher of `Watch::new`. Its seed is fixed, so an application can choose names and serials
+/// that make its own filter slow, and nobody else's.
 pub type FixedHasher = BuildHasherDefault<FoldHasher>;
 
-/// What a filter knows of the events so far: of each peer its level, whether it wrote, which rules speak of it, and which
-/// calls wait for a reply. It keeps no message. `S` makes the hashers of its tables.
+/// What a filter knows of the events so far: of each peer its level, whether it wrote, which rules
+/// speak of it, and which calls wait for a reply. It keeps no message. `S` makes the hashers of its
+/// tables.
 #[derive(Drop)]
 pub struct Watch<S: BuildHasher = FixedHasher> {
     policy: Policy,
     client: Option<Text>,
     peers: Peers<S>,
-    /// The serials of the client's calls that wait, and whether one of the calls with a serial lists names.
+    /// The serials of the client's calls that wait, and whether one of the calls with a serial
+    /// lists names.
     waiting: IndexMap<u32, bool, S>,
 }
 
@@ -67,8 +69,8 @@ fn level_if(is_so: bool, level: Level) -> Level
 }
 
 impl Watch {
-    /// Nothing is noted yet: the policy, the client's name where it is known, and names that aren't unique with their
-    /// owners.
+    /// Nothing is noted yet: the policy, the client's name where it is known, and names that aren't
+    /// unique with their owners.
     pub fn new(
         alloc: Global,
         policy: Policy,
@@ -199,7 +201,8 @@ impl<S: BuildHasher> Watch<S> {
     fn level_of_unique(&self, name: &str) -> Level
         ensures { result
             ≡ greater (known_of (rules_of self.now) (get_by_text self.now.peers name.now)).had
-            (greater (level_when (known_of (rules_of self.now) (get_by_text self.now.peers name.now)).wrote Level.See)
+            (greater (level_when (known_of (rules_of self.now)
+            (get_by_text self.now.peers name.now)).wrote Level.See)
             (level_when (says self.now.client name.now) Level.Talk)) }
     {
         let peer = self.peers.get(name);

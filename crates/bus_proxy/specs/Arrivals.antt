@@ -23,7 +23,8 @@ same_side side.Bus side.Bus = true
 -- the bytes of a side
 abbrev pub bytes_of : Side → Pieces → List ℕ
 bytes_of side [] = []
-bytes_of side (piece ∷ before) = bytes_of side before ++ (if same_side side piece.0 then piece.1 else [])
+bytes_of side (piece ∷ before) =
+    bytes_of side before ++ (if same_side side piece.0 then piece.1 else [])
 
 -- a message of a side
 abbrev pub event_of : Side → Message → Event
@@ -56,7 +57,8 @@ first_of (Some x) later = Some x
 -- the first rule that is broken, whichever side breaks it
 abbrev pub breach : Pieces → Option End
 breach [] = None
-breach (piece ∷ before) = first_of (breach before) (broken_end piece.0 (bytes_of piece.0 (piece ∷ before)))
+breach (piece ∷ before) =
+    first_of (breach before) (broken_end piece.0 (bytes_of piece.0 (piece ∷ before)))
 
 -- ---- the events
 
@@ -64,13 +66,14 @@ breach (piece ∷ before) = first_of (breach before) (broken_end piece.0 (bytes_
 abbrev pub news : (before now : List ℕ) → List Message
 news before now = drop (length (messages_in before)) (messages_in now)
 
--- The events, the latest first. With a piece come the messages of its side that are whole with it, in order; after a
--- broken rule nothing comes.
+-- The events, the latest first. With a piece come the messages of its side that are whole with it,
+-- in order; after a broken rule nothing comes.
 abbrev pub events : Pieces → List Event
 events [] = []
 events (piece ∷ before) =
     if is_some (breach before) then events before
-    else arrived piece.0 (news (bytes_of piece.0 before) (bytes_of piece.0 (piece ∷ before))) ++ events before
+    else arrived piece.0 (news (bytes_of piece.0 before) (bytes_of piece.0 (piece ∷ before)))
+    ++ events before
 
 -- whether bytes stand after the whole messages
 abbrev pub has_rest : List ℕ → Bool
@@ -81,7 +84,9 @@ cut_end side bytes = if has_rest bytes then Some (end_at side bytes Cut) else No
 
 -- how the events end: by a broken rule, or by a message that is cut, the client's first, or clean
 abbrev pub end_of : Pieces → Option End
-end_of fed = first_of (breach fed) (first_of (cut_end side.Client (bytes_of side.Client fed)) (cut_end side.Bus (bytes_of side.Bus fed)))
+end_of fed = first_of (breach fed)
+    (first_of (cut_end side.Client (bytes_of side.Client fed))
+    (cut_end side.Bus (bytes_of side.Bus fed)))
 
 -- ---- bytes one by one
 

@@ -29,9 +29,10 @@ fate_of fate.Passes side bytes = Some (record { to = other_side side; bytes = by
 fate_of (fate.Replaced out) side bytes = Some out
 fate_of fate.Vanishes side bytes = None
 
--- A filter that was made with this setting and fed these pieces, of which these events were taken, the latest first. What
--- it gave is what these events give.
-pub record FilterAt {S H : Type 0} (f : Filter S H) (s : Setting) (fed : Pieces) (taken : List Event) (given : List Out) : Type 0 where
+-- A filter that was made with this setting and fed these pieces, of which these events were taken,
+-- the latest first. What it gave is what these events give.
+pub record FilterAt {S H : Type 0} (f : Filter S H) (s : Setting) (fed : Pieces)
+    (taken : List Event) (given : List Out) : Type 0 where
   pub streams : StreamsAt f.streams fed taken
   pub judge : JudgeAt f.judge s taken
   pub gave : given ≡ forwarded s taken
@@ -42,18 +43,23 @@ pub record AllTaken (fed : Pieces) (taken : List Event) : Type 0 where
   pub sound : breach fed ≡ None
 
 -- what an event gives, which is judged from now on
-abbrev pub Made : {S H : Type 0} → Result Next FilterError → Judge S H → Setting → List Event → Event → Type 0
+abbrev pub Made : {S H : Type 0} → Result Next FilterError → Judge S H → Setting → List Event
+    → Event → Type 0
 Made (Ok (next.Out out)) j s before e = (out_after s before e ≡ Some out) × JudgeAt j s (e ∷ before)
 Made (Ok next.Quiet) j s before e = (out_after s before e ≡ None) × JudgeAt j s (e ∷ before)
 Made (Ok next.NotYet) j s before e = ⊥
 Made (Err (Bad side index rule)) j s before e = ⊥
 Made (Err NoMemory) j s before e = Unit {0}
 
--- one event more is taken, and gives what it gives; or none is left, or a rule is broken after them all
-abbrev pub Gives : {S H : Type 0} → Result Next FilterError → Filter S H → Setting → Pieces → List Event → List Out → Type 0
+-- one event more is taken, and gives what it gives; or none is left, or a rule is broken after them
+-- all
+abbrev pub Gives : {S H : Type 0} → Result Next FilterError → Filter S H → Setting → Pieces
+    → List Event → List Out → Type 0
 Gives (Ok (next.Out out)) f s fed taken given =
-    (e : Event) × (out_after s taken e ≡ Some out) × FilterAt f s fed (e ∷ taken) (given ++ out ∷ [])
-Gives (Ok next.Quiet) f s fed taken given = (e : Event) × (out_after s taken e ≡ None) × FilterAt f s fed (e ∷ taken) given
+    (e : Event) × (out_after s taken e ≡ Some out)
+    × FilterAt f s fed (e ∷ taken) (given ++ out ∷ [])
+Gives (Ok next.Quiet) f s fed taken given =
+    (e : Event) × (out_after s taken e ≡ None) × FilterAt f s fed (e ∷ taken) given
 Gives (Ok next.NotYet) f s fed taken given = FilterAt f s fed taken given × AllTaken fed taken
 Gives (Err (Bad side index rule)) f s fed taken given =
     FilterAt f s fed taken given × (events fed ≡ taken) × (breach fed ≡ Some (side, index, rule))

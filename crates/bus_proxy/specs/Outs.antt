@@ -1,4 +1,5 @@
--- What a filter gives: for each event, by the events before it, the message itself, with fewer names, or an error.
+-- What a filter gives: for each event, by the events before it, the message itself, with fewer
+-- names, or an error.
 use Rattle.std.specs.Prelude.{ℕ, List, [], ◌∷◌, ◌++◌, codes, Option, Some, None}
 use Rattle.std.specs.Option.{option_map_or, option_to_list}
 use Rattle.std.specs.List.{filter}
@@ -36,18 +37,23 @@ seen_names level_of = filter (λ name. is_at_least level.See (level_of name))
 -- a list of names without those that may not be seen
 abbrev pub reduced : Levels → Event → List ℕ
 reduced level_of e =
-    option_map_or (λ names. with_names_bytes e.header e.bytes (seen_names level_of names)) (names_in e.header e.bytes) e.bytes
+    option_map_or (λ names. with_names_bytes e.header e.bytes (seen_names level_of names))
+    (names_in e.header e.bytes) e.bytes
 
 -- the error that answers a call
 abbrev pub refusal : List ℕ → Option (List ℕ) → Header → Out
-refusal name client call = record { to = side.Client; bytes = error_bytes call.little name call.serial client }
+refusal name client call =
+    record { to = side.Client; bytes = error_bytes call.little name call.serial client }
 
 -- what a verdict makes of an event
 abbrev pub out_by : Levels → Option (List ℕ) → Event → Verdict → Option Out
 out_by level_of client e verdict.Pass = Some (record { to = other_side e.side; bytes = e.bytes })
-out_by level_of client e verdict.FilterNameList = Some (record { to = other_side e.side; bytes = reduced level_of e })
-out_by level_of client e verdict.Deny = Some (refusal (codes "org.freedesktop.DBus.Error.AccessDenied") client e.header)
-out_by level_of client e verdict.Hide = Some (refusal (codes "org.freedesktop.DBus.Error.ServiceUnknown") client e.header)
+out_by level_of client e verdict.FilterNameList =
+    Some (record { to = other_side e.side; bytes = reduced level_of e })
+out_by level_of client e verdict.Deny =
+    Some (refusal (codes "org.freedesktop.DBus.Error.AccessDenied") client e.header)
+out_by level_of client e verdict.Hide =
+    Some (refusal (codes "org.freedesktop.DBus.Error.ServiceUnknown") client e.header)
 out_by level_of client e verdict.Drop = None
 
 -- the events, the latest first, with their verdicts
@@ -62,7 +68,8 @@ level_in s before = level_after s.rules s.client s.owners (judged_by s before)
 abbrev pub out_after : Setting → List Event → Event → Option Out
 out_after s before e =
     let noted = judged_by s before in
-    out_by (level_after s.rules s.client s.owners noted) s.client e (verdict_after s.rules s.client s.owners noted e)
+    out_by (level_after s.rules s.client s.owners noted) s.client e
+    (verdict_after s.rules s.client s.owners noted e)
 
 -- what events give, in order
 abbrev pub forwarded : Setting → List Event → List Out

@@ -1,4 +1,5 @@
--- Worked examples: a call, what answers it where nobody may see the name that it goes to, and a list of names.
+-- Worked examples: a call, what answers it where nobody may see the name that it goes to, and a
+-- list of names.
 use Rattle.std.specs.Prelude.{ℕ, true, false, List, [], ◌∷◌, codes, Some, None}
 use Rattle.fp_base.specs.declared.side.Side.TheVariants as side
 use Rattle.bus_frame.specs.declared.header.Header.{Header}

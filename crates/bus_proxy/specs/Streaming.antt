@@ -35,10 +35,13 @@ pub record TookOne (old new : Stream) (header : Header) (bytes : List ℕ) : Typ
 
 -- what stands at the front: a message; nothing whole; a rule that is broken
 abbrev pub StreamGave : Result Arrival FilterError → Side → (old new : Stream) → Type 0
-StreamGave (Ok (arrival.Message side header bytes)) of old new = (side ≡ of) × TookOne old new header bytes
-StreamGave (Ok arrival.NotYet) of old new = (new ≡ old) × NoneWaits old × (broken_in old.cutter ≡ None)
+StreamGave (Ok (arrival.Message side header bytes)) of old new =
+    (side ≡ of) × TookOne old new header bytes
+StreamGave (Ok arrival.NotYet) of old new =
+    (new ≡ old) × NoneWaits old × (broken_in old.cutter ≡ None)
 StreamGave (Err (Bad side index rule)) of old new =
-    (new ≡ old) × (side ≡ of) × (index ≡ old.count) × NoneWaits old × (broken_in old.cutter ≡ Some rule)
+    (new ≡ old) × (side ≡ of) × (index ≡ old.count) × NoneWaits old
+    × (broken_in old.cutter ≡ Some rule)
 StreamGave (Err NoMemory) of old new = NoneWaits old → ⊥
 
 -- ---- both
@@ -50,12 +53,14 @@ stream_of s side.Bus = s.bus
 -- the messages of a side, in order; the events have the latest first
 abbrev pub messages_of : Side → List Event → List Message
 messages_of side [] = []
-messages_of side (e ∷ before) = messages_of side before ++ (if same_side side e.side then message e.header e.bytes ∷ [] else [])
+messages_of side (e ∷ before) =
+    messages_of side before ++ (if same_side side e.side then message e.header e.bytes ∷ [] else [])
 
--- Each side gave its messages among those taken. Those that wait are of the latest side, and with those taken they are
--- the events of what was fed.
+-- Each side gave its messages among those taken. Those that wait are of the latest side, and with
+-- those taken they are the events of what was fed.
 pub record StreamsAt (s : Streams) (fed : Pieces) (taken : List Event) : Type 0 where
-  pub each : (side : Side) → StreamAt (stream_of s side) (bytes_of side fed) (messages_of side taken)
+  pub each : (side : Side)
+      → StreamAt (stream_of s side) (bytes_of side fed) (messages_of side taken)
   pub waiting : events fed ≡ arrived s.latest (messages_in (stream_of s s.latest).cutter) ++ taken
   pub none_else : NoneWaits (stream_of s (other_side s.latest))
   pub broken : breach fed ≡ broken_end s.latest (bytes_of s.latest fed)
@@ -84,7 +89,8 @@ pub record Fed (old new : Streams) (side : Side) (piece : List ℕ) : Type 0 whe
 abbrev pub FirstRest : Option (Side × ℕ) → Streams → Type 0
 FirstRest None s = (length s.client.cutter ≡ 0) × (length s.bus.cutter ≡ 0)
 FirstRest (Some (side.Client, n)) s = (0 < length s.client.cutter) × (n ≡ s.client.count)
-FirstRest (Some (side.Bus, n)) s = (length s.client.cutter ≡ 0) × (0 < length s.bus.cutter) × (n ≡ s.bus.count)
+FirstRest (Some (side.Bus, n)) s =
+    (length s.client.cutter ≡ 0) × (0 < length s.bus.cutter) × (n ≡ s.bus.count)
 
 -- a message that was given is one, with its header
 abbrev pub IfArrived : Result Arrival FilterError → (Header → List ℕ → Type 0) → Type 0

@@ -8,7 +8,8 @@ use std::fmt;
 /// Why a filter goes on no more.
 #[derive(Debug, Drop)]
 pub enum FilterError {
-    /// A side's message breaks a rule: the side, the number of its whole messages before, and the rule.
+    /// A side's message breaks a rule: the side, the number of its whole messages before, and the
+    /// rule.
     Bad(Side, u64, FrameRule),
     /// Memory ran out.
     NoMemory,

@@ -8,8 +8,8 @@ ghost use Rattle.bus_proxy.specs.Arrivals.{Pieces, events, end_of, bytes_fed, Al
 ghost use Rattle.bus_proxy.specs.Outs.{out_after, reduced, level_in};
 ghost use Rattle.bus_proxy.specs.Rows.{with_level, call_bytes, call, unknown_bytes, names, fewer_names_bytes};
 
-/// The events of what was fed, and how they end, depend on the bytes and their sides alone, and not on the pieces in which
-/// they came.
+/// The events of what was fed, and how they end, depend on the bytes and their sides alone, and not
+/// on the pieces in which they came.
 pub fn pieces_dont_matter()
     ensures { (fed other : Pieces) → bytes_fed fed ≡ bytes_fed other → Alike fed other }
 {}

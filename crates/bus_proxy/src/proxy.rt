@@ -35,7 +35,8 @@ pub enum Next {
 
 /// A filter between a client and its bus, which is fed with what they send, in pieces.
 ///
-/// Feed it where nothing was fed yet or `next` last answered `NotYet`; then call `next` until it answers so again.
+/// Feed it where nothing was fed yet or `next` last answered `NotYet`; then call `next` until it
+/// answers so again.
 #[derive(Drop)]
 pub struct Filter<S: BuildHasher = FixedHasher> {
     pub(crate) streams: Streams,
@@ -43,7 +44,8 @@ pub struct Filter<S: BuildHasher = FixedHasher> {
 }
 
 impl Filter {
-    /// Nothing is fed yet: the policy, the client's name where it is known, and names that aren't unique with their owners.
+    /// Nothing is fed yet: the policy, the client's name where it is known, and names that aren't
+    /// unique with their owners.
     pub fn new(
         alloc: Global,
         policy: Policy,
@@ -78,7 +80,8 @@ impl<S: BuildHasher + Copy> Filter<S> {
         })
     }
 
-    /// Adds a piece of what a side sends, where every message before is taken. Without memory the filter can only be dropped.
+    /// Adds a piece of what a side sends, where every message before is taken. Without memory the
+    /// filter can only be dropped.
     pub fn feed(&mut self, side: Side, piece: &[u8]) -> Result<(), AllocError>
         ensures at { (s : Setting) (fed : Pieces) (taken : List Event) (given : List TheOut)
             → FilterAt self.old s fed taken given
@@ -129,7 +132,8 @@ impl<S: BuildHasher + Copy> Filter<S> {
         }
     }
 
-    /// How what was fed ends, where every message is taken: cut within a message, the client's first, or clean.
+    /// How what was fed ends, where every message is taken: cut within a message, the client's
+    /// first, or clean.
     pub fn end(&self) -> Result<(), FilterError>
         ensures at { (s : Setting) (fed : Pieces) (taken : List Event) (given : List TheOut)
             → FilterAt self.now s fed taken given

@@ -22,7 +22,8 @@ use std::alloc::{AllocError, Global};
 pub struct Filtered {
     /// The messages that go to either side, in order.
     pub out: Items<Out>,
-    /// The rule that ends the recording too soon, with the side and the number of its whole messages before.
+    /// The rule that ends the recording too soon, with the side and the number of its whole
+    /// messages before.
     pub bad: Option<(Side, u64, FrameRule)>,
 }
 

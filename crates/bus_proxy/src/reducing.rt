@@ -45,7 +45,8 @@ fn seen<S: BuildHasher + Copy>(
     Ok(Items::from_vec(seen))
 }
 
-/// A message with those of its names alone that may be seen; one that has no list of names as it came.
+/// A message with those of its names alone that may be seen; one that has no list of names as it
+/// came.
 pub fn without_unseen<S: BuildHasher + Copy>(
     alloc: Global,
     watch: &Watch<S>,

@@ -55,7 +55,8 @@ impl Streams {
         }
     }
 
-    /// The first side that has bytes left, the client before the bus, and how many messages of it were taken.
+    /// The first side that has bytes left, the client before the bus, and how many messages of it
+    /// were taken.
     pub fn rest(&self) -> Option<(Side, u64)>
         ensures { FirstRest result self.now }
     {

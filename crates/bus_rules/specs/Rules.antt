@@ -1,5 +1,5 @@
--- Rules: how they are written, and which messages they match. Interfaces, members and paths are those of the D-Bus
--- specification's "Valid Names".
+-- Rules: how they are written, and which messages they match. Interfaces, members and paths are
+-- those of the D-Bus specification's "Valid Names".
 use Rattle.std.specs.Prelude.{◌≡◌, ℕ, Bool, true, false, ◌||◌, ◌&&◌, ◌==◌, nat_eq, List, [], ◌∷◌, ◌++◌, length, codes, Option, Some, None, option_map}
 use Rattle.std.specs.List.{starts_with}
 use Rattle.std.specs.Str.{bytes_eq}
@@ -75,11 +75,13 @@ says (Some found) text = bytes_eq found text
 abbrev pub has_member : Members → Header → Bool
 has_member All header = true
 has_member (Of interface) header = says header.interface interface
-has_member (One interface member) header = says header.interface interface && says header.member member
+has_member (One interface member) header =
+    says header.interface interface && says header.member member
 
 -- a text is another one, or begins with it and a separator
 abbrev pub is_within : ℕ → List ℕ → List ℕ → Bool
-is_within separator text above = bytes_eq text above || starts_with nat_eq text (above ++ separator ∷ [])
+is_within separator text above =
+    bytes_eq text above || starts_with nat_eq text (above ++ separator ∷ [])
 
 abbrev pub has_object : Objects → Option (List ℕ) → Bool
 has_object objects None = false
@@ -94,7 +96,8 @@ abbrev pub objects_match : Option Objects → Header → Bool
 objects_match None header = true
 objects_match (Some objects) header = has_object objects header.path
 
--- A part that isn't there matches every message. A message without an interface matches no rule that names one.
+-- A part that isn't there matches every message. A message without an interface matches no rule
+-- that names one.
 unfoldable pub rule_matches : Rule → Header → Bool
 rule_matches rule header = members_match rule.members header && objects_match rule.objects header
 
@@ -110,7 +113,10 @@ objects_of (objects.At path) = At path.now
 objects_of (objects.Below path) = Below path.now
 
 abbrev pub rule_of : RawRule → Rule
-rule_of raw = record { members = option_map members_of raw.members; objects = option_map objects_of raw.objects }
+rule_of raw = record {
+  members = option_map members_of raw.members;
+  objects = option_map objects_of raw.objects;
+}
 
 -- a text that names these members, or these objects
 abbrev pub NamesMembers : Members → List ℕ → Type 0

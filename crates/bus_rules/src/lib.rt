@@ -1,4 +1,5 @@
-//! Rules that say which calls and which broadcasts pass a filter: members of interfaces, on objects.
+//! Rules that say which calls and which broadcasts pass a filter: members of interfaces, on
+//! objects.
 #![tactic(auto)]
 
 pub mod laws;

@@ -35,7 +35,8 @@ pub struct RawRule<'a> {
 /// What stands before the last dot, and what after it.
 fn at_last_dot(text: &str) -> Option<(&str, &str)>
     ensures { MatchOption result ((i : ℕ) → i < length text.now → slice_index text.now i ≢ 46)
-        (λ parts. (text.now ≡ parts.0.now ++ 46 ∷ parts.1.now) × ((i : ℕ) → i < length parts.1.now → slice_index parts.1.now i ≢ 46)) }
+        (λ parts. (text.now ≡ parts.0.now ++ 46 ∷ parts.1.now)
+        × ((i : ℕ) → i < length parts.1.now → slice_index parts.1.now i ≢ 46)) }
 {
     let at = text.rfind('.')?;
     Some((&text[..at], &text[at + 1..]))
@@ -132,8 +133,8 @@ fn own(alloc: Global, raw: RawRule<'_>) -> Result<Rule, AllocError>
 }
 
 impl Rule {
-    /// Reads a rule: `*`, `INTERFACE.*` or `INTERFACE.MEMBER`, or `@` and `PATH`, `PATH/*` or `/*`, or the one and then
-    /// the other.
+    /// Reads a rule: `*`, `INTERFACE.*` or `INTERFACE.MEMBER`, or `@` and `PATH`, `PATH/*` or `/*`,
+    /// or the one and then the other.
     ///
     /// The text is looked at before memory is taken, so `Bad` comes exactly where it is no rule.
     pub fn parse(alloc: Global, text: &str) -> Result<Self, RuleError>

@@ -21,7 +21,8 @@ pub enum Members {
 pub enum Objects {
     /// The object at a path.
     At(Text),
-    /// The object at a path and all below it: `PATH/*`. The empty path stands for all objects: `/*`.
+    /// The object at a path and all below it: `PATH/*`. The empty path stands for all objects:
+    /// `/*`.
     Below(Text),
 }
 

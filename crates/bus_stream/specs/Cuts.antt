@@ -9,16 +9,19 @@ use Rattle.bus_stream.specs.declared.cutter.Cut.TheVariants as cut
 use Rattle.bus_stream.specs.Fronts.{IsNeed}
 use Rattle.bus_stream.specs.Stream.{Message, messages_in, broken_in}
 
--- The answer is what stands at the front of the bytes that aren't taken. A message is taken off; nothing else changes.
+-- The answer is what stands at the front of the bytes that aren't taken. A message is taken off;
+-- nothing else changes.
 abbrev pub AnswersCut : Result Cut FrameError → (old new : List ℕ) → Type 0
-AnswersCut (Ok (cut.Message header message)) old new = (frame_of old ≡ whole header (length message)) × (old ≡ message ++ new)
+AnswersCut (Ok (cut.Message header message)) old new =
+    (frame_of old ≡ whole header (length message)) × (old ≡ message ++ new)
 AnswersCut (Ok cut.NotYet) old new = IsNeed (frame_of old) × (new ≡ old)
 AnswersCut (Err (Bad rule)) old new = (frame_of old ≡ bad rule) × (new ≡ old)
 AnswersCut (Err NoMemory) old new = IsWhole (frame_of old) × (new ≡ old)
 
 -- the messages given, with the one that an answer gives
 abbrev pub with_given : Result Cut FrameError → List Message → List Message
-with_given (Ok (cut.Message header message)) given = given ++ record { header = header; bytes = message } ∷ []
+with_given (Ok (cut.Message header message)) given =
+    given ++ record { header = header; bytes = message } ∷ []
 with_given (Ok cut.NotYet) given = given
 with_given (Err e) given = given
 

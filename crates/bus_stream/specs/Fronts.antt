@@ -13,7 +13,8 @@ IsNeed (whole header len) = ⊥
 
 -- the whole message at the front
 abbrev pub AnswersFront : Result (Option (Header × List ℕ)) FrameError → List ℕ → Type 0
-AnswersFront (Ok (Some m)) bytes = (frame_of bytes ≡ whole m.0 (length m.1)) × (m.1 ≡ take (length m.1) bytes) × (length m.1 ≤ length bytes)
+AnswersFront (Ok (Some m)) bytes = (frame_of bytes ≡ whole m.0 (length m.1))
+    × (m.1 ≡ take (length m.1) bytes) × (length m.1 ≤ length bytes)
 AnswersFront (Ok None) bytes = IsNeed (frame_of bytes)
 AnswersFront (Err (Bad rule)) bytes = frame_of bytes ≡ bad rule
 AnswersFront (Err NoMemory) bytes = IsWhole (frame_of bytes)

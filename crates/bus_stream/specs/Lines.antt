@@ -6,7 +6,8 @@ use Rattle.hex.specs.Hex.{decode_of}
 
 -- what stands before the first such byte, and after it
 unfoldable pub parts_at : ℕ → List ℕ → Option (List ℕ × List ℕ)
-parts_at byte bytes = option_map (λ at. (take at bytes, drop (at + 1) bytes)) (position (λ b. b == byte) bytes)
+parts_at byte bytes =
+    option_map (λ at. (take at bytes, drop (at + 1) bytes)) (position (λ b. b == byte) bytes)
 
 abbrev pub where_it : {A : Type 0} → Bool → A → Option A
 where_it test x = if test then Some x else None
@@ -16,4 +17,5 @@ is_lower_digit c = (nat_le 48 c && nat_le c 57) || (nat_le 97 c && nat_le c 102)
 
 -- the bytes of lower-case hexadecimal, one or more
 unfoldable pub hex_in : List ℕ → Option (List ℕ)
-hex_in text = if not (length text == 0) && list_all is_lower_digit text then result_ok (decode_of text) else None
+hex_in text = if not (length text == 0) && list_all is_lower_digit text
+    then result_ok (decode_of text) else None

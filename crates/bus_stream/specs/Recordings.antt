@@ -32,7 +32,8 @@ push_names r names = record r { owners = r.owners ++ names ∷ [] }
 unfoldable pub with_owner : Recording → List ℕ → Option Recording
 with_owner r names = do
   parts ← parts_at 32 names
-  where_it (length r.pieces == 0 && is_well_known parts.0 && is_unique parts.1 && not (is_owned r parts.0))
+  where_it (length r.pieces == 0 && is_well_known parts.0 && is_unique parts.1
+      && not (is_owned r parts.0))
       (push_names r parts)
 
 unfoldable pub with_piece : Side → Recording → List ℕ → Option Recording
@@ -54,11 +55,13 @@ abbrev pub or_bad : {A : Type 0} → ℕ → Option Recording → (Recording →
 or_bad number (Some r) next = next r
 or_bad number None next = Err number
 
--- What lines say, counted from a number, or the number of the first bad one. Nothing may stand after the last newline.
+-- What lines say, counted from a number, or the number of the first bad one. Nothing may stand
+-- after the last newline.
 abbrev pub with_lines : ℕ → Recording → List (List ℕ) → Result Recording ℕ
 with_lines number r [] = Ok r
 with_lines number r (last ∷ []) = if length last == 0 then Ok r else Err number
-with_lines number r (line ∷ next ∷ more) = or_bad number (with_line r line) λ s. with_lines (number + 1) s (next ∷ more)
+with_lines number r (line ∷ next ∷ more) =
+    or_bad number (with_line r line) λ s. with_lines (number + 1) s (next ∷ more)
 
 -- what bytes say, or the first bad line, counted from 1
 unfoldable pub recording_of : List ℕ → Result Recording ℕ

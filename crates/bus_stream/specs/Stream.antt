@@ -18,21 +18,26 @@ IsMessage m = Frame m.bytes m.header
 abbrev pub joined : List Message → List ℕ
 joined = flat_map (λ m. m.bytes)
 
--- what was fed to a cutter is the messages that it gave, each of them one whole message, and the bytes not taken
+-- what was fed to a cutter is the messages that it gave, each of them one whole message, and the
+-- bytes not taken
 pub record CutterAt (cutter fed : List ℕ) (given : List Message) : Type 0 where
   pub each : AllByRecursion IsMessage given
   pub parts : fed ≡ joined given ++ cutter
 
 -- no message is whole yet, and no rule broken
 pub record NothingYet (bytes : List ℕ) : Type 0 where
-  pub no_message : (message rest : List ℕ) (header : Header) → bytes ≡ message ++ rest → Frame message header → ⊥
-  pub no_broken : (message rest : List ℕ) (rule : FrameRule) → bytes ≡ message ++ rest → Breaks message rule → ⊥
+  pub no_message : (message rest : List ℕ) (header : Header) → bytes ≡ message ++ rest
+      → Frame message header → ⊥
+  pub no_broken : (message rest : List ℕ) (rule : FrameRule) → bytes ≡ message ++ rest
+      → Breaks message rule → ⊥
 
--- The whole messages of a stream, in order, up to the first broken rule; each has at least one byte.
+-- The whole messages of a stream, in order, up to the first broken rule; each has at least one
+-- byte.
 abbrev pub first_taken : Read → List ℕ → (List ℕ → List Message) → List Message
 first_taken (need n) bytes others = []
 first_taken (bad rule) bytes others = []
-first_taken (whole header len) bytes others = record { header = header; bytes = take len bytes } ∷ others (drop len bytes)
+first_taken (whole header len) bytes others =
+    record { header = header; bytes = take len bytes } ∷ others (drop len bytes)
 
 abbrev pub taken_in : ℕ → List ℕ → List Message
 taken_in zero bytes = []

@@ -37,7 +37,8 @@ fn message_at_front(alloc: Global, bytes: &[u8]) -> Result<Option<(Header, Blob)
     }
 }
 
-/// A stream of messages that comes in pieces. It keeps the bytes that aren't taken yet, and no history.
+/// A stream of messages that comes in pieces. It keeps the bytes that aren't taken yet, and no
+/// history.
 #[derive(Drop)]
 pub struct Cutter {
     bytes: BytesMut,
@@ -78,7 +79,8 @@ impl Cutter {
         self.bytes.extend_from_slice(piece)
     }
 
-    /// Takes the next whole message. Only a whole message takes memory, and without it nothing changes.
+    /// Takes the next whole message. Only a whole message takes memory, and without it nothing
+    /// changes.
     ///
     /// A rule that is broken stays broken, whatever is fed: each later call names it again.
     pub fn next(&mut self) -> Result<Cut, FrameError>
@@ -88,7 +90,8 @@ impl Cutter {
             self.old rule }
         ensures err { OnErr result (self.new ≡ self.old) }
 
-        // The messages given are whole messages of what was fed, and in the end all of them, however it was fed.
+        // The messages given are whole messages of what was fed, and in the end all of them,
+        // however it was fed.
         ensures at { (fed : List ℕ) (given : List Message) → CutterAt self.old fed given
             → CutterAt self.new fed (with_given result given) }
         ensures all { (fed : List ℕ) (given : List Message) → CutterAt self.old fed given → AreAll

@@ -141,9 +141,10 @@ impl Draft {
 
 /// Reads a recording.
 ///
-/// It is lines, each with a newline at its end. First come at most one `client UNIQUE` and any number of
-/// `owner NAME UNIQUE`, in any order, then lines `c HEX` and `b HEX`: what the client sent, and what the bus sent. A
-/// NAME isn't unique and comes once; HEX is one byte or more in lower-case hexadecimal.
+/// It is lines, each with a newline at its end. First come at most one `client UNIQUE` and any
+/// number of `owner NAME UNIQUE`, in any order, then lines `c HEX` and `b HEX`: what the client
+/// sent, and what the bus sent. A NAME isn't unique and comes once; HEX is one byte or more in
+/// lower-case hexadecimal.
 pub fn read_recording(alloc: Global, bytes: &[u8]) -> Result<Recording, RecordError>
     ensures { AnswersRecording result (recording_of bytes.now) }
 {

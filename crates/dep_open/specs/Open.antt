@@ -38,21 +38,30 @@ Reads v (Err NoMemory) = Unit {0}
 -- ---- the state of its parts
 
 abbrev pub joined : Setup → List RefRow → List OverrideRow → State
-joined setup refs overrides = record { layout = setup.layout; refs = refs; remotes = setup.settings.remotes; pins = setup.settings.pins; overrides = overrides }
+joined setup refs overrides = record {
+  layout = setup.layout;
+  refs = refs;
+  remotes = setup.settings.remotes;
+  pins = setup.settings.pins;
+  overrides = overrides;
+}
 
 -- the first of the parts' first paths that don't read
 abbrev pub first_damaged : Option Elements → Option Elements → Option Elements → Option Elements
 first_damaged a b c = lesser (lesser a b) c
 
-abbrev pub IsJoined : Part Setup → Part (List RefRow) → Part (List OverrideRow) → Result State OpenEnd → Type 0
-IsJoined a b c (Ok s) = (first_damaged a.damaged b.damaged c.damaged ≡ None) × (s ≡ joined a.found b.found c.found)
+abbrev pub IsJoined : Part Setup → Part (List RefRow) → Part (List OverrideRow)
+    → Result State OpenEnd → Type 0
+IsJoined a b c (Ok s) =
+    (first_damaged a.damaged b.damaged c.damaged ≡ None) × (s ≡ joined a.found b.found c.found)
 IsJoined a b c (Err (Damaged p)) = first_damaged a.damaged b.damaged c.damaged ≡ Some p
 IsJoined a b c (Err Fault) = ⊥
 IsJoined a b c (Err NoMemory) = ⊥
 
 -- ---- opened
 
--- All that stands is settled; where each stop before would have left a sound installation, each stop leaves this state.
+-- All that stands is settled; where each stop before would have left a sound installation, each
+-- stop leaves this state.
 pub record IsOpened (s : State) (u w : View) : Type 0 where
   pub shown : Shows (shows u) s
   pub good : IsSettings (settings_of s)

@@ -55,7 +55,8 @@ found_or (there a) other = a
 
 -- an override
 abbrev pub override_loaded : List ℕ → Loaded → Seen OverrideRow
-override_loaded name loaded = named_override name (seen_as (λ bytes. if_file (file_of bytes)) loaded)
+override_loaded name loaded =
+    named_override name (seen_as (λ bytes. if_file (file_of bytes)) loaded)
 
 -- the text of a link
 abbrev pub text_seen : Spot → Seen (List ℕ)
@@ -75,7 +76,8 @@ lesser (Some p) (Some q) = if comes_before (path_text q) (path_text p) then Some
 -- the first path of which D holds; or D holds of none
 abbrev pub IsLeast : (Elements → Type 0) → Option Elements → Type 0
 IsLeast D None = (q : Elements) → D q → ⊥
-IsLeast D (Some p) = D p × ((q : Elements) → D q → (q ≡ p) ⊎ (comes_before (path_text p) (path_text q) ≡ true))
+IsLeast D (Some p) =
+    D p × ((q : Elements) → D q → (q ≡ p) ⊎ (comes_before (path_text p) (path_text q) ≡ true))
 
 abbrev pub BadSetting : Disk → Elements → Type 0
 BadSetting disk q = Damages disk q × IsSetting q
@@ -101,7 +103,9 @@ old_path away = remotes_conf
 old_path (there pins) = remotes_conf
 
 abbrev pub IsSetUpOld : Loaded → Loaded → Part Setup → Type 0
-IsSetUpOld pins remotes part = IsSetUp (layout_one (seen_as remotes_of remotes) (seen_as pins_of pins)) (old_path (seen_as pins_of pins)) part
+IsSetUpOld pins remotes part = IsSetUp
+    (layout_one (seen_as remotes_of remotes) (seen_as pins_of pins))
+    (old_path (seen_as pins_of pins)) part
 
 abbrev pub IsGoodSetup : Part Setup → Type 0
 IsGoodSetup part = IsSettings part.found.settings
@@ -122,10 +126,12 @@ IsKeyed name e = string_bytes e.0 ≡ name e.1
 
 -- the row is put among the others, by its key
 abbrev pub Puts : {Z T : Type 0} → List ℕ → T → List (String Z × T) → List (String Z × T) → Type 0
-Puts {Z} key row es fs = (k : String Z) × (string_bytes k ≡ key) × (fs ≡ insert_entry string_cmp es k row)
+Puts {Z} key row es fs =
+    (k : String Z) × (string_bytes k ≡ key) × (fs ≡ insert_entry string_cmp es k row)
 
 -- What stands at one place comes to the rows, or to the first path that doesn't read.
-abbrev pub Adds : {Z T : Type 0} → List ℕ → Elements → Seen T → List (String Z × T) → Option Elements → List (String Z × T) → Option Elements → Type 0
+abbrev pub Adds : {Z T : Type 0} → List ℕ → Elements → Seen T → List (String Z × T)
+    → Option Elements → List (String Z × T) → Option Elements → Type 0
 Adds key path away es d fs e = (fs ≡ es) × (e ≡ d)
 Adds key path bad es d fs e = (fs ≡ es) × (e ≡ lesser d (Some path))
 Adds key path (there row) es d fs e = Puts key row es fs × (e ≡ d)
@@ -140,7 +146,8 @@ pub record HoldsGoodRows {Z : Type 0} (es : List (String Z × RefRow)) : Type 0 
   pub keyed : AllByRecursion (IsKeyed ref_key) es
   pub each : AllByRecursion IsGoodRow (values_of es)
 
-abbrev pub KeepsGoodRows : {Z : Type 0} → List (String Z × RefRow) → List (String Z × RefRow) → Type 0
+abbrev pub KeepsGoodRows : {Z : Type 0} → List (String Z × RefRow)
+    → List (String Z × RefRow) → Type 0
 KeepsGoodRows es fs = HoldsGoodRows es → HoldsGoodRows fs
 
 -- the override of this name, which its key file can say
@@ -153,7 +160,8 @@ pub record HoldsGoodLayers {Z : Type 0} (es : List (String Z × OverrideRow)) : 
   pub keyed : AllByRecursion (IsKeyed override_key) es
   pub each : AllByRecursion IsGoodLayer (values_of es)
 
-abbrev pub KeepsGoodLayers : {Z : Type 0} → List (String Z × OverrideRow) → List (String Z × OverrideRow) → Type 0
+abbrev pub KeepsGoodLayers : {Z : Type 0} → List (String Z × OverrideRow)
+    → List (String Z × OverrideRow) → Type 0
 KeepsGoodLayers es fs = HoldsGoodLayers es → HoldsGoodLayers fs
 
 -- ---- what the parts are
@@ -161,11 +169,13 @@ KeepsGoodLayers es fs = HoldsGoodLayers es → HoldsGoodLayers fs
 -- the rows, in order; and nothing else is there, where all reads
 pub record AreRefs (disk : Disk) (part : Part (List RefRow)) : Type 0 where
   pub least : IsLeast (BadRef disk) part.damaged
-  pub refs : part.damaged ≡ None → (text : List ℕ) → row_seen disk (ref_of text) ≡ seen_of (at_name ref_key part.found text)
+  pub refs : part.damaged ≡ None → (text : List ℕ)
+      → row_seen disk (ref_of text) ≡ seen_of (at_name ref_key part.found text)
 
 pub record AreOverrides (disk : Disk) (part : Part (List OverrideRow)) : Type 0 where
   pub least : IsLeast (BadOverride disk) part.damaged
-  pub overrides : part.damaged ≡ None → (name : List ℕ) → override_seen disk name ≡ seen_of (at_name override_key part.found name)
+  pub overrides : part.damaged ≡ None → (name : List ℕ)
+      → override_seen disk name ≡ seen_of (at_name override_key part.found name)
 
 pub record AreGoodRows (rows : List RefRow) : Type 0 where
   pub each : AllByRecursion IsGoodRow rows
@@ -178,31 +188,43 @@ pub record AreGoodLayers (rows : List OverrideRow) : Type 0 where
 -- ---- where refs and overrides may stand
 
 -- where the path is a branch directory, what stands at its ref comes to the others
-abbrev pub AddsRef : {Z : Type 0} → Disk → Elements → List (String Z × RefRow) → Option Elements → List (String Z × RefRow) → Option Elements → Type 0
+abbrev pub AddsRef : {Z : Type 0} → Disk → Elements → List (String Z × RefRow) → Option Elements
+    → List (String Z × RefRow) → Option Elements → Type 0
 AddsRef disk p es d fs e = ((ref_of (path_text p) ≡ None) × (fs ≡ es) × (e ≡ d))
-    ⊎ ((name : Ref) × (p ≡ branch_dir name) × (is_ref name ≡ true) × Adds (ref_text name) (active name) (ref_seen disk name) es d fs e)
+    ⊎ ((name : Ref) × (p ≡ branch_dir name) × (is_ref name ≡ true)
+    × Adds (ref_text name) (active name) (ref_seen disk name) es d fs e)
 
 -- where the name is that of an override, what stands there comes to the others
-abbrev pub AddsOverride : {Z : Type 0} → Disk → List ℕ → List (String Z × OverrideRow) → Option Elements → List (String Z × OverrideRow) → Option Elements → Type 0
+abbrev pub AddsOverride : {Z : Type 0} → Disk → List ℕ → List (String Z × OverrideRow)
+    → Option Elements → List (String Z × OverrideRow) → Option Elements → Type 0
 AddsOverride disk name es d fs e = ((is_override name ≡ false) × (fs ≡ es) × (e ≡ d))
-    ⊎ ((is_override name ≡ true) × Adds name (override_path name) (override_seen disk name) es d fs e)
+    ⊎ ((is_override name ≡ true)
+    × Adds name (override_path name) (override_seen disk name) es d fs e)
 
 -- ---- what was gathered at the first places
 
 abbrev pub BadRefAt : Disk → List Elements → Elements → Type 0
-BadRefAt disk paths q = (name : Ref) × (is_ref name ≡ true) × Contains paths (branch_dir name) × (ref_seen disk name ≡ bad) × (q ≡ active name)
+BadRefAt disk paths q = (name : Ref) × (is_ref name ≡ true) × Contains paths (branch_dir name)
+    × (ref_seen disk name ≡ bad) × (q ≡ active name)
 
-pub record FindsRefs {Z : Type 0} (disk : Disk) (paths : List Elements) (es : List (String Z × RefRow)) (d : Option Elements) : Type 0 where
+pub record FindsRefs {Z : Type 0} (disk : Disk) (paths : List Elements)
+    (es : List (String Z × RefRow)) (d : Option Elements) : Type 0 where
   pub keyed : AllByRecursion (IsKeyed ref_key) es
-  pub has : (name : Ref) → is_ref name ≡ true → Contains paths (branch_dir name) → (row : RefRow) → ref_seen disk name ≡ there row → at_name ref_key (values_of es) (ref_text name) ≡ Some row
-  pub only : (text : List ℕ) (row : RefRow) → at_name ref_key (values_of es) text ≡ Some row → row_seen disk (ref_of text) ≡ there row
+  pub has : (name : Ref) → is_ref name ≡ true → Contains paths (branch_dir name) → (row : RefRow)
+      → ref_seen disk name ≡ there row → at_name ref_key (values_of es) (ref_text name) ≡ Some row
+  pub only : (text : List ℕ) (row : RefRow) → at_name ref_key (values_of es) text ≡ Some row
+      → row_seen disk (ref_of text) ≡ there row
   pub least : IsLeast (BadRefAt disk paths) d
 
 abbrev pub BadOverrideAt : Disk → List (List ℕ) → Elements → Type 0
-BadOverrideAt disk names q = (name : List ℕ) × (is_override name ≡ true) × Contains names name × (override_seen disk name ≡ bad) × (q ≡ override_path name)
+BadOverrideAt disk names q = (name : List ℕ) × (is_override name ≡ true) × Contains names name
+    × (override_seen disk name ≡ bad) × (q ≡ override_path name)
 
-pub record FindsOverrides {Z : Type 0} (disk : Disk) (names : List (List ℕ)) (es : List (String Z × OverrideRow)) (d : Option Elements) : Type 0 where
+pub record FindsOverrides {Z : Type 0} (disk : Disk) (names : List (List ℕ))
+    (es : List (String Z × OverrideRow)) (d : Option Elements) : Type 0 where
   pub keyed : AllByRecursion (IsKeyed override_key) es
-  pub has : (name : List ℕ) → is_override name ≡ true → Contains names name → (row : OverrideRow) → override_seen disk name ≡ there row → at_name override_key (values_of es) name ≡ Some row
-  pub only : (name : List ℕ) (row : OverrideRow) → at_name override_key (values_of es) name ≡ Some row → override_seen disk name ≡ there row
+  pub has : (name : List ℕ) → is_override name ≡ true → Contains names name → (row : OverrideRow)
+      → override_seen disk name ≡ there row → at_name override_key (values_of es) name ≡ Some row
+  pub only : (name : List ℕ) (row : OverrideRow)
+      → at_name override_key (values_of es) name ≡ Some row → override_seen disk name ≡ there row
   pub least : IsLeast (BadOverrideAt disk names) d

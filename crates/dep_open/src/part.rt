@@ -16,7 +16,8 @@ pub(crate) enum Seen<T> {
     There(T),
 }
 
-/// What is found of a part of the state, and the first of its paths by their bytes that doesn't read.
+/// What is found of a part of the state, and the first of its paths by their bytes that doesn't
+/// read.
 #[derive(Drop)]
 pub(crate) struct Part<T> {
     pub found: T,
@@ -45,7 +46,8 @@ fn lesser_path(first: Path, second: Path) -> Path
     }
 }
 
-/// Adds what stands at one place to the rows; or its path, where it doesn't read and comes before the others that don't.
+/// Adds what stands at one place to the rows; or its path, where it doesn't read and comes before
+/// the others that don't.
 pub(crate) fn add<T: Drop>(
     alloc: Global,
     key: &str,

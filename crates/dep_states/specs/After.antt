@@ -22,7 +22,8 @@ use Rattle.dep_states.specs.Names.{is_override}
 use Rattle.dep_states.specs.Deploy.{goes_back_to}
 use Rattle.dep_states.specs.Shown.{at_name, ref_key, override_key, settings_of}
 
--- an operation, and the timestamp of the commit that an Install or an Update brings (0 with each other operation)
+-- an operation, and the timestamp of the commit that an Install or an Update brings (0 with each
+-- other operation)
 pub record Done : Type 0 where
   pub op : Op
   pub timestamp : ℕ
@@ -42,15 +43,28 @@ HasOrder s = is_ascending (map ref_key s.refs) ≡ true
 -- with the commit of before as the previous one
 abbrev pub moved : Ref → List ℕ → List ℕ → ℕ → RefRow → RefRow
 moved name remote commit timestamp row =
-    record { name = name; origin = remote; commit = commit; timestamp = timestamp; previous = Some (record { commit = row.commit; timestamp = row.timestamp }) }
+    record {
+      name = name;
+      origin = remote;
+      commit = commit;
+      timestamp = timestamp;
+      previous = Some (record { commit = row.commit; timestamp = row.timestamp });
+    }
 
 abbrev pub updated : State → Ref → List ℕ → List ℕ → ℕ → Option RefRow → State
 updated s name remote commit timestamp None = s
-updated s name remote commit timestamp (Some row) = with_refs s (replaced ref_key s.refs (moved name remote commit timestamp row))
+updated s name remote commit timestamp (Some row) =
+    with_refs s (replaced ref_key s.refs (moved name remote commit timestamp row))
 
 -- the commit and the previous one change places
 abbrev pub exchanged : RefRow → Previous → RefRow
-exchanged row p = record { name = row.name; origin = row.origin; commit = p.commit; timestamp = p.timestamp; previous = Some (record { commit = row.commit; timestamp = row.timestamp }) }
+exchanged row p = record {
+  name = row.name;
+  origin = row.origin;
+  commit = p.commit;
+  timestamp = p.timestamp;
+  previous = Some (record { commit = row.commit; timestamp = row.timestamp });
+}
 
 abbrev pub back : State → RefRow → Option Previous → State
 back s row None = s
@@ -63,16 +77,27 @@ rolled_back s (Some row) = back s row row.previous
 -- ---- the state after an operation
 
 abbrev pub after_op : State → ℕ → Op → State
-after_op s timestamp (Install name remote commit) = with_refs s (inserted ref_key s.refs (record { name = name; origin = remote; commit = commit; timestamp = timestamp; previous = None }))
-after_op s timestamp (Update name remote commit) = updated s name remote commit timestamp (row_at s name)
+after_op s timestamp (Install name remote commit) = with_refs s
+    (inserted ref_key s.refs
+    (record {
+      name = name;
+      origin = remote;
+      commit = commit;
+      timestamp = timestamp;
+      previous = None;
+    }))
+after_op s timestamp (Update name remote commit) =
+    updated s name remote commit timestamp (row_at s name)
 after_op s timestamp (Uninstall name) = with_refs s (removed ref_key s.refs (ref_text name))
 after_op s timestamp (AddPin pin) = record s { pins = inserted (λ p. p) s.pins pin }
 after_op s timestamp (DropPin pin) = record s { pins = removed (λ p. p) s.pins pin }
 after_op s timestamp (AddRemote row) = record s { remotes = inserted name_of s.remotes row }
 after_op s timestamp (ModifyRemote row) = record s { remotes = replaced name_of s.remotes row }
 after_op s timestamp (DropRemote name) = record s { remotes = removed name_of s.remotes name }
-after_op s timestamp (SetOverride row) = record s { overrides = replaced override_key s.overrides row }
-after_op s timestamp (DropOverride name) = record s { overrides = removed override_key s.overrides name }
+after_op s timestamp (SetOverride row) =
+    record s { overrides = replaced override_key s.overrides row }
+after_op s timestamp (DropOverride name) =
+    record s { overrides = removed override_key s.overrides name }
 after_op s timestamp Migrate = record s { layout = Two }
 after_op s timestamp (Rollback name commit) = rolled_back s (row_at s name)
 
@@ -118,18 +143,23 @@ abbrev pub HasPrevious : List ℕ → RefRow → Type 0
 HasPrevious commit row = (p : Previous) × (row.previous ≡ Some p) × (p.commit ≡ commit)
 
 abbrev pub IsInstall : State → Ref → List ℕ → List ℕ → Type 0
-IsInstall s name remote commit = (is_ref name ≡ true) × (row_at s name ≡ None) × (has_name name_of s.remotes remote ≡ true) × (is_digest commit ≡ true) × (length s.refs < MOST_REFS)
+IsInstall s name remote commit = (is_ref name ≡ true) × (row_at s name ≡ None)
+    × (has_name name_of s.remotes remote ≡ true) × (is_digest commit ≡ true)
+    × (length s.refs < MOST_REFS)
 
 abbrev pub IsUpdate : State → Ref → List ℕ → List ℕ → Type 0
-IsUpdate s name remote commit = HasRow s name (λ row. row.commit ≢ commit) × (has_name name_of s.remotes remote ≡ true) × (is_digest commit ≡ true)
+IsUpdate s name remote commit = HasRow s name (λ row. row.commit ≢ commit)
+    × (has_name name_of s.remotes remote ≡ true) × (is_digest commit ≡ true)
 
 abbrev pub Allows : State → Op → Type 0
 Allows s (Install name remote commit) = IsInstall s name remote commit
 Allows s (Update name remote commit) = IsUpdate s name remote commit
 Allows s (Uninstall name) = row_at s name ≢ None
-Allows s (AddPin pin) = (is_pin pin ≡ true) × (Contains s.pins pin → ⊥) × (length s.pins < MOST_PINS)
+Allows s (AddPin pin) =
+    (is_pin pin ≡ true) × (Contains s.pins pin → ⊥) × (length s.pins < MOST_PINS)
 Allows s (DropPin pin) = Contains s.pins pin
-Allows s (AddRemote row) = (is_row row ≡ true) × (has_name name_of s.remotes row.name ≡ false) × (length s.remotes < MOST_REMOTES)
+Allows s (AddRemote row) = (is_row row ≡ true) × (has_name name_of s.remotes row.name ≡ false)
+    × (length s.remotes < MOST_REMOTES)
 Allows s (ModifyRemote row) = (is_row row ≡ true) × (has_name name_of s.remotes row.name ≡ true)
 Allows s (DropRemote name) = has_name name_of s.remotes name ≡ true
 Allows s (SetOverride row) = (is_override row.name ≡ true) × (is_good row.file ≡ true)

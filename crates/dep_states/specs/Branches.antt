@@ -8,7 +8,8 @@ use Rattle.dep_states.specs.Names.{branch_dir}
 
 -- three names below `app` or `runtime`
 pub record AreBranches (v : View) (paths : List Elements) : Type 0 where
-  pub each : (q : Elements) → Contains paths q ↔ (IsLevel 3 (codes "app" ∷ []) v q ⊎ IsLevel 3 (codes "runtime" ∷ []) v q)
+  pub each : (q : Elements) → Contains paths q
+      ↔ (IsLevel 3 (codes "app" ∷ []) v q ⊎ IsLevel 3 (codes "runtime" ∷ []) v q)
 
 -- the ref whose branch directory this is
 abbrev pub IsRefAt : Elements → Option Ref → Type 0

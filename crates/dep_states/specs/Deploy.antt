@@ -40,12 +40,14 @@ abbrev pub origin_in : Tree → Option (List ℕ)
 origin_in v = option_and_then if_remote_name (text_in v)
 
 abbrev pub previous_from : Option (List ℕ) → Option ℕ → Option (Option Previous)
-previous_from commit time = option_and_then (λ c. option_map (λ t. Some (record { commit = c; timestamp = t })) time) commit
+previous_from commit time =
+    option_and_then (λ c. option_map (λ t. Some (record { commit = c; timestamp = t })) time) commit
 
 -- nothing, or a commit with its timestamp
 abbrev pub previous_in : Tree → Option (Option Previous)
 previous_in Tree.nothing = Some None
-previous_in (Tree.just (Tree.tuple (tree commit (tree time no_trees)))) = previous_from (digest_in commit) (time_in time)
+previous_in (Tree.just (Tree.tuple (tree commit (tree time no_trees)))) =
+    previous_from (digest_in commit) (time_in time)
 previous_in _ = None
 
 -- the previous commit is another one
@@ -56,8 +58,10 @@ goes_back_to commit (Some p) = bytes_eq p.commit commit
 abbrev pub if_moves : DeployData → Option DeployData
 if_moves d = if goes_back_to d.commit d.previous then None else Some d
 
-abbrev pub deploy_from : Option (List ℕ) → Option (List ℕ) → Option ℕ → Option (Option Previous) → Option DeployData
-deploy_from origin commit time previous = option_and_then (λ o. option_and_then (λ c. option_and_then (λ t. option_and_then (λ p.
+abbrev pub deploy_from : Option (List ℕ) → Option (List ℕ) → Option ℕ → Option (Option Previous)
+    → Option DeployData
+deploy_from origin commit time previous =
+    option_and_then (λ o. option_and_then (λ c. option_and_then (λ t. option_and_then (λ p.
     if_moves (record { origin = o; commit = c; timestamp = t; previous = p }))
     previous) time) commit) origin
 
@@ -86,7 +90,10 @@ previous_tree None = Tree.nothing
 previous_tree (Some p) = Tree.just (back_tree p)
 
 abbrev pub deploy_tree : DeployData → Tree
-deploy_tree d = Tree.tuple (tree (text_tree d.origin) (tree (text_tree (hex d.commit)) (tree (time_tree d.timestamp) (tree (previous_tree d.previous) no_trees))))
+deploy_tree d = Tree.tuple
+    (tree (text_tree d.origin)
+    (tree (text_tree (hex d.commit))
+    (tree (time_tree d.timestamp) (tree (previous_tree d.previous) no_trees))))
 
 -- ---- what reading answers; nothing is said of running out of memory
 

@@ -1,4 +1,5 @@
--- An image with one deployed ref: its four objects, its folder with the link and the record, its ref file, and beside it a `config` and an override.
+-- An image with one deployed ref: its four objects, its folder with the link and the record, its
+-- ref file, and beside it a `config` and an override.
 use Rattle.std.specs.Prelude.{ℕ, List, [], ◌∷◌, ◌++◌, None, codes}
 use Rattle.fp_host.specs.Paths.{Elements}
 use Rattle.fp_host.specs.Outcome.{Spot, folder, holds, points, Disk}
@@ -12,39 +13,65 @@ use Rattle.dep_states.specs.Names.{config, active, branch_dir, text_dir, deploy,
 use Rattle.dep_states.specs.Samples.{rows_at, config_bytes, layer_bytes, hub, pin, layer}
 
 abbrev pub platform : Ref
-platform = record { kind = Runtime; id = codes "org.x.Platform"; arch = codes "x86_64"; branch = codes "1" }
+platform =
+    record {
+      kind = Runtime;
+      id = codes "org.x.Platform";
+      arch = codes "x86_64";
+      branch = codes "1";
+    }
 
 abbrev pub metadata_bytes : List ℕ
 metadata_bytes = 91 ∷ 82 ∷ 117 ∷ 110 ∷ 116 ∷ 105 ∷ 109 ∷ 101 ∷ 93 ∷ 10 ∷ []
 
 -- of a file with these bytes and the mode 0644
 abbrev pub file_digest : List ℕ
-file_digest = 177 ∷ 100 ∷ 144 ∷ 164 ∷ 18 ∷ 97 ∷ 27 ∷ 55 ∷ 222 ∷ 50 ∷ 24 ∷ 209 ∷ 149 ∷ 203 ∷ 146 ∷ 135 ∷ 205 ∷ 131 ∷ 88 ∷ 83 ∷ 216 ∷ 179 ∷ 240 ∷ 39 ∷ 254 ∷ 244 ∷ 41 ∷ 31 ∷ 212 ∷ 102 ∷ 76 ∷ 0 ∷ []
+file_digest = 177 ∷ 100 ∷ 144 ∷ 164 ∷ 18 ∷ 97 ∷ 27 ∷ 55 ∷ 222 ∷ 50 ∷ 24 ∷ 209 ∷ 149 ∷ 203 ∷ 146 ∷
+    135 ∷ 205 ∷ 131 ∷ 88 ∷ 83 ∷ 216 ∷ 179 ∷ 240 ∷ 39 ∷ 254 ∷ 244 ∷ 41 ∷ 31 ∷ 212 ∷ 102 ∷ 76 ∷ 0 ∷ []
 
 -- one file, `metadata`
 abbrev pub tree_bytes : List ℕ
-tree_bytes = 109 ∷ 101 ∷ 116 ∷ 97 ∷ 100 ∷ 97 ∷ 116 ∷ 97 ∷ 0 ∷ 177 ∷ 100 ∷ 144 ∷ 164 ∷ 18 ∷ 97 ∷ 27 ∷ 55 ∷ 222 ∷ 50 ∷ 24 ∷ 209 ∷ 149 ∷ 203 ∷ 146 ∷ 135 ∷ 205 ∷ 131 ∷ 88 ∷ 83 ∷ 216 ∷ 179 ∷ 240 ∷ 39 ∷ 254 ∷ 244 ∷ 41 ∷ 31 ∷ 212 ∷ 102 ∷ 76 ∷ 0 ∷ 9 ∷ 42 ∷ 43 ∷ []
+tree_bytes = 109 ∷ 101 ∷ 116 ∷ 97 ∷ 100 ∷ 97 ∷ 116 ∷ 97 ∷ 0 ∷ 177 ∷ 100 ∷ 144 ∷ 164 ∷ 18 ∷ 97 ∷ 27 ∷
+    55 ∷ 222 ∷ 50 ∷ 24 ∷ 209 ∷ 149 ∷ 203 ∷ 146 ∷ 135 ∷ 205 ∷ 131 ∷ 88 ∷ 83 ∷ 216 ∷ 179 ∷ 240 ∷ 39 ∷
+    254 ∷ 244 ∷ 41 ∷ 31 ∷ 212 ∷ 102 ∷ 76 ∷ 0 ∷ 9 ∷ 42 ∷ 43 ∷ []
 
 abbrev pub tree_digest : List ℕ
-tree_digest = 143 ∷ 51 ∷ 186 ∷ 181 ∷ 38 ∷ 125 ∷ 34 ∷ 154 ∷ 24 ∷ 8 ∷ 250 ∷ 169 ∷ 220 ∷ 211 ∷ 172 ∷ 246 ∷ 30 ∷ 181 ∷ 146 ∷ 139 ∷ 107 ∷ 225 ∷ 30 ∷ 130 ∷ 138 ∷ 196 ∷ 202 ∷ 155 ∷ 170 ∷ 69 ∷ 29 ∷ 74 ∷ []
+tree_digest = 143 ∷ 51 ∷ 186 ∷ 181 ∷ 38 ∷ 125 ∷ 34 ∷ 154 ∷ 24 ∷ 8 ∷ 250 ∷ 169 ∷ 220 ∷ 211 ∷ 172 ∷
+    246 ∷ 30 ∷ 181 ∷ 146 ∷ 139 ∷ 107 ∷ 225 ∷ 30 ∷ 130 ∷ 138 ∷ 196 ∷ 202 ∷ 155 ∷ 170 ∷ 69 ∷ 29 ∷ 74 ∷
+    []
 
 -- of the mode 040755
 abbrev pub dir_bytes : List ℕ
 dir_bytes = 0 ∷ 0 ∷ 0 ∷ 0 ∷ 0 ∷ 0 ∷ 0 ∷ 0 ∷ 0 ∷ 0 ∷ 65 ∷ 237 ∷ []
 
 abbrev pub dir_digest : List ℕ
-dir_digest = 68 ∷ 106 ∷ 14 ∷ 241 ∷ 27 ∷ 124 ∷ 193 ∷ 103 ∷ 243 ∷ 182 ∷ 3 ∷ 229 ∷ 133 ∷ 199 ∷ 238 ∷ 238 ∷ 182 ∷ 117 ∷ 250 ∷ 164 ∷ 18 ∷ 213 ∷ 236 ∷ 115 ∷ 246 ∷ 41 ∷ 136 ∷ 235 ∷ 11 ∷ 108 ∷ 84 ∷ 136 ∷ []
+dir_digest = 68 ∷ 106 ∷ 14 ∷ 241 ∷ 27 ∷ 124 ∷ 193 ∷ 103 ∷ 243 ∷ 182 ∷ 3 ∷ 229 ∷ 133 ∷ 199 ∷ 238 ∷
+    238 ∷ 182 ∷ 117 ∷ 250 ∷ 164 ∷ 18 ∷ 213 ∷ 236 ∷ 115 ∷ 246 ∷ 41 ∷ 136 ∷ 235 ∷ 11 ∷ 108 ∷ 84 ∷
+    136 ∷
+    []
 
 -- without a parent, at time 7
 abbrev pub commit_bytes : List ℕ
-commit_bytes = 0 ∷ 0 ∷ 0 ∷ 0 ∷ 0 ∷ 0 ∷ 0 ∷ 0 ∷ 0 ∷ 0 ∷ 0 ∷ 0 ∷ 0 ∷ 0 ∷ 0 ∷ 7 ∷ 143 ∷ 51 ∷ 186 ∷ 181 ∷ 38 ∷ 125 ∷ 34 ∷ 154 ∷ 24 ∷ 8 ∷ 250 ∷ 169 ∷ 220 ∷ 211 ∷ 172 ∷ 246 ∷ 30 ∷ 181 ∷ 146 ∷ 139 ∷ 107 ∷ 225 ∷ 30 ∷ 130 ∷ 138 ∷ 196 ∷ 202 ∷ 155 ∷ 170 ∷ 69 ∷ 29 ∷ 74 ∷ 68 ∷ 106 ∷ 14 ∷ 241 ∷ 27 ∷ 124 ∷ 193 ∷ 103 ∷ 243 ∷ 182 ∷ 3 ∷ 229 ∷ 133 ∷ 199 ∷ 238 ∷ 238 ∷ 182 ∷ 117 ∷ 250 ∷ 164 ∷ 18 ∷ 213 ∷ 236 ∷ 115 ∷ 246 ∷ 41 ∷ 136 ∷ 235 ∷ 11 ∷ 108 ∷ 84 ∷ 136 ∷ 48 ∷ 2 ∷ 1 ∷ 0 ∷ 0 ∷ 0 ∷ []
+commit_bytes = 0 ∷ 0 ∷ 0 ∷ 0 ∷ 0 ∷ 0 ∷ 0 ∷ 0 ∷ 0 ∷ 0 ∷ 0 ∷ 0 ∷ 0 ∷ 0 ∷ 0 ∷ 7 ∷ 143 ∷ 51 ∷ 186 ∷
+    181 ∷ 38 ∷ 125 ∷ 34 ∷ 154 ∷ 24 ∷ 8 ∷ 250 ∷ 169 ∷ 220 ∷ 211 ∷ 172 ∷ 246 ∷ 30 ∷ 181 ∷ 146 ∷ 139 ∷
+    107 ∷ 225 ∷ 30 ∷ 130 ∷ 138 ∷ 196 ∷ 202 ∷ 155 ∷ 170 ∷ 69 ∷ 29 ∷ 74 ∷ 68 ∷ 106 ∷ 14 ∷ 241 ∷ 27 ∷
+    124 ∷ 193 ∷ 103 ∷ 243 ∷ 182 ∷ 3 ∷ 229 ∷ 133 ∷ 199 ∷ 238 ∷ 238 ∷ 182 ∷ 117 ∷ 250 ∷ 164 ∷ 18 ∷
+    213 ∷
+    236 ∷ 115 ∷ 246 ∷ 41 ∷ 136 ∷ 235 ∷ 11 ∷ 108 ∷ 84 ∷ 136 ∷ 48 ∷ 2 ∷ 1 ∷ 0 ∷ 0 ∷ 0 ∷ []
 
 abbrev pub commit : List ℕ
-commit = 173 ∷ 149 ∷ 166 ∷ 197 ∷ 51 ∷ 136 ∷ 157 ∷ 34 ∷ 197 ∷ 227 ∷ 226 ∷ 91 ∷ 195 ∷ 75 ∷ 147 ∷ 16 ∷ 209 ∷ 155 ∷ 132 ∷ 39 ∷ 230 ∷ 63 ∷ 191 ∷ 121 ∷ 199 ∷ 184 ∷ 187 ∷ 65 ∷ 187 ∷ 45 ∷ 242 ∷ 98 ∷ []
+commit = 173 ∷ 149 ∷ 166 ∷ 197 ∷ 51 ∷ 136 ∷ 157 ∷ 34 ∷ 197 ∷ 227 ∷ 226 ∷ 91 ∷ 195 ∷ 75 ∷ 147 ∷ 16 ∷
+    209 ∷ 155 ∷ 132 ∷ 39 ∷ 230 ∷ 63 ∷ 191 ∷ 121 ∷ 199 ∷ 184 ∷ 187 ∷ 65 ∷ 187 ∷ 45 ∷ 242 ∷ 98 ∷ []
 
 -- from the remote hub, at that commit since time 7
 abbrev pub deploy_bytes : List ℕ
-deploy_bytes = 104 ∷ 117 ∷ 98 ∷ 0 ∷ 97 ∷ 100 ∷ 57 ∷ 53 ∷ 97 ∷ 54 ∷ 99 ∷ 53 ∷ 51 ∷ 51 ∷ 56 ∷ 56 ∷ 57 ∷ 100 ∷ 50 ∷ 50 ∷ 99 ∷ 53 ∷ 101 ∷ 51 ∷ 101 ∷ 50 ∷ 53 ∷ 98 ∷ 99 ∷ 51 ∷ 52 ∷ 98 ∷ 57 ∷ 51 ∷ 49 ∷ 48 ∷ 100 ∷ 49 ∷ 57 ∷ 98 ∷ 56 ∷ 52 ∷ 50 ∷ 55 ∷ 101 ∷ 54 ∷ 51 ∷ 102 ∷ 98 ∷ 102 ∷ 55 ∷ 57 ∷ 99 ∷ 55 ∷ 98 ∷ 56 ∷ 98 ∷ 98 ∷ 52 ∷ 49 ∷ 98 ∷ 98 ∷ 50 ∷ 100 ∷ 102 ∷ 50 ∷ 54 ∷ 50 ∷ 0 ∷ 0 ∷ 0 ∷ 0 ∷ 7 ∷ 0 ∷ 0 ∷ 0 ∷ 0 ∷ 0 ∷ 0 ∷ 0 ∷ 69 ∷ 4 ∷ []
+deploy_bytes = 104 ∷ 117 ∷ 98 ∷ 0 ∷ 97 ∷ 100 ∷ 57 ∷ 53 ∷ 97 ∷ 54 ∷ 99 ∷ 53 ∷ 51 ∷ 51 ∷ 56 ∷ 56 ∷
+    57 ∷ 100 ∷ 50 ∷ 50 ∷ 99 ∷ 53 ∷ 101 ∷ 51 ∷ 101 ∷ 50 ∷ 53 ∷ 98 ∷ 99 ∷ 51 ∷ 52 ∷ 98 ∷ 57 ∷ 51 ∷
+    49 ∷
+    48 ∷ 100 ∷ 49 ∷ 57 ∷ 98 ∷ 56 ∷ 52 ∷ 50 ∷ 55 ∷ 101 ∷ 54 ∷ 51 ∷ 102 ∷ 98 ∷ 102 ∷ 55 ∷ 57 ∷ 99 ∷
+    55 ∷
+    98 ∷ 56 ∷ 98 ∷ 98 ∷ 52 ∷ 49 ∷ 98 ∷ 98 ∷ 50 ∷ 100 ∷ 102 ∷ 50 ∷ 54 ∷ 50 ∷ 0 ∷ 0 ∷ 0 ∷ 0 ∷ 7 ∷ 0 ∷
+    0 ∷ 0 ∷ 0 ∷ 0 ∷ 0 ∷ 0 ∷ 69 ∷ 4 ∷ []
 
 abbrev pub commit_text : List ℕ
 commit_text = codes "ad95a6c533889d22c5e3e25bc34b9310d19b8427e63fbf79c7b8bb41bb2df262"
@@ -62,13 +89,29 @@ deployed_rows =
     ∷ (repo, folder)
     ∷ (codes "objects" ∷ repo, folder)
     ∷ (prefix_name (codes "b1"), folder)
-    ∷ (object_name (codes "b1") (codes "6490a412611b37de3218d195cb9287cd835853d8b3f027fef4291fd4664c00.file"), holds 1 420 metadata_bytes)
+    ∷ (
+      object_name (codes "b1")
+          (codes "6490a412611b37de3218d195cb9287cd835853d8b3f027fef4291fd4664c00.file"),
+      holds 1 420 metadata_bytes,
+    )
     ∷ (prefix_name (codes "8f"), folder)
-    ∷ (object_name (codes "8f") (codes "33bab5267d229a1808faa9dcd3acf61eb5928b6be11e828ac4ca9baa451d4a.dirtree"), holds 2 420 tree_bytes)
+    ∷ (
+      object_name (codes "8f")
+          (codes "33bab5267d229a1808faa9dcd3acf61eb5928b6be11e828ac4ca9baa451d4a.dirtree"),
+      holds 2 420 tree_bytes,
+    )
     ∷ (prefix_name (codes "44"), folder)
-    ∷ (object_name (codes "44") (codes "6a0ef11b7cc167f3b603e585c7eeeeb675faa412d5ec73f62988eb0b6c5488.dirmeta"), holds 3 420 dir_bytes)
+    ∷ (
+      object_name (codes "44")
+          (codes "6a0ef11b7cc167f3b603e585c7eeeeb675faa412d5ec73f62988eb0b6c5488.dirmeta"),
+      holds 3 420 dir_bytes,
+    )
     ∷ (prefix_name (codes "ad"), folder)
-    ∷ (object_name (codes "ad") (codes "95a6c533889d22c5e3e25bc34b9310d19b8427e63fbf79c7b8bb41bb2df262.commit"), holds 4 420 commit_bytes)
+    ∷ (
+      object_name (codes "ad")
+          (codes "95a6c533889d22c5e3e25bc34b9310d19b8427e63fbf79c7b8bb41bb2df262.commit"),
+      holds 4 420 commit_bytes,
+    )
     ∷ (tmp, folder)
     ∷ (codes "config" ∷ repo, holds 7 420 [])
     ∷ (codes "refs" ∷ repo, folder)
@@ -76,8 +119,16 @@ deployed_rows =
     ∷ (codes "remotes" ∷ codes "refs" ∷ repo, folder)
     ∷ (codes "hub" ∷ codes "remotes" ∷ codes "refs" ∷ repo, folder)
     ∷ (codes "runtime" ∷ codes "hub" ∷ codes "remotes" ∷ codes "refs" ∷ repo, folder)
-    ∷ (codes "org.x.Platform" ∷ codes "runtime" ∷ codes "hub" ∷ codes "remotes" ∷ codes "refs" ∷ repo, folder)
-    ∷ (codes "x86_64" ∷ codes "org.x.Platform" ∷ codes "runtime" ∷ codes "hub" ∷ codes "remotes" ∷ codes "refs" ∷ repo, folder)
+    ∷ (
+      codes "org.x.Platform" ∷ codes "runtime" ∷ codes "hub" ∷ codes "remotes" ∷ codes "refs"
+          ∷ repo,
+      folder,
+    )
+    ∷ (
+      codes "x86_64" ∷ codes "org.x.Platform" ∷ codes "runtime" ∷ codes "hub" ∷ codes "remotes"
+          ∷ codes "refs" ∷ repo,
+      folder,
+    )
     ∷ (ref_file (codes "hub") platform, holds 6 420 (commit_text ++ 10 ∷ []))
     ∷ (codes "runtime" ∷ [], folder)
     ∷ (codes "org.x.Platform" ∷ codes "runtime" ∷ [], folder)
@@ -96,7 +147,20 @@ abbrev pub deployed_disk : Disk
 deployed_disk = rows_at deployed_rows
 
 abbrev pub deployed_row : RefRow
-deployed_row = record { name = platform; origin = codes "hub"; commit = commit; timestamp = 7; previous = None }
+deployed_row =
+    record {
+      name = platform;
+      origin = codes "hub";
+      commit = commit;
+      timestamp = 7;
+      previous = None;
+    }
 
 abbrev pub deployed_state : State
-deployed_state = record { layout = Two; refs = deployed_row ∷ []; remotes = hub ∷ []; pins = pin ∷ []; overrides = layer ∷ [] }
+deployed_state = record {
+  layout = Two;
+  refs = deployed_row ∷ [];
+  remotes = hub ∷ [];
+  pins = pin ∷ [];
+  overrides = layer ∷ [];
+}

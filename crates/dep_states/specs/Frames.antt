@@ -18,7 +18,8 @@ use Rattle.dep_states.specs.Sound.{IsKeptBy, Keeps}
 use Rattle.dep_states.specs.Zones.{IsFolderOrGone}
 
 -- one of two
-abbrev pub Either : (Elements → Spot → Type 0) → (Elements → Spot → Type 0) → Elements → Spot → Type 0
+abbrev pub Either : (Elements → Spot → Type 0) → (Elements → Spot → Type 0) → Elements
+    → Spot → Type 0
 Either G H p spot = G p spot ⊎ H p spot
 
 -- ---- commits that the state doesn't keep
@@ -29,7 +30,8 @@ pub record KeptIn (s : State) (name : Ref) (commit : List ℕ) : Type 0 where
   pub has : row_at s name ≡ Some row
   pub of_row : IsKeptBy row commit
 
--- anything that isn't too deep, in the folder of a commit; at the folder's own path a folder or nothing
+-- anything that isn't too deep, in the folder of a commit; at the folder's own path a folder or
+-- nothing
 pub record InDir (name : Ref) (commit : List ℕ) (p : Elements) (spot : Spot) : Type 0 where
   pub rest : Elements
   pub is : p ≡ rest ++ commit_dir name commit
@@ -40,8 +42,10 @@ pub record InDir (name : Ref) (commit : List ℕ) (p : Elements) (spot : Spot) :
 
 -- no outcome has the object's name among those of the orders of its kept commits
 abbrev pub IsUnused : View → List ℕ → ObjKind → Type 0
-IsUnused v d kind = (disk : Disk) → Leaves v disk → (name : Ref) (commit : List ℕ) (place : Place) → Keeps disk name commit
-    → In (order (store repo disk) commit) place → object_path repo place.digest place.kind ≢ object_path repo d kind
+IsUnused v d kind = (disk : Disk) → Leaves v disk → (name : Ref) (commit : List ℕ) (place : Place)
+    → Keeps disk name commit
+    → In (order (store repo disk) commit) place
+    → object_path repo place.digest place.kind ≢ object_path repo d kind
 
 -- the object goes
 abbrev pub ObjectGone : List ℕ → ObjKind → Elements → Spot → Type 0
@@ -59,4 +63,6 @@ pub record IsNewObject (u : View) (p : Elements) (spot : Spot) : Type 0 where
 -- A pull: work, and new objects. An object's name that was present is as before.
 pub record Pulls (Work : Elements → Spot → Type 0) (u w : View) : Type 0 where
   pub follows : Follows (Either Work (IsNewObject u)) u w
-  pub names : (d : List ℕ) (kind : ObjKind) → (w.names (object_path repo d kind) ≡ u.names (object_path repo d kind)) ⊎ (u.names (object_path repo d kind) ≡ absent)
+  pub names : (d : List ℕ) (kind : ObjKind)
+      → (w.names (object_path repo d kind) ≡ u.names (object_path repo d kind))
+      ⊎ (u.names (object_path repo d kind) ≡ absent)

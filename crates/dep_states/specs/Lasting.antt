@@ -6,8 +6,8 @@ use Rattle.fp_small.specs.Places.{repo}
 use Rattle.ost_model.specs.Stores.{objects_folder}
 use Rattle.dep_states.specs.Names.{config, override_path, commit_dir, deploy}
 
--- An object of the store, its `config`, or a file of its refs; what stands below `made` or `exports`; the record beside a commit's
--- tree; the settings; an override.
+-- An object of the store, its `config`, or a file of its refs; what stands below `made` or
+-- `exports`; the record beside a commit's tree; the settings; an override.
 pub data IsLasting (q : Elements) : Type 0 where
   an_object : IsAbove (objects_folder repo) q → IsLasting q
   store_config : q ≡ codes "config" ∷ repo → IsLasting q

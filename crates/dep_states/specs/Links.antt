@@ -13,7 +13,9 @@ pub record WasStored (id : ℕ) (v : View) : Type 0 where
   pub below : IsAbove (objects_folder repo) at
   pub put : Contains v.stood (at, file id)
 
--- Each file in a commit's folder stood there, is the record beside the commit's tree, or was put below the store's objects.
+-- Each file in a commit's folder stood there, is the record beside the commit's tree, or was put
+-- below the store's objects.
 pub record Links (u w : View) : Type 0 where
-  pub each : (name : Ref) (commit : List ℕ) (q : Elements) (id : ℕ) → IsAbove (commit_dir name commit) q → w.names q ≡ file id
+  pub each : (name : Ref) (commit : List ℕ) (q : Elements) (id : ℕ)
+      → IsAbove (commit_dir name commit) q → w.names q ≡ file id
       → (u.names q ≡ file id) ⊎ ((q ≡ deploy (commit_dir name commit)) ⊎ WasStored id w)

@@ -42,7 +42,8 @@ config_disk bytes = rows_at (config_rows bytes)
 
 -- the settings alone
 abbrev pub settings_state : Settings → State
-settings_state s = record { layout = Two; refs = []; remotes = s.remotes; pins = s.pins; overrides = [] }
+settings_state s =
+    record { layout = Two; refs = []; remotes = s.remotes; pins = s.pins; overrides = [] }
 
 -- ---- two refs, one of which was updated, an override, and a `config`
 
@@ -50,7 +51,13 @@ abbrev pub app : Ref
 app = record { kind = App; id = codes "org.x.App"; arch = codes "x86_64"; branch = codes "stable" }
 
 abbrev pub platform : Ref
-platform = record { kind = Runtime; id = codes "org.x.Platform"; arch = codes "x86_64"; branch = codes "1" }
+platform =
+    record {
+      kind = Runtime;
+      id = codes "org.x.Platform";
+      arch = codes "x86_64";
+      branch = codes "1";
+    }
 
 abbrev pub one : List ℕ
 one = replicate 32 17
@@ -74,11 +81,14 @@ three_text = codes "c3c3c3c3c3c3c3c3c3c3c3c3c3c3c3c3c3c3c3c3c3c3c3c3c3c3c3c3c3c3
 abbrev pub app_bytes : List ℕ
 app_bytes =
     codes "hub" ++ (0 ∷ (two_text ++ (0 ∷ 0 ∷ 0 ∷ 0 ∷ 0xe8 ∷ 3 ∷ 0 ∷ 0 ∷ 0 ∷ 0 ∷ 0 ∷ 0
-    ∷ (one_text ++ (0 ∷ 0 ∷ 0 ∷ 0 ∷ 0 ∷ 0 ∷ 0 ∷ 0 ∷ 0xf4 ∷ 1 ∷ 0 ∷ 0 ∷ 0 ∷ 0 ∷ 0 ∷ 0 ∷ 65 ∷ 0 ∷ 69 ∷ 4 ∷ [])))))
+    ∷ (one_text ++ (0 ∷ 0 ∷ 0 ∷ 0 ∷ 0 ∷ 0 ∷ 0 ∷ 0 ∷ 0xf4 ∷ 1 ∷ 0 ∷ 0 ∷ 0 ∷ 0 ∷ 0 ∷ 0 ∷ 65 ∷ 0
+    ∷ 69 ∷ 4 ∷ [])))))
 
 -- at the commit three since time 7, as an earlier layout wrote it, of type `(sst)`
 abbrev pub platform_bytes : List ℕ
-platform_bytes = codes "hub" ++ (0 ∷ (three_text ++ (0 ∷ 0 ∷ 0 ∷ 0 ∷ 7 ∷ 0 ∷ 0 ∷ 0 ∷ 0 ∷ 0 ∷ 0 ∷ 0 ∷ 69 ∷ 4 ∷ [])))
+platform_bytes =
+    codes "hub" ++ (0 ∷ (three_text
+    ++ (0 ∷ 0 ∷ 0 ∷ 0 ∷ 7 ∷ 0 ∷ 0 ∷ 0 ∷ 0 ∷ 0 ∷ 0 ∷ 0 ∷ 69 ∷ 4 ∷ [])))
 
 abbrev pub config_bytes : List ℕ
 config_bytes = codes "[installation]\nlayout=2\n[remote \"hub\"]\nurl=file:///srv/hub\n[pins]\nruntime/org.x.Platform/*/*=true\n"
@@ -101,13 +111,26 @@ abbrev pub worked_disk : Disk
 worked_disk = rows_at rows
 
 abbrev pub app_row : RefRow
-app_row = record { name = app; origin = codes "hub"; commit = two; timestamp = 1000; previous = Some (record { commit = one; timestamp = 500 }) }
+app_row = record {
+  name = app;
+  origin = codes "hub";
+  commit = two;
+  timestamp = 1000;
+  previous = Some (record { commit = one; timestamp = 500 });
+}
 
 abbrev pub platform_row : RefRow
-platform_row = record { name = platform; origin = codes "hub"; commit = three; timestamp = 7; previous = None }
+platform_row =
+    record { name = platform; origin = codes "hub"; commit = three; timestamp = 7; previous = None }
 
 abbrev pub layer : OverrideRow
-layer = record { name = codes "global"; file = record { name = codes "Context"; pairs = record { key = codes "shared"; value = codes "!network;" } ∷ [] } ∷ [] }
+layer = record {
+  name = codes "global";
+  file = record {
+    name = codes "Context";
+    pairs = record { key = codes "shared"; value = codes "!network;" } ∷ [];
+  } ∷ [];
+}
 
 abbrev pub hub : RemoteRow
 hub = record { name = codes "hub"; url = codes "file:///srv/hub" }
@@ -130,10 +153,12 @@ abbrev pub short_ref : Ref
 short_ref = record { kind = App; id = codes "org.x.A"; arch = codes "x86_64"; branch = codes "b" }
 
 abbrev pub dashed_ref : Ref
-dashed_ref = record { kind = App; id = codes "org.x.A-b"; arch = codes "x86_64"; branch = codes "b" }
+dashed_ref =
+    record { kind = App; id = codes "org.x.A-b"; arch = codes "x86_64"; branch = codes "b" }
 
 abbrev pub damaged_rows : List (Elements × Spot)
-damaged_rows = ([], folder) ∷ (active short_ref, folder) ∷ (active dashed_ref, points one_text) ∷ (deploy (text_dir dashed_ref one_text), holds 1 420 app_bytes) ∷ []
+damaged_rows = ([], folder) ∷ (active short_ref, folder) ∷ (active dashed_ref, points one_text)
+    ∷ (deploy (text_dir dashed_ref one_text), holds 1 420 app_bytes) ∷ []
 
 abbrev pub damaged_disk : Disk
 damaged_disk = rows_at damaged_rows

@@ -33,15 +33,20 @@ HasBytes text (holds id mode bytes) = bytes ≡ text
 
 -- the ref is shown, and has this origin
 abbrev pub HasOrigin : Disk → Ref → List ℕ → Type 0
-HasOrigin disk name origin = (row : RefRow) × (ref_seen disk name ≡ there row) × (row.origin ≡ origin)
+HasOrigin disk name origin =
+    (row : RefRow) × (ref_seen disk name ≡ there row) × (row.origin ≡ origin)
 
--- Settled: no work is left. Each object that is there is used (a used one is there, where the image is Sound), each folder of a
--- commit is that of one that is kept. There is a ref file for each ref that is shown, and no other. Beside `config` there are
--- no files of layout 1.
+-- Settled: no work is left. Each object that is there is used (a used one is there, where the image
+-- is Sound), each folder of a commit is that of one that is kept. There is a ref file for each ref
+-- that is shown, and no other. Beside `config` there are no files of layout 1.
 pub record Settled (disk : Disk) : Type 0 where
   pub no_work : (x : List ℕ) (rest : Elements) → disk (rest ++ (x ∷ tmp)) ≡ gone
-  pub used : (d : List ℕ) (kind : ObjKind) → is_digest d ≡ true → disk (object_path repo d kind) ≢ gone → Used disk d kind
-  pub dirs : (name : Ref) (commit : List ℕ) → is_ref name ≡ true → is_digest commit ≡ true → disk (commit_dir name commit) ≢ gone → Keeps disk name commit
-  pub ref_files : (name : Ref) (row : RefRow) → ref_seen disk name ≡ there row → HasBytes (hex row.commit ++ 10 ∷ []) (disk (ref_file row.origin name))
-  pub no_other : (origin : List ℕ) (name : Ref) → is_remote_name origin ≡ true → is_ref name ≡ true → disk (ref_file origin name) ≢ gone → HasOrigin disk name origin
+  pub used : (d : List ℕ) (kind : ObjKind) → is_digest d ≡ true
+      → disk (object_path repo d kind) ≢ gone → Used disk d kind
+  pub dirs : (name : Ref) (commit : List ℕ) → is_ref name ≡ true → is_digest commit ≡ true
+      → disk (commit_dir name commit) ≢ gone → Keeps disk name commit
+  pub ref_files : (name : Ref) (row : RefRow) → ref_seen disk name ≡ there row
+      → HasBytes (hex row.commit ++ 10 ∷ []) (disk (ref_file row.origin name))
+  pub no_other : (origin : List ℕ) (name : Ref) → is_remote_name origin ≡ true → is_ref name ≡ true
+      → disk (ref_file origin name) ≢ gone → HasOrigin disk name origin
   pub no_old : disk config ≢ gone → (disk remotes_conf ≡ gone) × (disk pins_file ≡ gone)

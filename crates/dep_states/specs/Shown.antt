@@ -1,5 +1,6 @@
--- What an image shows: a relation of an image and a state. (The refs that an image has can't be enumerated by a function, since
--- an image is a function from paths. So it is said of each ref, and of each override, what the image has there.)
+-- What an image shows: a relation of an image and a state. (The refs that an image has can't be
+-- enumerated by a function, since an image is a function from paths. So it is said of each ref, and
+-- of each override, what the image has there.)
 use Rattle.std.specs.Prelude.{◌≡◌, ℕ, List, [], ◌∷◌, map, leb, length, if◌then◌else◌, true, Option, Some, None, Result, Ok, Err}
 use Rattle.std.specs.Str.{bytes_eq}
 use Rattle.fp_host.specs.Reads.{is_ascending}
@@ -44,7 +45,8 @@ abbrev pub read_file : {A : Type 0} → ℕ → (List ℕ → Option A) → Spot
 read_file most read gone = away
 read_file most read folder = bad
 read_file most read (points text) = bad
-read_file most read (holds id mode bytes) = if leb (length bytes) most then read_of (read bytes) else bad
+read_file most read (holds id mode bytes) =
+    if leb (length bytes) most then read_of (read bytes) else bad
 
 -- `config` has at most 2 MiB, each other small file at most 1 MiB
 abbrev pub config_most : ℕ
@@ -56,7 +58,8 @@ small_most = MOST_TEXT_BYTES
 -- ---- the settings: by what stands at three paths
 
 abbrev pub setup : Layout → List RemoteRow → List (List ℕ) → Setup
-setup layout remotes pins = record { layout = layout; settings = record { remotes = remotes; pins = pins } }
+setup layout remotes pins =
+    record { layout = layout; settings = record { remotes = remotes; pins = pins } }
 
 -- Layout 1 is where `config` is absent, and `remotes.conf` or `pins` is not.
 abbrev pub layout_one : Seen (List RemoteRow) → Seen (List (List ℕ)) → Seen Setup
@@ -95,7 +98,13 @@ settings_seen disk = settings_at (disk config) (disk remotes_conf) (disk pins_fi
 -- ---- refs
 
 abbrev pub row_of : Ref → DeployData → RefRow
-row_of name d = record { name = name; origin = d.origin; commit = d.commit; timestamp = d.timestamp; previous = d.previous }
+row_of name d = record {
+  name = name;
+  origin = d.origin;
+  commit = d.commit;
+  timestamp = d.timestamp;
+  previous = d.previous;
+}
 
 -- a `deploy` in the folder of this name, which is that of its commit
 abbrev pub row_in : Ref → List ℕ → Seen DeployData → Seen RefRow
@@ -133,10 +142,12 @@ named_override name bad = bad
 named_override name (there file) = there (record { name = name; file = file })
 
 unfoldable pub override_at : List ℕ → Spot → Seen OverrideRow
-override_at name spot = named_override name (read_file small_most (λ bytes. if_file (file_of bytes)) spot)
+override_at name spot =
+    named_override name (read_file small_most (λ bytes. if_file (file_of bytes)) spot)
 
 abbrev pub override_seen : Disk → List ℕ → Seen OverrideRow
-override_seen disk name = if is_override name then override_at name (disk (override_path name)) else away
+override_seen disk name =
+    if is_override name then override_at name (disk (override_path name)) else away
 
 -- ---- a state
 
@@ -158,12 +169,14 @@ settings_of s = record { remotes = s.remotes; pins = s.pins }
 abbrev pub setup_of : State → Setup
 setup_of s = setup s.layout s.remotes s.pins
 
--- Shown: the image shows this state. Each part reads, what is there is in the state, and what is in the state is there.
+-- Shown: the image shows this state. Each part reads, what is there is in the state, and what is in
+-- the state is there.
 pub record Shows (disk : Disk) (s : State) : Type 0 where
   pub settings : settings_seen disk ≡ there (setup_of s)
   pub refs : (text : List ℕ) → row_seen disk (ref_of text) ≡ seen_of (at_name ref_key s.refs text)
   pub refs_ascend : is_ascending (map ref_key s.refs) ≡ true
-  pub overrides : (name : List ℕ) → override_seen disk name ≡ seen_of (at_name override_key s.overrides name)
+  pub overrides : (name : List ℕ) → override_seen disk name
+      ≡ seen_of (at_name override_key s.overrides name)
   pub overrides_ascend : is_ascending (map override_key s.overrides) ≡ true
 
 -- it shows a state

@@ -15,5 +15,6 @@ IsSetting p = (p ≡ config) ⊎ IsOld p
 pub record IsLayered (s : State) (layer : List ℕ) (t : State) : Type 0 where
   pub setup : setup_of t ≡ setup_of s
   pub refs : t.refs ≡ s.refs
-  pub others : (name : List ℕ) → name ≢ layer → at_name override_key t.overrides name ≡ at_name override_key s.overrides name
+  pub others : (name : List ℕ) → name ≢ layer → at_name override_key t.overrides name
+      ≡ at_name override_key s.overrides name
   pub ascend : is_ascending (map override_key t.overrides) ≡ true

@@ -58,11 +58,14 @@ pub record Keeps (disk : Disk) (name : Ref) (commit : List ℕ) : Type 0 where
   pub shown : ref_seen disk name ≡ there row
   pub of_row : IsKeptBy row commit
 
--- Sound. Part 1, and what part 5 says of one path alone, are `kinds`; parts 2 to 4 are `commits`; `deploys` is the rest of part 5.
+-- Sound. Part 1, and what part 5 says of one path alone, are `kinds`; parts 2 to 4 are `commits`;
+-- `deploys` is the rest of part 5.
 pub record Sound (disk : Disk) : Type 0 where
   pub kinds : (p : Elements) → Allowed p (disk p)
-  pub commits : (name : Ref) (commit : List ℕ) → Keeps disk name commit → Stands (reads_as name.kind) repo disk commit (commit_dir name commit)
-  pub deploys : (name : Ref) (commit : List ℕ) → Keeps disk name commit → IsFileOrGone (disk (deploy (commit_dir name commit)))
+  pub commits : (name : Ref) (commit : List ℕ) → Keeps disk name commit
+      → Stands (reads_as name.kind) repo disk commit (commit_dir name commit)
+  pub deploys : (name : Ref) (commit : List ℕ) → Keeps disk name commit
+      → IsFileOrGone (disk (deploy (commit_dir name commit)))
 
 -- ---- views
 
@@ -83,27 +86,34 @@ pub data IsOld (p : Elements) : Type 0 where
   is_remotes : p ≡ remotes_conf → IsOld p
   is_pins : p ≡ pins_file → IsOld p
 
--- The fixed paths of an image: those that are read for what it shows, those of the commits that it keeps, and the objects of
--- their orders.
+-- The fixed paths of an image: those that are read for what it shows, those of the commits that it
+-- keeps, and the objects of their orders.
 pub data Fixed (disk : Disk) (p : Elements) : Type 0 where
   is_config : p ≡ config → Fixed disk p
   is_old : disk config ≡ gone → IsOld p → Fixed disk p
   is_active : (name : Ref) → is_ref name ≡ true → p ≡ active name → Fixed disk p
-  is_deploy : (name : Ref) (text : List ℕ) → is_ref name ≡ true → disk (active name) ≡ points text → p ≡ deploy (text_dir name text) → Fixed disk p
+  is_deploy : (name : Ref) (text : List ℕ) → is_ref name ≡ true → disk (active name) ≡ points text
+      → p ≡ deploy (text_dir name text) → Fixed disk p
   is_layer : (name : List ℕ) → is_override name ≡ true → p ≡ override_path name → Fixed disk p
-  is_inside : (name : Ref) (commit : List ℕ) (rest : Elements) → Keeps disk name commit → rest ≢ deploy_name → p ≡ rest ++ commit_dir name commit → Fixed disk p
-  is_object : (name : Ref) (commit : List ℕ) (place : Place) → Keeps disk name commit → In (order (store repo disk) commit) place
+  is_inside : (name : Ref) (commit : List ℕ) (rest : Elements) → Keeps disk name commit
+      → rest ≢ deploy_name → p ≡ rest ++ commit_dir name commit → Fixed disk p
+  is_object : (name : Ref) (commit : List ℕ) (place : Place) → Keeps disk name commit
+      → In (order (store repo disk) commit) place
       → p ≡ object_path repo place.digest place.kind → Fixed disk p
 
 -- what may come to stand at a path of this image that isn't fixed
 pub record Permits (disk : Disk) (p : Elements) (spot : Spot) : Type 0 where
   pub allowed : Allowed p spot
-  pub deploy : (name : Ref) (commit : List ℕ) → Keeps disk name commit → p ≡ deploy (commit_dir name commit) → IsFileOrGone spot
+  pub deploy : (name : Ref) (commit : List ℕ) → Keeps disk name commit
+      → p ≡ deploy (commit_dir name commit) → IsFileOrGone spot
 
--- What may come to stand where, seen from each outcome of a view: nothing at a fixed path, and elsewhere what may stand there.
+-- What may come to stand where, seen from each outcome of a view: nothing at a fixed path, and
+-- elsewhere what may stand there.
 pub record Spares (v : View) (G : Elements → Spot → Type 0) : Type 0 where
-  pub avoids : (disk : Disk) → Leaves v disk → (p : Elements) (spot : Spot) → Fixed disk p → G p spot → ⊥
-  pub permits : (disk : Disk) → Leaves v disk → (p : Elements) (spot : Spot) → G p spot → Permits disk p spot
+  pub avoids : (disk : Disk) → Leaves v disk → (p : Elements) (spot : Spot) → Fixed disk p
+      → G p spot → ⊥
+  pub permits : (disk : Disk) → Leaves v disk → (p : Elements) (spot : Spot) → G p spot
+      → Permits disk p spot
 
 -- all that may come to stand where
 abbrev pub Spared : View → Elements → Spot → Type 0

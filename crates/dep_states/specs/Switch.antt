@@ -22,35 +22,43 @@ pub record IsWith (s : State) (name : Ref) (row : Option RefRow) (t : State) : T
   pub setup : setup_of t ≡ setup_of s
   pub overrides : t.overrides ≡ s.overrides
   pub here : at_name ref_key t.refs (ref_text name) ≡ row
-  pub others : (text : List ℕ) → text ≢ ref_text name → at_name ref_key t.refs text ≡ at_name ref_key s.refs text
+  pub others : (text : List ℕ) → text ≢ ref_text name
+      → at_name ref_key t.refs text ≡ at_name ref_key s.refs text
   pub ascend : is_ascending (map ref_key t.refs) ≡ true
 
--- The image j shows this row, or none, for the ref. Else it has at each fixed path of i what i has, and elsewhere what may stand
--- there. The commits that it keeps for the ref stand.
+-- The image j shows this row, or none, for the ref. Else it has at each fixed path of i what i has,
+-- and elsewhere what may stand there. The commits that it keeps for the ref stand.
 pub record Changed (i j : Disk) (name : Ref) (row : Option RefRow) : Type 0 where
   pub seen : ref_seen j name ≡ seen_of row
   pub still : (p : Elements) → Fixed i p → p ≢ active name → j p ≡ i p
   pub elsewhere : (p : Elements) → (j p ≡ i p) ⊎ Permits i p (j p)
-  pub whole : (commit : List ℕ) → Keeps j name commit → Stands (reads_as name.kind) repo j commit (commit_dir name commit)
-  pub deploys : (commit : List ℕ) → Keeps j name commit → IsFileOrGone (j (deploy (commit_dir name commit)))
+  pub whole : (commit : List ℕ) → Keeps j name commit
+      → Stands (reads_as name.kind) repo j commit (commit_dir name commit)
+  pub deploys : (commit : List ℕ) → Keeps j name commit
+      → IsFileOrGone (j (deploy (commit_dir name commit)))
 
--- Staged, of one image: the row's commit stands beside the state, with its `deploy`, and its previous commit is kept.
+-- Staged, of one image: the row's commit stands beside the state, with its `deploy`, and its
+-- previous commit is kept.
 pub record Prepared (i : Disk) (name : Ref) (row : RefRow) : Type 0 where
   pub good : is_ref name ≡ true
   pub stands : Stands (reads_as name.kind) repo i row.commit (commit_dir name row.commit)
-  pub recorded : deploy_at name (hex row.commit) (i (deploy (commit_dir name row.commit))) ≡ there row
+  pub recorded : deploy_at name (hex row.commit) (i (deploy (commit_dir name row.commit)))
+      ≡ there row
   pub previous : (commit : List ℕ) → IsPrevious row.previous commit → Keeps i name commit
 
 -- the paths that a switch to the row reads beside the fixed ones
 pub data Wanted (i : Disk) (name : Ref) (row : RefRow) (p : Elements) : Type 0 where
   is_fixed : Fixed i p → p ≢ active name → Wanted i name row p
-  is_new_path : (rest : Elements) → rest ≢ deploy_name → p ≡ rest ++ commit_dir name row.commit → Wanted i name row p
-  is_new_object : (place : Place) → In (order (store repo i) row.commit) place → p ≡ object_path repo place.digest place.kind → Wanted i name row p
+  is_new_path : (rest : Elements) → rest ≢ deploy_name → p ≡ rest ++ commit_dir name row.commit
+      → Wanted i name row p
+  is_new_object : (place : Place) → In (order (store repo i) row.commit) place
+      → p ≡ object_path repo place.digest place.kind → Wanted i name row p
   is_new_deploy : p ≡ deploy (commit_dir name row.commit) → Wanted i name row p
 
 -- the link comes to `active`, and from its work name
 abbrev pub SwitchesAt : Ref → RefRow → Elements → Elements → Spot → Type 0
-SwitchesAt name row from q spot = ((q ≡ active name) × (spot ≡ points (hex row.commit))) ⊎ ((q ≡ from) × (spot ≡ gone))
+SwitchesAt name row from q spot =
+    ((q ≡ active name) × (spot ≡ points (hex row.commit))) ⊎ ((q ≡ from) × (spot ≡ gone))
 
 -- Staged: every outcome shows the state and is Sound, and the row's commit stands there, recorded.
 pub record Stages (s : State) (name : Ref) (row : RefRow) (v : View) : Type 0 where

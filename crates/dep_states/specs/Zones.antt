@@ -1,4 +1,5 @@
--- What may stand at a path, whatever stands elsewhere. One function says of each path what it is for.
+-- What may stand at a path, whatever stands elsewhere. One function says of each path what it is
+-- for.
 use Rattle.std.specs.Prelude.{◌≡◌, ◌⊎◌, ◌≤◌, List, [], ◌∷◌, ◌++◌, ℕ, Bool, ◌||◌, ◌&&◌, if◌then◌else◌, length, take, drop, is_some, codes}
 use Rattle.std.specs.Str.{bytes_eq}
 use Rattle.fp_host.specs.Paths.{Elements}
@@ -58,8 +59,10 @@ at_kind end (kind ∷ rest) = if is_some (kind_of kind) then at_id end rest else
 
 -- REST.KIND below XX: the name of an object
 abbrev pub is_object_name : List ℕ → List ℕ → Bool
-is_object_name xx name = is_prefix xx && (is_some (unhex (xx ++ take 62 name)) && (is (codes ".commit") (drop 62 name)
-    || (is (codes ".dirtree") (drop 62 name) || (is (codes ".dirmeta") (drop 62 name) || is (codes ".file") (drop 62 name)))))
+is_object_name xx name =
+    is_prefix xx && (is_some (unhex (xx ++ take 62 name)) && (is (codes ".commit") (drop 62 name)
+    || (is (codes ".dirtree") (drop 62 name) ||
+    (is (codes ".dirmeta") (drop 62 name) || is (codes ".file") (drop 62 name)))))
 
 -- below `objects` of a store that `export` made
 abbrev pub zone_made_objects : List (List ℕ) → Zone
@@ -92,11 +95,13 @@ zone_objects (xx ∷ name ∷ rest) = an_object
 
 abbrev pub zone_remotes : List (List ℕ) → Zone
 zone_remotes [] = a_folder
-zone_remotes (origin ∷ rest) = if is_remote_name origin then at_kind (here a_file) rest else anything
+zone_remotes (origin ∷ rest) =
+    if is_remote_name origin then at_kind (here a_file) rest else anything
 
 abbrev pub zone_refs : List (List ℕ) → Zone
 zone_refs [] = a_folder
-zone_refs (x ∷ rest) = if is (codes "heads") x then here a_folder rest else (if is (codes "remotes") x then zone_remotes rest else anything)
+zone_refs (x ∷ rest) = if is (codes "heads") x then here a_folder rest
+    else (if is (codes "remotes") x then zone_remotes rest else anything)
 
 abbrev pub zone_repo : List (List ℕ) → Zone
 zone_repo [] = a_folder
@@ -111,7 +116,8 @@ zone_repo (x ∷ rest) =
 -- in a branch directory
 abbrev pub zone_branch : List (List ℕ) → Zone
 zone_branch [] = a_folder
-zone_branch (x ∷ rest) = if is (codes "active") x then here a_link rest else (if is_some (unhex x) then here a_folder rest else anything)
+zone_branch (x ∷ rest) = if is (codes "active") x then here a_link rest
+    else (if is_some (unhex x) then here a_folder rest else anything)
 
 abbrev pub zone_overrides : List (List ℕ) → Zone
 zone_overrides [] = a_folder
@@ -166,7 +172,8 @@ Fits a_folder p spot = IsFolderOrGone spot
 Fits (a_prefix xx) p spot = MayBePrefix xx spot
 Fits an_object p spot = MayBeObject repo p spot
 
--- Part 1 of Sound, and of part 5 all that is said of one path alone. No path has more than 128 elements.
+-- Part 1 of Sound, and of part 5 all that is said of one path alone. No path has more than 128
+-- elements.
 pub record Allowed (p : Elements) (spot : Spot) : Type 0 where
   pub fits : Fits (zone (outward p)) p spot
   pub short : IsGone spot ⊎ (length p ≤ MOST_ELEMENTS)

@@ -53,14 +53,14 @@ pub fn undamaged_images_show_a_state()
         → ((p : Elements) → Damages disk p → ⊥) → IsShown disk }
 {}
 
-/// Of two refs that don't read, one since its `deploy` is that of another commit, the path is given that comes first by its
-/// bytes: that of `org.x.A-b`, though `org.x.A` is the first of the IDs.
+/// Of two refs that don't read, one since its `deploy` is that of another commit, the path is given
+/// that comes first by its bytes: that of `org.x.A-b`, though `org.x.A` is the first of the IDs.
 pub fn the_first_path_is_by_bytes()
     ensures { Gives damaged_disk (Err (active dashed_ref)) }
 {}
 
-/// What is shown can be written: good names, URLs and patterns, in order and within the limits; rows that a `deploy` can say;
-/// and overrides that a key file can say.
+/// What is shown can be written: good names, URLs and patterns, in order and within the limits;
+/// rows that a `deploy` can say; and overrides that a key file can say.
 pub fn what_is_shown_can_be_written()
     ensures { (disk : Disk) (s : State) → Shows disk s → IsGood s }
 {}
@@ -81,7 +81,8 @@ pub fn the_empty_image_is_sound()
     ensures settled { Settled empty_disk }
 {}
 
-/// An image with a `config`, two refs, one of them with a previous commit, and an override shows its state.
+/// An image with a `config`, two refs, one of them with a previous commit, and an override shows
+/// its state.
 pub fn the_worked_image_shows_its_state()
     ensures { Shows worked_disk worked_state }
 {}
@@ -93,11 +94,13 @@ pub fn the_deployed_image_is_sound()
     ensures settled { Settled deployed_disk }
 {}
 
-/// Sound images: one without even a root; and the root with a `config` as it is written, which shows its settings.
+/// Sound images: one without even a root; and the root with a `config` as it is written, which
+/// shows its settings.
 pub fn sound_images()
     ensures nothing { Sound no_disk }
     ensures written { (s : Settings) → IsSettings s → length (config_text s) ≤ config_most
-        → Sound (config_disk (config_text s)) × Shows (config_disk (config_text s)) (settings_state s) }
+        → Sound (config_disk (config_text s))
+        × Shows (config_disk (config_text s)) (settings_state s) }
 {}
 
 /// A view in which the root stands alone is sound where every stop leaves what stands.
@@ -106,7 +109,8 @@ pub fn a_bare_view_is_sound()
         → ((x : List ℕ) (up : Elements) → v.names (x ∷ up) ≡ absent) → IsSound v }
 {}
 
-/// A path of the most elements that is for nothing else may be a folder, and one of one more may not.
+/// A path of the most elements that is for nothing else may be a folder, and one of one more may
+/// not.
 pub fn paths_have_a_longest()
     ensures longest { (p : Elements) → length p ≡ MOST_ELEMENTS → zone (outward p) ≡ anything
         → Allowed p folder }
@@ -122,8 +126,8 @@ pub fn steps_that_give_nothing()
     ensures sound { (old new : View) → Follows Nothing old new → IsSound old → IsSound new }
 {}
 
-/// A step that gives nothing to a fixed path, and elsewhere only what may stand there, leaves what was shown before, and leaves
-/// it sound. `config` stays, too.
+/// A step that gives nothing to a fixed path, and elsewhere only what may stand there, leaves what
+/// was shown before, and leaves it sound. `config` stays, too.
 pub fn steps_that_spare()
     ensures opens { (old new : View) (s : State) → Follows (Spared old) old new → Opens s old
         → Opens s new }
@@ -155,8 +159,9 @@ pub fn unused_objects_may_go()
         → Spares v (ObjectGone d kind) }
 {}
 
-/// An object may come to a name that is absent. So a pull, which works below `repo/tmp` and brings new objects, leaves what was
-/// shown before, and leaves it sound. Pulls one after another are a pull.
+/// An object may come to a name that is absent. So a pull, which works below `repo/tmp` and brings
+/// new objects, leaves what was shown before, and leaves it sound. Pulls one after another are a
+/// pull.
 pub fn new_objects_may_come()
     ensures spares { (s : State) (v : View) → Opens s v → Spares v (IsNewObject v) }
     ensures pulls { (s : State) (u w : View) → Opens s u → Pulls InTmp u w → Opens s w }
@@ -171,8 +176,8 @@ pub fn what_is_settled_is_opened()
         → Opens s v }
 {}
 
-/// What is asked of a view can be met: where all is settled, the root alone opens as the empty state of layout 2, and a view that
-/// shows the image with the deployed ref opens as that state.
+/// What is asked of a view can be met: where all is settled, the root alone opens as the empty
+/// state of layout 2, and a view that shows the image with the deployed ref opens as that state.
 pub fn views_can_be_opened()
     ensures bare { (v : View) → IsTree v → IsSettled v
         → ((x : List ℕ) (up : Elements) → v.names (x ∷ up) ≡ absent) → Opens empty_state v }
@@ -190,8 +195,8 @@ pub fn opened_is_sound()
     ensures { (s : State) (v : View) → Opens s v → IsSound v }
 {}
 
-/// In a sound image `config` and the files of layout 1 are absent or files, `repo` and `repo/tmp` are absent or folders, and the
-/// objects are what their names say.
+/// In a sound image `config` and the files of layout 1 are absent or files, `repo` and `repo/tmp`
+/// are absent or folders, and the objects are what their names say.
 pub fn what_a_sound_image_holds()
     ensures config { (disk : Disk) → Sound disk → IsFileOrGone (disk config) }
     ensures remotes { (disk : Disk) → Sound disk → IsFileOrGone (disk remotes_conf) }
@@ -203,23 +208,25 @@ pub fn what_a_sound_image_holds()
 
 // ---- small files
 
-/// An image that differs from another in the files of the settings alone, and elsewhere in what may stand there, shows the state
-/// with the settings that are read of it, and is sound.
+/// An image that differs from another in the files of the settings alone, and elsewhere in what may
+/// stand there, shows the state with the settings that are read of it, and is sound.
 pub fn settings_may_change()
     ensures shown { (i j : Disk) (s t : State)
         → ((p : Elements) → Fixed i p → (IsSetting p → ⊥) → j p ≡ i p)
-        → settings_seen j ≡ there (setup_of t) → t.refs ≡ s.refs → t.overrides ≡ s.overrides → Shows i s
+        → settings_seen j ≡ there (setup_of t) → t.refs ≡ s.refs
+        → t.overrides ≡ s.overrides → Shows i s
         → Shows j t }
     ensures sound { (i j : Disk) → ((p : Elements) → Fixed i p → (IsSetting p → ⊥) → j p ≡ i p)
         → ((p : Elements) → (j p ≡ i p) ⊎ Permits i p (j p)) → Sound i → Sound j }
 {}
 
-/// An image that differs from another in one override alone, and elsewhere in what may stand there, shows the state with the
-/// override that is read of it, or without one, and is sound.
+/// An image that differs from another in one override alone, and elsewhere in what may stand there,
+/// shows the state with the override that is read of it, or without one, and is sound.
 pub fn an_override_may_change()
     ensures shown { (i j : Disk) (s t : State) (layer : List ℕ)
         → ((p : Elements) → Fixed i p → (p ≡ override_path layer → ⊥) → j p ≡ i p)
-        → IsLayered s layer t → override_seen j layer ≡ seen_of (at_name override_key t.overrides layer)
+        → IsLayered s layer t → override_seen j layer
+        ≡ seen_of (at_name override_key t.overrides layer)
         → Shows i s → Shows j t }
     ensures sound { (i j : Disk) (layer : List ℕ)
         → ((p : Elements) → Fixed i p → (p ≡ override_path layer → ⊥) → j p ≡ i p)
@@ -243,7 +250,13 @@ pub fn operations_change_one_row()
     ensures install { (s : State) (name : Ref) (remote commit : List ℕ) (time : ℕ) → HasOrder s
         → row_at s name ≡ None
         → IsWith s name
-        (Some (record { name = name; origin = remote; commit = commit; timestamp = time; previous = None }))
+        (Some (record {
+          name = name;
+          origin = remote;
+          commit = commit;
+          timestamp = time;
+          previous = None;
+        }))
         (after_op s time (Install name remote commit)) }
     ensures update { (s : State) (name : Ref) (remote commit : List ℕ) (time : ℕ) (row : RefRow)
         → HasOrder s
@@ -273,22 +286,24 @@ pub fn operations_change_one_row()
         (after_op s time (Rollback row.name commit)) }
 {}
 
-/// The rename of a link from `repo/tmp` onto `active`: where its commit stands beside the state, each outcome shows the state of
-/// before or the one with the new row, and is sound.
+/// The rename of a link from `repo/tmp` onto `active`: where its commit stands beside the state,
+/// each outcome shows the state of before or the one with the new row, and is sound.
 pub fn a_switch_is_old_or_new()
     ensures { (u w : View) (s t : State) (name : Ref) (row : RefRow) (rest : Elements)
         → is_ref name ≡ true
-        → IsWith s name (Some row) t → Follows (SwitchesAt name row (rest ++ tmp)) u w → Stages s name row u
+        → IsWith s name (Some row) t → Follows (SwitchesAt name row (rest ++ tmp)) u w
+        → Stages s name row u
         → OpensEither s t w }
 {}
 
 // ---- where files stay
 
-/// No work lasts, and of what stands in a commit's folder only the record does. An object of the store lasts, and a file of its
-/// refs.
+/// No work lasts, and of what stands in a commit's folder only the record does. An object of the
+/// store lasts, and a file of its refs.
 pub fn what_lasts()
     ensures no_work { (q : Elements) → IsWithin tmp q → IsLasting q → ⊥ }
-    ensures record { (name : Ref) (commit : List ℕ) (q : Elements) → IsAbove (commit_dir name commit) q
+    ensures record { (name : Ref) (commit : List ℕ) (q : Elements)
+        → IsAbove (commit_dir name commit) q
         → IsLasting q → q ≡ deploy (commit_dir name commit) }
     ensures object { (d : List ℕ) (kind : ObjKind) → IsLasting (object_path repo d kind) }
     ensures a_ref { (place : RefPlace) → IsLasting (place_path repo place) }

@@ -3,8 +3,8 @@ ghost use Rattle.std.specs.Prelude.{◌≡◌};
 
 use fp_small::State;
 
-/// An installation that was opened, with its state: it stands for a view of the host in which every stop leaves that
-/// state, and is sound.
+/// An installation that was opened, with its state: it stands for a view of the host in which every
+/// stop leaves that state, and is sound.
 #[derive(Drop)]
 pub struct Opened {
     state: State,

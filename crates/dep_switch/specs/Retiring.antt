@@ -28,12 +28,13 @@ pub record CanRetire (s : State) (plan : RetirePlan) (v : View) : Type 0 where
   pub planned : IsPlanOf plan.name plan
   pub there : row_at s plan.name ≢ None
 
--- At every moment each stop leaves the state of before or the one without the ref. No file changes, what was put at a
--- name stays remembered, and nothing is printed.
+-- At every moment each stop leaves the state of before or the one without the ref. No file changes,
+-- what was put at a name stays remembered, and nothing is printed.
 pub record Retires (s : State) (plan : RetirePlan) (u w : View) : Type 0 where
   pub either : IsPlanOf plan.name plan → Opens s u → OpensEither s (without_row s plan.name) w
   pub names : (q : Elements) → (w.names q ≡ u.names q) ⊎ ((q ≡ plan.link) × (w.names q ≡ absent))
-  pub puts : (x : Elements × Slot) → Contains w.stood x → Contains u.stood x ⊎ ((x.0 ≡ plan.link) × (x.1 ≡ absent))
+  pub puts : (x : Elements × Slot) → Contains w.stood x
+      → Contains u.stood x ⊎ ((x.0 ≡ plan.link) × (x.1 ≡ absent))
   pub files : (id : ℕ) → w.files id ≡ u.files id
   pub stood : (x : Elements × Slot) → Contains u.stood x → Contains w.stood x
   pub printed : w.printed ≡ u.printed

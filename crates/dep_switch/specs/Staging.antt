@@ -26,11 +26,12 @@ row_deploy row = deploy (commit_dir row.name row.commit)
 
 -- ---- before it is staged
 
--- The row's commit stands, and isn't the one at which its ref is. Its previous one is. Nothing is at the new link's name, and at
--- the row's `deploy` nothing or a file.
+-- The row's commit stands, and isn't the one at which its ref is. Its previous one is. Nothing is
+-- at the new link's name, and at the row's `deploy` nothing or a file.
 pub record CanStage (s : State) (row : RefRow) (v : View) : Type 0 where
   pub opens : Opens s v
-  pub stands : Stands (reads_as row.name.kind) repo (shows v) row.commit (commit_dir row.name row.commit)
+  pub stands : Stands (reads_as row.name.kind) repo (shows v) row.commit
+      (commit_dir row.name row.commit)
   pub moves : IsAt s row.name row.commit → ⊥
   pub previous : (commit : List ℕ) → IsPrevious row.previous commit → IsAt s row.name commit
   pub link_free : v.names new_link ≡ absent
@@ -38,15 +39,16 @@ pub record CanStage (s : State) (row : RefRow) (v : View) : Type 0 where
 
 -- ---- while it is staged
 
--- At every moment each stop leaves the state, where the ref isn't at the row's commit. No names change but those of the row's
--- `deploy`, the new link and its folders.
+-- At every moment each stop leaves the state, where the ref isn't at the row's commit. No names
+-- change but those of the row's `deploy`, the new link and its folders.
 pub record Readies (s : State) (row : RefRow) (u w : View) : Type 0 where
   pub opens : Opens s u → (IsAt s row.name row.commit → ⊥) → Opens s w
   pub prepares : Prepares (row_deploy row) (hex row.commit) u w
 
 -- ---- staged
 
--- Every stop leaves what stands: the state, the row's commit beside it with its record, and the link to it.
+-- Every stop leaves what stands: the state, the row's commit beside it with its record, and the
+-- link to it.
 pub record IsStaged (s : State) (row : RefRow) (v : View) : Type 0 where
   pub stages : Stages s row.name row v
   pub moves : IsAt s row.name row.commit → ⊥
@@ -84,14 +86,17 @@ pub record CanSwitch (staged : Staged) (v : View) : Type 0 where
 
 -- the new link comes to `active`, and from its own name
 abbrev pub SwitchesName : Staged → View → Elements → Slot → Type 0
-SwitchesName staged u q e = ((q ≡ staged.to) × (e ≡ u.names staged.from)) ⊎ ((q ≡ staged.from) × (e ≡ absent))
+SwitchesName staged u q e =
+    ((q ≡ staged.to) × (e ≡ u.names staged.from)) ⊎ ((q ≡ staged.from) × (e ≡ absent))
 
--- At every moment each stop leaves the state of before or the one after. No file changes, what was put at a
--- name stays remembered, and nothing is printed.
+-- At every moment each stop leaves the state of before or the one after. No file changes, what was
+-- put at a name stays remembered, and nothing is printed.
 pub record Switches (staged : Staged) (u w : View) : Type 0 where
-  pub either : (s : State) (row : RefRow) → LeadsTo s row staged → IsStaged s row u → OpensEither s staged.state w
+  pub either : (s : State) (row : RefRow) → LeadsTo s row staged → IsStaged s row u
+      → OpensEither s staged.state w
   pub names : (q : Elements) → (w.names q ≡ u.names q) ⊎ SwitchesName staged u q (w.names q)
-  pub puts : (x : Elements × Slot) → Contains w.stood x → Contains u.stood x ⊎ SwitchesName staged u x.0 x.1
+  pub puts : (x : Elements × Slot) → Contains w.stood x
+      → Contains u.stood x ⊎ SwitchesName staged u x.0 x.1
   pub files : (id : ℕ) → w.files id ≡ u.files id
   pub stood : (x : Elements × Slot) → Contains u.stood x → Contains w.stood x
   pub printed : w.printed ≡ u.printed

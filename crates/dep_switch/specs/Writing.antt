@@ -17,7 +17,12 @@ use Rattle.dep_states.specs.declared.deploy.DeployData.{DeployData}
 
 -- what a row's `deploy` says
 abbrev pub data_of : RefRow → DeployData
-data_of row = record { origin = row.origin; commit = row.commit; timestamp = row.timestamp; previous = row.previous }
+data_of row = record {
+  origin = row.origin;
+  commit = row.commit;
+  timestamp = row.timestamp;
+  previous = row.previous;
+}
 
 -- where the link to a new commit is made
 abbrev pub new_link : Elements
@@ -32,7 +37,8 @@ FileAt p q spot = (q ≡ p) × IsFileOrGone spot
 abbrev pub FileName : Elements → Elements → Slot → Type 0
 FileName p q e = (q ≡ p) × ((e ≡ absent) ⊎ IsFile e)
 
--- Each file that was there keeps its mode and its bytes, also the one that stood at the path. A new one that has bytes was put there.
+-- Each file that was there keeps its mode and its bytes, also the one that stood at the path. A new
+-- one that has bytes was put there.
 pub record WritesFile (p : Elements) (u w : View) : Type 0 where
   pub follows : Follows (FileAt p) u w
   pub names : (q : Elements) → (w.names q ≡ u.names q) ⊎ FileName p q (w.names q)
@@ -54,7 +60,8 @@ pub record CanWrite (p : Elements) (v : View) : Type 0 where
 
 -- ---- the file, and the link
 
--- what may come to stand: nothing or a file as the `deploy`, the folders of the new link, and that link
+-- what may come to stand: nothing or a file as the `deploy`, the folders of the new link, and that
+-- link
 pub data PreparesAt (deploy : Elements) (text : List ℕ) (q : Elements) (spot : Spot) : Type 0 where
   a_deploy : q ≡ deploy → IsFileOrGone spot → PreparesAt deploy text q spot
   a_folder : Contains (ancestors new_link) q → spot ≡ folder → PreparesAt deploy text q spot
@@ -66,11 +73,13 @@ pub data PreparesName (deploy : Elements) (text : List ℕ) (q : Elements) (e : 
   new_folder : Contains (ancestors new_link) q → e ≡ dir → PreparesName deploy text q e
   the_link : q ≡ new_link → e ≡ link text → PreparesName deploy text q e
 
--- Each file that was there keeps its mode and its bytes, a new one that has bytes was put as the `deploy`, and nothing is printed.
+-- Each file that was there keeps its mode and its bytes, a new one that has bytes was put as the
+-- `deploy`, and nothing is printed.
 pub record Prepares (deploy : Elements) (text : List ℕ) (u w : View) : Type 0 where
   pub follows : Follows (PreparesAt deploy text) u w
   pub names : (q : Elements) → (w.names q ≡ u.names q) ⊎ PreparesName deploy text q (w.names q)
-  pub puts : (x : Elements × Slot) → Contains w.stood x → Contains u.stood x ⊎ PreparesName deploy text x.0 x.1
+  pub puts : (x : Elements × Slot) → Contains w.stood x
+      → Contains u.stood x ⊎ PreparesName deploy text x.0 x.1
   pub files : KeepsFiles u w
   pub shares : Shares (Only deploy) u w
   pub printed : w.printed ≡ u.printed

@@ -1,4 +1,5 @@
-//! Laws of the step that changes a ref's deployed commit. Each is the contract of a function that does nothing.
+//! Laws of the step that changes a ref's deployed commit. Each is the contract of a function that
+//! does nothing.
 ghost use Rattle.std.specs.Prelude.{◌≡◌, ◌≢◌, ℕ, List, None, true};
 ghost use Rattle.fp_host.specs.Paths.{Elements};
 ghost use Rattle.fp_host.specs.View.{View, IsTree};
@@ -21,20 +22,23 @@ ghost use Rattle.dep_switch.specs.Writing.{FileAt};
 ghost use Rattle.dep_switch.specs.declared.retiring.RetirePlan.{RetirePlan};
 ghost use Rattle.dep_switch.specs.declared.staged.Staged.{Staged};
 
-/// The removal of an `active`: each outcome shows the state of before or the one without the ref, and is sound.
+/// The removal of an `active`: each outcome shows the state of before or the one without the ref,
+/// and is sound.
 pub fn a_retirement_is_old_or_new()
     ensures { (u w : View) (s t : State) (name : Ref) → is_ref name ≡ true → IsWith s name None t
         → Follows (RetiresAt name) u w → Opens s u → OpensEither s t w }
 {}
 
-/// The `deploy` of a commit that isn't the deployed one may be written, also where the commit is kept as the previous one.
+/// The `deploy` of a commit that isn't the deployed one may be written, also where the commit is
+/// kept as the previous one.
 pub fn a_deploy_may_be_written()
     ensures { (s : State) (v : View) (name : Ref) (commit : List ℕ) → is_digest commit ≡ true
-        → Opens s v → (IsAt s name commit → ⊥) → Spares v (FileAt (deploy (commit_dir name commit))) }
+        → Opens s v → (IsAt s name commit → ⊥)
+        → Spares v (FileAt (deploy (commit_dir name commit))) }
 {}
 
-/// What is asked before a switch can be met: in the image that has a commit's folder, its objects and a `deploy`, but no `active` of
-/// the ref.
+/// What is asked before a switch can be met: in the image that has a commit's folder, its objects
+/// and a `deploy`, but no `active` of the ref.
 pub fn a_switch_can_be_staged()
     ensures shown { Shows undeployed_disk undeployed_state }
     ensures sound { Sound undeployed_disk }
@@ -49,7 +53,8 @@ pub fn what_is_staged_can_be_switched()
         → CanStage s row u → WasStaged s row u w → CanSwitch staged w }
 {}
 
-/// What is asked before a ref goes is met for each plan of a ref that is deployed, wherever every stop leaves the state.
+/// What is asked before a ref goes is met for each plan of a ref that is deployed, wherever every
+/// stop leaves the state.
 pub fn a_deployed_ref_can_be_retired()
     ensures { (s : State) (v : View) (plan : RetirePlan) → IsPlanOf plan.name plan → Opens s v
         → row_at s plan.name ≢ None → CanRetire s plan v }

@@ -1,5 +1,5 @@
-//! The step that changes a ref's deployed commit: the new commit is recorded and linked beside the old one, and then the link is
-//! renamed onto `active`; or `active` is taken away.
+//! The step that changes a ref's deployed commit: the new commit is recorded and linked beside the
+//! old one, and then the link is renamed onto `active`; or `active` is taken away.
 #![tactic(auto)]
 
 pub mod laws;

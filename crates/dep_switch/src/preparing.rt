@@ -48,7 +48,8 @@ pub(crate) fn with_row(state: State, row: RefRow) -> Result<State, AllocError>
     })
 }
 
-/// Writes a new file with the permission bits 0644, in the place of one that is there. Nothing is synced.
+/// Writes a new file with the permission bits 0644, in the place of one that is there. Nothing is
+/// synced.
 pub(crate) fn write_new<H: Host>(host: &mut H, path: &Path, bytes: &[u8]) -> Result<(), HostEnd>
     ensures any_moment { Always (WritesFile path.now) (H.moments host.old) (H.moments host.new) }
     ensures on_success { OnOk result (AtEnd (λ u w. HasFile path.now bytes.now w)
@@ -62,8 +63,8 @@ pub(crate) fn write_new<H: Host>(host: &mut H, path: &Path, bytes: &[u8]) -> Res
     Ok(host.append(path, bytes)?)
 }
 
-/// Writes the `deploy`, makes a link of this text, and syncs. The folders above the link are made where they are absent. All memory
-/// is taken before the first change.
+/// Writes the `deploy`, makes a link of this text, and syncs. The folders above the link are made
+/// where they are absent. All memory is taken before the first change.
 pub(crate) fn prepare<H: Host>(
     alloc: Global,
     host: &mut H,

@@ -73,7 +73,8 @@ impl RetirePlan {
         })
     }
 
-    /// Takes the ref's `active` away, and syncs. It is for the state of which the plan was made. It takes no memory.
+    /// Takes the ref's `active` away, and syncs. It is for the state of which the plan was made. It
+    /// takes no memory.
     pub fn retire<H: Host>(self, host: &mut H, opened: Opened) -> Result<Switched, Faulted>
         ensures state { IfOk result (λ s. s ≡ without_row opened self.name) }
         // A stop at any moment leaves the state with the ref or the one without it.

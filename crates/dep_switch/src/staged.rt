@@ -15,8 +15,9 @@ use fp_host::{Host, HostEnd, Path};
 use fp_small::{RefRow, State};
 use std::alloc::{AllocError, Global};
 
-/// A switch that is staged: it stands for a view of the host in which every stop leaves the state of before, the new commit stands
-/// beside it with its `deploy`, and `repo/tmp/active` is the link to it. It has the state after. All memory is taken.
+/// A switch that is staged: it stands for a view of the host in which every stop leaves the state
+/// of before, the new commit stands beside it with its `deploy`, and `repo/tmp/active` is the link
+/// to it. It has the state after. All memory is taken.
 #[derive(Drop)]
 pub struct Staged {
     from: Path,
@@ -56,8 +57,9 @@ fn plan(alloc: Global, opened: Opened, row: RefRow) -> Result<Preparation, Alloc
 }
 
 impl Staged {
-    /// Writes the row's `deploy`, makes the link `repo/tmp/active` to its commit, and syncs. It is for a commit that stands in its
-    /// folder and isn't deployed. All memory is taken before the first change.
+    /// Writes the row's `deploy`, makes the link `repo/tmp/active` to its commit, and syncs. It is
+    /// for a commit that stands in its folder and isn't deployed. All memory is taken before the
+    /// first change.
     pub fn of<H: Host>(
         alloc: Global,
         host: &mut H,

@@ -5,8 +5,9 @@ use dep_states::Opened;
 use fp_host::HostError;
 use fp_small::State;
 
-/// A call of the host failed, or the host was not as this function's condition asks. Nothing is known but that every stop leaves
-/// the state of before or the one after, and the installation is opened again.
+/// A call of the host failed, or the host was not as this function's condition asks. Nothing is
+/// known but that every stop leaves the state of before or the one after, and the installation is
+/// opened again.
 #[derive(Clone, Copy, Debug, PartialEq, Eq)]
 pub struct Faulted;
 
@@ -18,7 +19,8 @@ impl From<HostError> for Faulted {
     }
 }
 
-/// A switch or a retirement that is done: it stands for a view of the host in which every stop leaves this state, and is sound.
+/// A switch or a retirement that is done: it stands for a view of the host in which every stop
+/// leaves this state, and is sound.
 #[derive(Drop)]
 pub struct Switched {
     state: State,

@@ -6,7 +6,8 @@ use Rattle.fp_small.specs.Shares.{Shares}
 use Rattle.ost_store.specs.Created.{Creates, NoObject}
 use Rattle.dep_states.specs.Lasting.{IsLasting}
 
--- Each file that was there is as it was, a new one that has bytes came to a lasting name, and no object was made.
+-- Each file that was there is as it was, a new one that has bytes came to a lasting name, and no
+-- object was made.
 pub record Lasts (u w : View) : Type 0 where
   pub files : KeepsFiles u w
   pub shares : Shares IsLasting u w

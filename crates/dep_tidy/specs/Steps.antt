@@ -27,8 +27,10 @@ use Rattle.dep_states.specs.Sound.{Opens, IsOld, OldGone, HasConfig}
 use Rattle.dep_tidy.specs.Lasts.{Lasts}
 use Rattle.dep_tidy.specs.Tidy.{IsFrom, Tidies}
 
--- What a step gives and where, what its names come to hold; each file that was there is as it was, and nothing is printed.
-pub record Alters (G : Elements → Spot → Type 0) (W : Elements → Slot → Type 0) (u w : View) : Type 0 where
+-- What a step gives and where, what its names come to hold; each file that was there is as it was,
+-- and nothing is printed.
+pub record Alters (G : Elements → Spot → Type 0) (W : Elements → Slot → Type 0)
+    (u w : View) : Type 0 where
   pub follows : Follows G u w
   pub names : (q : Elements) → (w.names q ≡ u.names q) ⊎ W q (w.names q)
   pub files : KeepsFiles u w
@@ -57,15 +59,18 @@ UnkeptAbsent s q e = InUnkept s q × (e ≡ absent)
 
 -- no folder of such a commit is there
 pub record HasNoUnkept (s : State) (v : View) : Type 0 where
-  pub none : (name : Ref) (commit : List ℕ) → IsUnkept s name commit → v.names (commit_dir name commit) ≡ absent
+  pub none : (name : Ref) (commit : List ℕ) → IsUnkept s name commit
+      → v.names (commit_dir name commit) ≡ absent
 
 -- none in these branch directories
 pub record HasNoneIn (s : State) (paths : List Elements) (v : View) : Type 0 where
-  pub none : (name : Ref) (commit : List ℕ) → IsUnkept s name commit → Contains paths (branch_dir name) → v.names (commit_dir name commit) ≡ absent
+  pub none : (name : Ref) (commit : List ℕ) → IsUnkept s name commit
+      → Contains paths (branch_dir name) → v.names (commit_dir name commit) ≡ absent
 
 -- none of these names in the ref's branch directory
 pub record HasNoneOf (s : State) (name : Ref) (names : List (List ℕ)) (v : View) : Type 0 where
-  pub none : (commit : List ℕ) → IsUnkept s name commit → Contains names (hex commit) → v.names (commit_dir name commit) ≡ absent
+  pub none : (commit : List ℕ) → IsUnkept s name commit → Contains names (hex commit)
+      → v.names (commit_dir name commit) ≡ absent
 
 -- ---- the files of layout 1
 
@@ -120,33 +125,41 @@ OtherAbsent s q e = IsOtherFile s q × (e ≡ absent)
 
 -- no such file is there
 pub record HasNoOther (s : State) (v : View) : Type 0 where
-  pub none : (origin : List ℕ) (name : Ref) → IsOther s origin name → IsFile (v.names (ref_file origin name)) → ⊥
+  pub none : (origin : List ℕ) (name : Ref) → IsOther s origin name
+      → IsFile (v.names (ref_file origin name)) → ⊥
 
 -- nor at these places
 pub record HasNoneAt (s : State) (places : List RefPlace) (v : View) : Type 0 where
-  pub none : (origin : List ℕ) (name : Ref) → IsOther s origin name → Contains places (Remote origin name) → v.names (ref_file origin name) ≡ absent
+  pub none : (origin : List ℕ) (name : Ref) → IsOther s origin name
+      → Contains places (Remote origin name) → v.names (ref_file origin name) ≡ absent
 
 -- what may come to stand where rows get their ref files
 pub data RefAt (rows : List RefRow) (q : Elements) (spot : Spot) : Type 0 where
-  file_at : (row : RefRow) → Contains rows row → q ≡ ref_file row.origin row.name → IsNew (ref_bytes row.commit) spot → RefAt rows q spot
-  folder_at : (row : RefRow) → Contains rows row → Contains (folders_of (ref_file row.origin row.name)) q → spot ≡ folder → RefAt rows q spot
+  file_at : (row : RefRow) → Contains rows row → q ≡ ref_file row.origin row.name
+      → IsNew (ref_bytes row.commit) spot → RefAt rows q spot
+  folder_at : (row : RefRow) → Contains rows row
+      → Contains (folders_of (ref_file row.origin row.name)) q → spot ≡ folder → RefAt rows q spot
   work_at : (k : ℕ) → q ≡ new_name k ∷ tmp → RefAt rows q spot
 
 pub data RefName (rows : List RefRow) (q : Elements) (e : Slot) : Type 0 where
-  file_name : (row : RefRow) → Contains rows row → q ≡ ref_file row.origin row.name → IsFile e → RefName rows q e
-  folder_name : (row : RefRow) → Contains rows row → Contains (folders_of (ref_file row.origin row.name)) q → e ≡ dir → RefName rows q e
+  file_name : (row : RefRow) → Contains rows row → q ≡ ref_file row.origin row.name → IsFile e
+      → RefName rows q e
+  folder_name : (row : RefRow) → Contains rows row
+      → Contains (folders_of (ref_file row.origin row.name)) q → e ≡ dir → RefName rows q e
   work_name : (k : ℕ) → q ≡ new_name k ∷ tmp → RefName rows q e
 
 -- each of these rows has its ref file, with its commit
 pub record HasRefFiles (rows : List RefRow) (v : View) : Type 0 where
-  pub each : (row : RefRow) → Contains rows row → ref_in (shows v (ref_file row.origin row.name)) ≡ Digest row.commit
+  pub each : (row : RefRow) → Contains rows row
+      → ref_in (shows v (ref_file row.origin row.name)) ≡ Digest row.commit
 
 -- The rows get their ref files; where each has its own, nothing changes.
 pub record Writes (rows : List RefRow) (u w : View) : Type 0 where
   pub alters : Alters (RefAt rows) (RefName rows) u w
   pub idle : HasRefFiles rows u → w ≡ u
 
--- The row has its ref file. The names of work are as they were. What was made lasts, and is no object.
+-- The row has its ref file. The names of work are as they were. What was made lasts, and is no
+-- object.
 pub record WroteFile (row : RefRow) (u w : View) : Type 0 where
   pub file : is_digest row.commit ≡ true → HasRefFiles (row ∷ []) w
   pub work : (q : Elements) → IsAbove tmp q → w.names q ≡ u.names q
@@ -164,10 +177,12 @@ WroteFiles s u w = WroteSome s s.refs u w
 
 -- ---- joined
 
--- Where `config` is there every stop leaves it; and every stop leaves at the names of objects what stands.
+-- Where `config` is there every stop leaves it; and every stop leaves at the names of objects what
+-- stands.
 pub record IsSteady (v : View) : Type 0 where
   pub config : v.names config ≢ absent → HasConfig v
-  pub objects : (disk : Disk) → Leaves v disk → (d : List ℕ) (kind : ObjKind) → disk (object_path repo d kind) ≡ shows v (object_path repo d kind)
+  pub objects : (disk : Disk) → Leaves v disk → (d : List ℕ) (kind : ObjKind)
+      → disk (object_path repo d kind) ≡ shows v (object_path repo d kind)
 
 -- tidied, and as steady as before
 pub record Steadily (s : State) (u w : View) : Type 0 where

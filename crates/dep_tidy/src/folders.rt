@@ -15,8 +15,8 @@ use fp_name::{Digest, RefName};
 use fp_small::{State, clear, names_in};
 use std::alloc::Global;
 
-/// Takes away what has this name in the ref's branch directory, where it is the folder of a commit that the state doesn't
-/// keep.
+/// Takes away what has this name in the ref's branch directory, where it is the folder of a commit
+/// that the state doesn't keep.
 fn clear_name<H: Host>(
     alloc: Global,
     host: &mut H,
@@ -44,7 +44,8 @@ fn clear_name<H: Host>(
     clear(alloc, host, &path)
 }
 
-/// Takes away each folder in the ref's branch directory that is of a commit that the state doesn't keep.
+/// Takes away each folder in the ref's branch directory that is of a commit that the state doesn't
+/// keep.
 fn clear_ref<H: Host>(
     alloc: Global,
     host: &mut H,
@@ -88,8 +89,8 @@ fn clear_branch<H: Host>(
     }
 }
 
-/// Takes away each folder of a commit that the state doesn't keep, in every branch directory, also of a ref that the state
-/// doesn't have.
+/// Takes away each folder of a commit that the state doesn't keep, in every branch directory, also
+/// of a ref that the state doesn't have.
 pub(crate) fn clear_folders<H: Host>(
     alloc: Global,
     host: &mut H,

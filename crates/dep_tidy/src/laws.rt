@@ -15,11 +15,12 @@ ghost use Rattle.dep_tidy.specs.Tidy.{MayTidy, SettledButWork, IsSmallPlace};
 /// An image is settled where it is settled but for work, and no work is left.
 pub fn settled_is_without_work()
     ensures { (disk : Disk) → Settled disk
-        ↔ (SettledButWork disk × ((x : List ℕ) (rest : Elements) → disk (rest ++ (x ∷ tmp)) ≡ gone)) }
+        ↔ (SettledButWork disk
+        × ((x : List ℕ) (rest : Elements) → disk (rest ++ (x ∷ tmp)) ≡ gone)) }
 {}
 
-/// An image that differs from another in `config`, in overrides and in work alone is settled but for work where the other is. It
-/// has no `config` beside files of layout 1.
+/// An image that differs from another in `config`, in overrides and in work alone is settled but
+/// for work where the other is. It has no `config` beside files of layout 1.
 pub fn small_changes_leave_the_rest_settled()
     ensures { (i j : Disk) → ((p : Elements) → (IsSmallPlace p → ⊥) → j p ≡ i p)
         → (j config ≢ gone → (i config ≢ gone) ⊎ ((i remotes_conf ≡ gone) × (i pins_file ≡ gone)))

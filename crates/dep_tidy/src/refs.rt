@@ -102,7 +102,8 @@ fn write_file<H: Host>(
     ensures on_success { OnOk result (AtEnd (WroteFile row.now)
         (H.moments host.old) (H.moments host.new)) }
     ensures fault_has_cause { IsCaused (IsErrOf result HostEnd.Fault) (H.moments host.old)
-        (CanWrite repo (Remote row.now.origin row.now.name)) (H.faults host.old) (H.faults host.new) }
+        (CanWrite repo (Remote row.now.origin row.now.name)) (H.faults host.old)
+        (H.faults host.new) }
 {
     let place = place_of(row)?;
     let file = read_ref(alloc, host, root, &place)?;

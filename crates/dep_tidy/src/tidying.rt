@@ -22,10 +22,11 @@ use fp_host::{Host, HostEnd, Path};
 use fp_small::{State, repo_path};
 use std::alloc::Global;
 
-/// Settles the installation, which keeps the state that was opened: syncs, takes away the work that was left in `repo/tmp`, the
-/// folders of commits that the state doesn't keep, where `config` is there the files of layout 1, and the ref files of
-/// refs that it doesn't have; writes those that say something else; takes away the objects that no kept commit uses; and
-/// syncs. Every stop leaves the state.
+/// Settles the installation, which keeps the state that was opened: syncs, takes away the work that
+/// was left in `repo/tmp`, the folders of commits that the state doesn't keep, where `config` is
+/// there the files of layout 1, and the ref files of refs that it doesn't have; writes those that
+/// say something else; takes away the objects that no kept commit uses; and syncs. Every stop
+/// leaves the state.
 pub fn tidy<H: Host>(alloc: Global, host: &mut H, opened: Opened) -> Result<Opened, HostEnd>
     ensures state { IfOk result (λ o. o ≡ opened) }
     ensures any_moment { Always (Tidies opened) (H.moments host.old) (H.moments host.new) }
@@ -39,8 +40,8 @@ pub fn tidy<H: Host>(alloc: Global, host: &mut H, opened: Opened) -> Result<Open
     Ok(opened)
 }
 
-/// Takes away the work that was left in `repo/tmp`, and nothing else, for an installation that is settled but for it: after an
-/// operation that changes no commit. Nothing is synced.
+/// Takes away the work that was left in `repo/tmp`, and nothing else, for an installation that is
+/// settled but for it: after an operation that changes no commit. Nothing is synced.
 pub fn tidy_work<H: Host>(alloc: Global, host: &mut H, opened: Opened) -> Result<Opened, HostEnd>
     ensures state { IfOk result (λ o. o ≡ opened) }
     ensures frame { Frame (GoneBelow tmp) (AbsentBelow tmp) NoPath

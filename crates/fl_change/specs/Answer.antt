@@ -109,7 +109,8 @@ refusal_answer refusal = record { pieces = []; refusal = Some refusal }
 
 -- the line of an operation
 abbrev pub done_answer : Done → Answer
-done_answer done = record { pieces = record { text = op_text done.op; op = Some done } ∷ []; refusal = None }
+done_answer done =
+    record { pieces = record { text = op_text done.op; op = Some done } ∷ []; refusal = None }
 
 -- of one that brings no commit
 abbrev pub op_answer : Op → Answer
@@ -131,7 +132,8 @@ abbrev pub then_over : Holdings → World → Answer → (World → Answer) → 
 then_over held x a next = followed a (next (worlds_after held x (ops_of a)))
 
 -- what there is of each of a list, one after another up to the first refusal
-abbrev pub each_over : {A : Type 0} → (A → Holdings → World → Answer) → List A → Holdings → World → Answer
+abbrev pub each_over : {A : Type 0} → (A → Holdings → World → Answer) → List A → Holdings
+    → World → Answer
 each_over item [] held x = nothing
 each_over item (a ∷ more) held x = then_over held x (item a held x) (each_over item more held)
 

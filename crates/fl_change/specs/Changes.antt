@@ -15,13 +15,15 @@ use Rattle.dep_tidy.specs.Tidy.{MayTidy}
 use Rattle.op_change.specs.Applied.{MayChange}
 use Rattle.fp_small.specs.declared.op.Op.{Op}
 
--- Names may come to hold what one of these operations makes of them, and what tidying does, for some state.
+-- Names may come to hold what one of these operations makes of them, and what tidying does, for
+-- some state.
 pub data MayHold (May : Op → Type 0) (q : Elements) (e : Slot) : Type 0 where
   operated : (s : State) (op : Op) (v : View) → May op → MayChange s op v q e → MayHold May q e
   tidied : (s : State) → MayTidy s q e → MayHold May q e
 
--- Each name holds what it held, or what it may. Each file that was there keeps its mode and its bytes: what is new is in new
--- files. What came to a commit's folder is its record, or a file of the store.
+-- Each name holds what it held, or what it may. Each file that was there keeps its mode and its
+-- bytes: what is new is in new files. What came to a commit's folder is its record, or a file of
+-- the store.
 pub record Changes (May : Op → Type 0) (u w : View) : Type 0 where
   pub names : (q : Elements) → (w.names q ≡ u.names q) ⊎ MayHold May q (w.names q)
   pub files : KeepsFiles u w
@@ -36,8 +38,8 @@ pub record IsStill (u w : View) : Type 0 where
   pub names : (q : Elements) → w.names q ≡ u.names q
   pub unwritten : Shares NoPath u w
 
--- Nothing changes but what is printed: no name, nothing that a stop may bring back at one, and no file; none is new, and
--- nothing was put at a name.
+-- Nothing changes but what is printed: no name, nothing that a stop may bring back at one, and no
+-- file; none is new, and nothing was put at a name.
 pub record IsUntouched (u w : View) : Type 0 where
   pub names : (q : Elements) → w.names q ≡ u.names q
   pub earlier : (q : Elements) → w.earlier q ≡ u.earlier q

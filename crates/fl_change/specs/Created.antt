@@ -21,10 +21,13 @@ pub record Lacks (supply own : Have) (commit : List ℕ) (o : List ℕ × ObjKin
   pub ordered : In (map place_name (order supply commit)) o
   pub lacked : own o.0 o.1 ≡ None
 
--- An install or an update lacks the objects of its commit that the world hasn't. No other operation lacks one.
+-- An install or an update lacks the objects of its commit that the world hasn't. No other operation
+-- lacks one.
 abbrev pub LacksFor : Holdings → World → Op → List ℕ × ObjKind → Type 0
-LacksFor held x (Install name origin commit) o = Lacks (supplied held x (Install name origin commit)) x.have commit o
-LacksFor held x (Update name origin commit) o = Lacks (supplied held x (Update name origin commit)) x.have commit o
+LacksFor held x (Install name origin commit) o =
+    Lacks (supplied held x (Install name origin commit)) x.have commit o
+LacksFor held x (Update name origin commit) o =
+    Lacks (supplied held x (Update name origin commit)) x.have commit o
 LacksFor held x (Uninstall name) o = ⊥
 LacksFor held x (AddPin pin) o = ⊥
 LacksFor held x (DropPin pin) o = ⊥
@@ -36,8 +39,8 @@ LacksFor held x (DropOverride name) o = ⊥
 LacksFor held x Migrate o = ⊥
 LacksFor held x (Rollback name commit) o = ⊥
 
--- From u to w these operations make objects one after another: each just those that it lacks over the world that those before it
--- leave, and where none is left no object is made.
+-- From u to w these operations make objects one after another: each just those that it lacks over
+-- the world that those before it leave, and where none is left no object is made.
 abbrev pub CreatesInTurn : Holdings → World → List Done → View → View → Type 0
 CreatesInTurn held x [] u w = Creates repo NoObject u w
 CreatesInTurn held x (done ∷ rest) u w =

@@ -29,8 +29,10 @@ changed_file file options = file_with (merged (mentioned file options))
 
 -- an override changed by options
 abbrev pub changed_row : List OverrideRow → List ℕ → List (List ℕ) → OverrideRow
-changed_row rows name options = record { name = name; file = changed_file (file_named rows name) options }
+changed_row rows name options =
+    record { name = name; file = changed_file (file_named rows name) options }
 
 -- the text of an override has at most 1 MiB
 abbrev pub long_refusal : OverrideRow → Option Refusal
-long_refusal row = if nat_le (length (text_of row.file)) small_most then None else Some (Limit Override (length (text_of row.file)))
+long_refusal row = if nat_le (length (text_of row.file)) small_most then None
+    else Some (Limit Override (length (text_of row.file)))

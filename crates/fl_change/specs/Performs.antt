@@ -48,9 +48,10 @@ pub record IsSome (a : Answer) (acknowledged : List Done) (s : State) (disk : Di
   pub shown : Shows disk (after_all s done)
   pub sound : Sound disk
 
--- At every moment: the first pieces are said, each file that was there is as it was, and every stop leaves the state after a prefix
--- of the operations. Where there are none, and nothing is pulled, names only changed by tidying; and where all was settled besides,
--- no name changed and no new file has a byte.
+-- At every moment: the first pieces are said, each file that was there is as it was, and every stop
+-- leaves the state after a prefix of the operations. Where there are none, and nothing is pulled,
+-- names only changed by tidying; and where all was settled besides, no name changed and no new file
+-- has a byte.
 pub record Performs (a : Answer) (s : State) (v w : View) : Type 0 where
   pub said : List Piece
   pub so_far : Printed a said v w
@@ -59,14 +60,16 @@ pub record Performs (a : Answer) (s : State) (v w : View) : Type 0 where
   pub still : IsIdle a → Settled (shows v) → IsStill v w
   pub some : (disk : Disk) → Leaves w disk → IsSome a (ops_in said) s disk
 
--- every outcome shows the world's state and is Sound, and what the state's commits use are the world's objects
+-- every outcome shows the world's state and is Sound, and what the state's commits use are the
+-- world's objects
 pub record Holds (x : World) (v : View) : Type 0 where
   pub opens : Opens x.state v
   pub have : x.have ≡ used_of x.state (store repo (shows v))
 
--- All that isn't the line of a refusal was printed, every stop leaves the state after all operations, and all is settled.
--- Where one of them set it, `config` has just its text; else it is as it was. Without a refusal each new file that has bytes came
--- to a lasting name, and each operation in turn made just the objects that it lacked.
+-- All that isn't the line of a refusal was printed, every stop leaves the state after all
+-- operations, and all is settled. Where one of them set it, `config` has just its text; else it is
+-- as it was. Without a refusal each new file that has bytes came to a lasting name, and each
+-- operation in turn made just the objects that it lacked.
 pub record IsDone (held : Holdings) (a : Answer) (x : World) (v w : View) : Type 0 where
   pub printed : w.printed ≡ v.printed ++ joined a.pieces
   pub only_tidied : IsIdle a → OnlyTidied x.state v w
@@ -85,18 +88,24 @@ pub record IsHalted (a : Answer) (s : State) (v w : View) : Type 0 where
   pub opens : Opens (after_all s (ops_in said)) w
 
 abbrev pub Performed : Holdings → Answer → World → Result State RunEnd → View → View → Type 0
-Performed held a x (Ok t) v w = (a.refusal ≡ None) × (t ≡ after_all x.state (ops_of a)) × IsDone held a x v w
+Performed held a x (Ok t) v w =
+    (a.refusal ≡ None) × (t ≡ after_all x.state (ops_of a)) × IsDone held a x v w
 Performed held a x (Err (Refused refusal)) v w = (a.refusal ≡ Some refusal) × IsDone held a x v w
 Performed held a x (Err Fault) v w = Unit {0}
 Performed held a x (Err RemoteFault) v w = IsHalted a x.state v w
 Performed held a x (Err NoMemory) v w = IsHalted a x.state v w
 
 -- So it is over an installation that is ready, by what the remotes hold, where they tell it.
-pub record PerformsOver (Ready : View → Type 0) (holds : Option Holdings) (f : Holdings → World → Answer) (s : State) (v w : View) : Type 0 where
-  pub performs : (held : Holdings) → holds ≡ Some held → Ready v → Performs (f held (world_at s v)) s v w
+pub record PerformsOver (Ready : View → Type 0) (holds : Option Holdings)
+    (f : Holdings → World → Answer) (s : State) (v w : View) : Type 0 where
+  pub performs : (held : Holdings) → holds ≡ Some held → Ready v
+      → Performs (f held (world_at s v)) s v w
 
-pub record PerformedOver (Ready : View → Type 0) (holds : Option Holdings) (f : Holdings → World → Answer) (s : State) (r : Result State RunEnd) (v w : View) : Type 0 where
-  pub performed : (held : Holdings) → holds ≡ Some held → Ready v → Performed held (f held (world_at s v)) (world_at s v) r v w
+pub record PerformedOver (Ready : View → Type 0) (holds : Option Holdings)
+    (f : Holdings → World → Answer) (s : State) (r : Result State RunEnd) (v w : View) : Type 0
+  where
+    pub performed : (held : Holdings) → holds ≡ Some held → Ready v
+        → Performed held (f held (world_at s v)) (world_at s v) r v w
 
 -- ---- what is outside
 
@@ -109,25 +118,32 @@ abbrev pub OpensBy : State → Result State RunEnd → View → View → Type 0
 OpensBy s (Ok t) v w = Opens s v → Opens t w
 OpensBy s (Err e) v w = Unit {0}
 
--- so much changes; where a commit is brought, over an installation that every stop leaves in this state and Sound
+-- so much changes; where a commit is brought, over an installation that every stop leaves in this
+-- state and Sound
 abbrev pub ChangesFrom : (Op → Type 0) → State → View → View → Type 0
 ChangesFrom May s v w = (AsksBy May → Opens s v) → Changes May v w
 
--- Work that does these operations alone. The remotes stay as they are, and each fault is that outside's own: of the host over an
--- installation that every stop leaves in this state and Sound. Where no commit is brought the remotes aren't asked, and else what is
--- known of the installation is known where they tell what they hold.
-pub record Works (May : Op → Type 0) (s : State) (R Q : View → View → Type 0) (result : Result State RunEnd) (u w : Outside) : Type 0 where
+-- Work that does these operations alone. The remotes stay as they are, and each fault is that
+-- outside's own: of the host over an installation that every stop leaves in this state and Sound.
+-- Where no commit is brought the remotes aren't asked, and else what is known of the installation
+-- is known where they tell what they hold.
+pub record Works (May : Op → Type 0) (s : State) (R Q : View → View → Type 0)
+    (result : Result State RunEnd) (u w : Outside) : Type 0 where
   pub goes : Goes u.told w.told R Q
   pub opens : (AsksBy May → AreTold u.holdings) → AtEnd (OpensBy s result) u.told w.told
   pub changes : (AsksBy May → AreTold u.holdings) → Always (ChangesFrom May s) u.told w.told
   pub same : w.holdings ≡ u.holdings
-  pub host : IsCaused ((AsksBy May → AreTold u.holdings) × IsErrOf result Fault) u.told (Opens s) u.host_faults w.host_faults
+  pub host : IsCaused ((AsksBy May → AreTold u.holdings) × IsErrOf result Fault) u.told
+      (Opens s) u.host_faults w.host_faults
   pub remote : IsRemotes (IsErrOf result RemoteFault) u.remote_faults w.remote_faults
-  pub unasked : (AsksBy May → ⊥) → (w.remote_faults ≡ u.remote_faults) × (IsErrOf result RemoteFault → ⊥)
+  pub unasked : (AsksBy May → ⊥) → (w.remote_faults ≡ u.remote_faults)
+      × (IsErrOf result RemoteFault → ⊥)
 
 -- work with this answer
-abbrev pub Acts : (View → Type 0) → (Op → Type 0) → (Holdings → World → Answer) → State → Result State RunEnd → Outside → Outside → Type 0
-Acts Ready May f s result u w = Works May s (PerformsOver Ready u.holdings f s) (PerformedOver Ready u.holdings f s result) result u w
+abbrev pub Acts : (View → Type 0) → (Op → Type 0) → (Holdings → World → Answer) → State
+    → Result State RunEnd → Outside → Outside → Type 0
+Acts Ready May f s result u w = Works May s (PerformsOver Ready u.holdings f s)
+    (PerformedOver Ready u.holdings f s result) result u w
 
 -- every stop leaves this state and Sound, and all is settled
 pub record Rests (s : State) (v : View) : Type 0 where
@@ -144,8 +160,9 @@ Just op o = o ≡ op
 abbrev pub done_of : Op → Holdings → World → Done
 done_of op held x = done_with (supplied held x op) op
 
--- An operation is done and its line printed; it isn't tidied after it. Where it changes no commit, all is settled but for work.
--- Each new file that has bytes came to a lasting name, and just the objects were made that the operation lacked.
+-- An operation is done and its line printed; it isn't tidied after it. Where it changes no commit,
+-- all is settled but for work. Each new file that has bytes came to a lasting name, and just the
+-- objects were made that the operation lacked.
 pub record WasDone (held : Holdings) (op : Op) (s t : State) (v w : View) : Type 0 where
   pub allowed : op_refusal (supplied held (world_at s v) op) op ≡ None
   pub state : t ≡ after s (done_of op held (world_at s v))
@@ -158,8 +175,8 @@ pub record WasDone (held : Holdings) (op : Op) (s t : State) (v w : View) : Type
   pub shares : Shares IsLasting v w
   pub creates : Creates repo (LacksFor held (world_at s v) op) v w
 
--- After an operation that changes no commit it is enough that work is taken away. Each new file that has bytes came to a
--- lasting name, and no object was made.
+-- After an operation that changes no commit it is enough that work is taken away. Each new file
+-- that has bytes came to a lasting name, and no object was made.
 pub record WasTidiedAfter (op : Op) (s : State) (u w : View) : Type 0 where
   pub settled : Opens s u → (keeps_commits op ≡ true → SettledButWork (shows u)) → Settled (shows w)
   pub shares : Shares IsLasting u w
@@ -167,7 +184,9 @@ pub record WasTidiedAfter (op : Op) (s : State) (u w : View) : Type 0 where
 
 abbrev pub WasDoneBy : Holdings → Op → State → Result State RunEnd → View → View → Type 0
 WasDoneBy held op s (Ok t) v w = WasDone held op s t v w
-WasDoneBy held op s (Err e) v w = Performed held (op_over op held (world_at s v)) (world_at s v) (Err e) v w
+WasDoneBy held op s (Err e) v w =
+    Performed held (op_over op held (world_at s v)) (world_at s v) (Err e) v w
 
-pub record DoneOver (holds : Option Holdings) (op : Op) (s : State) (r : Result State RunEnd) (v w : View) : Type 0 where
+pub record DoneOver (holds : Option Holdings) (op : Op) (s : State) (r : Result State RunEnd)
+    (v w : View) : Type 0 where
   pub done : (held : Holdings) → holds ≡ Some held → Rests s v → WasDoneBy held op s r v w

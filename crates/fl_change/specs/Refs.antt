@@ -30,7 +30,8 @@ use Rattle.fl_change.specs.Answer.{Answer, nothing, refusal_answer, done_answer,
 
 -- An operation: its line, or what the commit that it brings is refused for.
 abbrev pub op_over : Op → Holdings → World → Answer
-op_over op held x = unless (op_refusal (supplied held x op) op) (done_answer (done_with (supplied held x op) op))
+op_over op held x =
+    unless (op_refusal (supplied held x op) op) (done_answer (done_with (supplied held x op) op))
 
 -- operations in turn, up to the first that is refused
 abbrev pub ops_over : List Op → Holdings → World → Answer
@@ -68,7 +69,8 @@ install_over remote name held x = if_remote x remote
 -- `update REF`
 abbrev pub update_over : Ref → Holdings → World → Answer
 update_over name held x = if_deployed x name
-    (λ row. if_remote x row.origin (λ remote. from_remote remote name held x) (refusal_answer (refusals.NoSuchRemote row.origin)))
+    (λ row. if_remote x row.origin (λ remote. from_remote remote name held x)
+    (refusal_answer (refusals.NoSuchRemote row.origin)))
     (refusal_answer (refusals.NotInstalled name))
 
 -- ---- an update of all that is installed
@@ -84,14 +86,18 @@ is_no_offer _ = false
 -- a target that its remote doesn't offer is passed over
 abbrev pub unless_skipped : Ref → Result (List Op) Refusal → Holdings → World → Answer
 unless_skipped name (Ok ops) held x = ops_over ops held x
-unless_skipped name (Err refusal) held x = if is_no_offer refusal then skipped name else refusal_answer refusal
+unless_skipped name (Err refusal) held x =
+    if is_no_offer refusal then skipped name else refusal_answer refusal
 
 abbrev pub updated_from : RemoteRow → Ref → Holdings → World → Answer
-updated_from remote name held x = unless_skipped name (plan_of held x.have x.state remote name) held x
+updated_from remote name held x =
+    unless_skipped name (plan_of held x.have x.state remote name) held x
 
 -- so is one whose remote isn't there any more
 abbrev pub target_over : Ref → Holdings → World → Answer
-target_over name held x = if_deployed x name (λ row. if_remote x row.origin (λ remote. updated_from remote name held x) (skipped name)) nothing
+target_over name held x = if_deployed x name
+    (λ row. if_remote x row.origin (λ remote. updated_from remote name held x) (skipped name))
+    nothing
 
 -- `update`: the refs that are installed at its start
 abbrev pub update_all_over : Holdings → World → Answer
@@ -105,12 +111,14 @@ used_refusal runtime app = option_map (refusals.RuntimeInUse runtime) app
 -- `uninstall REF`: no runtime that a deployed application names
 abbrev pub uninstall_over : Ref → Holdings → World → Answer
 uninstall_over name held x = if_deployed x name
-    (λ row. unless (used_refusal name (first_user x.have name x.state.refs)) (op_over (Uninstall name) held x))
+    (λ row. unless (used_refusal name (first_user x.have name x.state.refs))
+    (op_over (Uninstall name) held x))
     (refusal_answer (refusals.NotInstalled name))
 
 -- the runtimes that nothing keeps
 abbrev pub unused_in : World → List Ref
-unused_in x = unused_of x.state (installed_metas x.have x.state.refs) (installed_points x.have x.state.refs)
+unused_in x =
+    unused_of x.state (installed_metas x.have x.state.refs) (installed_points x.have x.state.refs)
 
 abbrev pub drop_over : Ref → Holdings → World → Answer
 drop_over name held x = if_deployed x name (λ row. op_over (Uninstall name) held x) nothing
@@ -123,11 +131,13 @@ unused_over held x = each_over drop_over (unused_in x) held x
 
 abbrev pub missing_refusal : State → Option Ref → Option Refusal
 missing_refusal s None = None
-missing_refusal s (Some runtime) = if has_ref s runtime then None else Some (refusals.RuntimeMissing runtime)
+missing_refusal s (Some runtime) =
+    if has_ref s runtime then None else Some (refusals.RuntimeMissing runtime)
 
 -- to a commit whose metadata says this
 abbrev pub back_to : Ref → List ℕ → Result Meta Refusal → Holdings → World → Answer
-back_to name commit (Ok meta) held x = unless (missing_refusal x.state meta.runtime) (op_over (Rollback name commit) held x)
+back_to name commit (Ok meta) held x =
+    unless (missing_refusal x.state meta.runtime) (op_over (Rollback name commit) held x)
 back_to name commit (Err refusal) held x = refusal_answer refusal
 
 abbrev pub previous_commit : Ref → Option Previous → Result (List ℕ) Refusal
@@ -151,4 +161,5 @@ rollback_over name held x = going_back name (previous_in name (row_at x.state na
 
 -- `override --reset`: nothing, where there is no override
 abbrev pub reset_over : List ℕ → Holdings → World → Answer
-reset_over name held x = option_map_or (λ row. op_over (DropOverride name) held x) (at_name override_key x.state.overrides name) nothing
+reset_over name held x = option_map_or (λ row. op_over (DropOverride name) held x)
+    (at_name override_key x.state.overrides name) nothing

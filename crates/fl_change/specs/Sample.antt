@@ -52,4 +52,5 @@ updated = world_after holdings (since 7) update
 
 -- the commit of before is the previous one
 abbrev pub updated_state : State
-updated_state = shop.with_rows (record deployed_row { previous = Some (record { commit = []; timestamp = 7 }) } ∷ [])
+updated_state = shop.with_rows
+    (record deployed_row { previous = Some (record { commit = []; timestamp = 7 }) } ∷ [])

@@ -26,6 +26,8 @@ SaidBy text (Ok u) v w = WasSaid text v w
 SaidBy text (Err Fault) v w = Unit {0}
 SaidBy text (Err NoMemory) v w = w ≡ v
 
--- the status, where the text was printed; 3 where the host failed; 6 where nothing was done because memory ran out
+-- the status, where the text was printed; 3 where the host failed; 6 where nothing was done because
+-- memory ran out
 abbrev pub Refuses : List ℕ → ℕ → ℕ → View → View → Type 0
-Refuses text status result v w = ((result ≡ status) × WasSaid text v w) ⊎ ((result ≡ 3) ⊎ ((result ≡ 6) × (w ≡ v)))
+Refuses text status result v w =
+    ((result ≡ status) × WasSaid text v w) ⊎ ((result ≡ 3) ⊎ ((result ≡ 6) × (w ≡ v)))

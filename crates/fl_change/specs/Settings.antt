@@ -18,25 +18,31 @@ is_pinned pins pin = list_any (bytes_eq pin) pins
 
 -- there may be 1,024 pins
 abbrev pub add_pin_refusal : List (List ℕ) → List ℕ → Option Refusal
-add_pin_refusal pins pin = if is_pinned pins pin then Some (PinExists pin) else (if nat_le MOST_PINS (length pins) then Some (Limit Pins (MOST_PINS + 1)) else None)
+add_pin_refusal pins pin = if is_pinned pins pin then Some (PinExists pin)
+    else (if nat_le MOST_PINS (length pins) then Some (Limit Pins (MOST_PINS + 1)) else None)
 
 abbrev pub drop_pin_refusal : List (List ℕ) → List ℕ → Option Refusal
 drop_pin_refusal pins pin = if is_pinned pins pin then None else Some (NoSuchPin pin)
 
 -- there may be 256 remotes
 abbrev pub add_remote_refusal : List RemoteRow → List ℕ → Option Refusal
-add_remote_refusal remotes name = if has_name name_of remotes name then Some (RemoteExists name) else (if nat_le MOST_REMOTES (length remotes) then Some (Limit Remotes (MOST_REMOTES + 1)) else None)
+add_remote_refusal remotes name = if has_name name_of remotes name then Some (RemoteExists name)
+    else (if nat_le MOST_REMOTES (length remotes)
+    then Some (Limit Remotes (MOST_REMOTES + 1)) else None)
 
 abbrev pub remote_refusal : List RemoteRow → List ℕ → Option Refusal
-remote_refusal remotes name = if has_name name_of remotes name then None else Some (NoSuchRemote name)
+remote_refusal remotes name =
+    if has_name name_of remotes name then None else Some (NoSuchRemote name)
 
 -- the first ref that comes from a remote
 abbrev pub first_from : List ℕ → List RefRow → Option Ref
-first_from remote rows = option_map (λ row. row.name) (find (λ row. bytes_eq row.origin remote) rows)
+first_from remote rows =
+    option_map (λ row. row.name) (find (λ row. bytes_eq row.origin remote) rows)
 
 abbrev pub in_use_refusal : List ℕ → Option Ref → Option Refusal
 in_use_refusal remote name = option_map (RemoteInUse remote) name
 
 -- a remote isn't deleted from which a ref comes
 abbrev pub drop_remote_refusal : State → List ℕ → Option Refusal
-drop_remote_refusal s name = if has_name name_of s.remotes name then in_use_refusal name (first_from name s.refs) else Some (NoSuchRemote name)
+drop_remote_refusal s name = if has_name name_of s.remotes name
+    then in_use_refusal name (first_from name s.refs) else Some (NoSuchRemote name)

@@ -18,18 +18,25 @@ use Rattle.fl_change.specs.Refs.{install_over, update_over, update_all_over, uni
 
 -- each change, with its refusals in their order
 abbrev pub change_over : Change → Holdings → World → Answer
-change_over (Pin pin) held x = unless (add_pin_refusal x.state.pins pin) (op_answer (ops.AddPin pin))
-change_over (Unpin pin) held x = unless (drop_pin_refusal x.state.pins pin) (op_answer (ops.DropPin pin))
-change_over (RemoteAdd row) held x = unless (add_remote_refusal x.state.remotes row.name) (op_answer (ops.AddRemote row))
-change_over (RemoteModify row) held x = unless (remote_refusal x.state.remotes row.name) (op_answer (ops.ModifyRemote row))
-change_over (RemoteDelete name) held x = unless (drop_remote_refusal x.state name) (op_answer (ops.DropRemote name))
+change_over (Pin pin) held x =
+    unless (add_pin_refusal x.state.pins pin) (op_answer (ops.AddPin pin))
+change_over (Unpin pin) held x =
+    unless (drop_pin_refusal x.state.pins pin) (op_answer (ops.DropPin pin))
+change_over (RemoteAdd row) held x =
+    unless (add_remote_refusal x.state.remotes row.name) (op_answer (ops.AddRemote row))
+change_over (RemoteModify row) held x =
+    unless (remote_refusal x.state.remotes row.name) (op_answer (ops.ModifyRemote row))
+change_over (RemoteDelete name) held x =
+    unless (drop_remote_refusal x.state name) (op_answer (ops.DropRemote name))
 change_over (Install remote name) held x = install_over remote name held x
 change_over UpdateAll held x = update_all_over held x
 change_over (UpdateOne name) held x = update_over name held x
 change_over (Uninstall name) held x = uninstall_over name held x
 change_over UninstallUnused held x = unused_over held x
 change_over (Rollback name) held x = rollback_over name held x
-change_over (OverrideChange name options) held x = unless (long_refusal (changed_row x.state.overrides name options)) (op_answer (ops.SetOverride (changed_row x.state.overrides name options)))
+change_over (OverrideChange name options) held x = unless
+    (long_refusal (changed_row x.state.overrides name options))
+    (op_answer (ops.SetOverride (changed_row x.state.overrides name options)))
 change_over (OverrideReset name) held x = reset_over name held x
 
 -- changes one after another, up to the first refusal
@@ -56,7 +63,8 @@ abbrev pub IsRollback : Ref → Op → Type 0
 IsRollback name op = (commit : List ℕ) × (op ≡ ops.Rollback name commit)
 
 abbrev pub IsOverride : List ℕ → Op → Type 0
-IsOverride name op = (file : List Group) × (op ≡ ops.SetOverride (record { name = name; file = file }))
+IsOverride name op =
+    (file : List Group) × (op ≡ ops.SetOverride (record { name = name; file = file }))
 
 abbrev pub OpsOf : Change → Op → Type 0
 OpsOf (Pin pin) op = op ≡ ops.AddPin pin

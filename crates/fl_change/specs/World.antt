@@ -37,7 +37,8 @@ kept_commits s = kept_of s.refs
 
 -- the object stands in the order of a commit that the state keeps
 abbrev pub is_used : State → Have → List ℕ → ObjKind → Bool
-is_used s have d kind = list_any (λ commit. list_any (is_at d kind) (order have commit)) (kept_commits s)
+is_used s have d kind =
+    list_any (λ commit. list_any (is_at d kind) (order have commit)) (kept_commits s)
 
 -- of these objects those that the state's commits use
 unfoldable pub used_of : State → Have → Have
@@ -62,10 +63,13 @@ world_at s v = world_in s (shows v)
 
 -- ---- what operations make of a world
 
--- an operation that brings a commit begins with the objects of its remote beside those that are there
+-- an operation that brings a commit begins with the objects of its remote beside those that are
+-- there
 abbrev pub supplied : Holdings → World → Op → Have
-supplied held x (Install name origin commit) = supply x.have (remote held (url_for x.state (Install name origin commit)))
-supplied held x (Update name origin commit) = supply x.have (remote held (url_for x.state (Update name origin commit)))
+supplied held x (Install name origin commit) =
+    supply x.have (remote held (url_for x.state (Install name origin commit)))
+supplied held x (Update name origin commit) =
+    supply x.have (remote held (url_for x.state (Update name origin commit)))
 supplied held x _ = x.have
 
 abbrev pub world_after : Holdings → World → Done → World

@@ -28,8 +28,9 @@ use fp_small::{Layout, Op};
 use std::alloc::Global;
 use std::thread::Threads;
 
-/// Makes the changes on an opened installation, one after another up to the first refusal. It is tidied and migrated before.
-/// Whatever the end but Ok, the installation is opened again before anything else is done with it.
+/// Makes the changes on an opened installation, one after another up to the first refusal. It is
+/// tidied and migrated before. Whatever the end but Ok, the installation is opened again before
+/// anything else is done with it.
 pub fn change_all<H: Host, R: Remotes>(
     rt: &(impl Threads + Sync),
     alloc: Global,
@@ -39,11 +40,13 @@ pub fn change_all<H: Host, R: Remotes>(
     changes: &[Change],
 ) -> Result<Opened, RunEnd>
     requires good { IsGood opened }
-    // At every moment the first pieces of the answer were printed, and a stop leaves the state after a prefix of its operations
-    // that holds those that these pieces acknowledge.
+    // At every moment the first pieces of the answer were printed, and a stop leaves the state
+    // after a prefix of its operations that holds those that these pieces acknowledge.
     ensures acts { Acts (Opens opened) (MayDo changes.now) (changing changes.now) opened result
-        (outside (H.moments host.old) (H.faults host.old) (R.holds remotes.old) (R.faults remotes.old))
-        (outside (H.moments host.new) (H.faults host.new) (R.holds remotes.new) (R.faults remotes.new)) }
+        (outside (H.moments host.old) (H.faults host.old) (R.holds remotes.old)
+        (R.faults remotes.old))
+        (outside (H.moments host.new) (H.faults host.new) (R.holds remotes.new)
+        (R.faults remotes.new)) }
 {
     let tidied = tidy(alloc, host, opened)?;
     let current = migrate(rt, alloc, host, remotes, tidied)?;
@@ -62,8 +65,10 @@ fn migrate<H: Host, R: Remotes>(
     ensures good { IfOk result IsGood }
     ensures layout { IfOk result (λ o. o.layout ≡ Two) }
     ensures acts { Acts (Rests opened) (Just ops.Migrate) migrating opened result
-        (outside (H.moments host.old) (H.faults host.old) (R.holds remotes.old) (R.faults remotes.old))
-        (outside (H.moments host.new) (H.faults host.new) (R.holds remotes.new) (R.faults remotes.new)) }
+        (outside (H.moments host.old) (H.faults host.old) (R.holds remotes.old)
+        (R.faults remotes.old))
+        (outside (H.moments host.new) (H.faults host.new) (R.holds remotes.new)
+        (R.faults remotes.new)) }
 {
     match opened.state().layout {
         Layout::One => do_op(rt, alloc, host, remotes, opened, &Op::Migrate),
@@ -83,8 +88,10 @@ fn do_each<H: Host, R: Remotes>(
     requires good { IsGood opened }
     requires layout { opened.layout ≡ Two }
     ensures acts { Acts (Rests opened) (OpsOfAny changes.now) (in_turn changes.now) opened result
-        (outside (H.moments host.old) (H.faults host.old) (R.holds remotes.old) (R.faults remotes.old))
-        (outside (H.moments host.new) (H.faults host.new) (R.holds remotes.new) (R.faults remotes.new)) }
+        (outside (H.moments host.old) (H.faults host.old) (R.holds remotes.old)
+        (R.faults remotes.old))
+        (outside (H.moments host.new) (H.faults host.new) (R.holds remotes.new)
+        (R.faults remotes.new)) }
 {
     let mut current = opened;
     for change in changes {
@@ -107,8 +114,10 @@ fn do_change<H: Host, R: Remotes>(
     ensures good { IfOk result IsGood }
     ensures layout { IfOk result (λ o. o.layout ≡ Two) }
     ensures acts { Acts (Rests opened) (OpsOf change.now) (change_over change.now) opened result
-        (outside (H.moments host.old) (H.faults host.old) (R.holds remotes.old) (R.faults remotes.old))
-        (outside (H.moments host.new) (H.faults host.new) (R.holds remotes.new) (R.faults remotes.new)) }
+        (outside (H.moments host.old) (H.faults host.old) (R.holds remotes.old)
+        (R.faults remotes.old))
+        (outside (H.moments host.new) (H.faults host.new) (R.holds remotes.new)
+        (R.faults remotes.new)) }
 {
     match change {
         Change::Install { remote, name } => install(rt, alloc, host, remotes, opened, remote, name),
@@ -161,8 +170,10 @@ fn do_asked<H: Host, R: Remotes>(
     ensures layout { IfOk result (λ o. o.layout ≡ Two) }
     ensures acts { (refusal : Option SomeRefusal) (op : SomeOp) → IsAsked refusal op asked
         → Acts (Rests opened) (Just op) (λ held x. unless refusal (op_answer op)) opened result
-        (outside (H.moments host.old) (H.faults host.old) (R.holds remotes.old) (R.faults remotes.old))
-        (outside (H.moments host.new) (H.faults host.new) (R.holds remotes.new) (R.faults remotes.new)) }
+        (outside (H.moments host.old) (H.faults host.old) (R.holds remotes.old)
+        (R.faults remotes.old))
+        (outside (H.moments host.new) (H.faults host.new) (R.holds remotes.new)
+        (R.faults remotes.new)) }
 {
     let op = asked?;
     do_op(rt, alloc, host, remotes, opened, &op)

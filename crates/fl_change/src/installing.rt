@@ -38,8 +38,10 @@ pub(crate) fn do_ops<H: Host, R: Remotes>(
     ensures good { IfOk result IsGood }
     ensures layout { IfOk result (λ o. o.layout ≡ Two) }
     ensures acts { Acts (Rests opened) Brings (ops_over ops.now) opened result
-        (outside (H.moments host.old) (H.faults host.old) (R.holds remotes.old) (R.faults remotes.old))
-        (outside (H.moments host.new) (H.faults host.new) (R.holds remotes.new) (R.faults remotes.new)) }
+        (outside (H.moments host.old) (H.faults host.old) (R.holds remotes.old)
+        (R.faults remotes.old))
+        (outside (H.moments host.new) (H.faults host.new) (R.holds remotes.new)
+        (R.faults remotes.new)) }
 {
     let mut current = opened;
     for op in ops {
@@ -64,8 +66,10 @@ pub(crate) fn bring_target<H: Host, R: Remotes>(
     ensures good { IfOk result IsGood }
     ensures layout { IfOk result (λ o. o.layout ≡ Two) }
     ensures acts { Acts (Rests opened) Brings (from_remote remote.now name.now) opened result
-        (outside (H.moments host.old) (H.faults host.old) (R.holds remotes.old) (R.faults remotes.old))
-        (outside (H.moments host.new) (H.faults host.new) (R.holds remotes.new) (R.faults remotes.new)) }
+        (outside (H.moments host.old) (H.faults host.old) (R.holds remotes.old)
+        (R.faults remotes.old))
+        (outside (H.moments host.new) (H.faults host.new) (R.holds remotes.new)
+        (R.faults remotes.new)) }
 {
     let plan = ops(alloc, host, remotes, opened.state(), remote, name)?;
     do_ops(rt, alloc, host, remotes, opened, plan.as_slice())
@@ -86,8 +90,10 @@ pub(crate) fn install<H: Host, R: Remotes>(
     ensures good { IfOk result IsGood }
     ensures layout { IfOk result (λ o. o.layout ≡ Two) }
     ensures acts { Acts (Rests opened) Brings (install_over remote.now name.now) opened result
-        (outside (H.moments host.old) (H.faults host.old) (R.holds remotes.old) (R.faults remotes.old))
-        (outside (H.moments host.new) (H.faults host.new) (R.holds remotes.new) (R.faults remotes.new)) }
+        (outside (H.moments host.old) (H.faults host.old) (R.holds remotes.old)
+        (R.faults remotes.old))
+        (outside (H.moments host.new) (H.faults host.new) (R.holds remotes.new)
+        (R.faults remotes.new)) }
 {
     let row = known_remote(opened.state(), remote)?;
     try_new(opened.state(), name)?;

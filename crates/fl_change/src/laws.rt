@@ -1,5 +1,5 @@
-//! Laws of worlds, of changes in turn, and of what changes of the settings answer. Each is the contract of a function that does
-//! nothing.
+//! Laws of worlds, of changes in turn, and of what changes of the settings answer. Each is the
+//! contract of a function that does nothing.
 ghost use Rattle.std.specs.Prelude.{◌≡◌, ◌≤◌, ◌<◌, ◌+◌, ℕ, List, [], ◌∷◌, true, false, length, Some, None};
 ghost use Rattle.fp_base.specs.declared.object.ObjKind.{ObjKind};
 ghost use Rattle.fp_base.specs.declared.what.What.TheVariants as whats;
@@ -27,8 +27,8 @@ ghost use Rattle.fl_change.specs.Answer.{Answer, done_answer, nothing, op_answer
 ghost use Rattle.fl_change.specs.Settings.{first_from, is_pinned};
 ghost use Rattle.fl_change.specs.Turns.{change_over, changing, in_turn};
 
-/// A world has the objects of the orders of its state's commits as they are, and it has nothing else: what it has is all used.
-/// Operations make of its state what they make of a state.
+/// A world has the objects of the orders of its state's commits as they are, and it has nothing
+/// else: what it has is all used. Operations make of its state what they make of a state.
 pub fn worlds_have_what_is_used()
     ensures used { (s : State) (have : Have) (commit : List ℕ) (p : Place)
         → In (kept_commits s) commit → In (order have commit) p
@@ -40,8 +40,8 @@ pub fn worlds_have_what_is_used()
         → (worlds_after held x ops).state ≡ after_all x.state ops }
 {}
 
-/// Changes go in turn. After one that does nothing the next is done over the same world, after one that does an operation over the
-/// world that this leaves. One that is refused ends them.
+/// Changes go in turn. After one that does nothing the next is done over the same world, after one
+/// that does an operation over the world that this leaves. One that is refused ends them.
 pub fn changes_go_in_turn()
     ensures none { (held : Holdings) (x : World) → in_turn [] held x ≡ nothing }
     ensures stays { (held : Holdings) (x : World) (change : Change) (more : List Change)
@@ -60,7 +60,8 @@ pub fn changes_go_in_turn()
         → in_turn (change ∷ more) held x ≡ refusal_answer refusal }
 {}
 
-/// An installation of layout 1 is migrated before the first change, even before one that is refused. One of layout 2 isn't.
+/// An installation of layout 1 is migrated before the first change, even before one that is
+/// refused. One of layout 2 isn't.
 pub fn migration_comes_first()
     ensures migrates { (held : Holdings) (x : World) (more : List Change) (next : Answer)
         → x.state.layout ≡ One → in_turn more held (world_after held x (plain ops.Migrate)) ≡ next
@@ -116,7 +117,8 @@ pub fn remotes_answer()
         → change_over (changes.RemoteModify row) held x ≡ op_answer (ops.ModifyRemote row) }
 {}
 
-/// A remote that isn't there isn't deleted, nor is one that a deployed ref comes from: the first such ref is told.
+/// A remote that isn't there isn't deleted, nor is one that a deployed ref comes from: the first
+/// such ref is told.
 pub fn deleted_remotes_answer()
     ensures absent { (held : Holdings) (x : World) (name : List ℕ)
         → has_name name_of x.state.remotes name ≡ false

@@ -1,4 +1,5 @@
-//! Laws of what changes of overrides by options answer. Each is the contract of a function that does nothing.
+//! Laws of what changes of overrides by options answer. Each is the contract of a function that
+//! does nothing.
 ghost use Rattle.std.specs.Prelude.{◌≡◌, ◌<◌, ◌≤◌, ℕ, List, [], ◌∷◌, ◌++◌, true, length, codes};
 ghost use Rattle.fp_base.specs.declared.what.What.TheVariants as whats;
 ghost use Rattle.fp_host.specs.Remote.{Holdings};
@@ -31,7 +32,8 @@ pub fn changed_overrides_answer()
         ≡ op_answer (ops.SetOverride (changed_row x.state.overrides name options)) }
 {}
 
-/// A changed override reads back, of each permission, as the last mention of the old one and the options joined.
+/// A changed override reads back, of each permission, as the last mention of the old one and the
+/// options joined.
 pub fn changed_overrides_have_the_last()
     ensures { (file : List Group) (options : List (List ℕ)) (p : Permission) → is_good file ≡ true
         → last_mention (file_mentions sources.Override (changed_file file options)) p

@@ -1,4 +1,5 @@
-//! Laws of what changes of refs and of overrides answer. Each is the contract of a function that does nothing.
+//! Laws of what changes of refs and of overrides answer. Each is the contract of a function that
+//! does nothing.
 ghost use Rattle.std.specs.Prelude.{◌≡◌, ℕ, List, [], ◌∷◌, ◌++◌, map, true, false, Option, Some, None, Ok, Err, Contains, codes};
 ghost use Rattle.fp_base.specs.declared.object.ObjKind.{ObjKind};
 ghost use Rattle.fp_base.specs.declared.object.ObjKind.TheVariants as kinds;
@@ -43,8 +44,9 @@ ghost use Rattle.fl_change.specs.Refs.{drop_over, ops_over, skipped, target_over
 ghost use Rattle.fl_change.specs.Sample as sample;
 ghost use Rattle.fl_change.specs.Turns.{change_over};
 
-/// Operations go in turn. Each prints its line, and the next one works on the world that it leaves. The first whose commit is
-/// refused ends them: nothing is printed of those that would come after it.
+/// Operations go in turn. Each prints its line, and the next one works on the world that it leaves.
+/// The first whose commit is refused ends them: nothing is printed of those that would come after
+/// it.
 pub fn operations_go_in_turn()
     ensures none { (held : Holdings) (x : World) → ops_over [] held x ≡ nothing }
     ensures done { (held : Holdings) (x : World) (op : Op) (more : List Op) (d : Done)
@@ -60,8 +62,8 @@ pub fn operations_go_in_turn()
         → ops_over (op ∷ more) held x ≡ refusal_answer refusal }
 {}
 
-/// An install is refused for its remote first, then for its ref, which may not be deployed, and then for what the plan is refused
-/// for. Else the operations of the plan are done.
+/// An install is refused for its remote first, then for its ref, which may not be deployed, and
+/// then for what the plan is refused for. Else the operations of the plan are done.
 pub fn installs_answer()
     ensures no_remote { (held : Holdings) (x : World) (remote : List ℕ) (name : Ref)
         → at_name name_of x.state.remotes remote ≡ None
@@ -84,8 +86,9 @@ pub fn installs_answer()
         → change_over (changes.Install remote name) held x ≡ ops_over plan held x }
 {}
 
-/// An update of a ref is refused for the ref first, which has to be deployed, then for the remote that it comes from, and then for
-/// what the plan is refused for: here a ref that isn't offered is refused too. Where there is nothing to do, nothing is printed.
+/// An update of a ref is refused for the ref first, which has to be deployed, then for the remote
+/// that it comes from, and then for what the plan is refused for: here a ref that isn't offered is
+/// refused too. Where there is nothing to do, nothing is printed.
 pub fn updates_answer()
     ensures not_installed { (held : Holdings) (x : World) (name : Ref)
         → row_at x.state name ≡ None
@@ -112,8 +115,9 @@ pub fn updates_answer()
         → change_over (changes.UpdateOne name) held x ≡ nothing }
 {}
 
-/// Of an update of all that is installed, a target whose remote is gone is skipped, and so is one that its remote doesn't offer.
-/// Any other refusal is one here too: that a remote has the wrong mode is no reason to skip.
+/// Of an update of all that is installed, a target whose remote is gone is skipped, and so is one
+/// that its remote doesn't offer. Any other refusal is one here too: that a remote has the wrong
+/// mode is no reason to skip.
 pub fn targets_answer()
     ensures remote_gone { (held : Holdings) (x : World) (name : Ref) (row : RefRow)
         → row_at x.state name ≡ Some row → at_name name_of x.state.remotes row.origin ≡ None
@@ -141,8 +145,9 @@ pub fn targets_answer()
         → target_over name held x ≡ ops_over plan held x }
 {}
 
-/// An update of all goes through the targets that are there at its start. After one that is skipped the next is asked over the
-/// same world, after one that is brought over the world with it. A target that is refused ends the update.
+/// An update of all goes through the targets that are there at its start. After one that is skipped
+/// the next is asked over the same world, after one that is brought over the world with it. A
+/// target that is refused ends the update.
 pub fn updates_of_all_go_on()
     ensures begins { (held : Holdings) (x : World)
         → change_over changes.UpdateAll held x
@@ -172,7 +177,8 @@ pub fn updates_of_all_go_on()
         → each_over target_over (name ∷ more) held x ≡ refusal_answer refusal }
 {}
 
-/// A ref that isn't deployed isn't uninstalled, nor is a runtime that a deployed application names: the first such is told.
+/// A ref that isn't deployed isn't uninstalled, nor is a runtime that a deployed application names:
+/// the first such is told.
 pub fn uninstalls_answer()
     ensures not_installed { (held : Holdings) (x : World) (name : Ref)
         → row_at x.state name ≡ None
@@ -187,8 +193,8 @@ pub fn uninstalls_answer()
         → change_over (changes.Uninstall name) held x ≡ op_answer (ops.Uninstall name) }
 {}
 
-/// The runtimes that nothing needs at the start are taken away one after another, without a further question. Where there are none,
-/// nothing is printed.
+/// The runtimes that nothing needs at the start are taken away one after another, without a further
+/// question. Where there are none, nothing is printed.
 pub fn unused_runtimes_go()
     ensures begins { (held : Holdings) (x : World)
         → change_over changes.UninstallUnused held x
@@ -208,8 +214,9 @@ pub fn unused_runtimes_go()
         } }
 {}
 
-/// A rollback is refused for a ref that isn't deployed, then for one that has no previous commit, then for what is wrong with the
-/// metadata of that commit, and then for the runtime that this metadata names, where it isn't there.
+/// A rollback is refused for a ref that isn't deployed, then for one that has no previous commit,
+/// then for what is wrong with the metadata of that commit, and then for the runtime that this
+/// metadata names, where it isn't there.
 pub fn rollbacks_answer()
     ensures not_installed { (held : Holdings) (x : World) (name : Ref)
         → row_at x.state name ≡ None
@@ -244,7 +251,8 @@ pub fn rollbacks_answer()
         ≡ op_answer (ops.Rollback name previous.commit) }
 {}
 
-/// An override that is there is taken away. Where there is none, nothing is done and nothing is printed.
+/// An override that is there is taken away. Where there is none, nothing is done and nothing is
+/// printed.
 pub fn resets_answer()
     ensures none { (held : Holdings) (x : World) (name : List ℕ)
         → at_name override_key x.state.overrides name ≡ None
@@ -254,9 +262,10 @@ pub fn resets_answer()
         → change_over (changes.OverrideReset name) held x ≡ op_answer (ops.DropOverride name) }
 {}
 
-/// A runtime is installed from a remote that offers it with all its objects: its line is printed, and it is deployed. After that the
-/// same install is refused, an update of all has nothing to do and prints nothing, a rollback has no commit to go back to, and an
-/// uninstall leaves the state of before.
+/// A runtime is installed from a remote that offers it with all its objects: its line is printed,
+/// and it is deployed. After that the same install is refused, an update of all has nothing to do
+/// and prints nothing, a rollback has no commit to go back to, and an uninstall leaves the state of
+/// before.
 pub fn sample_runtime_is_installed()
     ensures done { change_over (changes.Install (codes "hub") platform) sample.holdings sample.fresh
         ≡ done_answer sample.install }
@@ -274,8 +283,8 @@ pub fn sample_runtime_is_installed()
     ensures idle { change_over changes.UpdateAll sample.holdings sample.installed ≡ nothing }
 {}
 
-/// A runtime is updated from the same remote, by an update of the ref and by one of all: the commit of before becomes the previous
-/// one. An older commit that the remote offers is refused by both.
+/// A runtime is updated from the same remote, by an update of the ref and by one of all: the commit
+/// of before becomes the previous one. An older commit that the remote offers is refused by both.
 pub fn sample_runtime_is_updated()
     ensures done { change_over (changes.UpdateOne platform) sample.holdings (sample.since 7)
         ≡ done_answer sample.update }
@@ -290,10 +299,11 @@ pub fn sample_runtime_is_updated()
         ≡ refusal_answer (refusals.Older platform 8 7) }
 {}
 
-/// An install or an update lacks the objects of its commit's order that the world hasn't, and no other
-/// operation lacks one. The runtime's install lacks the object of its commit, but where the runtime is
-/// installed. Operations make objects in turn: each just those that it lacks over the world that those
-/// before it leave. Where there is no operation, no file comes to a name below the store's objects.
+/// An install or an update lacks the objects of its commit's order that the world hasn't, and no
+/// other operation lacks one. The runtime's install lacks the object of its commit, but where the
+/// runtime is installed. Operations make objects in turn: each just those that it lacks over the
+/// world that those before it leave. Where there is no operation, no file comes to a name below the
+/// store's objects.
 pub fn operations_create_what_is_lacked()
     ensures lacked { (held : Holdings) (x : World) (name : Ref) (origin commit : List ℕ)
         (o : List ℕ × ObjKind) → is_digest o.0 ≡ true
@@ -307,8 +317,10 @@ pub fn operations_create_what_is_lacked()
         → (x.have o.0 o.1 ≡ None → ⊥) → LacksFor held x op o → ⊥ }
     ensures plainly { (held : Holdings) (x : World) (name : Ref) (o : List ℕ × ObjKind)
         → LacksFor held x (ops.Uninstall name) o → ⊥ }
-    ensures sample { LacksFor sample.holdings sample.fresh sample.install.op (commit, kinds.Commit) }
-    ensures again { LacksFor sample.holdings sample.installed sample.install.op (commit, kinds.Commit)
+    ensures sample { LacksFor sample.holdings sample.fresh sample.install.op
+        (commit, kinds.Commit) }
+    ensures again { LacksFor sample.holdings sample.installed sample.install.op
+        (commit, kinds.Commit)
         → ⊥ }
     ensures none { (held : Holdings) (x : World) (v : View) → CreatesInTurn held x [] v v }
     ensures alone { (held : Holdings) (x : World) (d : Done) (u w : View) → KeepsFiles u w

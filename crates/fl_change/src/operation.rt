@@ -40,8 +40,10 @@ pub(crate) fn do_op<H: Host, R: Remotes>(
     ensures layout { IfOk result (λ o. o.layout ≡ Two) }
     ensures made { IfOk result (λ o. (timestamp : ℕ) × (o ≡ after_op opened timestamp op.now)) }
     ensures acts { Acts (Rests opened) (Just op.now) (op_over op.now) opened result
-        (outside (H.moments host.old) (H.faults host.old) (R.holds remotes.old) (R.faults remotes.old))
-        (outside (H.moments host.new) (H.faults host.new) (R.holds remotes.new) (R.faults remotes.new)) }
+        (outside (H.moments host.old) (H.faults host.old) (R.holds remotes.old)
+        (R.faults remotes.old))
+        (outside (H.moments host.new) (H.faults host.new) (R.holds remotes.new)
+        (R.faults remotes.new)) }
 {
     let line = op_line(alloc, op)?;
     let done = do_and_say(
@@ -72,17 +74,21 @@ fn do_and_say<H: Host, R: Remotes>(
     requires line { line.now ≡ op_text op.now }
     ensures good { IfOk result IsGood }
     ensures made { IfOk result (λ o. (timestamp : ℕ) × (o ≡ after_op opened timestamp op.now)) }
-    ensures works { Works (Just op.now) opened (PerformsOver (Rests opened) (R.holds remotes.old) (op_over op.now) opened)
+    ensures works { Works (Just op.now) opened
+        (PerformsOver (Rests opened) (R.holds remotes.old) (op_over op.now) opened)
         (DoneOver (R.holds remotes.old) op.now opened result) result
-        (outside (H.moments host.old) (H.faults host.old) (R.holds remotes.old) (R.faults remotes.old))
-        (outside (H.moments host.new) (H.faults host.new) (R.holds remotes.new) (R.faults remotes.new)) }
+        (outside (H.moments host.old) (H.faults host.old) (R.holds remotes.old)
+        (R.faults remotes.old))
+        (outside (H.moments host.new) (H.faults host.new) (R.holds remotes.new)
+        (R.faults remotes.new)) }
 {
     let done = apply(rt, alloc, host, remotes, opened, op)?;
     host.say(line)?;
     Ok(done)
 }
 
-/// Tidies after an operation. One that changes no commit left no more than work in `repo/tmp`, so nothing else is looked at.
+/// Tidies after an operation. One that changes no commit left no more than work in `repo/tmp`, so
+/// nothing else is looked at.
 fn tidy_after<H: Host>(
     alloc: Global,
     host: &mut H,

@@ -51,7 +51,8 @@ pub(crate) fn drop_pin(state: &State, pin: &PinPattern) -> Result<Op, RunEnd>
 
 /// A remote is added, where it isn't there and where there are few enough.
 pub(crate) fn add_remote(state: &State, row: &RemoteRow) -> Result<Op, RunEnd>
-    ensures asked { IsAsked (add_remote_refusal state.now.remotes row.now.name) (ops.AddRemote row.now) result }
+    ensures asked { IsAsked (add_remote_refusal state.now.remotes row.now.name)
+        (ops.AddRemote row.now) result }
     ensures plain { IfOk result (IsPlain state.now) }
 {
     let remotes = state.remotes.as_slice();
@@ -81,7 +82,8 @@ fn try_remote(remotes: &[RemoteRow], name: &RemoteName) -> Result<(), RunEnd>
 
 /// A remote gets another URL.
 pub(crate) fn modify_remote(state: &State, row: &RemoteRow) -> Result<Op, RunEnd>
-    ensures asked { IsAsked (remote_refusal state.now.remotes row.now.name) (ops.ModifyRemote row.now) result }
+    ensures asked { IsAsked (remote_refusal state.now.remotes row.now.name)
+        (ops.ModifyRemote row.now) result }
     ensures plain { IfOk result (IsPlain state.now) }
 {
     try_remote(state.remotes.as_slice(), &row.name)?;
@@ -98,7 +100,8 @@ fn first_from<'a>(rows: &'a [RefRow], remote: &RemoteName) -> Option<&'a RefRow>
 
 /// A remote is dropped from which no ref comes.
 pub(crate) fn drop_remote(state: &State, name: &RemoteName) -> Result<Op, RunEnd>
-    ensures asked { IsAsked (drop_remote_refusal state.now name.now) (ops.DropRemote name.now) result }
+    ensures asked { IsAsked (drop_remote_refusal state.now name.now)
+        (ops.DropRemote name.now) result }
     ensures plain { IfOk result (IsPlain state.now) }
 {
     try_remote(state.remotes.as_slice(), name)?;

@@ -38,8 +38,10 @@ pub(crate) fn update_one<H: Host, R: Remotes>(
     ensures good { IfOk result IsGood }
     ensures layout { IfOk result (λ o. o.layout ≡ Two) }
     ensures acts { Acts (Rests opened) Brings (update_over name.now) opened result
-        (outside (H.moments host.old) (H.faults host.old) (R.holds remotes.old) (R.faults remotes.old))
-        (outside (H.moments host.new) (H.faults host.new) (R.holds remotes.new) (R.faults remotes.new)) }
+        (outside (H.moments host.old) (H.faults host.old) (R.holds remotes.old)
+        (R.faults remotes.old))
+        (outside (H.moments host.new) (H.faults host.new) (R.holds remotes.new)
+        (R.faults remotes.new)) }
 {
     let origin = origin_of(opened.state(), name)?;
     let remote = known_remote(opened.state(), &origin)?;
@@ -59,8 +61,10 @@ pub(crate) fn update_all<H: Host, R: Remotes>(
     ensures good { IfOk result IsGood }
     ensures layout { IfOk result (λ o. o.layout ≡ Two) }
     ensures acts { Acts (Rests opened) Brings update_all_over opened result
-        (outside (H.moments host.old) (H.faults host.old) (R.holds remotes.old) (R.faults remotes.old))
-        (outside (H.moments host.new) (H.faults host.new) (R.holds remotes.new) (R.faults remotes.new)) }
+        (outside (H.moments host.old) (H.faults host.old) (R.holds remotes.old)
+        (R.faults remotes.old))
+        (outside (H.moments host.new) (H.faults host.new) (R.holds remotes.new)
+        (R.faults remotes.new)) }
 {
     let names = targets(alloc, opened.state(), None)?;
     update_each(rt, alloc, host, remotes, opened, names.as_slice())
@@ -80,8 +84,10 @@ fn update_each<H: Host, R: Remotes>(
     ensures good { IfOk result IsGood }
     ensures layout { IfOk result (λ o. o.layout ≡ Two) }
     ensures acts { Acts (Rests opened) Brings (each_over target_over names.now) opened result
-        (outside (H.moments host.old) (H.faults host.old) (R.holds remotes.old) (R.faults remotes.old))
-        (outside (H.moments host.new) (H.faults host.new) (R.holds remotes.new) (R.faults remotes.new)) }
+        (outside (H.moments host.old) (H.faults host.old) (R.holds remotes.old)
+        (R.faults remotes.old))
+        (outside (H.moments host.new) (H.faults host.new) (R.holds remotes.new)
+        (R.faults remotes.new)) }
 {
     let mut current = opened;
     for name in names {
@@ -104,8 +110,10 @@ fn update_target<H: Host, R: Remotes>(
     ensures good { IfOk result IsGood }
     ensures layout { IfOk result (λ o. o.layout ≡ Two) }
     ensures acts { Acts (Rests opened) Brings (target_over name.now) opened result
-        (outside (H.moments host.old) (H.faults host.old) (R.holds remotes.old) (R.faults remotes.old))
-        (outside (H.moments host.new) (H.faults host.new) (R.holds remotes.new) (R.faults remotes.new)) }
+        (outside (H.moments host.old) (H.faults host.old) (R.holds remotes.old)
+        (R.faults remotes.old))
+        (outside (H.moments host.new) (H.faults host.new) (R.holds remotes.new)
+        (R.faults remotes.new)) }
 {
     let origin = match find_ref(opened.state().refs.as_slice(), name) {
         Some(row) => row.origin.copy()?,
@@ -140,8 +148,10 @@ fn update_from<H: Host, R: Remotes>(
     ensures good { IfOk result IsGood }
     ensures layout { IfOk result (λ o. o.layout ≡ Two) }
     ensures acts { Acts (Rests opened) Brings (updated_from remote.now name.now) opened result
-        (outside (H.moments host.old) (H.faults host.old) (R.holds remotes.old) (R.faults remotes.old))
-        (outside (H.moments host.new) (H.faults host.new) (R.holds remotes.new) (R.faults remotes.new)) }
+        (outside (H.moments host.old) (H.faults host.old) (R.holds remotes.old)
+        (R.faults remotes.old))
+        (outside (H.moments host.new) (H.faults host.new) (R.holds remotes.new)
+        (R.faults remotes.new)) }
 {
     match ops(alloc, host, remotes, opened.state(), remote, name) {
         Ok(plan) => do_ops(rt, alloc, host, remotes, opened, plan.as_slice()),
@@ -171,8 +181,10 @@ fn skip<H: Host, R: Remotes>(
     ensures good { IfOk result IsGood }
     ensures layout { IfOk result (λ o. o.layout ≡ Two) }
     ensures acts { Acts (Rests opened) Brings (λ held x. skipped name.now) opened result
-        (outside (H.moments host.old) (H.faults host.old) (R.holds remotes.old) (R.faults remotes.old))
-        (outside (H.moments host.new) (H.faults host.new) (R.holds remotes.new) (R.faults remotes.new)) }
+        (outside (H.moments host.old) (H.faults host.old) (R.holds remotes.old)
+        (R.faults remotes.old))
+        (outside (H.moments host.new) (H.faults host.new) (R.holds remotes.new)
+        (R.faults remotes.new)) }
 {
     let line = skipped_line(alloc, name)?;
     host.say(line.as_str().as_bytes())?;

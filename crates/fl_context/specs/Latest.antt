@@ -20,7 +20,8 @@ mentions_of latest = map mention_at latest.entries
 -- the mentions with this one: in the place of the permission's, or at its place in the order
 abbrev pub with_mention : List Mention → Mention → List Mention
 with_mention [] m = m ∷ []
-with_mention (n ∷ mentions) m = match_ordering (permission_cmp m.permission n.permission) (m ∷ n ∷ mentions) (record n { value = m.value } ∷ mentions) (n ∷ with_mention mentions m)
+with_mention (n ∷ mentions) m = match_ordering (permission_cmp m.permission n.permission)
+    (m ∷ n ∷ mentions) (record n { value = m.value } ∷ mentions) (n ∷ with_mention mentions m)
 
 unfoldable pub merged_onto : List Mention → List Mention → List Mention
 merged_onto front mentions = fold with_mention front mentions

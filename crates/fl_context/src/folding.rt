@@ -23,8 +23,8 @@ fn merge(alloc: Global, layers: &[&Layer]) -> Result<Layer, AllocError>
     copied(alloc, &latest)
 }
 
-/// What the layers grant: for each permission that they mention, the value of its last mention. A later layer goes
-/// before an earlier one.
+/// What the layers grant: for each permission that they mention, the value of its last mention. A
+/// later layer goes before an earlier one.
 pub fn fold(alloc: Global, layers: &[&Layer]) -> Result<Grants, AllocError>
     ensures last { IfOk result (λ grants. (p : Permission) → value_in grants p ≡ last_mention
         (joined layers.now) p) }

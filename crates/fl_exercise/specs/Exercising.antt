@@ -28,4 +28,5 @@ end_answer apps held x = text_answer (end_text apps x.state)
 
 -- its changes one after another, up to the first refusal, and its last line where none is refused
 abbrev pub exercising : ℕ → Holdings → World → Answer
-exercising apps held x = then_over held x (changing (exercise_changes apps) held x) (end_answer apps held)
+exercising apps held x =
+    then_over held x (changing (exercise_changes apps) held x) (end_answer apps held)

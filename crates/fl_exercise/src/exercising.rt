@@ -21,8 +21,9 @@ use fp_small::{RefRow, State};
 use std::alloc::{AllocError, Global};
 use std::thread::Threads;
 
-/// Makes the changes of an exercise on an opened installation, one after another up to the first refusal, over these remotes.
-/// Where none is refused, it prints how many applications and runtimes are deployed then.
+/// Makes the changes of an exercise on an opened installation, one after another up to the first
+/// refusal, over these remotes. Where none is refused, it prints how many applications and runtimes
+/// are deployed then.
 pub fn make_exercise<H: Host, R: Remotes>(
     rt: &(impl Threads + Sync),
     alloc: Global,
@@ -32,9 +33,12 @@ pub fn make_exercise<H: Host, R: Remotes>(
     apps: &AppCount,
 ) -> Result<Opened, RunEnd>
     requires good { IsGood opened }
-    ensures acts { Acts (Opens opened) (MayDo (exercise_changes apps.now)) (exercising apps.now) opened result
-        (outside (H.moments host.old) (H.faults host.old) (R.holds remotes.old) (R.faults remotes.old))
-        (outside (H.moments host.new) (H.faults host.new) (R.holds remotes.new) (R.faults remotes.new)) }
+    ensures acts { Acts (Opens opened) (MayDo (exercise_changes apps.now))
+        (exercising apps.now) opened result
+        (outside (H.moments host.old) (H.faults host.old) (R.holds remotes.old)
+        (R.faults remotes.old))
+        (outside (H.moments host.new) (H.faults host.new) (R.holds remotes.new)
+        (R.faults remotes.new)) }
 {
     let changes = exercise_commands(alloc, apps.number())?;
     let changed = change_all(rt, alloc, host, remotes, opened, changes.as_slice())?;
@@ -49,9 +53,12 @@ fn say_end<H: Host, R: Remotes>(
     opened: Opened,
     apps: &AppCount,
 ) -> Result<Opened, RunEnd>
-    ensures acts { Acts (Rests opened) (MayDo (exercise_changes apps.now)) (end_answer apps.now) opened result
-        (outside (H.moments host.old) (H.faults host.old) (R.holds remotes.old) (R.faults remotes.old))
-        (outside (H.moments host.new) (H.faults host.new) (R.holds remotes.new) (R.faults remotes.new)) }
+    ensures acts { Acts (Rests opened) (MayDo (exercise_changes apps.now))
+        (end_answer apps.now) opened result
+        (outside (H.moments host.old) (H.faults host.old) (R.holds remotes.old)
+        (R.faults remotes.old))
+        (outside (H.moments host.new) (H.faults host.new) (R.holds remotes.new)
+        (R.faults remotes.new)) }
 {
     let line = end_line(alloc, opened.state(), apps)?;
     host.say(line.as_str().as_bytes())?;

@@ -9,8 +9,8 @@ ghost use Rattle.fl_change.specs.World.{World, worlds_after};
 ghost use Rattle.fl_exercise.specs.Exercising.{end_text, exercising};
 ghost use Rattle.fl_exercise.specs.Sample.{three_refs};
 
-/// Where one of its changes is refused, an exercise answers what its changes answer. Where none is, its own line comes last, over
-/// the state that they leave.
+/// Where one of its changes is refused, an exercise answers what its changes answer. Where none is,
+/// its own line comes last, over the state that they leave.
 pub fn exercises_end_with_their_line()
     ensures refused { (apps : ℕ) (held : Holdings) (x : World) (r : Refusal)
         → (changing (exercise_changes apps) held x).refusal ≡ Some r

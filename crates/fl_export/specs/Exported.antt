@@ -31,7 +31,8 @@ desktop_row name file text = record { path = desktop_path file; name = name; wha
 abbrev pub desktop_of : Have → Ref → FileRow → Option ExportRow
 desktop_of have name f =
     if is_own name f.name && is_desktop f.name
-    then option_map (desktop_row name f.name) (option_and_then (λ bytes. rewritten bytes name) (short_content (have f.digest kinds.File)))
+    then option_map (desktop_row name f.name)
+    (option_and_then (λ bytes. rewritten bytes name) (short_content (have f.digest kinds.File)))
     else None
 
 abbrev pub desktop_files : Have → Ref → List FileRow → List ExportRow
@@ -40,25 +41,33 @@ desktop_files have name files = flat_map (λ f. option_to_list (desktop_of have 
 -- ---- icons
 
 abbrev pub icon_row : Ref → List ℕ → List ℕ → ExportRow
-icon_row name size file = record { path = icon_path size file; name = name; what = what.Link (link_text name (icon_path size file)) }
+icon_row name size file = record {
+  path = icon_path size file;
+  name = name;
+  what = what.Link (link_text name (icon_path size file));
+}
 
 abbrev pub icon_of : Have → Ref → List ℕ → FileRow → Option ExportRow
-icon_of have name size f = if is_own name f.name && is_file (have f.digest kinds.File) then Some (icon_row name size f.name) else None
+icon_of have name size f = if is_own name f.name && is_file (have f.digest kinds.File)
+    then Some (icon_row name size f.name) else None
 
 abbrev pub icon_files : Have → Ref → List ℕ → List FileRow → List ExportRow
 icon_files have name size files = flat_map (λ f. option_to_list (icon_of have name size f)) files
 
 abbrev pub icons_of : Have → Ref → DirRow → List ExportRow
-icons_of have name size = if is_element size.name then icon_files have name size.name (files_in (tree_next have (codes "apps") size)) else []
+icons_of have name size = if is_element size.name
+    then icon_files have name size.name (files_in (tree_next have (codes "apps") size)) else []
 
 abbrev pub icons : Have → Ref → List DirRow → List ExportRow
 icons have name sizes = flat_map (icons_of have name) sizes
 
 -- ---- in order
 
--- what a commit of an application exports: from `export/share/applications`, and from `export/share/icons/hicolor/SIZE/apps`
+-- what a commit of an application exports: from `export/share/applications`, and from
+-- `export/share/icons/hicolor/SIZE/apps`
 abbrev pub desktops_by : Have → Ref → List ℕ → List ExportRow
-desktops_by have name commit = desktop_files have name (files_in (tree_look have commit (applications in_export)))
+desktops_by have name commit =
+    desktop_files have name (files_in (tree_look have commit (applications in_export)))
 
 abbrev pub icons_by : Have → Ref → List ℕ → List ExportRow
 icons_by have name commit = icons have name (dirs_in (tree_look have commit (hicolor in_export)))
@@ -79,7 +88,8 @@ all_exported have rows = flat_map (exported_at have) rows
 abbrev pub key : ExportRow → List ℕ
 key row = path_text row.path
 
-abbrev pub by_order : Ordering → ExportRow → ExportRow → List ExportRow → List ExportRow → List ExportRow
+abbrev pub by_order : Ordering → ExportRow → ExportRow → List ExportRow → List ExportRow
+    → List ExportRow
 by_order o x y rows put = if is_lt o then x ∷ y ∷ rows else (if is_eq o then x ∷ rows else y ∷ put)
 
 -- the row among others that are in order; one of its path goes
@@ -98,4 +108,6 @@ exported have s = in_order (all_exported have s.refs)
 
 -- it depends on the objects of the orders of the deployed commits alone
 abbrev pub ExportedIsLocal : Type 0
-ExportedIsLocal = (i j : Have) (s : State) → ((row : RefRow) → In s.refs row → Agree i j (order i row.commit)) → exported j s ≡ exported i s
+ExportedIsLocal = (i j : Have) (s : State)
+    → ((row : RefRow) → In s.refs row → Agree i j (order i row.commit))
+    → exported j s ≡ exported i s

@@ -31,10 +31,12 @@ IsLeafSpot (points text) = Unit {0}
 IsLeafSpot gone = ⊥
 IsLeafSpot folder = ⊥
 
--- The files and links at or below `exports` are exactly these: each of them stands there, and at no other path is one.
+-- The files and links at or below `exports` are exactly these: each of them stands there, and at no
+-- other path is one.
 pub record ExportsAre (rows : List ExportRow) (disk : Disk) : Type 0 where
   pub each : (row : ExportRow) → Contains rows row → IsExported row.what (disk (place_of row))
-  pub only : (q : Elements) → IsWithin exports q → (Contains (places_of rows) q → ⊥) → IsLeafSpot (disk q) → ⊥
+  pub only : (q : Elements) → IsWithin exports q → (Contains (places_of rows) q → ⊥)
+      → IsLeafSpot (disk q) → ⊥
 
 -- ---- as tests
 

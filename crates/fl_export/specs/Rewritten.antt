@@ -30,10 +30,12 @@ launch_line name value = codes "fpk launch " ++ (ref_text name ++ command_option
 
 -- `TryExec`, and `Exec` and `TryExec` in a language
 abbrev pub is_left_out : List ℕ → Bool
-is_left_out key = bytes_eq key (codes "TryExec") || (starts_with nat_eq key (codes "Exec[") || starts_with nat_eq key (codes "TryExec["))
+is_left_out key = bytes_eq key (codes "TryExec")
+    || (starts_with nat_eq key (codes "Exec[") || starts_with nat_eq key (codes "TryExec["))
 
 abbrev pub launching : Ref → Pair → Pair
-launching name p = if bytes_eq p.key (codes "Exec") then record p { value = launch_line name p.value } else p
+launching name p =
+    if bytes_eq p.key (codes "Exec") then record p { value = launch_line name p.value } else p
 
 abbrev pub rewritten_pair : Ref → Pair → List Pair
 rewritten_pair name p = if is_left_out p.key then [] else launching name p ∷ []
@@ -48,6 +50,7 @@ abbrev pub text_by : Ref → Result (List Group) KeyFault → Option (List ℕ)
 text_by name (Ok file) = Some (text_of (rewritten_file name file))
 text_by name (Err fault) = None
 
--- Rewritten: the key file with the application's launch in the place of its command; bytes that are no key file have none
+-- Rewritten: the key file with the application's launch in the place of its command; bytes that are
+-- no key file have none
 unfoldable pub rewritten : List ℕ → Ref → Option (List ℕ)
 rewritten bytes name = text_by name (file_of bytes)

@@ -28,22 +28,25 @@ use Rattle.fl_export.specs.Exported.{exported}
 use Rattle.fl_export.specs.Texts.{desktop_path, icon_path}
 use Rattle.fl_export.specs.Placed.{exports, place_of, IsExported, ExportsAre}
 
--- What a step gives and where, what its names come to hold, and what was put at names since; each file that was there is as it
--- was, and nothing is printed.
-pub record Alters (G : Elements → Spot → Type 0) (W : Elements → Slot → Type 0) (u w : View) : Type 0 where
+-- What a step gives and where, what its names come to hold, and what was put at names since; each
+-- file that was there is as it was, and nothing is printed.
+pub record Alters (G : Elements → Spot → Type 0) (W : Elements → Slot → Type 0)
+    (u w : View) : Type 0 where
   pub follows : Follows G u w
   pub names : (q : Elements) → (w.names q ≡ u.names q) ⊎ W q (w.names q)
   pub puts : (x : Elements × Slot) → Contains w.stood x → Contains u.stood x ⊎ W x.0 x.1
   pub files : KeepsFiles u w
   pub printed : w.printed ≡ u.printed
 
--- What a refresh may give, and where: anything at or below `exports`, unless it is too deep; the folders of work; and work.
+-- What a refresh may give, and where: anything at or below `exports`, unless it is too deep; the
+-- folders of work; and work.
 pub data Exports (q : Elements) (spot : Spot) : Type 0 where
   in_exports : IsWithin exports q → (spot ≡ gone) ⊎ (length q ≤ MOST_ELEMENTS) → Exports q spot
   in_store : (q ≡ repo) ⊎ (q ≡ tmp) → spot ≡ folder → Exports q spot
   in_work : (k : ℕ) → q ≡ new_name k ∷ tmp → Exports q spot
 
--- What a name may come to hold: anything at or below `exports`, and below `repo/tmp`; and these two may come to be folders.
+-- What a name may come to hold: anything at or below `exports`, and below `repo/tmp`; and these two
+-- may come to be folders.
 pub data MayRefresh (q : Elements) (e : Slot) : Type 0 where
   some_export : IsWithin exports q → MayRefresh q e
   some_work : IsAbove tmp q → MayRefresh q e
@@ -53,9 +56,10 @@ pub data MayRefresh (q : Elements) (e : Slot) : Type 0 where
 -- ---- what is stale
 
 -- in this region, at none of the places
-pub record IsStale (region : Elements → Type 0) (places : List Elements) (q : Elements) : Type 0 where
-  pub within : region q
-  pub unwanted : Contains places q → ⊥
+pub record IsStale (region : Elements → Type 0) (places : List Elements) (q : Elements) : Type 0
+  where
+    pub within : region q
+    pub unwanted : Contains places q → ⊥
 
 abbrev pub StaleGone : (Elements → Type 0) → List Elements → Elements → Spot → Type 0
 StaleGone region places q spot = IsStale region places q × (spot ≡ gone)
@@ -64,8 +68,9 @@ abbrev pub StaleAbsent : (Elements → Type 0) → List Elements → Elements �
 StaleAbsent region places q e = IsStale region places q × (e ≡ absent)
 
 -- no file and no link is in the region, but at these places
-pub record HasNoStaleIn (region : Elements → Type 0) (places : List Elements) (v : View) : Type 0 where
-  pub none : (q : Elements) → region q → (Contains places q → ⊥) → IsLeaf (v.names q) → ⊥
+pub record HasNoStaleIn (region : Elements → Type 0) (places : List Elements) (v : View) : Type 0
+  where
+    pub none : (q : Elements) → region q → (Contains places q → ⊥) → IsLeaf (v.names q) → ⊥
 
 -- What is stale in the region goes; where nothing is, nothing changes. Each new file is empty.
 pub record Sweeps (region : Elements → Type 0) (places : List Elements) (u w : View) : Type 0 where
@@ -86,7 +91,8 @@ Cleans places u w = Sweeps (IsWithin exports) places u w
 
 -- ---- what is put there
 
--- What may come to stand where this is put at a place: it, folders above, work; and what was there goes.
+-- What may come to stand where this is put at a place: it, folders above, work; and what was there
+-- goes.
 pub data PutAt (place : Elements) (what : ExportWhat) (q : Elements) (spot : Spot) : Type 0 where
   it_at : q ≡ place → IsExported what spot → PutAt place what q spot
   gone_at : IsWithin place q → spot ≡ gone → PutAt place what q spot
@@ -102,7 +108,8 @@ pub data PutName (place q : Elements) (e : Slot) : Type 0 where
 abbrev pub PutsAt : Elements → ExportWhat → View → View → Type 0
 PutsAt place what u w = Alters (PutAt place what) (PutName place) u w
 
--- It stands there. The names of work are as they were. Each new file that has bytes came to the place.
+-- It stands there. The names of work are as they were. Each new file that has bytes came to the
+-- place.
 pub record WasPut (place : Elements) (what : ExportWhat) (u w : View) : Type 0 where
   pub there : IsExported what (shows w place)
   pub work : IsWithin exports place → (q : Elements) → IsAbove tmp q → w.names q ≡ u.names q
@@ -111,7 +118,8 @@ pub record WasPut (place : Elements) (what : ExportWhat) (u w : View) : Type 0 w
 -- the link's text is one, but for its spelling in UTF-8
 abbrev pub HasLinkText : ExportWhat → Type 0
 HasLinkText (what.Text bytes) = Unit {0}
-HasLinkText (what.Link text) = (1 ≤ length text) × (length text ≤ MOST_LINK_BYTES) × (list_all (λ b. not (b == 0)) text ≡ true)
+HasLinkText (what.Link text) =
+    (1 ≤ length text) × (length text ≤ MOST_LINK_BYTES) × (list_all (λ b. not (b == 0)) text ≡ true)
 
 -- where it may be put there
 pub record CanPut (place : Elements) (what : ExportWhat) (v : View) : Type 0 where
@@ -152,7 +160,8 @@ pub record PutsRows (rows : List ExportRow) (u w : View) : Type 0 where
 abbrev pub IsPlaceIn : List ExportRow → Elements → Type 0
 IsPlaceIn rows q = (row : ExportRow) × Contains rows row × (q ≡ place_of row)
 
--- Each stands at its place. The names of work are as they were. Each new file that has bytes came to such a place.
+-- Each stands at its place. The names of work are as they were. Each new file that has bytes came
+-- to such a place.
 pub record WereThere (rows : List ExportRow) (u w : View) : Type 0 where
   pub there : HasRows rows w
   pub work : (q : Elements) → IsAbove tmp q → w.names q ≡ u.names q
@@ -163,23 +172,27 @@ WerePut rows u w = WereThere rows u w
 
 -- a desktop file's path, or an icon's
 abbrev pub HasForm : Elements → Type 0
-HasForm path = ((file : List ℕ) × (path ≡ desktop_path file)) ⊎ ((size : List ℕ) × (file : List ℕ) × (path ≡ icon_path size file))
+HasForm path = ((file : List ℕ) × (path ≡ desktop_path file))
+    ⊎ ((size : List ℕ) × (file : List ℕ) × (path ≡ icon_path size file))
 
 -- rows as they are exported: their paths have one of the two forms, and no two have one path
 pub record AreRows (rows : List ExportRow) : Type 0 where
   pub forms : (row : ExportRow) → Contains rows row → HasForm row.path
-  pub one : (row other : ExportRow) → Contains rows row → Contains rows other → row.path ≡ other.path → row ≡ other
+  pub one : (row other : ExportRow) → Contains rows row → Contains rows other
+      → row.path ≡ other.path → row ≡ other
 
 -- for such rows each was put
 pub record WereAllPut (rows : List ExportRow) (u w : View) : Type 0 where
   pub all : AreRows rows → WereThere rows u w
 
--- where such rows may be put: each link's text is one, no path is too deep, and no file and no link is where a folder has to be
+-- where such rows may be put: each link's text is one, no path is too deep, and no file and no link
+-- is where a folder has to be
 pub record CanPutRows (rows : List ExportRow) (v : View) : Type 0 where
   pub are : AreRows rows
   pub texts : (row : ExportRow) → Contains rows row → HasLinkText row.what
   pub deep : CanEmpty exports v
-  pub folders : (row : ExportRow) → Contains rows row → (q : Elements) → IsAbove q (place_of row) → IsFree v q
+  pub folders : (row : ExportRow) → Contains rows row → (q : Elements)
+      → IsAbove q (place_of row) → IsFree v q
   pub work : IsFree v repo × IsFree v tmp
 
 -- ---- the whole
@@ -188,20 +201,22 @@ pub record CanPutRows (rows : List ExportRow) (v : View) : Type 0 where
 abbrev pub exported_in : State → View → List ExportRow
 exported_in s v = exported (store repo (shows v)) s
 
--- At every moment: what every stop left before it leaves now; only names of exports and of work change, and where all is right
--- already none does and no new file has a byte. Each file that was there keeps its mode and its bytes, and nothing is printed.
--- No file came to a commit's folder.
+-- At every moment: what every stop left before it leaves now; only names of exports and of work
+-- change, and where all is right already none does and no new file has a byte. Each file that was
+-- there keeps its mode and its bytes, and nothing is printed. No file came to a commit's folder.
 pub record Refreshes (s : State) (u w : View) : Type 0 where
   pub opens : Opens s u → Opens s w
   pub names : (q : Elements) → (w.names q ≡ u.names q) ⊎ MayRefresh q (w.names q)
-  pub idle : Opens s u → ExportsAre (exported_in s u) (shows u) → (q : Elements) → w.names q ≡ u.names q
+  pub idle : Opens s u → ExportsAre (exported_in s u) (shows u) → (q : Elements)
+      → w.names q ≡ u.names q
   pub unwritten : Opens s u → ExportsAre (exported_in s u) (shows u) → Shares NoPath u w
   pub files : KeepsFiles u w
   pub links : Links u w
   pub printed : w.printed ≡ u.printed
 
--- In the end the files and links at or below `exports` are exactly those that are exported, and every stop leaves what stands.
--- The names of work are as they were. Each new file that has bytes came to a name below `exports`, and no object was made.
+-- In the end the files and links at or below `exports` are exactly those that are exported, and
+-- every stop leaves what stands. The names of work are as they were. Each new file that has bytes
+-- came to a name below `exports`, and no object was made.
 pub record WasRefreshed (s : State) (u w : View) : Type 0 where
   pub exports_are : ExportsAre (exported_in s w) (shows w)
   pub lasts : IsSettled w

@@ -14,7 +14,8 @@ begins_by_mark (c ∷ cs) = is_mark c
 
 -- a name of a path: the ID of the application, `.` or `-`, and anything
 abbrev pub is_own : Ref → List ℕ → Bool
-is_own name file = is_element file && (starts_with nat_eq file name.id && begins_by_mark (drop (length name.id) file))
+is_own name file = is_element file
+    && (starts_with nat_eq file name.id && begins_by_mark (drop (length name.id) file))
 
 abbrev pub is_desktop : List ℕ → Bool
 is_desktop file = ends_with nat_eq file (codes ".desktop")
@@ -39,4 +40,5 @@ icon_path size file = file ∷ (codes "apps" ∷ (size ∷ hicolor []))
 
 -- from the folder of the icons of a size to what has the path in the application's folder
 abbrev pub link_text : Ref → Elements → List ℕ
-link_text name path = codes "../../../../../../" ++ (ref_text name ++ (codes "/active/export/" ++ path_text path))
+link_text name path =
+    codes "../../../../../../" ++ (ref_text name ++ (codes "/active/export/" ++ path_text path))

@@ -26,7 +26,8 @@ root_tree c = option_map commit_tree c
 
 -- the digest of the dirtree of the directory of this name in a directory, and the dirtree
 abbrev pub digest_below : List ℕ → Option TreeView → Option (List ℕ)
-digest_below name tree = option_map dir_tree (option_and_then (λ (v : TreeView). find_dir name v.dirs) tree)
+digest_below name tree =
+    option_map dir_tree (option_and_then (λ (v : TreeView). find_dir name v.dirs) tree)
 
 abbrev pub below : Have → List ℕ → Option TreeView → Option TreeView
 below have name tree = option_and_then (tree_at have) (digest_below name tree)

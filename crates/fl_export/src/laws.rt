@@ -1,4 +1,5 @@
-//! Laws of the words that the contracts use, for crates that build on them. Each is the contract of a function that does nothing.
+//! Laws of the words that the contracts use, for crates that build on them. Each is the contract of
+//! a function that does nothing.
 ghost use Rattle.std.specs.Prelude.{◌≡◌, ◌∷◌, [], codes, Some, None};
 ghost use Rattle.fl_export.specs.Exported.{exported, ExportedIsLocal};
 ghost use Rattle.fl_export.specs.Rewritten.{rewritten};
@@ -9,20 +10,23 @@ pub fn what_is_exported_depends_on_the_objects()
     ensures { ExportedIsLocal }
 {}
 
-/// What a small application exports: its desktop file and its icon. A file of another name isn't exported, nor an icon of another
-/// theme.
+/// What a small application exports: its desktop file and its icon. A file of another name isn't
+/// exported, nor an icon of another theme.
 pub fn a_small_application_is_exported()
     ensures stable { exported sample.have (sample.state (sample.row sample.stable ∷ []))
-        ≡ sample.exports sample.stable (codes "[Desktop Entry]\nName=App\nExec=fpk launch app/org.x.App/x86_64/stable --command=run\n") }
+        ≡ sample.exports sample.stable
+        (codes "[Desktop Entry]\nName=App\nExec=fpk launch app/org.x.App/x86_64/stable --command=run\n") }
     // Of two refs that export one path the first decides.
     ensures both { exported sample.have
         (sample.state (sample.row sample.beta ∷ sample.row sample.stable ∷ []))
-        ≡ sample.exports sample.beta (codes "[Desktop Entry]\nName=App\nExec=fpk launch app/org.x.App/x86_64/beta --command=run\n") }
+        ≡ sample.exports sample.beta
+        (codes "[Desktop Entry]\nName=App\nExec=fpk launch app/org.x.App/x86_64/beta --command=run\n") }
     ensures runtime { exported sample.have (sample.state (sample.row sample.runtime ∷ [])) ≡ [] }
     ensures absent { exported (λ d kind. None) (sample.state (sample.row sample.stable ∷ [])) ≡ [] }
 {}
 
-/// A command is handed on only where no desktop reads it as other words; and commands in a language are left out.
+/// A command is handed on only where no desktop reads it as other words; and commands in a language
+/// are left out.
 pub fn commands_are_rewritten()
     ensures path { rewritten (codes "[A]\nExec=/app/bin/r-u_n.s+h %F\n") sample.stable
         ≡ Some (codes "[A]\nExec=fpk launch app/org.x.App/x86_64/stable --command=/app/bin/r-u_n.s+h\n") }

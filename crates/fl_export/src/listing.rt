@@ -50,9 +50,10 @@ fn by_path(
     Ok(keyed)
 }
 
-/// What is exported of the installation's applications, ascending by the bytes of the paths, as its store has them: their
-/// desktop files in `share/applications`, rewritten, and links to their icons in `share/icons/hicolor`, where the name begins by
-/// the application's ID and `.` or `-`. Where two applications export one path, the first one's stays. Nothing changes.
+/// What is exported of the installation's applications, ascending by the bytes of the paths, as its
+/// store has them: their desktop files in `share/applications`, rewritten, and links to their icons
+/// in `share/icons/hicolor`, where the name begins by the application's ID and `.` or `-`. Where
+/// two applications export one path, the first one's stays. Nothing changes.
 #[tactic(auto, unfolding(crate::specs::Exported::exported))]
 pub fn wanted<H: Host>(
     alloc: Global,

@@ -14,9 +14,10 @@ use fp_host::{Host, HostEnd};
 use fp_small::State;
 use std::alloc::Global;
 
-/// Makes the files and links at or below `exports` exactly those that are exported: takes those away that are exported no more,
-/// puts those there that are lacking or say something else, and syncs. What stands in the way of one goes, with what is below it;
-/// empty folders stay. Files are replaced as small files are. Where all is right already, no name and no file changes. It is for
+/// Makes the files and links at or below `exports` exactly those that are exported: takes those
+/// away that are exported no more, puts those there that are lacking or say something else, and
+/// syncs. What stands in the way of one goes, with what is below it; empty folders stay. Files are
+/// replaced as small files are. Where all is right already, no name and no file changes. It is for
 /// an installation that every stop leaves in this state and sound.
 pub fn refresh<H: Host>(alloc: Global, host: &mut H, state: &State) -> Result<(), HostEnd>
     ensures any_moment { Always (Refreshes state.now) (H.moments host.old) (H.moments host.new) }

@@ -1,4 +1,5 @@
-//! Desktop files as they are exported, after the Desktop Entry Specification and Flatpak's own exports.
+//! Desktop files as they are exported, after the Desktop Entry Specification and Flatpak's own
+//! exports.
 ghost use Rattle.std.specs.Prelude.{◌≡◌, ◌++◌, nat_eq, IfOk, OnOk, string_bytes};
 ghost use Rattle.std.specs.List.{list_all, starts_with};
 ghost use Rattle.fp_keyfile.specs.KeyFile.{text_of};
@@ -38,7 +39,8 @@ fn are_command_bytes(bytes: &[u8]) -> bool
     bytes.iter().all(|byte| is_command_byte(*byte))
 }
 
-/// Whether a word is handed on as a command: it isn't empty, and no desktop reads it as more than one.
+/// Whether a word is handed on as a command: it isn't empty, and no desktop reads it as more than
+/// one.
 fn is_command(word: &str) -> bool
     ensures { result ≡ spec.is_command word.now }
 {
@@ -56,7 +58,8 @@ fn command_option(alloc: Global, word: &str) -> Result<String, AllocError>
     }
 }
 
-/// The command line by which a desktop launches the application, for what its own desktop file says.
+/// The command line by which a desktop launches the application, for what its own desktop file
+/// says.
 fn launch_line(alloc: Global, name: &RefName, value: &str) -> Result<String, AllocError>
     ensures { IfOk result (λ line. string_bytes line ≡ spec.launch_line name.now value.now) }
 {
@@ -73,8 +76,8 @@ pub(crate) fn begins_with(text: &str, prefix: &str) -> bool
     text.starts_with(prefix)
 }
 
-/// Whether pairs of this key are left out: `TryExec`, which names a program of the application's own, and the commands in a
-/// language.
+/// Whether pairs of this key are left out: `TryExec`, which names a program of the application's
+/// own, and the commands in a language.
 fn is_left_out(key: &str) -> bool
     ensures { result ≡ spec.is_left_out key.now }
 {
@@ -148,10 +151,11 @@ fn rewritten_text(alloc: Global, name: &RefName, file: &KeyFile) -> Result<Blob,
     Ok(Blob::from_vec(text.into_string().into_bytes()))
 }
 
-/// The desktop file as it is exported for the application: the value of each `Exec` is `fpk launch REF --command=WORD`, WORD being
-/// what stood before its first space. The option is left out where the word is empty or has anything but ASCII letters, digits
-/// and `-_./+`: a desktop reads `%i`, quotes, `$` and backslashes as other words. Pairs `TryExec`, `Exec[..]` and `TryExec[..]`
-/// are left out. None exactly where the bytes are no key file.
+/// The desktop file as it is exported for the application: the value of each `Exec` is `fpk launch
+/// REF --command=WORD`, WORD being what stood before its first space. The option is left out where
+/// the word is empty or has anything but ASCII letters, digits and `-_./+`: a desktop reads `%i`,
+/// quotes, `$` and backslashes as other words. Pairs `TryExec`, `Exec[..]` and `TryExec[..]` are
+/// left out. None exactly where the bytes are no key file.
 #[tactic(auto, unfolding(crate::specs::Rewritten::rewritten))]
 pub fn rewrite(alloc: Global, bytes: &[u8], name: &RefName) -> Result<Option<Blob>, AllocError>
     ensures { IfOk result (λ text. text ≡ spec.rewritten bytes.now name.now) }

@@ -14,7 +14,8 @@ use fp_host::{Host, HostEnd, Path, Stat};
 use fp_small::{MOST_ELEMENTS, take_away};
 use std::alloc::Global;
 
-/// No path below `exports` is more folders deep: a path of an installation has at most one element more.
+/// No path below `exports` is more folders deep: a path of an installation has at most one element
+/// more.
 const MOST_LEVELS: usize = MOST_ELEMENTS - 1;
 
 /// Whether the path is one of these.

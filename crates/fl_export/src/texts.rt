@@ -25,8 +25,8 @@ fn begins_by_mark(text: &[u8]) -> bool
     }
 }
 
-/// Whether a file is one that an application may export: its name is one of a path, and begins by the application's ID and `.`
-/// or `-`.
+/// Whether a file is one that an application may export: its name is one of a path, and begins by
+/// the application's ID and `.` or `-`.
 pub(crate) fn is_own(name: &RefName, file: &str) -> bool
     ensures { result ≡ spec.is_own name.now file.now }
 {

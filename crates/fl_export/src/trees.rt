@@ -1,4 +1,5 @@
-//! The directories of a commit, as the installation's store has them. What is missing or doesn't read has nothing in it.
+//! The directories of a commit, as the installation's store has them. What is missing or doesn't
+//! read has nothing in it.
 ghost use Rattle.std.specs.Prelude.{◌≡◌, ◌∷◌, [], map, option_map, option_and_then, IfOk, IsErrOf, codes};
 ghost use Rattle.fp_base.specs.declared.object.ObjKind.TheVariants as kinds;
 ghost use Rattle.fp_host.specs.Causes.{IsCounted};
@@ -164,7 +165,8 @@ fn share_of<H: Host>(
 ) -> Result<Option<DirTree>, HostEnd>
     ensures unchanged { Unchanged (H.moments host.old) (H.moments host.new) }
     ensures tells { (have : Have) → Stores repo (H.moments host.old) have
-        → IfOk result (λ tree. option_map tree_view tree ≡ tree_look have commit.now (share in_export)) }
+        → IfOk result (λ tree. option_map tree_view tree
+        ≡ tree_look have commit.now (share in_export)) }
     ensures fault_has_cause { IsCounted (IsErrOf result HostEnd.Fault)
         (H.moments host.old) (H.faults host.old) (H.faults host.new) }
 {
@@ -181,7 +183,8 @@ pub(crate) fn applications_of<H: Host>(
 ) -> Result<Option<DirTree>, HostEnd>
     ensures unchanged { Unchanged (H.moments host.old) (H.moments host.new) }
     ensures tells { (have : Have) → Stores repo (H.moments host.old) have
-        → IfOk result (λ tree. option_map tree_view tree ≡ tree_look have commit.now (applications in_export)) }
+        → IfOk result (λ tree. option_map tree_view tree
+        ≡ tree_look have commit.now (applications in_export)) }
     ensures fault_has_cause { IsCounted (IsErrOf result HostEnd.Fault)
         (H.moments host.old) (H.faults host.old) (H.faults host.new) }
 {
@@ -197,7 +200,8 @@ pub(crate) fn hicolor_of<H: Host>(
 ) -> Result<Option<DirTree>, HostEnd>
     ensures unchanged { Unchanged (H.moments host.old) (H.moments host.new) }
     ensures tells { (have : Have) → Stores repo (H.moments host.old) have
-        → IfOk result (λ tree. option_map tree_view tree ≡ tree_look have commit.now (hicolor in_export)) }
+        → IfOk result (λ tree. option_map tree_view tree
+        ≡ tree_look have commit.now (hicolor in_export)) }
     ensures fault_has_cause { IsCounted (IsErrOf result HostEnd.Fault)
         (H.moments host.old) (H.faults host.old) (H.faults host.new) }
 {

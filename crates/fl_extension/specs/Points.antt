@@ -19,20 +19,23 @@ use Rattle.fl_extension.specs.declared.point.Point.{Point}
 abbrev pub is_on : Group → List ℕ → Bool
 is_on g key = option_map_or (λ value. bytes_eq value (codes "true")) (value_in g key) false
 
--- The text of a path that isn't the root, without `=` and control characters: in a line `/app/DIRECTORY=VALUE` the first `=` ends the
--- directory.
+-- The text of a path that isn't the root, without `=` and control characters: in a line
+-- `/app/DIRECTORY=VALUE` the first `=` ends the directory.
 abbrev pub is_directory : List ℕ → Bool
 is_directory text = list_all is_element (cut text) && list_all is_key_byte text
 
 -- ---- candidates
 
--- the versions that are tried: the entries of `versions`, else the value of `version`, else the ref's own branch
+-- the versions that are tried: the entries of `versions`, else the value of `version`, else the
+-- ref's own branch
 abbrev pub versions_of : Group → Ref → List (List ℕ)
-versions_of g r = option_map_or (slice_split is_semicolon) (value_in g (codes "versions")) (unwrap_or (value_in g (codes "version")) r.branch ∷ [])
+versions_of g r = option_map_or (slice_split is_semicolon) (value_in g (codes "versions"))
+    (unwrap_or (value_in g (codes "version")) r.branch ∷ [])
 
 -- the ref of a version that is a branch
 abbrev pub candidate_of : List ℕ → List ℕ → List ℕ → List Ref
-candidate_of name arch version = if is_branch version then ref_with Runtime name arch version ∷ [] else []
+candidate_of name arch version =
+    if is_branch version then ref_with Runtime name arch version ∷ [] else []
 
 unfoldable pub candidates_of : Group → Ref → List ℕ → List Ref
 candidates_of g r name = flat_map (candidate_of name r.arch) (versions_of g r)
@@ -40,16 +43,23 @@ candidates_of g r name = flat_map (candidate_of name r.arch) (versions_of g r)
 -- ---- points
 
 abbrev pub point_with : Group → Ref → List ℕ → List ℕ → Point
-point_with g r name directory = record { name = name; directory = directory; candidates = candidates_of g r name; auto = not (is_on g (codes "no-autodownload")) }
+point_with g r name directory = record {
+  name = name;
+  directory = directory;
+  candidates = candidates_of g r name;
+  auto = not (is_on g (codes "no-autodownload"));
+}
 
 -- a group with this NAME and this `directory` is a point, where the one is a directory
 abbrev pub point_at : Group → Ref → List ℕ → Option (List ℕ) → List Point
 point_at g r name None = []
-point_at g r name (Some directory) = if is_directory directory then point_with g r name directory ∷ [] else []
+point_at g r name (Some directory) =
+    if is_directory directory then point_with g r name directory ∷ [] else []
 
 -- where NAME is an ID, and `subdirectories` isn't on
 abbrev pub point_named : Group → Ref → List ℕ → List Point
-point_named g r name = if is_id name && not (is_on g (codes "subdirectories")) then point_at g r name (value_in g (codes "directory")) else []
+point_named g r name = if is_id name && not (is_on g (codes "subdirectories"))
+    then point_at g r name (value_in g (codes "directory")) else []
 
 -- the point that a group `Extension NAME` says, where it says one
 unfoldable pub point_of : Ref → Group → List Point

@@ -40,7 +40,8 @@ fn are_plain(text: &str) -> bool
     text.bytes().all(is_plain)
 }
 
-/// Whether an extension may be mounted at the text: a path that isn't the root, without `=` and control characters.
+/// Whether an extension may be mounted at the text: a path that isn't the root, without `=` and
+/// control characters.
 pub(crate) fn is_directory(text: &str) -> bool
     ensures { result ≡ spec.is_directory text.now }
 {

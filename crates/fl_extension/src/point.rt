@@ -8,8 +8,8 @@ use fp_name::{AppId, RefName};
 pub struct Point {
     /// NAME, the ID of the extension.
     pub name: AppId,
-    /// Where the extension is mounted, below the folder of the application or the runtime: the text of a path that isn't
-    /// the root, without `=` and control characters.
+    /// Where the extension is mounted, below the folder of the application or the runtime: the text
+    /// of a path that isn't the root, without `=` and control characters.
     pub directory: Text,
     /// The refs that are its extensions, in the order in which they are tried.
     pub candidates: Items<RefName>,

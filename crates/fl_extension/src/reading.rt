@@ -89,13 +89,14 @@ fn sort_by_name(points: &mut Vec<Point>)
     points.sort_unstable_by(|a, b| a.name.as_str().cmp(b.name.as_str()));
 }
 
-/// The extension points that the metadata of a ref says, ascending by the bytes of their names, after
-/// flatpak-metadata(5).
+/// The extension points that the metadata of a ref says, ascending by the bytes of their names,
+/// after flatpak-metadata(5).
 ///
-/// A group `Extension NAME` is a point where NAME is an ID, `directory` is a path that isn't the root, without `=` and
-/// control characters, and `subdirectories` isn't `true`. Its candidates are the runtimes NAME of the ref's architecture
-/// at the branches that `versions` lists, or else at the branch `version`, or else at the ref's own; what is no branch is
-/// left out. `versions` is cut at `;`. The point is automatic unless `no-autodownload` is `true`.
+/// A group `Extension NAME` is a point where NAME is an ID, `directory` is a path that isn't the
+/// root, without `=` and control characters, and `subdirectories` isn't `true`. Its candidates are
+/// the runtimes NAME of the ref's architecture at the branches that `versions` lists, or else at
+/// the branch `version`, or else at the ref's own; what is no branch is left out. `versions` is cut
+/// at `;`. The point is automatic unless `no-autodownload` is `true`.
 #[tactic(auto, unfolding(crate::specs::Points::points_of))]
 pub fn points(alloc: Global, file: &KeyFile, of: &RefName) -> Result<Items<Point>, AllocError>
     ensures { IfOk result (λ points. points ≡ spec.points_of file.now of.now) }

@@ -23,9 +23,11 @@ out_text out = side_word out.to ++ (codes " " ++ (encode_lower out.bytes ++ 10 �
 abbrev pub broken : End → Refusal
 broken end = BadMessage end.0 end.1 end.2
 
--- A line for each message that the policy lets through, shortens or answers; and the end of the recording, where it isn't clean.
+-- A line for each message that the policy lets through, shortens or answers; and the end of the
+-- recording, where it isn't clean.
 abbrev pub filtered : List PolicyRule → Recording → Filtered
 filtered rules recording = record {
-  lines = map out_text (forwarded (setting rules recording.client recording.owners) (events (reverse recording.pieces)));
+  lines = map out_text (forwarded (setting rules recording.client recording.owners)
+      (events (reverse recording.pieces)));
   refusal = option_map broken (end_of (reverse recording.pieces));
 }

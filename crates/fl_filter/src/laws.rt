@@ -9,11 +9,12 @@ ghost use Rattle.fl_filter.specs.Filtered.{filtered, out_text};
 /// A line names the side to which its message goes, and spells its bytes.
 pub fn lines_of_messages()
     ensures bus { out_text (record { to = side.Bus; bytes = 108 ∷ 1 ∷ [] }) ≡ codes "bus 6c01\n" }
-    ensures client { out_text (record { to = side.Client; bytes = 255 ∷ [] }) ≡ codes "client ff\n" }
+    ensures client { out_text (record { to = side.Client; bytes = 255 ∷ [] })
+        ≡ codes "client ff\n" }
 {}
 
-/// What a filter answers depends on the policy, the client, the owners and the bytes of the sides in their order alone, and not on
-/// the pieces in which these came.
+/// What a filter answers depends on the policy, the client, the owners and the bytes of the sides
+/// in their order alone, and not on the pieces in which these came.
 pub fn answers_depend_on_bytes()
     ensures { (rules : List PolicyRule) (one two : Recording) → one.client ≡ two.client
         → one.owners ≡ two.owners

@@ -1,4 +1,5 @@
-//! The filter over a recording of what a client and its bus sent: each message that goes to a side is printed as a line.
+//! The filter over a recording of what a client and its bus sent: each message that goes to a side
+//! is printed as a line.
 #![tactic(auto)]
 
 mod end;

@@ -20,10 +20,11 @@ use bus_stream::Recording;
 use fp_host::{Host, HostEnd};
 use std::alloc::{AllocError, Global};
 
-/// Filters a recording by a policy, as xdg-dbus-proxy(1) does, and prints each message that goes to a side: `bus HEX` or
-/// `client HEX`, a line each, in order. A message that breaks a rule of the D-Bus specification is refused after the lines of
-/// those before it; so is one that the recording's end cuts. Each line is printed as its message comes, so what is kept are the
-/// tables of the filter and the message at hand.
+/// Filters a recording by a policy, as xdg-dbus-proxy(1) does, and prints each message that goes to
+/// a side: `bus HEX` or `client HEX`, a line each, in order. A message that breaks a rule of the
+/// D-Bus specification is refused after the lines of those before it; so is one that the
+/// recording's end cuts. Each line is printed as its message comes, so what is kept are the tables
+/// of the filter and the message at hand.
 pub fn filter_recording<H: Host>(
     alloc: Global,
     host: &mut H,

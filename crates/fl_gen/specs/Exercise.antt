@@ -19,4 +19,5 @@ uninstall_of half = change.Uninstall (app_ref (2 * half + 1))
 abbrev pub exercise_changes : ℕ → List Change
 exercise_changes apps =
     change.RemoteAdd (gen_at first_url) ∷ (each_of install_of apps
-    ++ (change.RemoteModify (gen_at second_url) ∷ (change.UpdateAll ∷ (each_of uninstall_of (apps / 2) ++ change.UninstallUnused ∷ []))))
+    ++ (change.RemoteModify (gen_at second_url)
+    ∷ (change.UpdateAll ∷ (each_of uninstall_of (apps / 2) ++ change.UninstallUnused ∷ []))))

@@ -18,7 +18,8 @@ second_url = codes "file:///gen/2"
 
 -- the first at the first url, the second at the second, and nothing elsewhere
 abbrev pub at_urls : {A : Type 0} → A → A → List ℕ → Option A
-at_urls first second url = if bytes_eq url first_url then Some first else (if bytes_eq url second_url then Some second else None)
+at_urls first second url = if bytes_eq url first_url then Some first
+    else (if bytes_eq url second_url then Some second else None)
 
 abbrev pub disk_by : Option Disk → Disk
 disk_by None q = gone
@@ -30,7 +31,8 @@ held_by first second url q = held_of (disk_by (at_urls first second url) q)
 abbrev pub holdings_of : GenRemotes → Holdings
 holdings_of g = held_by (kept g.first.rows.items) (kept g.second.rows.items)
 
--- The remotes of the generator for this number of applications: the stores of its two versions, and nothing elsewhere.
+-- The remotes of the generator for this number of applications: the stores of its two versions, and
+-- nothing elsewhere.
 pub record IsGenerated (apps : ℕ) (held : Holdings) : Type 0 where
   pub first : Disk
   pub second : Disk

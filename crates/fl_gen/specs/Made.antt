@@ -37,7 +37,8 @@ file_mode = FILE_MODE
 
 -- the number of the first byte of a file; the first files of a series differ with the version
 abbrev pub start_at : ℕ → ℕ → ℕ → ℕ → ℕ
-start_at base step version number = base + step * number + (if nat_lt number CHANGED_FILES then version else 0)
+start_at base step version number =
+    base + step * number + (if nat_lt number CHANGED_FILES then version else 0)
 
 -- the same in a series
 abbrev pub start_in : Series → ℕ → ℕ
@@ -50,7 +51,8 @@ pub record IsSmall (series : Series) : Type 0 where
   pub version : series.version < 2 ^ 8
 
 abbrev pub file_row : List ℕ → (ℕ → ℕ) → ℕ → TreeRow
-file_row word start number = row.File (in_files (numbered word number)) file_mode (made_bytes (start number))
+file_row word start number =
+    row.File (in_files (numbered word number)) file_mode (made_bytes (start number))
 
 abbrev pub metadata_row : List ℕ → TreeRow
 metadata_row text = row.File (at_root (codes "metadata")) file_mode text
@@ -59,23 +61,29 @@ abbrev pub runtime_metadata : ℕ → List ℕ
 runtime_metadata r = codes "[Runtime]\nname=org.gen.Run" ++ (decimal r ++ codes "\n")
 
 abbrev pub app_metadata : ℕ → List ℕ
-app_metadata k = codes "[Application]\nname=org.gen.App" ++ (decimal k ++ (codes "\nruntime=org.gen.Run" ++ (decimal (k % RUNTIMES) ++ codes "/x86_64/1\n")))
+app_metadata k = codes "[Application]\nname=org.gen.App"
+    ++ (decimal k ++ (codes "\nruntime=org.gen.Run"
+    ++ (decimal (k % RUNTIMES) ++ codes "/x86_64/1\n")))
 
 -- the rows of the runtime r: lib0, lib1 and so on
 abbrev pub runtime_rows : ℕ → ℕ → List TreeRow
-runtime_rows version r = metadata_row (runtime_metadata r) ∷ each_of (file_row (codes "lib") (start_at (11 * r) 5 version)) LIBRARIES
+runtime_rows version r = metadata_row (runtime_metadata r)
+    ∷ each_of (file_row (codes "lib") (start_at (11 * r) 5 version)) LIBRARIES
 
 abbrev pub link_row : TreeRow
 link_row = row.Link (in_files (codes "link")) (codes "f0")
 
--- the rows of the application k: f0, f1 and so on, then shared0, shared1 and so on, which are one and the same in each, and a link
+-- the rows of the application k: f0, f1 and so on, then shared0, shared1 and so on, which are one
+-- and the same in each, and a link
 abbrev pub app_rows : ℕ → ℕ → List TreeRow
 app_rows version k =
-    metadata_row (app_metadata k) ∷ (each_of (file_row (codes "f") (start_at (7 * k) 3 version)) OWN_FILES
+    metadata_row (app_metadata k)
+    ∷ (each_of (file_row (codes "f") (start_at (7 * k) 3 version)) OWN_FILES
     ++ (each_of (file_row (codes "shared") (start_at 0 1 0)) SHARED_FILES ++ link_row ∷ []))
 
 abbrev pub runtime_ref : ℕ → Ref
-runtime_ref r = ref_with kinds.Runtime (numbered (codes "org.gen.Run") r) (codes "x86_64") (codes "1")
+runtime_ref r =
+    ref_with kinds.Runtime (numbered (codes "org.gen.Run") r) (codes "x86_64") (codes "1")
 
 abbrev pub app_ref : ℕ → Ref
 app_ref k = ref_with kinds.App (numbered (codes "org.gen.App") k) (codes "x86_64") (codes "1")

@@ -12,10 +12,13 @@ use Rattle.ost_commit.specs.Objects.{have_of}
 use Rattle.ost_head.specs.Offers.{offered}
 use Rattle.fl_gen.specs.Made.{Ware}
 
--- The remote at the url, whatever its name, offers the commit of the ware's rows under its ref, without a fault and with its objects.
+-- The remote at the url, whatever its name, offers the commit of the ware's rows under its ref,
+-- without a fault and with its objects.
 pub record Offers (held : Holdings) (url : List ℕ) (version : ℕ) (w : Ware) : Type 0 where
   pub built : Built
   pub shows : BuiltCommit w.rows w.name (codes "gen") version built
-  pub offered : (remote : RemoteRow) → remote.url ≡ url → offered held remote w.name ≡ Ok built.commit
+  pub offered : (remote : RemoteRow) → remote.url ≡ url
+      → offered held remote w.name ≡ Ok built.commit
   pub clean : first_fault (remote_at held url) built.commit ≡ None
-  pub supplied : (d : List ℕ) (kind : ObjKind) (object : Object) → have_of built.objects d kind ≡ Some object → remote_at held url d kind ≡ Some object
+  pub supplied : (d : List ℕ) (kind : ObjKind) (object : Object)
+      → have_of built.objects d kind ≡ Some object → remote_at held url d kind ≡ Some object

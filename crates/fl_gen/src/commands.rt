@@ -53,8 +53,9 @@ fn push_uninstalls(
     Ok(())
 }
 
-/// What is run over the generator's remotes: the remote `gen` is added at the first url, each application is installed, the remote
-/// moves to the second url, all is updated, the applications with odd numbers are uninstalled, and then the runtimes that are unused.
+/// What is run over the generator's remotes: the remote `gen` is added at the first url, each
+/// application is installed, the remote moves to the second url, all is updated, the applications
+/// with odd numbers are uninstalled, and then the runtimes that are unused.
 pub fn exercise_commands(alloc: Global, apps: u32) -> Result<Items<Change>, AllocError>
     ensures { IfOk result (λ changes. changes ≡ exercise_changes apps) }
 {

@@ -150,7 +150,8 @@ fn offer_runtimes(
     version: u64,
 ) -> Result<(), AllocError>
     requires { version < 2 ^ 8 }
-    ensures { OnOk result (Brings version (each_of (runtime_ware version) RUNTIMES) store.old.rows.items
+    ensures { OnOk result (Brings version (each_of (runtime_ware version) RUNTIMES)
+        store.old.rows.items
         store.new.rows.items) }
 {
     for number in 0..RUNTIMES {
@@ -191,7 +192,8 @@ pub(crate) fn made_store(
 ) -> Result<Store, AllocError>
     requires version { version < 2 ^ 8 }
     requires few { apps ≤ 2 ^ 8 }
-    ensures { IfOk result (λ store. IsStoreOf version (wares version apps) (kept store.rows.items)) }
+    ensures { IfOk result (λ store. IsStoreOf version (wares version apps)
+        (kept store.rows.items)) }
 {
     let mut store = bare_store(alloc, version)?;
     offer_runtimes(rt, alloc, &mut store, version)?;

@@ -13,8 +13,8 @@ ghost use Rattle.fl_gen.specs.Exercise.{exercise_changes, gen_at, install_of};
 
 use ost_export::laws::exports_are_offers;
 
-/// The generator's remotes offer each runtime and each application: in the first version at the first url, and in the second
-/// version at the second.
+/// The generator's remotes offer each runtime and each application: in the first version at the
+/// first url, and in the second version at the second.
 pub fn what_is_generated_is_offered()
     ensures runtimes { (apps : ℕ) (held : Holdings) → IsGenerated apps held → (r : ℕ) → r < RUNTIMES
         → Offers held first_url 1 (runtime_ware 1 r) × Offers held second_url 2 (runtime_ware 2 r) }
@@ -24,8 +24,8 @@ pub fn what_is_generated_is_offered()
     exports_are_offers();
 }
 
-/// What the commands install are applications of the generator, which are so offered, at the first url when they are installed, and
-/// at the second when all is updated. So are their runtimes.
+/// What the commands install are applications of the generator, which are so offered, at the first
+/// url when they are installed, and at the second when all is updated. So are their runtimes.
 pub fn what_is_installed_is_generated()
     ensures { (apps : ℕ) (remote : List ℕ) (name : Ref)
         → In (exercise_changes apps) (changes.Install remote name)

@@ -16,7 +16,8 @@ pub(crate) fn numbered(alloc: Global, word: &str, number: usize) -> Result<Strin
     format!(in alloc; "{word}{number}")
 }
 
-/// The path with one element more. A name that may be no element of a path counts as out of memory; none is made.
+/// The path with one element more. A name that may be no element of a path counts as out of memory;
+/// none is made.
 fn path_below(above: &Path, name: &str) -> Result<Path, AllocError>
     ensures { IfOk result (λ path. path ≡ name.now ∷ above.now) }
 {
@@ -40,7 +41,8 @@ pub(crate) fn path_in_files(alloc: Global, name: &str) -> Result<Path, AllocErro
     path_below(&path_at_root(alloc, "files")?, name)
 }
 
-/// The ref of this kind and ID, for `x86_64` and of branch 1. An ID that is none counts as out of memory; none is made.
+/// The ref of this kind and ID, for `x86_64` and of branch 1. An ID that is none counts as out of
+/// memory; none is made.
 fn ref_of(alloc: Global, kind: RefKind, id: &str) -> Result<RefName, AllocError>
     ensures { IfOk result (λ name. name ≡ ref_with kind id.now (codes "x86_64") (codes "1")) }
 {

@@ -17,7 +17,8 @@ pub(crate) const FIRST_URL: &str = "file:///gen/1";
 /// Where the second version is.
 pub(crate) const SECOND_URL: &str = "file:///gen/2";
 
-/// The remotes of the generator: two stores, which offer the same refs in two versions. They hold nothing else, and never fail.
+/// The remotes of the generator: two stores, which offer the same refs in two versions. They hold
+/// nothing else, and never fail.
 #[derive(Drop)]
 pub struct GenRemotes {
     first: Store,
@@ -25,10 +26,12 @@ pub struct GenRemotes {
 }
 
 impl GenRemotes {
-    /// The remotes for this number of applications: at each of two urls a store of the runtimes and these applications.
+    /// The remotes for this number of applications: at each of two urls a store of the runtimes and
+    /// these applications.
     pub fn new(rt: &(impl Threads + Sync), alloc: Global, apps: u32) -> Result<Self, AllocError>
         requires { apps ≤ MOST_APPS }
-        ensures holds { IfOk result (λ r. ⟦<GenRemotes as Remotes>⟧.holds r ≡ Some (holdings_of r)) }
+        ensures holds { IfOk result
+            (λ r. ⟦<GenRemotes as Remotes>⟧.holds r ≡ Some (holdings_of r)) }
         ensures generated { IfOk result (λ r. IsGenerated apps (holdings_of r)) }
         ensures faults { IfOk result (λ r. ⟦<GenRemotes as Remotes>⟧.faults r ≡ 0) }
     {

@@ -29,7 +29,8 @@ pub(crate) struct Row {
     leaf: Leaf,
 }
 
-/// A store: files and links by their paths, each of which stands once. There are folders above them.
+/// A store: files and links by their paths, each of which stands once. There are folders above
+/// them.
 #[derive(Drop)]
 pub(crate) struct Store {
     rows: Vec<Row>,
@@ -104,7 +105,8 @@ fn is_folder(rows: &[Row], path: &Path) -> bool
 /// What stands in a row, or else a folder or nothing.
 fn node_of(row: Option<&Row>, is_folder: bool) -> Result<Node, RemoteError>
     requires { IfSome row (λ r. has_bits r.now ≡ true) }
-    ensures node { IfOk result (IsNode (held_of (spot_by (row_spot_of (option_copied row.entry)) is_folder))) }
+    ensures node { IfOk result
+        (IsNode (held_of (spot_by (row_spot_of (option_copied row.entry)) is_folder))) }
     ensures bits { IfOk result HasNodeBits }
     ensures never { IsErrOf result RemoteError.Failed → ⊥ }
 {
@@ -145,11 +147,12 @@ impl Store {
         }
     }
 
-    /// Puts a file or a link at the path. What is there already has to be the same; where it isn't, since two objects have one
-    /// digest, that counts as out of memory.
+    /// Puts a file or a link at the path. What is there already has to be the same; where it isn't,
+    /// since two objects have one digest, that counts as out of memory.
     pub(crate) fn put(&mut self, path: Path, leaf: Leaf) -> Result<(), AllocError>
         requires { leaf_bits leaf ≡ true }
-        ensures { OnOk result (Adds ((path, leaf_spot leaf) ∷ []) self.old.rows.items self.new.rows.items) }
+        ensures { OnOk result (Adds ((path, leaf_spot leaf) ∷ []) self.old.rows.items
+            self.new.rows.items) }
     {
         match find(&self.rows, &path) {
             Some(there) => agree(&there.leaf, &leaf),
@@ -170,9 +173,11 @@ impl Store {
         node_of(find(&self.rows, path), is_folder)
     }
 
-    /// Copies bytes of the file at the path, from a place on, as many as there is room for; what is no file has none.
+    /// Copies bytes of the file at the path, from a place on, as many as there is room for; what is
+    /// no file has none.
     pub(crate) fn read_at(&self, path: &Path, at: u64, into: &mut [u8]) -> usize
-        ensures came { CameFrom (bytes_of (held_of (kept self.now.rows.items path.now))) at into.new result }
+        ensures came { CameFrom (bytes_of (held_of (kept self.now.rows.items path.now))) at
+            into.new result }
         ensures bound { result ≤ length into.old }
     {
         match find(&self.rows, path) {

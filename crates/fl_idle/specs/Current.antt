@@ -13,16 +13,20 @@ use Rattle.dep_states.specs.Shown.{at_name}
 
 -- the remote doesn't offer the ref
 abbrev pub IsUnoffered : Holdings → RemoteRow → Ref → Type 0
-IsUnoffered held remote name = (asked : List ℕ) × (missed : Ref) × (offered held remote name ≡ Err (NoSuchRef asked missed))
+IsUnoffered held remote name =
+    (asked : List ℕ) × (missed : Ref) × (offered held remote name ≡ Err (NoSuchRef asked missed))
 
--- the remote of a deployed ref is gone, or doesn't offer the ref, or offers the commit that is deployed
+-- the remote of a deployed ref is gone, or doesn't offer the ref, or offers the commit that is
+-- deployed
 abbrev pub IsCurrentFrom : Holdings → RefRow → Option RemoteRow → Type 0
 IsCurrentFrom held row None = Unit {0}
-IsCurrentFrom held row (Some remote) = IsUnoffered held remote row.name ⊎ (offered held remote row.name ≡ Ok row.commit)
+IsCurrentFrom held row (Some remote) =
+    IsUnoffered held remote row.name ⊎ (offered held remote row.name ≡ Ok row.commit)
 
 abbrev pub IsCurrentRow : Holdings → List RemoteRow → RefRow → Type 0
 IsCurrentRow held remotes row = IsCurrentFrom held row (at_name name_of remotes row.origin)
 
 -- so for each deployed ref
 pub record IsCurrent (held : Holdings) (s : State) : Type 0 where
-  pub each : (name : Ref) (row : RefRow) → row_at s name ≡ Some row → IsCurrentRow held s.remotes row
+  pub each : (name : Ref) (row : RefRow) → row_at s name ≡ Some row
+      → IsCurrentRow held s.remotes row

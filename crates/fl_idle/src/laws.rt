@@ -9,8 +9,9 @@ ghost use Rattle.fl_change.specs.Answer.{IsIdle, ops_of};
 ghost use Rattle.fl_change.specs.Turns.{changing};
 ghost use Rattle.fl_idle.specs.Current.{IsCurrent};
 
-/// An update of all that isn't refused leaves nothing to update: of each ref that is deployed after it the remote is gone, or doesn't
-/// offer the ref, or offers the commit that is deployed. The layout is 2 then.
+/// An update of all that isn't refused leaves nothing to update: of each ref that is deployed after
+/// it the remote is gone, or doesn't offer the ref, or offers the commit that is deployed. The
+/// layout is 2 then.
 pub fn updates_leave_all_current()
     ensures current { (held : Holdings) (x : World) → IsGood x.state
         → (changing (UpdateAll ∷ []) held x).refusal ≡ None
@@ -20,7 +21,8 @@ pub fn updates_leave_all_current()
         → (after_all x.state (ops_of (changing (UpdateAll ∷ []) held x))).layout ≡ Two }
 {}
 
-/// Over a state that has nothing to update an update of all has no operation and is not refused, whatever objects the store has.
+/// Over a state that has nothing to update an update of all has no operation and is not refused,
+/// whatever objects the store has.
 pub fn updates_of_what_is_current_are_idle()
     ensures { (held : Holdings) (y : World) → y.state.layout ≡ Two → HasOrder y.state
         → IsCurrent held y.state
@@ -28,8 +30,8 @@ pub fn updates_of_what_is_current_are_idle()
         × ((changing (UpdateAll ∷ []) held y).refusal ≡ None) }
 {}
 
-/// So an update of all, over the state that one without a refusal left and with the same remotes, has no operation, is not refused, and
-/// nothing is pulled.
+/// So an update of all, over the state that one without a refusal left and with the same remotes,
+/// has no operation, is not refused, and nothing is pulled.
 pub fn second_updates_are_idle()
     ensures { (held : Holdings) (x y : World) → IsGood x.state
         → (changing (UpdateAll ∷ []) held x).refusal ≡ None

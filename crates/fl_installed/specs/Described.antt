@@ -27,9 +27,11 @@ by_rules name (Err rule) = Err (broken name rule)
 
 abbrev pub by_lines : Ref → Result (List Group) KeyFault → Result Meta Refusal
 by_lines name (Ok file) = by_rules name (meta_of (meta_kind name.kind) file)
-by_lines name (Err fault) = Err (refusals.BadMetadata name fault.line (metadata_rules.Key fault.rule))
+by_lines name (Err fault) =
+    Err (refusals.BadMetadata name fault.line (metadata_rules.Key fault.rule))
 
--- the file is there, its lines are those of a key file, and they say what the metadata of a ref of its kind has to say
+-- the file is there, its lines are those of a key file, and they say what the metadata of a ref of
+-- its kind has to say
 abbrev pub by_file : Ref → Option (List ℕ) → Result Meta Refusal
 by_file name None = Err (broken name rules.Absent)
 by_file name (Some bytes) = by_lines name (file_of bytes)
@@ -45,7 +47,8 @@ NamesOnce (Err refusal) = Unit {0}
 -- ---- what is told of it: its runtime, and the names of its extensions, ascending
 
 abbrev pub info_of : Meta → Info
-info_of meta = record { runtime = meta.runtime; extensions = sorted_by (λ name. name) meta.extensions }
+info_of meta =
+    record { runtime = meta.runtime; extensions = sorted_by (λ name. name) meta.extensions }
 
 abbrev pub as_info : Result Meta Refusal → Result Info Refusal
 as_info (Ok meta) = Ok (info_of meta)

@@ -34,9 +34,11 @@ abbrev pub unless_faulty : {A : Type 0} → Option (Place × Fault) → Option A
 unless_faulty None a = a
 unless_faulty (Some fault) a = None
 
--- the digest of `metadata` in the root of a commit, where neither the commit nor its root's dirtree has a fault
+-- the digest of `metadata` in the root of a commit, where neither the commit nor its root's dirtree
+-- has a fault
 unfoldable pub metadata_digest : Have → List ℕ → Option (List ℕ)
-metadata_digest have commit = unless_faulty (look_fault have commit metadata_name) (file_in (look have commit metadata_name))
+metadata_digest have commit =
+    unless_faulty (look_fault have commit metadata_name) (file_in (look have commit metadata_name))
 
 -- at most 1 MiB
 abbrev pub if_short : List ℕ → Option (List ℕ)
@@ -49,9 +51,11 @@ short_content (Some (objects.File mode bytes)) = if_short bytes
 short_content (Some (objects.Link text)) = None
 short_content (Some (objects.Meta bytes)) = None
 
--- The file `metadata` of a commit, where it is a file of at most 1 MiB. Whether its content has its digest isn't asked.
+-- The file `metadata` of a commit, where it is a file of at most 1 MiB. Whether its content has its
+-- digest isn't asked.
 unfoldable pub metadata_file : Have → List ℕ → Option (List ℕ)
-metadata_file have commit = option_and_then (λ d. short_content (have d kinds.File)) (metadata_digest have commit)
+metadata_file have commit =
+    option_and_then (λ d. short_content (have d kinds.File)) (metadata_digest have commit)
 
 -- its bytes, none where there is no such file
 abbrev pub metadata_in : Have → List ℕ → List ℕ

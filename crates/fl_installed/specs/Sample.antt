@@ -1,4 +1,5 @@
--- Two commits, each of a file `metadata` alone, with their true digests, and four refs that are deployed at them.
+-- Two commits, each of a file `metadata` alone, with their true digests, and four refs that are
+-- deployed at them.
 use Rattle.std.specs.Prelude.{ℕ, List, [], ◌∷◌, map, Option, Some, None, codes, if◌then◌else◌}
 use Rattle.std.specs.Str.{bytes_eq}
 use Rattle.fp_base.specs.declared.object.ObjKind.TheVariants as kinds
@@ -14,45 +15,75 @@ abbrev pub first_metadata : List ℕ
 first_metadata = codes "[Application]\nruntime=org.x.Base/x86_64/1\n"
 
 abbrev pub first_file : List ℕ
-first_file = 172 ∷ 134 ∷ 199 ∷ 29 ∷ 128 ∷ 249 ∷ 45 ∷ 128 ∷ 132 ∷ 185 ∷ 101 ∷ 151 ∷ 77 ∷ 201 ∷ 105 ∷ 149 ∷ 16 ∷ 75 ∷ 176 ∷ 224 ∷ 133 ∷ 1 ∷ 164 ∷ 213 ∷ 150 ∷ 186 ∷ 118 ∷ 120 ∷ 208 ∷ 149 ∷ 44 ∷ 71 ∷ []
+first_file = 172 ∷ 134 ∷ 199 ∷ 29 ∷ 128 ∷ 249 ∷ 45 ∷ 128 ∷ 132 ∷ 185 ∷ 101 ∷ 151 ∷ 77 ∷ 201 ∷ 105 ∷
+    149 ∷ 16 ∷ 75 ∷ 176 ∷ 224 ∷ 133 ∷ 1 ∷ 164 ∷ 213 ∷ 150 ∷ 186 ∷ 118 ∷ 120 ∷ 208 ∷ 149 ∷ 44 ∷ 71 ∷
+    []
 
 abbrev pub first_tree_bytes : List ℕ
-first_tree_bytes = 109 ∷ 101 ∷ 116 ∷ 97 ∷ 100 ∷ 97 ∷ 116 ∷ 97 ∷ 0 ∷ 172 ∷ 134 ∷ 199 ∷ 29 ∷ 128 ∷ 249 ∷ 45 ∷ 128 ∷ 132 ∷ 185 ∷ 101 ∷ 151 ∷ 77 ∷ 201 ∷ 105 ∷ 149 ∷ 16 ∷ 75 ∷ 176 ∷ 224 ∷ 133 ∷ 1 ∷ 164 ∷ 213 ∷ 150 ∷ 186 ∷ 118 ∷ 120 ∷ 208 ∷ 149 ∷ 44 ∷ 71 ∷ 9 ∷ 42 ∷ 43 ∷ []
+first_tree_bytes = 109 ∷ 101 ∷ 116 ∷ 97 ∷ 100 ∷ 97 ∷ 116 ∷ 97 ∷ 0 ∷ 172 ∷ 134 ∷ 199 ∷ 29 ∷ 128 ∷
+    249 ∷ 45 ∷ 128 ∷ 132 ∷ 185 ∷ 101 ∷ 151 ∷ 77 ∷ 201 ∷ 105 ∷ 149 ∷ 16 ∷ 75 ∷ 176 ∷ 224 ∷ 133 ∷ 1 ∷
+    164 ∷ 213 ∷ 150 ∷ 186 ∷ 118 ∷ 120 ∷ 208 ∷ 149 ∷ 44 ∷ 71 ∷ 9 ∷ 42 ∷ 43 ∷ []
 
 abbrev pub first_tree : List ℕ
-first_tree = 161 ∷ 48 ∷ 237 ∷ 232 ∷ 230 ∷ 189 ∷ 254 ∷ 230 ∷ 18 ∷ 30 ∷ 134 ∷ 76 ∷ 186 ∷ 146 ∷ 194 ∷ 35 ∷ 178 ∷ 237 ∷ 52 ∷ 251 ∷ 117 ∷ 177 ∷ 63 ∷ 66 ∷ 232 ∷ 192 ∷ 110 ∷ 184 ∷ 40 ∷ 155 ∷ 212 ∷ 89 ∷ []
+first_tree = 161 ∷ 48 ∷ 237 ∷ 232 ∷ 230 ∷ 189 ∷ 254 ∷ 230 ∷ 18 ∷ 30 ∷ 134 ∷ 76 ∷ 186 ∷ 146 ∷ 194 ∷
+    35 ∷ 178 ∷ 237 ∷ 52 ∷ 251 ∷ 117 ∷ 177 ∷ 63 ∷ 66 ∷ 232 ∷ 192 ∷ 110 ∷ 184 ∷ 40 ∷ 155 ∷ 212 ∷ 89 ∷
+    []
 
 abbrev pub first_commit_bytes : List ℕ
-first_commit_bytes = 0 ∷ 0 ∷ 0 ∷ 0 ∷ 0 ∷ 0 ∷ 0 ∷ 0 ∷ 0 ∷ 0 ∷ 0 ∷ 0 ∷ 0 ∷ 0 ∷ 0 ∷ 7 ∷ 161 ∷ 48 ∷ 237 ∷ 232 ∷ 230 ∷ 189 ∷ 254 ∷ 230 ∷ 18 ∷ 30 ∷ 134 ∷ 76 ∷ 186 ∷ 146 ∷ 194 ∷ 35 ∷ 178 ∷ 237 ∷ 52 ∷ 251 ∷ 117 ∷ 177 ∷ 63 ∷ 66 ∷ 232 ∷ 192 ∷ 110 ∷ 184 ∷ 40 ∷ 155 ∷ 212 ∷ 89 ∷ 68 ∷ 106 ∷ 14 ∷ 241 ∷ 27 ∷ 124 ∷ 193 ∷ 103 ∷ 243 ∷ 182 ∷ 3 ∷ 229 ∷ 133 ∷ 199 ∷ 238 ∷ 238 ∷ 182 ∷ 117 ∷ 250 ∷ 164 ∷ 18 ∷ 213 ∷ 236 ∷ 115 ∷ 246 ∷ 41 ∷ 136 ∷ 235 ∷ 11 ∷ 108 ∷ 84 ∷ 136 ∷ 48 ∷ 2 ∷ 1 ∷ 0 ∷ 0 ∷ 0 ∷ []
+first_commit_bytes = 0 ∷ 0 ∷ 0 ∷ 0 ∷ 0 ∷ 0 ∷ 0 ∷ 0 ∷ 0 ∷ 0 ∷ 0 ∷ 0 ∷ 0 ∷ 0 ∷ 0 ∷ 7 ∷ 161 ∷ 48 ∷
+    237 ∷ 232 ∷ 230 ∷ 189 ∷ 254 ∷ 230 ∷ 18 ∷ 30 ∷ 134 ∷ 76 ∷ 186 ∷ 146 ∷ 194 ∷ 35 ∷ 178 ∷ 237 ∷ 52 ∷
+    251 ∷ 117 ∷ 177 ∷ 63 ∷ 66 ∷ 232 ∷ 192 ∷ 110 ∷ 184 ∷ 40 ∷ 155 ∷ 212 ∷ 89 ∷ 68 ∷ 106 ∷ 14 ∷ 241 ∷
+    27 ∷ 124 ∷ 193 ∷ 103 ∷ 243 ∷ 182 ∷ 3 ∷ 229 ∷ 133 ∷ 199 ∷ 238 ∷ 238 ∷ 182 ∷ 117 ∷ 250 ∷ 164 ∷
+    18 ∷
+    213 ∷ 236 ∷ 115 ∷ 246 ∷ 41 ∷ 136 ∷ 235 ∷ 11 ∷ 108 ∷ 84 ∷ 136 ∷ 48 ∷ 2 ∷ 1 ∷ 0 ∷ 0 ∷ 0 ∷ []
 
 abbrev pub first_commit : List ℕ
-first_commit = 53 ∷ 205 ∷ 88 ∷ 243 ∷ 39 ∷ 97 ∷ 27 ∷ 52 ∷ 241 ∷ 209 ∷ 93 ∷ 162 ∷ 28 ∷ 191 ∷ 72 ∷ 153 ∷ 233 ∷ 187 ∷ 140 ∷ 67 ∷ 253 ∷ 20 ∷ 112 ∷ 218 ∷ 127 ∷ 63 ∷ 135 ∷ 76 ∷ 183 ∷ 114 ∷ 95 ∷ 154 ∷ []
+first_commit = 53 ∷ 205 ∷ 88 ∷ 243 ∷ 39 ∷ 97 ∷ 27 ∷ 52 ∷ 241 ∷ 209 ∷ 93 ∷ 162 ∷ 28 ∷ 191 ∷ 72 ∷
+    153 ∷ 233 ∷ 187 ∷ 140 ∷ 67 ∷ 253 ∷ 20 ∷ 112 ∷ 218 ∷ 127 ∷ 63 ∷ 135 ∷ 76 ∷ 183 ∷ 114 ∷ 95 ∷ 154 ∷
+    []
 
 abbrev pub second_metadata : List ℕ
 second_metadata = codes "[Application]\nruntime=org.x.Platform/x86_64/1\n[Extension org.x.B.Z]\ndirectory=z\n[Extension org.x.B.Locale]\ndirectory=l\n"
 
 abbrev pub second_file : List ℕ
-second_file = 141 ∷ 155 ∷ 68 ∷ 227 ∷ 55 ∷ 132 ∷ 134 ∷ 97 ∷ 25 ∷ 43 ∷ 255 ∷ 35 ∷ 188 ∷ 149 ∷ 80 ∷ 9 ∷ 64 ∷ 205 ∷ 190 ∷ 67 ∷ 120 ∷ 53 ∷ 52 ∷ 6 ∷ 88 ∷ 117 ∷ 32 ∷ 153 ∷ 170 ∷ 124 ∷ 135 ∷ 66 ∷ []
+second_file = 141 ∷ 155 ∷ 68 ∷ 227 ∷ 55 ∷ 132 ∷ 134 ∷ 97 ∷ 25 ∷ 43 ∷ 255 ∷ 35 ∷ 188 ∷ 149 ∷ 80 ∷ 9 ∷
+    64 ∷ 205 ∷ 190 ∷ 67 ∷ 120 ∷ 53 ∷ 52 ∷ 6 ∷ 88 ∷ 117 ∷ 32 ∷ 153 ∷ 170 ∷ 124 ∷ 135 ∷ 66 ∷ []
 
 abbrev pub second_tree_bytes : List ℕ
-second_tree_bytes = 109 ∷ 101 ∷ 116 ∷ 97 ∷ 100 ∷ 97 ∷ 116 ∷ 97 ∷ 0 ∷ 141 ∷ 155 ∷ 68 ∷ 227 ∷ 55 ∷ 132 ∷ 134 ∷ 97 ∷ 25 ∷ 43 ∷ 255 ∷ 35 ∷ 188 ∷ 149 ∷ 80 ∷ 9 ∷ 64 ∷ 205 ∷ 190 ∷ 67 ∷ 120 ∷ 53 ∷ 52 ∷ 6 ∷ 88 ∷ 117 ∷ 32 ∷ 153 ∷ 170 ∷ 124 ∷ 135 ∷ 66 ∷ 9 ∷ 42 ∷ 43 ∷ []
+second_tree_bytes = 109 ∷ 101 ∷ 116 ∷ 97 ∷ 100 ∷ 97 ∷ 116 ∷ 97 ∷ 0 ∷ 141 ∷ 155 ∷ 68 ∷ 227 ∷ 55 ∷
+    132 ∷ 134 ∷ 97 ∷ 25 ∷ 43 ∷ 255 ∷ 35 ∷ 188 ∷ 149 ∷ 80 ∷ 9 ∷ 64 ∷ 205 ∷ 190 ∷ 67 ∷ 120 ∷ 53 ∷ 52 ∷
+    6 ∷ 88 ∷ 117 ∷ 32 ∷ 153 ∷ 170 ∷ 124 ∷ 135 ∷ 66 ∷ 9 ∷ 42 ∷ 43 ∷ []
 
 abbrev pub second_tree : List ℕ
-second_tree = 254 ∷ 221 ∷ 240 ∷ 141 ∷ 14 ∷ 80 ∷ 214 ∷ 251 ∷ 90 ∷ 33 ∷ 120 ∷ 39 ∷ 161 ∷ 56 ∷ 28 ∷ 75 ∷ 192 ∷ 12 ∷ 232 ∷ 120 ∷ 62 ∷ 89 ∷ 251 ∷ 237 ∷ 196 ∷ 231 ∷ 250 ∷ 48 ∷ 108 ∷ 99 ∷ 22 ∷ 50 ∷ []
+second_tree = 254 ∷ 221 ∷ 240 ∷ 141 ∷ 14 ∷ 80 ∷ 214 ∷ 251 ∷ 90 ∷ 33 ∷ 120 ∷ 39 ∷ 161 ∷ 56 ∷ 28 ∷
+    75 ∷ 192 ∷ 12 ∷ 232 ∷ 120 ∷ 62 ∷ 89 ∷ 251 ∷ 237 ∷ 196 ∷ 231 ∷ 250 ∷ 48 ∷ 108 ∷ 99 ∷ 22 ∷ 50 ∷ []
 
 abbrev pub second_commit_bytes : List ℕ
-second_commit_bytes = 0 ∷ 0 ∷ 0 ∷ 0 ∷ 0 ∷ 0 ∷ 0 ∷ 0 ∷ 0 ∷ 0 ∷ 0 ∷ 0 ∷ 0 ∷ 0 ∷ 0 ∷ 8 ∷ 254 ∷ 221 ∷ 240 ∷ 141 ∷ 14 ∷ 80 ∷ 214 ∷ 251 ∷ 90 ∷ 33 ∷ 120 ∷ 39 ∷ 161 ∷ 56 ∷ 28 ∷ 75 ∷ 192 ∷ 12 ∷ 232 ∷ 120 ∷ 62 ∷ 89 ∷ 251 ∷ 237 ∷ 196 ∷ 231 ∷ 250 ∷ 48 ∷ 108 ∷ 99 ∷ 22 ∷ 50 ∷ 68 ∷ 106 ∷ 14 ∷ 241 ∷ 27 ∷ 124 ∷ 193 ∷ 103 ∷ 243 ∷ 182 ∷ 3 ∷ 229 ∷ 133 ∷ 199 ∷ 238 ∷ 238 ∷ 182 ∷ 117 ∷ 250 ∷ 164 ∷ 18 ∷ 213 ∷ 236 ∷ 115 ∷ 246 ∷ 41 ∷ 136 ∷ 235 ∷ 11 ∷ 108 ∷ 84 ∷ 136 ∷ 48 ∷ 2 ∷ 1 ∷ 0 ∷ 0 ∷ 0 ∷ []
+second_commit_bytes = 0 ∷ 0 ∷ 0 ∷ 0 ∷ 0 ∷ 0 ∷ 0 ∷ 0 ∷ 0 ∷ 0 ∷ 0 ∷ 0 ∷ 0 ∷ 0 ∷ 0 ∷ 8 ∷ 254 ∷ 221 ∷
+    240 ∷ 141 ∷ 14 ∷ 80 ∷ 214 ∷ 251 ∷ 90 ∷ 33 ∷ 120 ∷ 39 ∷ 161 ∷ 56 ∷ 28 ∷ 75 ∷ 192 ∷ 12 ∷ 232 ∷
+    120 ∷
+    62 ∷ 89 ∷ 251 ∷ 237 ∷ 196 ∷ 231 ∷ 250 ∷ 48 ∷ 108 ∷ 99 ∷ 22 ∷ 50 ∷ 68 ∷ 106 ∷ 14 ∷ 241 ∷ 27 ∷
+    124 ∷
+    193 ∷ 103 ∷ 243 ∷ 182 ∷ 3 ∷ 229 ∷ 133 ∷ 199 ∷ 238 ∷ 238 ∷ 182 ∷ 117 ∷ 250 ∷ 164 ∷ 18 ∷ 213 ∷
+    236 ∷
+    115 ∷ 246 ∷ 41 ∷ 136 ∷ 235 ∷ 11 ∷ 108 ∷ 84 ∷ 136 ∷ 48 ∷ 2 ∷ 1 ∷ 0 ∷ 0 ∷ 0 ∷ []
 
 abbrev pub second_commit : List ℕ
-second_commit = 111 ∷ 149 ∷ 28 ∷ 125 ∷ 194 ∷ 30 ∷ 118 ∷ 59 ∷ 20 ∷ 111 ∷ 59 ∷ 70 ∷ 220 ∷ 27 ∷ 130 ∷ 121 ∷ 219 ∷ 25 ∷ 195 ∷ 216 ∷ 81 ∷ 122 ∷ 235 ∷ 173 ∷ 252 ∷ 203 ∷ 120 ∷ 222 ∷ 10 ∷ 223 ∷ 161 ∷ 14 ∷ []
+second_commit = 111 ∷ 149 ∷ 28 ∷ 125 ∷ 194 ∷ 30 ∷ 118 ∷ 59 ∷ 20 ∷ 111 ∷ 59 ∷ 70 ∷ 220 ∷ 27 ∷ 130 ∷
+    121 ∷ 219 ∷ 25 ∷ 195 ∷ 216 ∷ 81 ∷ 122 ∷ 235 ∷ 173 ∷ 252 ∷ 203 ∷ 120 ∷ 222 ∷ 10 ∷ 223 ∷ 161 ∷
+    14 ∷
+    []
 
 -- ---- the objects: of each commit the commit, the root's dirtree and the file, whose permission bits are 0644
 
 abbrev pub have : Have
-have d kinds.Commit = if bytes_eq d first_commit then Some (objects.Meta first_commit_bytes) else (if bytes_eq d second_commit then Some (objects.Meta second_commit_bytes) else None)
-have d kinds.DirTree = if bytes_eq d first_tree then Some (objects.Meta first_tree_bytes) else (if bytes_eq d second_tree then Some (objects.Meta second_tree_bytes) else None)
+have d kinds.Commit = if bytes_eq d first_commit then Some (objects.Meta first_commit_bytes)
+    else (if bytes_eq d second_commit then Some (objects.Meta second_commit_bytes) else None)
+have d kinds.DirTree = if bytes_eq d first_tree then Some (objects.Meta first_tree_bytes)
+    else (if bytes_eq d second_tree then Some (objects.Meta second_tree_bytes) else None)
 have d kinds.DirMeta = None
-have d kinds.File = if bytes_eq d first_file then Some (objects.File 420 first_metadata) else (if bytes_eq d second_file then Some (objects.File 420 second_metadata) else None)
+have d kinds.File = if bytes_eq d first_file then Some (objects.File 420 first_metadata)
+    else (if bytes_eq d second_file then Some (objects.File 420 second_metadata) else None)
 
 -- the same where the dirtree of the first commit is missing
 abbrev pub without_tree : Have
@@ -85,7 +116,8 @@ abbrev pub third : Ref
 third = app (codes "org.x.C")
 
 abbrev pub row : Ref → List ℕ → RefRow
-row name commit = record { name = name; origin = codes "hub"; commit = commit; timestamp = 7; previous = None }
+row name commit =
+    record { name = name; origin = codes "hub"; commit = commit; timestamp = 7; previous = None }
 
 -- the names of the extension points that the second commit says, in their order
 abbrev pub names : List (List ℕ)
@@ -97,9 +129,11 @@ runtime_of app = (app.0, app.1.runtime)
 abbrev pub names_of : Ref × List Point → Ref × List (List ℕ)
 names_of owner = (owner.0, map (λ point. point.name) owner.1)
 
--- the first application is at the first commit, the others at the second; and so is a runtime, though it says nothing of one
+-- the first application is at the first commit, the others at the second; and so is a runtime,
+-- though it says nothing of one
 abbrev pub rows : List RefRow
-rows = row first first_commit ∷ row second second_commit ∷ row third second_commit ∷ row other second_commit ∷ []
+rows = row first first_commit ∷ row second second_commit ∷ row third second_commit
+    ∷ row other second_commit ∷ []
 
 -- ---- what they say
 

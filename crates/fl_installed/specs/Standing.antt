@@ -21,23 +21,30 @@ pub record IsRead (reads : List ℕ → Bool) (bytes : List ℕ) (spot : Spot) :
 
 -- the file `metadata` of a commit that stands in a folder is the one in that folder
 abbrev pub StandingIsRead : Type 0
-StandingIsRead = (reads : List ℕ → Bool) (root : Elements) (disk : Disk) (commit : List ℕ) (dir : Elements)
-    → Stands reads root disk commit dir → IsRead reads (metadata_in (store root disk) commit) (disk (metadata_name ++ dir))
+StandingIsRead =
+    (reads : List ℕ → Bool) (root : Elements) (disk : Disk) (commit : List ℕ) (dir : Elements)
+    → Stands reads root disk commit dir
+    → IsRead reads (metadata_in (store root disk) commit) (disk (metadata_name ++ dir))
 
 -- the file of a commit without a fault depends on the objects of its order alone
 abbrev pub MetadataIsLocal : Type 0
-MetadataIsLocal = (i j : Have) (commit : List ℕ) → first_fault i commit ≡ None → Agree i j (order i commit) → metadata_file j commit ≡ metadata_file i commit
+MetadataIsLocal = (i j : Have) (commit : List ℕ) → first_fault i commit ≡ None
+    → Agree i j (order i commit) → metadata_file j commit ≡ metadata_file i commit
 
 -- and what the deployed commits say depends on their files alone
 abbrev pub UserIsLocal : Type 0
-UserIsLocal = (i j : Have) (runtime : Ref) (rows : List RefRow) → SaySame i j rows → first_user j runtime rows ≡ first_user i runtime rows
+UserIsLocal = (i j : Have) (runtime : Ref) (rows : List RefRow) → SaySame i j rows
+    → first_user j runtime rows ≡ first_user i runtime rows
 
 abbrev pub MetasAreLocal : Type 0
-MetasAreLocal = (i j : Have) (rows : List RefRow) → SaySame i j rows → installed_metas j rows ≡ installed_metas i rows
+MetasAreLocal = (i j : Have) (rows : List RefRow) → SaySame i j rows
+    → installed_metas j rows ≡ installed_metas i rows
 
 abbrev pub PointsAreLocal : Type 0
-PointsAreLocal = (i j : Have) (rows : List RefRow) → SaySame i j rows → installed_points j rows ≡ installed_points i rows
+PointsAreLocal = (i j : Have) (rows : List RefRow) → SaySame i j rows
+    → installed_points j rows ≡ installed_points i rows
 
 -- what is named is a runtime, and an application names it
 abbrev pub ApplicationsName : Type 0
-ApplicationsName = (name : Ref) (bytes : List ℕ) (runtime : Ref) → runtime_named name bytes ≡ Some runtime → (runtime.kind ≡ Runtime) × (name.kind ≡ App)
+ApplicationsName = (name : Ref) (bytes : List ℕ) (runtime : Ref)
+    → runtime_named name bytes ≡ Some runtime → (runtime.kind ≡ Runtime) × (name.kind ≡ App)

@@ -1,4 +1,5 @@
--- What the deployed commits of an installation say, by the objects that there are and the rows of its state.
+-- What the deployed commits of an installation say, by the objects that there are and the rows of
+-- its state.
 use Rattle.std.specs.Prelude.{◌≡◌, ℕ, Bool, false, List, map, find, Option, None, option_map, option_to_list, if◌then◌else◌}
 use Rattle.std.specs.List.{flat_map, AllByRecursion}
 use Rattle.std.specs.Option.{option_map_or}
@@ -38,7 +39,8 @@ named_meta name bytes = option_map (λ meta. (name, meta)) (meta_said name bytes
 
 -- those of an application
 abbrev pub meta_at : Have → RefRow → Option (Ref × Meta)
-meta_at have row = if is_app row.name then named_meta row.name (metadata_in have row.commit) else None
+meta_at have row =
+    if is_app row.name then named_meta row.name (metadata_in have row.commit) else None
 
 -- the applications with their metadata, in the order of the rows
 abbrev pub installed_metas : Have → List RefRow → List (Ref × Meta)

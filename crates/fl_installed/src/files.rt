@@ -67,7 +67,8 @@ fn digest_in(looked: Result<Found, WalkEnd>) -> Result<Option<Digest>, HostEnd>
     }
 }
 
-/// The digest of the file or link `metadata` in the root of a commit, where neither the commit nor its root's dirtree has a fault.
+/// The digest of the file or link `metadata` in the root of a commit, where neither the commit nor
+/// its root's dirtree has a fault.
 fn find_metadata<H: Host>(
     alloc: Global,
     host: &mut H,
@@ -132,9 +133,10 @@ fn read_short<H: Host>(
     }
 }
 
-/// The file `metadata` in the root of a commit, as the installation's store has it, where it is a file of at most 1 MiB. Nothing
-/// changes, and no more than that is read of it. None where the commit or its root's dirtree has a fault, and so where it isn't
-/// there; whether the file's name is true isn't looked at.
+/// The file `metadata` in the root of a commit, as the installation's store has it, where it is a
+/// file of at most 1 MiB. Nothing changes, and no more than that is read of it. None where the
+/// commit or its root's dirtree has a fault, and so where it isn't there; whether the file's name
+/// is true isn't looked at.
 pub fn metadata_file<H: Host>(
     alloc: Global,
     host: &mut H,
@@ -152,8 +154,9 @@ pub fn metadata_file<H: Host>(
     }
 }
 
-/// The bytes of the file `metadata` in the root of a commit, as the installation's store has it; none where there is no such file
-/// of at most 1 MiB, or where the commit or its root's dirtree has a fault. Nothing changes.
+/// The bytes of the file `metadata` in the root of a commit, as the installation's store has it;
+/// none where there is no such file of at most 1 MiB, or where the commit or its root's dirtree has
+/// a fault. Nothing changes.
 pub fn read_metadata<H: Host>(alloc: Global, host: &mut H, commit: &Digest) -> Result<Blob, HostEnd>
     ensures unchanged { Unchanged (H.moments host.old) (H.moments host.new) }
     ensures tells { (have : Have) → Stores repo (H.moments host.old) have

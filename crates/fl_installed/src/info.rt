@@ -95,10 +95,11 @@ fn by_file(
     }
 }
 
-/// The metadata of a commit of a ref, as the installation's store has it, or `BadMetadata`: with the rule `absent` of line 0, where
-/// the commit has no file `metadata` of at most 1 MiB or where the commit or its root's dirtree has a fault; with the line and the
-/// rule, where it is no key file; with line 0 and the rule, where it doesn't say what the metadata of its kind has to say. Nothing
-/// changes.
+/// The metadata of a commit of a ref, as the installation's store has it, or `BadMetadata`: with
+/// the rule `absent` of line 0, where the commit has no file `metadata` of at most 1 MiB or where
+/// the commit or its root's dirtree has a fault; with the line and the rule, where it is no key
+/// file; with line 0 and the rule, where it doesn't say what the metadata of its kind has to say.
+/// Nothing changes.
 #[tactic(auto, unfolding(crate::specs::Described::described))]
 pub fn described<H: Host>(
     alloc: Global,
@@ -155,8 +156,8 @@ fn as_info(meta: Result<Meta, Refusal>) -> Result<Info, Refusal>
     }
 }
 
-/// What is told of the metadata of a commit of a ref, as the installation's store has it, or its refusal, which is that of
-/// `described`. Nothing changes.
+/// What is told of the metadata of a commit of a ref, as the installation's store has it, or its
+/// refusal, which is that of `described`. Nothing changes.
 pub fn info_in<H: Host>(
     alloc: Global,
     host: &mut H,

@@ -1,4 +1,5 @@
-//! Laws of the words that the contracts use, for crates that build on them. Each is the contract of a function that does nothing.
+//! Laws of the words that the contracts use, for crates that build on them. Each is the contract of
+//! a function that does nothing.
 ghost use Rattle.std.specs.Prelude.{◌≡◌, ◌+◌, [], ℕ, List, length, map, Some, None, Ok, Err};
 ghost use Rattle.fp_base.specs.declared.meta_rule.MetaRule.TheVariants as rules;
 ghost use Rattle.ost_model.specs.declared.limits.TheConstants.{MOST_METADATA_FILE_BYTES};
@@ -9,13 +10,14 @@ ghost use Rattle.fl_installed.specs.Standing.{StandingIsRead, MetadataIsLocal, U
 ghost use Rattle.fl_installed.specs.Users.{first_user, runtime_at, installed_metas, installed_points};
 ghost use Rattle.fl_installed.specs.Sample as sample;
 
-/// What is told of the file `metadata` of a commit that stands in a folder is the file there, which reads.
+/// What is told of the file `metadata` of a commit that stands in a folder is the file there, which
+/// reads.
 pub fn metadata_is_what_stands()
     ensures { StandingIsRead }
 {}
 
-/// The file `metadata` of a commit without a fault depends on the objects of its order, and what is told of the deployed commits
-/// depends on their files.
+/// The file `metadata` of a commit without a fault depends on the objects of its order, and what is
+/// told of the deployed commits depends on their files.
 pub fn what_is_said_depends_on_the_objects()
     ensures metadata { MetadataIsLocal }
     ensures user { UserIsLocal }

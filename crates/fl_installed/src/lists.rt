@@ -32,7 +32,8 @@ fn named_meta(
     }
 }
 
-/// The application of the row and the metadata of its deployed commit, where it reads. A runtime's commit isn't read.
+/// The application of the row and the metadata of its deployed commit, where it reads. A runtime's
+/// commit isn't read.
 fn meta_at<H: Host>(
     alloc: Global,
     host: &mut H,
@@ -84,8 +85,9 @@ fn metas_of<H: Host>(
     Ok(metas)
 }
 
-/// The deployed applications with the metadata of their commits, each once, in the order of the state, as the installation's store
-/// has them. One whose metadata doesn't read is left out. Nothing changes.
+/// The deployed applications with the metadata of their commits, each once, in the order of the
+/// state, as the installation's store has them. One whose metadata doesn't read is left out.
+/// Nothing changes.
 pub fn metas<H: Host>(
     alloc: Global,
     host: &mut H,
@@ -136,8 +138,8 @@ fn points_of<H: Host>(
     Ok(points)
 }
 
-/// The deployed refs with the extension points that their commits say, each once, in the order of the state, as the installation's
-/// store has them. Nothing changes.
+/// The deployed refs with the extension points that their commits say, each once, in the order of
+/// the state, as the installation's store has them. Nothing changes.
 pub fn points<H: Host>(
     alloc: Global,
     host: &mut H,

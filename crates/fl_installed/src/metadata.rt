@@ -32,7 +32,8 @@ pub(crate) fn meta_kind(kind: RefKind) -> MetaKind
     }
 }
 
-/// The metadata of a ref, where the bytes are that: lines of a key file that say what the metadata of its kind has to say.
+/// The metadata of a ref, where the bytes are that: lines of a key file that say what the metadata
+/// of its kind has to say.
 #[tactic(auto, unfolding(crate::specs::Metadata::meta_said))]
 pub fn meta_said(alloc: Global, name: &RefName, metadata: &Blob) -> Result<Option<Meta>, AllocError>
     ensures { IfOk result (λ meta. meta ≡ spec.meta_said name.now metadata.now) }

@@ -25,8 +25,8 @@ pub(crate) fn is_app(name: &RefName) -> bool
     }
 }
 
-/// The runtime that a commit of a ref names, as the installation's store has it. None for a runtime's commit, and where the
-/// commit's metadata doesn't read. Nothing changes.
+/// The runtime that a commit of a ref names, as the installation's store has it. None for a
+/// runtime's commit, and where the commit's metadata doesn't read. Nothing changes.
 pub fn runtime_at<H: Host>(
     alloc: Global,
     host: &mut H,
@@ -53,7 +53,8 @@ fn is_name(name: &RefName, other: Option<&RefName>) -> bool
     }
 }
 
-/// Whether the deployed commit of the row names the runtime. A runtime's commit names none, and isn't read.
+/// Whether the deployed commit of the row names the runtime. A runtime's commit names none, and
+/// isn't read.
 fn names_it<H: Host>(
     alloc: Global,
     host: &mut H,
@@ -94,7 +95,8 @@ fn first_among<H: Host>(
     Ok(None)
 }
 
-/// The first application, in the order of the state, whose deployed commit names the runtime. Nothing changes.
+/// The first application, in the order of the state, whose deployed commit names the runtime.
+/// Nothing changes.
 pub fn first_user<H: Host>(
     alloc: Global,
     host: &mut H,

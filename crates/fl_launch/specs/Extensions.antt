@@ -29,19 +29,22 @@ abbrev pub extension_with : State → List ℕ → Ref → List ℕ
 extension_with state name r = name ++ (61 ∷ (commit_of state r ++ 59 ∷ []))
 
 abbrev pub extension_of : State → Point → List ℕ
-extension_of state point = option_map_or (extension_with state point.name) (found_ref state point) []
+extension_of state point =
+    option_map_or (extension_with state point.name) (found_ref state point) []
 
 unfoldable pub extensions_of : State → List Point → List ℕ
 extensions_of state points = flat_map (extension_of state) points
 
 -- ---- where they are mounted
 
--- `/app/DIRECTORY=REF` for one of the application, `/usr/DIRECTORY=REF` for one of the runtime, where one is found
+-- `/app/DIRECTORY=REF` for one of the application, `/usr/DIRECTORY=REF` for one of the runtime,
+-- where one is found
 abbrev pub mount_with : List ℕ → List ℕ → Ref → List ℕ
 mount_with front directory r = front ++ (directory ++ (61 ∷ ref_text r))
 
 abbrev pub mount_of : List ℕ → State → Point → List (List ℕ)
-mount_of front state point = option_map_or (λ r. mount_with front point.directory r ∷ []) (found_ref state point) []
+mount_of front state point =
+    option_map_or (λ r. mount_with front point.directory r ∷ []) (found_ref state point) []
 
 abbrev pub mounts_of : List ℕ → State → List Point → List (List ℕ)
 mounts_of front state points = flat_map (mount_of front state) points
@@ -54,4 +57,6 @@ unfoldable pub with_lines : List (List ℕ) → List (List ℕ) → List (List �
 with_lines lines more = fold with_line lines more
 
 unfoldable pub mount_lines : State → List Point → List Point → List (List ℕ)
-mount_lines state app_points runtime_points = with_lines (with_lines [] (mounts_of (codes "/app/") state app_points)) (mounts_of (codes "/usr/") state runtime_points)
+mount_lines state app_points runtime_points = with_lines
+    (with_lines [] (mounts_of (codes "/app/") state app_points))
+    (mounts_of (codes "/usr/") state runtime_points)

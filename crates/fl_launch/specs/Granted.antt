@@ -33,10 +33,12 @@ known grants = filter gives_known grants
 
 -- the key there is what stands after `unknown-` in the list's key
 abbrev pub unknown_key : PermList → List ℕ
-unknown_key list = if starts_with nat_eq (key_of list) (codes "unknown-") then drop 8 (key_of list) else []
+unknown_key list =
+    if starts_with nat_eq (key_of list) (codes "unknown-") then drop 8 (key_of list) else []
 
 abbrev pub unknown_lists : List PermList
-unknown_lists = lists.UnknownShared ∷ lists.UnknownSockets ∷ lists.UnknownDevices ∷ lists.UnknownFeatures ∷ lists.UnknownSessionBus ∷ lists.UnknownSystemBus ∷ []
+unknown_lists = lists.UnknownShared ∷ lists.UnknownSockets ∷ lists.UnknownDevices
+    ∷ lists.UnknownFeatures ∷ lists.UnknownSessionBus ∷ lists.UnknownSystemBus ∷ []
 
 abbrev pub unknown_pair : List Mention → PermList → List Pair
 unknown_pair mentions list = pair_if (unknown_key list) (list_text list mentions)
@@ -46,7 +48,8 @@ unknown_pairs mentions = flat_map (unknown_pair mentions) unknown_lists
 
 -- the groups of the known ones as those of an override, and then the unknown ones
 unfoldable pub granted_groups : List Mention → List Group
-granted_groups grants = file_with (known grants) ++ group_if (codes "Unknown") (unknown_pairs (granted grants))
+granted_groups grants =
+    file_with (known grants) ++ group_if (codes "Unknown") (unknown_pairs (granted grants))
 
 -- ---- the session bus
 

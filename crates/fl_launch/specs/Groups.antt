@@ -23,32 +23,44 @@ command_pairs None = []
 command_pairs (Some command) = said (codes "command") command ∷ []
 
 abbrev pub application_pairs : Ref → Ref → Option (List ℕ) → List Pair
-application_pairs name runtime command = said (codes "name") name.id ∷ said (codes "runtime") (ref_text runtime) ∷ command_pairs command
+application_pairs name runtime command =
+    said (codes "name") name.id ∷ said (codes "runtime") (ref_text runtime) ∷ command_pairs command
 
 abbrev pub instance_pairs : State → Ref → Ref → List Point → List Point → List Mention → List Pair
 instance_pairs state name runtime app_points runtime_points grants =
-    said (codes "app-commit") (commit_of state name) ∷ said (codes "runtime-commit") (commit_of state runtime) ∷ said (codes "arch") name.arch ∷ said (codes "branch") name.branch
+    said (codes "app-commit") (commit_of state name)
+    ∷ said (codes "runtime-commit") (commit_of state runtime) ∷ said (codes "arch") name.arch
+    ∷ said (codes "branch") name.branch
     ∷ (pair_if (codes "app-extensions") (extensions_of state app_points)
-    ++ (pair_if (codes "runtime-extensions") (extensions_of state runtime_points) ++ said (codes "session-bus-proxy") (word (has_session_bus grants)) ∷ []))
+    ++ (pair_if (codes "runtime-extensions") (extensions_of state runtime_points)
+    ++ said (codes "session-bus-proxy") (word (has_session_bus grants)) ∷ []))
 
 abbrev pub group : List ℕ → List Pair → Group
 group name pairs = record { name = name; pairs = pairs }
 
 -- what the launch says before the mounts
-unfoldable pub launch_groups : State → Ref → Ref → List Point → List Point → Option (List ℕ) → List Mention → List Group
+unfoldable pub launch_groups : State → Ref → Ref → List Point → List Point → Option (List ℕ)
+    → List Mention → List Group
 launch_groups state name runtime app_points runtime_points command grants =
     group (codes "Application") (application_pairs name runtime command)
-    ∷ group (codes "Instance") (instance_pairs state name runtime app_points runtime_points grants) ∷ granted_groups grants
+    ∷ group (codes "Instance") (instance_pairs state name runtime app_points runtime_points grants)
+    ∷ granted_groups grants
 
 abbrev pub TextIsOfGroups : Type 0
-TextIsOfGroups = (state : State) (name runtime : Ref) (app_points runtime_points : List Point) (command : Option (List ℕ)) (grants : List Mention)
+TextIsOfGroups = (state : State) (name runtime : Ref) (app_points runtime_points : List Point)
+    (command : Option (List ℕ)) (grants : List Mention)
     → text_with state name runtime app_points runtime_points command grants
-    ≡ text_of (launch_groups state name runtime app_points runtime_points command grants) ++ mounts (mount_lines state app_points runtime_points)
+    ≡ text_of (launch_groups state name runtime app_points runtime_points command grants)
+    ++ mounts (mount_lines state app_points runtime_points)
 
--- Where names, commits and the command can be values of a key file, and what is granted can be written, the groups read back as they
--- are. So no value is read as another line.
+-- Where names, commits and the command can be values of a key file, and what is granted can be
+-- written, the groups read back as they are. So no value is read as another line.
 abbrev pub GroupsReadBack : Type 0
-GroupsReadBack = (state : State) (name runtime : Ref) (app_points runtime_points : List Point) (command : Option (List ℕ)) (grants : List Mention)
-    → list_all is_good_pair (application_pairs name runtime command) ≡ true → list_all is_good_pair (instance_pairs state name runtime app_points runtime_points grants) ≡ true
+GroupsReadBack = (state : State) (name runtime : Ref) (app_points runtime_points : List Point)
+    (command : Option (List ℕ)) (grants : List Mention)
+    → list_all is_good_pair (application_pairs name runtime command) ≡ true
+    → list_all is_good_pair (instance_pairs state name runtime app_points runtime_points grants)
+    ≡ true
     → AllCanWrite grants → IsAscending grants
-    → file_of (text_of (launch_groups state name runtime app_points runtime_points command grants)) ≡ Ok (launch_groups state name runtime app_points runtime_points command grants)
+    → file_of (text_of (launch_groups state name runtime app_points runtime_points command grants))
+    ≡ Ok (launch_groups state name runtime app_points runtime_points command grants)

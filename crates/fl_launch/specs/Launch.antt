@@ -1,4 +1,5 @@
--- The text of a launch: what a sandbox is made of, in the manner of the file `/.flatpak-info` of flatpak-run(1).
+-- The text of a launch: what a sandbox is made of, in the manner of the file `/.flatpak-info` of
+-- flatpak-run(1).
 use Rattle.std.specs.Prelude.{ℕ, Bool, List, [], ◌∷◌, ◌++◌, ◌==◌, length, codes, Option, Some, None, if◌then◌else◌}
 use Rattle.std.specs.List.{flat_map}
 use Rattle.std.specs.Option.{option_map_or}
@@ -34,16 +35,21 @@ command_line command = option_map_or (line (codes "command")) command []
 
 unfoldable pub application : Ref → Ref → Option (List ℕ) → List ℕ
 application name runtime command =
-    header (codes "Application") ++ (line (codes "name") name.id ++ (line (codes "runtime") (ref_text runtime) ++ command_line command))
+    header (codes "Application")
+    ++ (line (codes "name") name.id
+    ++ (line (codes "runtime") (ref_text runtime) ++ command_line command))
 
 unfoldable pub commits : State → Ref → Ref → List ℕ
 commits state name runtime =
-    header (codes "Instance") ++ (line (codes "app-commit") (commit_of state name) ++ (line (codes "runtime-commit") (commit_of state runtime)
+    header (codes "Instance")
+    ++ (line (codes "app-commit") (commit_of state name)
+    ++ (line (codes "runtime-commit") (commit_of state runtime)
     ++ (line (codes "arch") name.arch ++ line (codes "branch") name.branch)))
 
 unfoldable pub extension_lines : State → List Point → List Point → List ℕ
 extension_lines state app_points runtime_points =
-    line_if (codes "app-extensions") (extensions_of state app_points) ++ line_if (codes "runtime-extensions") (extensions_of state runtime_points)
+    line_if (codes "app-extensions") (extensions_of state app_points)
+    ++ line_if (codes "runtime-extensions") (extensions_of state runtime_points)
 
 -- The bus goes through a proxy, unless the socket of the session bus is granted.
 abbrev pub word : Bool → List ℕ
@@ -59,16 +65,22 @@ closed_line text = text ++ 10 ∷ []
 
 -- a group without lines is left out
 unfoldable pub mounts : List (List ℕ) → List ℕ
-mounts lines = if length lines == 0 then [] else header (codes "Mounts") ++ flat_map closed_line lines
+mounts lines =
+    if length lines == 0 then [] else header (codes "Mounts") ++ flat_map closed_line lines
 
 -- ---- the whole
 
-abbrev pub text_with : State → Ref → Ref → List Point → List Point → Option (List ℕ) → List Mention → List ℕ
+abbrev pub text_with : State → Ref → Ref → List Point → List Point → Option (List ℕ)
+    → List Mention → List ℕ
 text_with state name runtime app_points runtime_points command grants =
-    application name runtime command ++ (commits state name runtime ++ (extension_lines state app_points runtime_points
-    ++ (proxy_line grants ++ (text_of (granted_groups grants) ++ mounts (mount_lines state app_points runtime_points)))))
+    application name runtime command
+    ++ (commits state name runtime ++ (extension_lines state app_points runtime_points
+    ++ (proxy_line grants ++
+    (text_of (granted_groups grants) ++ mounts (mount_lines state app_points runtime_points)))))
 
 -- the text of the launch of a ref, whose metadata names the runtime
-unfoldable pub launch_text : State → Ref → Meta → List Point → List Point → Option (List ℕ) → List Mention → List ℕ
+unfoldable pub launch_text : State → Ref → Meta → List Point → List Point → Option (List ℕ)
+    → List Mention → List ℕ
 launch_text state name app app_points runtime_points command grants =
-    option_map_or (λ runtime. text_with state name runtime app_points runtime_points (command_of command app.command) grants) app.runtime []
+    option_map_or (λ runtime. text_with state name runtime app_points runtime_points
+    (command_of command app.command) grants) app.runtime []

@@ -44,8 +44,8 @@ IsBus list = (place_of list == 7 || place_of list == 8) ≡ true
 abbrev pub rule : List ℕ → Level → PolicyRule
 rule pattern level = record { pattern = pattern; grant = grants.Level level }
 
--- Each granted pattern of a bus at its level. (What files and options mention on a bus are patterns with levels, so nothing that is
--- granted is left out: `grants_are_rules`.)
+-- Each granted pattern of a bus at its level. (What files and options mention on a bus are patterns
+-- with levels, so nothing that is granted is left out: `grants_are_rules`.)
 abbrev pub is_on_bus : PermList → Mention → Bool
 is_on_bus bus m = is_in bus m && (is_granted m.value && is_pattern m.permission.name)
 
@@ -60,7 +60,8 @@ abbrev pub own_pattern : List ℕ → List ℕ
 own_pattern id = id ++ codes ".*"
 
 unfoldable pub session_rules : List ℕ → List Mention → List PolicyRule
-session_rules id mentions = rule (own_pattern id) levels.Own ∷ rule (codes "org.freedesktop.portal.*") levels.Talk ∷ rules_of lists.SessionBus mentions
+session_rules id mentions = rule (own_pattern id) levels.Own
+    ∷ rule (codes "org.freedesktop.portal.*") levels.Talk ∷ rules_of lists.SessionBus mentions
 
 abbrev pub system_rules : List Mention → List PolicyRule
 system_rules mentions = rules_of lists.SystemBus mentions

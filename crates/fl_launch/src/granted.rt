@@ -94,7 +94,8 @@ fn unknown_pairs(alloc: Global, mentions: &[Mention]) -> Result<Items<Pair>, All
     Ok(pairs)
 }
 
-/// The groups of the granted permissions: the known ones as in an override, and then the unknown ones.
+/// The groups of the granted permissions: the known ones as in an override, and then the unknown
+/// ones.
 #[tactic(auto, unfolding(crate::specs::Granted::granted_groups))]
 pub(crate) fn granted_groups(alloc: Global, grants: &[Mention]) -> Result<Items<Group>, AllocError>
     ensures { IfOk result (λ groups. groups ≡ spec.granted_groups grants.now) }

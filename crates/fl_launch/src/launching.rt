@@ -148,11 +148,12 @@ fn text_with(
 
 /// The launch of an application with extension points.
 ///
-/// Its text has the groups `Application` and `Instance`, in which `app-extensions` and `runtime-extensions` name the
-/// extension that is found for each point, then the granted permissions as an override is written, with a group
-/// `Unknown` for those that aren't known, and last the group `Mounts` with a line for each extension that is found. What
-/// is granted is the last mention of each permission, in the metadata of the runtime and of the application, the global
-/// override, the application's, and the words.
+/// Its text has the groups `Application` and `Instance`, in which `app-extensions` and
+/// `runtime-extensions` name the extension that is found for each point, then the granted
+/// permissions as an override is written, with a group `Unknown` for those that aren't known, and
+/// last the group `Mounts` with a line for each extension that is found. What is granted is the
+/// last mention of each permission, in the metadata of the runtime and of the application, the
+/// global override, the application's, and the words.
 #[tactic(auto, unfolding(crate::specs::Launch::launch_text))]
 pub fn launch_extended(
     alloc: Global,

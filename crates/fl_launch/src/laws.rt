@@ -1,5 +1,5 @@
-//! Laws of the words that the contracts use, for crates that build on them. Each is the contract of a function that
-//! does nothing.
+//! Laws of the words that the contracts use, for crates that build on them. Each is the contract of
+//! a function that does nothing.
 
 ghost use Rattle.std.specs.Prelude.{◌≡◌, ◌++◌, ℕ, true, codes, List};
 ghost use Rattle.std.specs.List.{list_any};
@@ -20,7 +20,8 @@ ghost use Rattle.fl_launch.specs.Extensions.{mounts_of, mount_lines};
 ghost use Rattle.fl_launch.specs.Groups.{TextIsOfGroups, GroupsReadBack};
 ghost use Rattle.fl_launch.specs.Policies.{AreRules, IsBus};
 
-/// What files mention on a bus are patterns with levels, and so is what can be written, both together, and what they grant.
+/// What files mention on a bus are patterns with levels, and so is what can be written, both
+/// together, and what they grant.
 pub fn grants_are_rules()
     ensures files { (bus : TheList) (source : TheSource) (file : List Group) → IsBus bus → AreRules
         bus (file_mentions source file) }
@@ -32,7 +33,8 @@ pub fn grants_are_rules()
         grants → ((p : Permission) → value_in grants p ≡ last_mention all p) → AreRules bus grants }
 {}
 
-/// What layers grant: the last mention of each permission, the permissions ascending. No other list is so.
+/// What layers grant: the last mention of each permission, the permissions ascending. No other list
+/// is so.
 pub fn grants_are_the_last_mentions()
     ensures last { (mentions : List Mention) (p : Permission) → value_in (granted_by mentions) p ≡
         last_mention mentions p }
@@ -42,15 +44,16 @@ pub fn grants_are_the_last_mentions()
         → grants ≡ granted_by mentions }
 {}
 
-/// The text of a launch is that of the groups of a key file, with the mounts after it. Where names, commits and the command can be
-/// values of a key file, and what is granted can be written, these groups read back as they are: no value is read as another line.
+/// The text of a launch is that of the groups of a key file, with the mounts after it. Where names,
+/// commits and the command can be values of a key file, and what is granted can be written, these
+/// groups read back as they are: no value is read as another line.
 pub fn texts_are_of_groups()
     ensures text { TextIsOfGroups }
     ensures back { GroupsReadBack }
 {}
 
-/// The lines of the mounts ascend by their bytes, so each stands once. They are those of the points of the application
-/// and of the runtime, and no others.
+/// The lines of the mounts ascend by their bytes, so each stands once. They are those of the points
+/// of the application and of the runtime, and no others.
 pub fn mounts_ascend()
     ensures ascending { (state : TheState) (app_points runtime_points : List ThePoint) →
         is_ascending (mount_lines state app_points runtime_points) ≡ true }

@@ -52,8 +52,8 @@ fn fold_five<'a>(
     Ok(grants)
 }
 
-/// What the layers of a launch grant, the earliest first: the metadata of the runtime and of the application, the
-/// global override and the application's, and the words.
+/// What the layers of a launch grant, the earliest first: the metadata of the runtime and of the
+/// application, the global override and the application's, and the words.
 pub(crate) fn grants_of(
     alloc: Global,
     state: &State,

@@ -1,4 +1,5 @@
-//! The launch of an application: what its sandbox is made of, as text, and what it may do on the buses.
+//! The launch of an application: what its sandbox is made of, as text, and what it may do on the
+//! buses.
 #![tactic(auto)]
 
 mod extensions;

@@ -92,8 +92,8 @@ fn add_own(alloc: Global, policy: &mut Policy, id: &AppId) -> Result<(), AllocEr
     add_rule(alloc, policy, &pattern, Level::Own)
 }
 
-/// The policy of a launch on the session bus: the application owns its ID and the names below it, talks to the portals,
-/// and has each granted pattern at its level.
+/// The policy of a launch on the session bus: the application owns its ID and the names below it,
+/// talks to the portals, and has each granted pattern at its level.
 #[tactic(auto, unfolding(crate::specs::Policies::session_rules))]
 pub fn policy_of(alloc: Global, launch: &LaunchText, id: &AppId) -> Result<Policy, AllocError>
     ensures { IfOk result (λ policy. policy ≡ spec.session_rules id.now launch.now.grants) }

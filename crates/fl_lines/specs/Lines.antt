@@ -28,7 +28,9 @@ is_escaped b = is_control b || b == 92
 
 -- such a byte as a backslash and its two lower-case hexadecimal digits, any other as it is
 abbrev pub escape_of : ℕ → List ℕ
-escape_of b = if is_escaped b then 92 ∷ digit_glyph false (b / 16) ∷ digit_glyph false (b % 16) ∷ [] else b ∷ []
+escape_of b =
+    if is_escaped b then 92 ∷ digit_glyph false (b / 16) ∷ digit_glyph false (b % 16) ∷ []
+    else b ∷ []
 
 abbrev pub escaped : List ℕ → List ℕ
 escaped text = flat_map escape_of text
@@ -48,7 +50,8 @@ object_text digest kind = hex digest ++ (codes "." ++ kind_word kind)
 
 -- the four lowest octal digits of a mode, which are its permission bits
 abbrev pub bits_text : ℕ → List ℕ
-bits_text mode = decimal (mode / 512 % 8) ++ (decimal (mode / 64 % 8) ++ (decimal (mode / 8 % 8) ++ decimal (mode % 8)))
+bits_text mode = decimal (mode / 512 % 8) ++
+    (decimal (mode / 64 % 8) ++ (decimal (mode / 8 % 8) ++ decimal (mode % 8)))
 
 -- the six lowest octal digits, the highest of them first
 unfoldable pub octal : ℕ → List ℕ
@@ -66,28 +69,47 @@ abbrev pub refusal_text : Refusal → List ℕ
 refusal_text (refusals.BadWords index) = line_of (codes "error: words" ∷ decimal index ∷ [])
 refusal_text (refusals.NoSuchRemote remote) = line_of (codes "error: no remote" ∷ remote ∷ [])
 refusal_text (refusals.RemoteExists remote) = line_of (codes "error: remote exists" ∷ remote ∷ [])
-refusal_text (refusals.RemoteInUse remote name) = line_of (codes "error: remote in use" ∷ remote ∷ ref_text name ∷ [])
-refusal_text (refusals.WrongMode remote mode) = line_of (codes "error: remote mode" ∷ remote ∷ escaped mode ∷ [])
-refusal_text (refusals.NoSuchRef remote name) = line_of (codes "error: no ref" ∷ remote ∷ ref_text name ∷ [])
-refusal_text (refusals.AlreadyInstalled name) = line_of (codes "error: installed" ∷ ref_text name ∷ [])
-refusal_text (refusals.NotInstalled name) = line_of (codes "error: not installed" ∷ ref_text name ∷ [])
-refusal_text (refusals.RuntimeMissing name) = line_of (codes "error: runtime missing" ∷ ref_text name ∷ [])
-refusal_text (refusals.RuntimeInUse runtime app) = line_of (codes "error: runtime in use" ∷ ref_text runtime ∷ ref_text app ∷ [])
-refusal_text (refusals.MissingObject digest kind) = line_of (codes "error: missing object" ∷ object_text digest kind ∷ [])
-refusal_text (refusals.CorruptObject digest kind got) = line_of (codes "error: corrupt object" ∷ object_text digest kind ∷ hex got ∷ [])
-refusal_text (refusals.MalformedObject digest kind rule) = line_of (codes "error: malformed object" ∷ object_text digest kind ∷ rule_word rule ∷ [])
-refusal_text (refusals.MalformedValue digest) = line_of (codes "error: malformed object" ∷ (hex digest ++ codes ".value") ∷ codes "value" ∷ [])
-refusal_text (refusals.ModeRefused digest kind mode) = line_of (codes "error: mode refused" ∷ object_text digest kind ∷ mode_text kind mode ∷ [])
-refusal_text (refusals.ReservedName commit) = line_of (codes "error: reserved name" ∷ hex commit ∷ [])
-refusal_text (refusals.BadMetadata name number rule) = line_of (codes "error: metadata" ∷ ref_text name ∷ decimal number ∷ metadata_rule_word rule ∷ [])
+refusal_text (refusals.RemoteInUse remote name) =
+    line_of (codes "error: remote in use" ∷ remote ∷ ref_text name ∷ [])
+refusal_text (refusals.WrongMode remote mode) =
+    line_of (codes "error: remote mode" ∷ remote ∷ escaped mode ∷ [])
+refusal_text (refusals.NoSuchRef remote name) =
+    line_of (codes "error: no ref" ∷ remote ∷ ref_text name ∷ [])
+refusal_text (refusals.AlreadyInstalled name) =
+    line_of (codes "error: installed" ∷ ref_text name ∷ [])
+refusal_text (refusals.NotInstalled name) =
+    line_of (codes "error: not installed" ∷ ref_text name ∷ [])
+refusal_text (refusals.RuntimeMissing name) =
+    line_of (codes "error: runtime missing" ∷ ref_text name ∷ [])
+refusal_text (refusals.RuntimeInUse runtime app) =
+    line_of (codes "error: runtime in use" ∷ ref_text runtime ∷ ref_text app ∷ [])
+refusal_text (refusals.MissingObject digest kind) =
+    line_of (codes "error: missing object" ∷ object_text digest kind ∷ [])
+refusal_text (refusals.CorruptObject digest kind got) =
+    line_of (codes "error: corrupt object" ∷ object_text digest kind ∷ hex got ∷ [])
+refusal_text (refusals.MalformedObject digest kind rule) =
+    line_of (codes "error: malformed object" ∷ object_text digest kind ∷ rule_word rule ∷ [])
+refusal_text (refusals.MalformedValue digest) =
+    line_of (codes "error: malformed object" ∷ (hex digest ++ codes ".value") ∷ codes "value" ∷ [])
+refusal_text (refusals.ModeRefused digest kind mode) =
+    line_of (codes "error: mode refused" ∷ object_text digest kind ∷ mode_text kind mode ∷ [])
+refusal_text (refusals.ReservedName commit) =
+    line_of (codes "error: reserved name" ∷ hex commit ∷ [])
+refusal_text (refusals.BadMetadata name number rule) =
+    line_of (codes "error: metadata" ∷ ref_text name ∷ decimal number
+    ∷ metadata_rule_word rule ∷ [])
 refusal_text (refusals.RefBinding name) = line_of (codes "error: ref binding" ∷ ref_text name ∷ [])
-refusal_text (refusals.Older name have offered) = line_of (codes "error: older" ∷ ref_text name ∷ decimal have ∷ decimal offered ∷ [])
+refusal_text (refusals.Older name have offered) =
+    line_of (codes "error: older" ∷ ref_text name ∷ decimal have ∷ decimal offered ∷ [])
 refusal_text (refusals.PinExists pin) = line_of (codes "error: pin exists" ∷ pin ∷ [])
 refusal_text (refusals.NoSuchPin pin) = line_of (codes "error: no pin" ∷ pin ∷ [])
-refusal_text (refusals.Limit what number) = line_of (codes "error: limit" ∷ what_word what ∷ decimal number ∷ [])
+refusal_text (refusals.Limit what number) =
+    line_of (codes "error: limit" ∷ what_word what ∷ decimal number ∷ [])
 refusal_text (refusals.BadRecord number) = line_of (codes "error: record" ∷ decimal number ∷ [])
-refusal_text (refusals.BadMessage side index rule) = line_of (codes "error: message" ∷ side_word side ∷ decimal index ∷ frame_rule_word rule ∷ [])
-refusal_text (refusals.Damaged path) = line_of (codes "error: damaged" ∷ escaped (path_text path) ∷ [])
+refusal_text (refusals.BadMessage side index rule) =
+    line_of (codes "error: message" ∷ side_word side ∷ decimal index ∷ frame_rule_word rule ∷ [])
+refusal_text (refusals.Damaged path) =
+    line_of (codes "error: damaged" ∷ escaped (path_text path) ∷ [])
 refusal_text (refusals.NoPrevious name) = line_of (codes "error: no previous" ∷ ref_text name ∷ [])
 
 -- some words, a ref and the commit that it is at now
@@ -155,11 +177,13 @@ extension_line name = line_of (codes "extension" ∷ escaped name ∷ [])
 
 -- its row, the runtime that its metadata names, where it does, and a line for each extension
 abbrev pub info_text : RefRow → Option Ref → List (List ℕ) → List ℕ
-info_text row runtime extensions = row_text row ++ (runtime_text runtime ++ flat_map extension_line extensions)
+info_text row runtime extensions =
+    row_text row ++ (runtime_text runtime ++ flat_map extension_line extensions)
 
 -- ---- what is exported
 
--- a path below the exported files, and the ref that it comes from; the path has names that the ref's commit gave
+-- a path below the exported files, and the ref that it comes from; the path has names that the
+-- ref's commit gave
 abbrev pub export_line : Elements → Ref → List ℕ
 export_line path name = line_of (escaped (path_text path) ∷ ref_text name ∷ [])
 
@@ -175,7 +199,9 @@ stray_text path = line_of (codes "stray" ∷ escaped (path_text path) ∷ [])
 
 -- how many objects there are, and how many of them are bad
 abbrev pub fsck_text : ℕ → ℕ → List ℕ
-fsck_text objects bad = line (codes "fsck " ++ (decimal objects ++ (codes " objects, " ++ (decimal bad ++ codes " bad"))))
+fsck_text objects bad =
+    line (codes "fsck " ++ (decimal objects
+    ++ (codes " objects, " ++ (decimal bad ++ codes " bad"))))
 
 -- the commit that was made
 abbrev pub made_text : List ℕ → List ℕ
@@ -186,4 +212,6 @@ made_text commit = line_of (codes "commit" ∷ hex commit ∷ [])
 -- of an exercise of this number, how many applications and runtimes are deployed at its end
 abbrev pub exercise_text : ℕ → ℕ → ℕ → List ℕ
 exercise_text count applications runtimes =
-    codes "exercise " ++ (decimal count ++ (codes ": " ++ (decimal applications ++ (codes " applications, " ++ (decimal runtimes ++ codes " runtimes\n")))))
+    codes "exercise " ++ (decimal count
+    ++ (codes ": " ++ (decimal applications ++
+    (codes " applications, " ++ (decimal runtimes ++ codes " runtimes\n")))))

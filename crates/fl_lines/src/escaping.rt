@@ -4,8 +4,8 @@ ghost use Rattle.fl_lines.specs.Lines.{is_escaped, escape_of, escaped};
 
 use std::alloc::{AllocError, Global};
 
-/// The text in which each control byte (below 0x20, or 0x7f) and each backslash is a backslash and two lower-case
-/// hexadecimal digits.
+/// The text in which each control byte (below 0x20, or 0x7f) and each backslash is a backslash and
+/// two lower-case hexadecimal digits.
 pub fn escape(alloc: Global, text: &str) -> Result<String, AllocError>
     ensures { IfOk result (λ t. string_bytes t ≡ escaped text.now) }
 {

@@ -5,7 +5,8 @@ ghost use Rattle.fl_lines.specs.Lines.{exercise_text};
 use fp_base::Text;
 use std::alloc::{AllocError, Global};
 
-/// The line of an exercise of this number, with how many applications and runtimes are deployed at its end.
+/// The line of an exercise of this number, with how many applications and runtimes are deployed at
+/// its end.
 pub fn exercise_line(
     alloc: Global,
     count: u32,

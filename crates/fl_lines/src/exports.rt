@@ -9,7 +9,8 @@ use fp_host::Path;
 use fp_name::RefName;
 use std::alloc::{AllocError, Global};
 
-/// The line of an exported file: its path below the folder of exported files, and the ref that exports it.
+/// The line of an exported file: its path below the folder of exported files, and the ref that
+/// exports it.
 pub fn export_line(alloc: Global, path: &Path, name: &RefName) -> Result<Text, AllocError>
     ensures { IfOk result (λ t. t ≡ line_of_export path.now name.now) }
 {

@@ -10,8 +10,8 @@ use fp_name::RefName;
 use fp_small::{Previous, RefRow};
 use std::alloc::{AllocError, Global};
 
-/// What is known of a deployed ref, in lines: its row, the runtime that its metadata names, and its extensions by their
-/// names, in the order given.
+/// What is known of a deployed ref, in lines: its row, the runtime that its metadata names, and its
+/// extensions by their names, in the order given.
 pub fn info_text(
     alloc: Global,
     row: &RefRow,

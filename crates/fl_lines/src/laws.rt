@@ -1,4 +1,5 @@
-//! What holds of all printed texts, by their definitions. Nothing is done here: each contract is a law.
+//! What holds of all printed texts, by their definitions. Nothing is done here: each contract is a
+//! law.
 ghost use Rattle.std.specs.Prelude.{◌≡◌, ℕ, List, true, not};
 ghost use Rattle.std.specs.List.{list_all};
 ghost use Rattle.fl_lines.specs.Lines.{is_control, escaped};

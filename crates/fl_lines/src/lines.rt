@@ -164,7 +164,8 @@ pub fn remotes_text(alloc: Global, remotes: &[RemoteRow]) -> Result<Text, AllocE
     Ok(Text::from_string(text))
 }
 
-/// A line for each ref, in the order given: the ref, the commit that it is at and the remote that it comes from.
+/// A line for each ref, in the order given: the ref, the commit that it is at and the remote that
+/// it comes from.
 pub fn refs_text(alloc: Global, rows: &[RefRow]) -> Result<Text, AllocError>
     ensures { IfOk result (λ t. t ≡ refs_text rows.now) }
 {

@@ -36,31 +36,37 @@ made remote = remote ∷ codes "made" ∷ []
 
 -- ---- at every moment
 
--- What a name may come to hold: anything at or below the store's folder, where it is no place of another ref, and below `repo/tmp`; and
--- these, and those above them, may come to be folders.
+-- What a name may come to hold: anything at or below the store's folder, where it is no place of
+-- another ref, and below `repo/tmp`; and these, and those above them, may come to be folders.
 pub data MayMake (remote : List ℕ) (r : Ref) (q : Elements) (e : Slot) : Type 0 where
-  in_store : IsWithin (made remote) q → ((place : RefPlace) → place_path (made remote) place ≢ ref_path (made remote) r → q ≢ place_path (made remote) place) → MayMake remote r q e
+  in_store : IsWithin (made remote) q
+      → ((place : RefPlace) → place_path (made remote) place ≢ ref_path (made remote) r
+      → q ≢ place_path (made remote) place) → MayMake remote r q e
   in_work : IsAbove tmp q → MayMake remote r q e
   above_store : IsAbove q (made remote) → e ≡ dir → MayMake remote r q e
   of_work : (q ≡ repo) ⊎ (q ≡ tmp) → e ≡ dir → MayMake remote r q e
 
--- Nothing is printed, each file that was there is as it was, and names change only so. Of the store each other ref stays, and each
--- object that was there. No file came to a commit's folder. Nothing changes of bytes that describe no tree. Over a sound
--- installation nothing changed yet, or every stop leaves the state that was shown, and is sound.
+-- Nothing is printed, each file that was there is as it was, and names change only so. Of the store
+-- each other ref stays, and each object that was there. No file came to a commit's folder. Nothing
+-- changes of bytes that describe no tree. Over a sound installation nothing changed yet, or every
+-- stop leaves the state that was shown, and is sound.
 pub record Makes (remote : List ℕ) (r : Ref) (bytes : List ℕ) (u w : View) : Type 0 where
   pub printed : w.printed ≡ u.printed
   pub files : KeepsFiles u w
   pub names : (q : Elements) → (w.names q ≡ u.names q) ⊎ MayMake remote r q (w.names q)
-  pub refs : (place : RefPlace) → place_path (made remote) place ≢ ref_path (made remote) r → IsSpared (place_path (made remote) place) u w
-  pub objects : (d : List ℕ) (kind : ObjKind) → u.names (object_path (made remote) d kind) ≢ absent → IsSpared (object_path (made remote) d kind) u w
+  pub refs : (place : RefPlace) → place_path (made remote) place ≢ ref_path (made remote) r
+      → IsSpared (place_path (made remote) place) u w
+  pub objects : (d : List ℕ) (kind : ObjKind) → u.names (object_path (made remote) d kind) ≢ absent
+      → IsSpared (object_path (made remote) d kind) u w
   pub links : Links u w
   pub good : (w ≡ u) ⊎ IsRead (described bytes)
   pub opens : IsSound u → (s : State) → Shows (shows u) s → (w ≡ u) ⊎ Opens s w
 
 -- ---- in the end
 
--- This is the line of the commit of what the bytes describe. It was exported into the store. What was settled is settled.
--- Each new file that has bytes came to a name in the store. The installation's own store got no object.
+-- This is the line of the commit of what the bytes describe. It was exported into the store. What
+-- was settled is settled. Each new file that has bytes came to a name in the store. The
+-- installation's own store got no object.
 pub record WasMade (remote : List ℕ) (r : Ref) (bytes line : List ℕ) (u w : View) : Type 0 where
   pub built : Built
   pub described_by : IsDescribed bytes r built
@@ -76,8 +82,8 @@ IsMakeFault bytes (BadRecord line) = described bytes ≡ Err line
 IsMakeFault bytes Fault = Unit {0}
 IsMakeFault bytes NoMemory = Unit {0}
 
--- Where it may be done: at the store's `config` and at the ref's place nothing stands, or a file; and the folders above what is
--- written are absent or folders.
+-- Where it may be done: at the store's `config` and at the ref's place nothing stands, or a file;
+-- and the folders above what is written are absent or folders.
 abbrev pub CanMake : List ℕ → Ref → View → Type 0
 CanMake remote r v = CanExport (made remote) r v
 

@@ -14,7 +14,8 @@ pub enum MakeEnd {
     BadRecord { line: u64 },
     /// A call of the host failed.
     Fault,
-    /// Memory ran out. So it ends too where the commit would be too large, or two of its objects have one digest.
+    /// Memory ran out. So it ends too where the commit would be too large, or two of its objects
+    /// have one digest.
     NoMemory,
 }
 

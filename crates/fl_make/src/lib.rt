@@ -1,4 +1,5 @@
-//! Remotes that are made: the commit of a tree that is described, offered in a store in the installation's folder.
+//! Remotes that are made: the commit of a tree that is described, offered in a store in the
+//! installation's folder.
 #![tactic(auto)]
 
 mod end;

@@ -24,9 +24,10 @@ use ost_model::Object;
 use std::alloc::{AllocError, Global};
 use std::thread::Threads;
 
-/// Makes the commit of the tree that the bytes describe, offers it under the ref in the store `made/REMOTE`, and answers the line of
-/// the commit. Where the store is there, its other refs and its objects stay. The installation isn't looked at, and a sync comes
-/// before the first change. `BadRecord` comes only with the first bad line, before anything is done.
+/// Makes the commit of the tree that the bytes describe, offers it under the ref in the store
+/// `made/REMOTE`, and answers the line of the commit. Where the store is there, its other refs and
+/// its objects stay. The installation isn't looked at, and a sync comes before the first change.
+/// `BadRecord` comes only with the first bad line, before anything is done.
 pub fn make_remote<H: Host>(
     rt: &(impl Threads + Sync),
     alloc: Global,
@@ -61,9 +62,11 @@ fn offer<H: Host>(
 ) -> Result<(), HostEnd>
     requires whole { AreWhole built.now.objects }
     requires clean { first_fault (have_of built.now.objects) built.now.commit ≡ None }
-    ensures any_moment { Always (ExportsSynced (have_of built.now.objects) (made remote.now) name.now built.now.commit)
+    ensures any_moment { Always
+        (ExportsSynced (have_of built.now.objects) (made remote.now) name.now built.now.commit)
         (H.moments host.old) (H.moments host.new) }
-    ensures on_success { OnOk result (AtEnd (WasExported (have_of built.now.objects) (made remote.now) name.now built.now.commit)
+    ensures on_success { OnOk result
+        (AtEnd (WasExported (have_of built.now.objects) (made remote.now) name.now built.now.commit)
         (H.moments host.old) (H.moments host.new)) }
     ensures fault_has_cause { IsCaused (IsErrOf result HostEnd.Fault) (H.moments host.old)
         (CanExport (made remote.now) name.now) (H.faults host.old) (H.faults host.new) }
@@ -82,7 +85,8 @@ fn made_path(alloc: Global, remote: &RemoteName) -> Result<Path, AllocError>
     Path::root(alloc).child("made")?.child(remote.as_str())
 }
 
-/// Whether a store may keep each of the objects. Those of a commit of rows are so, which the call that builds it doesn't say.
+/// Whether a store may keep each of the objects. Those of a commit of rows are so, which the call
+/// that builds it doesn't say.
 fn are_keepable(objects: &[BuiltObject]) -> bool
     ensures { result ≡ list_all (λ o. is_keepable_object o.object) objects.now }
 {
@@ -94,7 +98,8 @@ fn are_keepable(objects: &[BuiltObject]) -> bool
     true
 }
 
-/// Whether a store may keep the object: a file's permission bits are within 0775, and a link's text is one.
+/// Whether a store may keep the object: a file's permission bits are within 0775, and a link's text
+/// is one.
 fn is_keepable(object: &Object) -> bool
     ensures { result ≡ is_keepable_object object.now }
 {

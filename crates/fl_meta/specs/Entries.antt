@@ -35,7 +35,8 @@ are_endings (front ∷ words) = is_empty front && list_all is_ending words
 -- the text without the endings at its end, as many as there are
 unfoldable pub without_endings : List ℕ → List ℕ
 without_endings [] = []
-without_endings (b ∷ bs) = if are_endings (slice_split is_colon (b ∷ bs)) then [] else b ∷ without_endings bs
+without_endings (b ∷ bs) =
+    if are_endings (slice_split is_colon (b ∷ bs)) then [] else b ∷ without_endings bs
 
 -- what stands after the last colon, where there is one
 abbrev pub last_of : List ℕ → List (List ℕ) → List ℕ
@@ -78,17 +79,22 @@ value_in lists.Filesystems text = access_at text
 value_in list text = values.On
 
 abbrev pub mention_of : PermList → List ℕ → Value → Mention
-mention_of list name value = record { permission = record { list = list; name = name }; value = value }
+mention_of list name value =
+    record { permission = record { list = list; name = name }; value = value }
 
 -- an entry without a name mentions nothing
 abbrev pub named : PermList → List ℕ → Value → List Mention
-named list name value = if is_empty name then [] else mention_of (list_with list name) name value ∷ []
+named list name value =
+    if is_empty name then [] else mention_of (list_with list name) name value ∷ []
 
 unfoldable pub mentions_in : PermList → List ℕ → List Mention
-mentions_in list entry = named list (name_in list (without_mark entry)) (if is_off entry then values.Off else value_in list (without_mark entry))
+mentions_in list entry = named list (name_in list (without_mark entry))
+    (if is_off entry then values.Off else value_in list (without_mark entry))
 
 -- ---- a list
 
--- A list is cut at `;`, and spaces and tabs at the start of an entry are dropped. An empty entry has no name.
+-- A list is cut at `;`, and spaces and tabs at the start of an entry are dropped. An empty entry
+-- has no name.
 unfoldable pub list_mentions : PermList → List ℕ → List Mention
-list_mentions list value = flat_map (λ piece. mentions_in list (trimmed_front is_blank piece)) (slice_split is_semicolon value)
+list_mentions list value = flat_map (λ piece. mentions_in list (trimmed_front is_blank piece))
+    (slice_split is_semicolon value)

@@ -36,8 +36,8 @@ variable_mentions p = mention_of lists.Environment p.key (values.Text p.value) �
 
 -- ---- the groups of the buses: each pair is a pattern and its level
 
--- A pair whose pattern or level isn't known is an unknown permission, if it can stand in a list: it has no `;` and
--- doesn't begin with `!`.
+-- A pair whose pattern or level isn't known is an unknown permission, if it can stand in a list: it
+-- has no `;` and doesn't begin with `!`.
 abbrev pub pair_name : Pair → List ℕ
 pair_name p = p.key ++ 61 ∷ p.value
 
@@ -49,7 +49,8 @@ odd_pair unknown name = if can_stand name then mention_of unknown name values.On
 
 abbrev pub bus_with : PermList → PermList → Pair → Option Value → List Mention
 bus_with list unknown p None = odd_pair unknown (pair_name p)
-bus_with list unknown p (Some level) = if is_pattern p.key then mention_of list p.key level ∷ [] else odd_pair unknown (pair_name p)
+bus_with list unknown p (Some level) =
+    if is_pattern p.key then mention_of list p.key level ∷ [] else odd_pair unknown (pair_name p)
 
 abbrev pub bus_mentions : PermList → PermList → Pair → List Mention
 bus_mentions list unknown p = bus_with list unknown p (level_of p.value)
@@ -60,8 +61,10 @@ unfoldable pub pair_mentions : Source → List ℕ → Pair → List Mention
 pair_mentions source group p =
     if bytes_eq group (codes "Context") then context_mentions (list_at source p.key) p.value
     else (if bytes_eq group (codes "Environment") then variable_mentions p
-    else (if bytes_eq group (codes "Session Bus Policy") then bus_mentions lists.SessionBus lists.UnknownSessionBus p
-    else (if bytes_eq group (codes "System Bus Policy") then bus_mentions lists.SystemBus lists.UnknownSystemBus p else [])))
+    else (if bytes_eq group (codes "Session Bus Policy")
+    then bus_mentions lists.SessionBus lists.UnknownSessionBus p
+    else (if bytes_eq group (codes "System Bus Policy")
+    then bus_mentions lists.SystemBus lists.UnknownSystemBus p else [])))
 
 unfoldable pub group_mentions : Source → Group → List Mention
 group_mentions source g = flat_map (pair_mentions source g.name) g.pairs

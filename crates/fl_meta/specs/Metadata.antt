@@ -35,13 +35,20 @@ abbrev pub name_remainder : List ℕ → List (List ℕ)
 name_remainder name = if is_empty name then [] else name ∷ []
 
 abbrev pub extension_of : Group → List (List ℕ)
-extension_of g = if starts_with nat_eq g.name (codes "Extension ") then name_remainder (drop 10 g.name) else []
+extension_of g =
+    if starts_with nat_eq g.name (codes "Extension ") then name_remainder (drop 10 g.name) else []
 
 unfoldable pub extensions_of : List Group → List (List ℕ)
 extensions_of file = flat_map extension_of file
 
 abbrev pub meta_with : List Group → MetaKind → Option Ref → Option (List ℕ) → Meta
-meta_with file kind runtime command = record { kind = kind; runtime = runtime; command = command; mentions = file_mentions sources.Metadata file; extensions = extensions_of file }
+meta_with file kind runtime command = record {
+  kind = kind;
+  runtime = runtime;
+  command = command;
+  mentions = file_mentions sources.Metadata file;
+  extensions = extensions_of file;
+}
 
 -- the runtime and the command of an application
 unfoldable pub runtime_in : List Group → Option Ref

@@ -15,21 +15,27 @@ abbrev pub shared_names : List (List ℕ)
 shared_names = codes "network" ∷ codes "ipc" ∷ []
 
 abbrev pub socket_names : List (List ℕ)
-socket_names = codes "x11" ∷ codes "wayland" ∷ codes "fallback-x11" ∷ codes "pulseaudio" ∷ codes "session-bus" ∷ codes "system-bus" ∷ codes "ssh-auth" ∷ codes "pcsc" ∷ codes "cups" ∷ []
+socket_names = codes "x11" ∷ codes "wayland" ∷ codes "fallback-x11" ∷ codes "pulseaudio"
+    ∷ codes "session-bus" ∷ codes "system-bus" ∷ codes "ssh-auth" ∷ codes "pcsc" ∷ codes "cups" ∷ []
 
 abbrev pub device_names : List (List ℕ)
 device_names = codes "dri" ∷ codes "kvm" ∷ codes "shm" ∷ codes "all" ∷ []
 
 abbrev pub feature_names : List (List ℕ)
-feature_names = codes "devel" ∷ codes "multiarch" ∷ codes "bluetooth" ∷ codes "canbus" ∷ codes "per-app-dev-shm" ∷ []
+feature_names = codes "devel" ∷ codes "multiarch" ∷ codes "bluetooth" ∷ codes "canbus"
+    ∷ codes "per-app-dev-shm" ∷ []
 
--- The list that a name in the key of a list belongs to. Another name than the known ones is an unknown permission;
--- the other lists know all names.
+-- The list that a name in the key of a list belongs to. Another name than the known ones is an
+-- unknown permission; the other lists know all names.
 abbrev pub list_with : PermList → List ℕ → PermList
-list_with lists.Shared name = if is_among shared_names name then lists.Shared else lists.UnknownShared
-list_with lists.Sockets name = if is_among socket_names name then lists.Sockets else lists.UnknownSockets
-list_with lists.Devices name = if is_among device_names name then lists.Devices else lists.UnknownDevices
-list_with lists.Features name = if is_among feature_names name then lists.Features else lists.UnknownFeatures
+list_with lists.Shared name =
+    if is_among shared_names name then lists.Shared else lists.UnknownShared
+list_with lists.Sockets name =
+    if is_among socket_names name then lists.Sockets else lists.UnknownSockets
+list_with lists.Devices name =
+    if is_among device_names name then lists.Devices else lists.UnknownDevices
+list_with lists.Features name =
+    if is_among feature_names name then lists.Features else lists.UnknownFeatures
 list_with list name = list
 
 -- The key of a list in the group `Context`. The other lists have groups of their own, and no key.
@@ -50,12 +56,15 @@ key_of lists.Environment = []
 key_of lists.SessionBus = []
 key_of lists.SystemBus = []
 
--- the lists whose keys each file may have, and those whose keys overrides alone have, for what was unknown
+-- the lists whose keys each file may have, and those whose keys overrides alone have, for what was
+-- unknown
 abbrev pub metadata_lists : List PermList
-metadata_lists = lists.Shared ∷ lists.Sockets ∷ lists.Devices ∷ lists.Features ∷ lists.Filesystems ∷ lists.Persistent ∷ []
+metadata_lists = lists.Shared ∷ lists.Sockets ∷ lists.Devices ∷ lists.Features ∷ lists.Filesystems
+    ∷ lists.Persistent ∷ []
 
 abbrev pub unknown_lists : List PermList
-unknown_lists = lists.UnknownShared ∷ lists.UnknownSockets ∷ lists.UnknownDevices ∷ lists.UnknownFeatures ∷ lists.UnknownSessionBus ∷ lists.UnknownSystemBus ∷ []
+unknown_lists = lists.UnknownShared ∷ lists.UnknownSockets ∷ lists.UnknownDevices
+    ∷ lists.UnknownFeatures ∷ lists.UnknownSessionBus ∷ lists.UnknownSystemBus ∷ []
 
 -- the list of these that has the key
 abbrev pub with_key : List ℕ → List PermList → Option PermList

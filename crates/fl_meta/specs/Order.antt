@@ -1,4 +1,5 @@
--- The order of permissions: by their lists, as they are written, and then by the bytes of their names.
+-- The order of permissions: by their lists, as they are written, and then by the bytes of their
+-- names.
 use Rattle.std.specs.Prelude.{◌≡◌, ℕ, Bool, List, nat_eq}
 use Rattle.std.specs.declared.cmp.Ordering.{Ordering}
 use Rattle.std.specs.Ordering.{nat_cmp, is_eq, on, then_cmp, eq_of_both}
@@ -42,4 +43,6 @@ permission_cmp = then_cmp (on list_place nat_cmp) (on name_of (slice_cmp nat_cmp
 
 -- they are the same exactly where neither comes first
 pub same_ties : (p q : Permission) → is_same p q ≡ is_eq (permission_cmp p q)
-same_ties p q = both_tied _ _ (nat_cmp (list_place p) (list_place q)) (slice_cmp nat_cmp (name_of p) (name_of q)) (unsigned_ties (list_place p) (list_place q)) (texts_ties (name_of p) (name_of q))
+same_ties p q = both_tied _ _ (nat_cmp (list_place p) (list_place q))
+    (slice_cmp nat_cmp (name_of p) (name_of q)) (unsigned_ties (list_place p) (list_place q))
+    (texts_ties (name_of p) (name_of q))

@@ -4,6 +4,7 @@
 mod entries;
 mod fault;
 pub mod laws;
+mod limits;
 mod mentions;
 mod meta;
 mod names;
@@ -11,6 +12,7 @@ mod pattern;
 mod permission;
 
 pub use fault::MetaError;
+pub use limits::MOST_BUS_NAME_BYTES;
 pub use mentions::{Source, mentions_of};
 pub use meta::{Meta, MetaKind, extension_name};
 pub use pattern::is_pattern;

@@ -146,10 +146,11 @@ fn push_group(out: &mut Layer, source: Source, group: &Group) -> Result<(), Allo
 
 /// The permissions that a key file mentions, in its order, after flatpak-metadata(5).
 ///
-/// A list is cut at `;`. Spaces and tabs at the start of an entry are dropped. A leading `!` says that the permission
-/// is off. Of a filesystem the endings `:ro`, `:rw` and `:create` are taken off, and the last one says how it may be
-/// used; without one it may be read and written. An entry without a name mentions nothing. A name that its list
-/// doesn't know is an unknown permission, and so is a bus pair whose pattern or level isn't known.
+/// A list is cut at `;`. Spaces and tabs at the start of an entry are dropped. A leading `!` says
+/// that the permission is off. Of a filesystem the endings `:ro`, `:rw` and `:create` are taken
+/// off, and the last one says how it may be used; without one it may be read and written. An entry
+/// without a name mentions nothing. A name that its list doesn't know is an unknown permission, and
+/// so is a bus pair whose pattern or level isn't known.
 #[tactic(auto, unfolding(crate::specs::Mentions::file_mentions))]
 pub fn mentions_of(alloc: Global, file: &KeyFile, source: Source) -> Result<Layer, AllocError>
     ensures { IfOk result (λ layer. layer ≡ mentions.file_mentions source file.now) }

@@ -147,7 +147,8 @@ impl Meta {
         })
     }
 
-    /// Reads a key file as the metadata of an application or a runtime. The error is the first rule that it breaks.
+    /// Reads a key file as the metadata of an application or a runtime. The error is the first rule
+    /// that it breaks.
     #[tactic(auto, unfolding(crate::specs::Metadata::meta_of))]
     pub fn read(alloc: Global, file: &KeyFile, kind: MetaKind) -> Result<Self, MetaError>
         ensures { metadata.Gives result (metadata.meta_of kind file.now) }

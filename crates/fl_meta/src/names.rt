@@ -122,7 +122,8 @@ impl PermList {
 }
 
 impl Value {
-    /// The word of a level of a bus policy, or the text of a variable. The other values have no word.
+    /// The word of a level of a bus policy, or the text of a variable. The other values have no
+    /// word.
     pub fn word(&self) -> &str
         ensures { result.now ≡ names.word_of self.now }
     {

@@ -5,7 +5,7 @@ ghost use Rattle.std.specs.List.{list_all, slice_split};
 ghost use Rattle.fp_name.specs.Bytes as bytes;
 ghost use Rattle.fl_meta.specs.Patterns as patterns;
 
-use fp_name::MOST_NAME_BYTES;
+use crate::limits::MOST_BUS_NAME_BYTES;
 
 /// A letter, a digit, `_` or `-`.
 fn is_dashed(byte: u8) -> bool
@@ -48,16 +48,16 @@ fn element_count(text: &str) -> usize
     text.split('.').count()
 }
 
-/// A bus name that isn't unique. It has at most as many bytes as an ID.
+/// A bus name that isn't unique.
 fn is_bus_name(text: &str) -> bool
     ensures { result ≡ patterns.is_bus_name text.now }
 {
-    text.len() <= MOST_NAME_BYTES && element_count(text) >= 2 && are_elements(text)
+    text.len() <= MOST_BUS_NAME_BYTES && element_count(text) >= 2 && are_elements(text)
 }
 
-/// Whether a text is a pattern of bus names, after the D-Bus specification, "Bus names": a bus name that isn't unique
-/// (two or more elements of letters, digits, `_` and `-`, none of which begins with a digit, and at most as many bytes as an
-/// ID has), or one or more such elements followed by `.*`.
+/// Whether a text is a pattern of bus names, after the D-Bus specification, "Bus names": a bus name
+/// that isn't unique (two or more elements of letters, digits, `_` and `-`, none of which begins
+/// with a digit, and at most 255 bytes), or one or more such elements followed by `.*`.
 #[tactic(auto, unfolding(crate::specs::Patterns::is_pattern))]
 pub fn is_pattern(text: &str) -> bool
     ensures { result ≡ patterns.is_pattern text.now }

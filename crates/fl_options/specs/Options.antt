@@ -1,5 +1,6 @@
--- The options that change permissions, after flatpak-override(1), as `NAME=REST`. An option stands for a key file of two lines, a
--- group and a pair, and mentions what an override of these lines mentions.
+-- The options that change permissions, after flatpak-override(1), as `NAME=REST`. An option stands
+-- for a key file of two lines, a group and a pair, and mentions what an override of these lines
+-- mentions.
 use Rattle.std.specs.Prelude.{◌≡◌, ℕ, Bool, true, false, not, ◌&&◌, ◌||◌, ◌==◌, List, [], ◌∷◌, ◌++◌, length, codes, Option, Some, None, option_and_then, Result, Ok, Err, if◌then◌else◌}
 use Rattle.std.specs.List.{list_any, flat_map}
 use Rattle.std.specs.Option.{option_or, option_map_or, is_some}
@@ -32,7 +33,8 @@ is_lead b = is_blank b || b == 33
 
 -- the name of a permission
 unfoldable pub is_given : List ℕ → Bool
-is_given text = not (length text == 0) && (not (list_any is_barred text) && not (begins_so is_lead text))
+is_given text =
+    not (length text == 0) && (not (list_any is_barred text) && not (begins_so is_lead text))
 
 -- the text of a variable has no control character, and begins with neither a space nor a tab
 abbrev pub is_text : List ℕ → Bool
@@ -70,28 +72,35 @@ denied_list name =
 -- the group of the bus whose policy it changes
 abbrev pub bus_group : List ℕ → Option (List ℕ)
 bus_group name =
-    if is_among (codes "--talk-name" ∷ codes "--own-name" ∷ codes "--no-talk-name" ∷ []) name then Some (codes "Session Bus Policy")
-    else (if is_among (codes "--system-talk-name" ∷ codes "--system-own-name" ∷ codes "--system-no-talk-name" ∷ []) name then Some (codes "System Bus Policy") else None)
+    if is_among (codes "--talk-name" ∷ codes "--own-name" ∷ codes "--no-talk-name" ∷ []) name
+    then Some (codes "Session Bus Policy")
+    else (if is_among (codes "--system-talk-name" ∷ codes "--system-own-name"
+    ∷ codes "--system-no-talk-name" ∷ []) name then Some (codes "System Bus Policy") else None)
 
 -- the level that it gives
 abbrev pub bus_level : List ℕ → Value
 bus_level name =
     if is_among (codes "--talk-name" ∷ codes "--system-talk-name" ∷ []) name then values.Talk
-    else (if is_among (codes "--own-name" ∷ codes "--system-own-name" ∷ []) name then values.Own else values.NoBus)
+    else (if is_among (codes "--own-name" ∷ codes "--system-own-name" ∷ []) name then values.Own
+    else values.NoBus)
 
 -- ---- the two lines
 
 -- in a list, after `=` or `=!`
 abbrev pub list_lines : Option PermList → List ℕ → List ℕ → Option (List ℕ)
 list_lines None mark name = None
-list_lines (Some list) mark name = if is_given name then Some (codes "[Context]\n" ++ (key_of list ++ (mark ++ name))) else None
+list_lines (Some list) mark name =
+    if is_given name then Some (codes "[Context]\n" ++ (key_of list ++ (mark ++ name))) else None
 
 abbrev pub bus_lines : Option (List ℕ) → Value → List ℕ → Option (List ℕ)
 bus_lines None level pattern = None
-bus_lines (Some group) level pattern = if is_pattern pattern then Some (codes "[" ++ (group ++ (codes "]\n" ++ (pattern ++ (codes "=" ++ word_of level))))) else None
+bus_lines (Some group) level pattern = if is_pattern pattern
+    then Some (codes "[" ++ (group ++ (codes "]\n" ++ (pattern ++ (codes "=" ++ word_of level)))))
+    else None
 
 abbrev pub variable_lines : List ℕ → List ℕ → Option (List ℕ)
-variable_lines name text = if bytes_eq name (codes "--env") && is_variable text then Some (codes "[Environment]\n" ++ text) else None
+variable_lines name text = if bytes_eq name (codes "--env") && is_variable text
+    then Some (codes "[Environment]\n" ++ text) else None
 
 unfoldable pub lines_with : List ℕ → List ℕ → Option (List ℕ)
 lines_with name text =
@@ -136,7 +145,8 @@ layer_of words = flat_map option_layer words
 -- ---- the command of a launch
 
 abbrev pub command_in : List ℕ × List ℕ → Option (List ℕ)
-command_in parts = if bytes_eq parts.0 (codes "--command") && is_given parts.1 then Some parts.1 else None
+command_in parts =
+    if bytes_eq parts.0 (codes "--command") && is_given parts.1 then Some parts.1 else None
 
 -- what `--command=X` names, of a text
 unfoldable pub command_option : List ℕ → Option (List ℕ)

@@ -13,9 +13,10 @@ use std::alloc::{AllocError, Global};
 
 /// What a word mentions as an option: one permission, or nothing where it is no option.
 ///
-/// After `--share=`, `--unshare=`, `--socket=`, `--nosocket=`, `--device=`, `--nodevice=`, `--allow=`, `--disallow=`,
-/// `--filesystem=`, `--nofilesystem=` and `--persist=` stands the name of a permission, after `--env=` a variable and its
-/// text, and after `--talk-name=`, `--own-name=`, `--no-talk-name=`, `--system-talk-name=`, `--system-own-name=` and
+/// After `--share=`, `--unshare=`, `--socket=`, `--nosocket=`, `--device=`, `--nodevice=`,
+/// `--allow=`, `--disallow=`, `--filesystem=`, `--nofilesystem=` and `--persist=` stands the name
+/// of a permission, after `--env=` a variable and its text, and after `--talk-name=`,
+/// `--own-name=`, `--no-talk-name=`, `--system-talk-name=`, `--system-own-name=` and
 /// `--system-no-talk-name=` a pattern of bus names.
 #[tactic(auto, unfolding(crate::specs::Options::option_layer))]
 pub fn option_layer(alloc: Global, word: &str) -> Result<Layer, AllocError>

@@ -48,8 +48,8 @@ fn has_control(text: &str) -> bool
     text.bytes().any(is_control)
 }
 
-/// Whether a text names a permission: it isn't empty, has no `;`, `=` or control character, and begins with none of `!`,
-/// space and tab.
+/// Whether a text names a permission: it isn't empty, has no `;`, `=` or control character, and
+/// begins with none of `!`, space and tab.
 #[tactic(auto, unfolding(crate::specs::Options::is_given))]
 pub(crate) fn is_given(text: &str) -> bool
     ensures { result ≡ spec.is_given text.now }

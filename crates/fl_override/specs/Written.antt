@@ -48,8 +48,10 @@ abbrev pub list_pair : List Mention → PermList → List Pair
 list_pair mentions list = pair_if (key_of list) (list_text list mentions)
 
 abbrev pub context_lists : List PermList
-context_lists = lists.Shared ∷ lists.Sockets ∷ lists.Devices ∷ lists.Features ∷ lists.Filesystems ∷ lists.Persistent
-    ∷ lists.UnknownShared ∷ lists.UnknownSockets ∷ lists.UnknownDevices ∷ lists.UnknownFeatures ∷ lists.UnknownSessionBus ∷ lists.UnknownSystemBus ∷ []
+context_lists = lists.Shared ∷ lists.Sockets ∷ lists.Devices ∷ lists.Features ∷ lists.Filesystems
+    ∷ lists.Persistent
+    ∷ lists.UnknownShared ∷ lists.UnknownSockets ∷ lists.UnknownDevices ∷ lists.UnknownFeatures
+    ∷ lists.UnknownSessionBus ∷ lists.UnknownSystemBus ∷ []
 
 unfoldable pub context_pairs : List Mention → List Pair
 context_pairs mentions = flat_map (list_pair mentions) context_lists
@@ -72,8 +74,10 @@ group_if name pairs = if length pairs == 0 then [] else record { name = name; pa
 
 unfoldable pub file_with : List Mention → List Group
 file_with mentions =
-    group_if (codes "Context") (context_pairs mentions) ++ (group_if (codes "Environment") (named_pairs lists.Environment mentions)
-    ++ (group_if (codes "Session Bus Policy") (named_pairs lists.SessionBus mentions) ++ group_if (codes "System Bus Policy") (named_pairs lists.SystemBus mentions)))
+    group_if (codes "Context") (context_pairs mentions)
+    ++ (group_if (codes "Environment") (named_pairs lists.Environment mentions)
+    ++ (group_if (codes "Session Bus Policy") (named_pairs lists.SessionBus mentions)
+    ++ group_if (codes "System Bus Policy") (named_pairs lists.SystemBus mentions)))
 
 -- ---- which mentions can be written
 

@@ -1,5 +1,5 @@
-//! Laws of the words that the contracts use, for crates that build on them. Each is the contract of a function that
-//! does nothing.
+//! Laws of the words that the contracts use, for crates that build on them. Each is the contract of
+//! a function that does nothing.
 
 ghost use Rattle.std.specs.Prelude.{List, IsTrue};
 ghost use Rattle.fp_keyfile.specs.declared.group.Group.{Group};

@@ -15,7 +15,8 @@ use fp_keyfile::KeyFile;
 use std::alloc::{AllocError, Global};
 use std::marker::Model;
 
-/// What a user changes of the permissions of one application, or of all: one mention for each permission, ascending.
+/// What a user changes of the permissions of one application, or of all: one mention for each
+/// permission, ascending.
 ///
 /// Contracts see the list of the mentions.
 #[derive(Drop)]
@@ -58,8 +59,8 @@ impl OverrideSet {
         })
     }
 
-    /// Changes the set by options: for each permission, the last mention of the old set and the options joined. Want
-    /// of memory changes nothing.
+    /// Changes the set by options: for each permission, the last mention of the old set and the
+    /// options joined. Want of memory changes nothing.
     pub fn change(&mut self, alloc: Global, options: &Layer) -> Result<(), AllocError>
         requires { AllCanWrite options.now }
         ensures ok { OnOk result ((p : Permission) → value_in self.new p ≡ last_mention
@@ -71,9 +72,10 @@ impl OverrideSet {
         Ok(())
     }
 
-    /// The key file of the set: the lists in their order, names ascending by their bytes, each entry followed by `;`,
-    /// a permission that is off with a leading `!`, and a folder that may be read and written without an ending. What
-    /// was unknown stands in the lists `unknown-LIST`. It reads back as the same set.
+    /// The key file of the set: the lists in their order, names ascending by their bytes, each
+    /// entry followed by `;`, a permission that is off with a leading `!`, and a folder that may be
+    /// read and written without an ending. What was unknown stands in the lists `unknown-LIST`. It
+    /// reads back as the same set.
     pub fn to_keyfile(&self, alloc: Global) -> Result<KeyFile, AllocError>
         ensures file { IfOk result (λ file. file ≡ file_with self.now) }
         ensures reads_back { (p : Permission) → last_mention

@@ -166,7 +166,8 @@ pub fn push_group(
     groups.push(Group { name, pairs })
 }
 
-/// The groups of a key file with these mentions, as Flatpak writes an override. It errs only where memory runs out.
+/// The groups of a key file with these mentions, as Flatpak writes an override. It errs only where
+/// memory runs out.
 #[tactic(auto, unfolding(crate::specs::Written::file_with))]
 pub fn groups_of(alloc: Global, mentions: &[Mention]) -> Result<Items<Group>, AllocError>
     ensures { IfOk result (λ groups. groups ≡ written.file_with mentions.now) }

@@ -17,7 +17,8 @@ use Rattle.fl_plan.specs.declared.offer.Offer.{Offer}
 -- each may be done on the state that those before it leave, whatever the times of their commits are
 abbrev pub AreAllowed : State → List Op → Type 0
 AreAllowed state [] = Unit {0}
-AreAllowed state (op ∷ ops) = Allows state op × ((timestamp : ℕ) → AreAllowed (after_op state timestamp op) ops)
+AreAllowed state (op ∷ ops) =
+    Allows state op × ((timestamp : ℕ) → AreAllowed (after_op state timestamp op) ops)
 
 -- the offer of a ref by a remote
 pub record IsTaken (remote : RemoteRow) (name : Ref) (offer : Offer) : Type 0 where

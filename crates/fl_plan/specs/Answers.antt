@@ -19,15 +19,19 @@ abbrev pub mapped : {A B : Type 0} → (A → B) → Result A Refusal → Result
 mapped f (Ok a) = Ok (f a)
 mapped f (Err refusal) = Err refusal
 
--- Remotes alone are asked, and stay as they are. Where they tell what they hold, the answer is by that. A fault is theirs.
-pub record Asks {A : Type 0} (answer : Holdings → A) (result : Result A PullEnd) (old new : Option Holdings) (before now : ℕ) : Type 0 where
+-- Remotes alone are asked, and stay as they are. Where they tell what they hold, the answer is by
+-- that. A fault is theirs.
+pub record Asks {A : Type 0} (answer : Holdings → A) (result : Result A PullEnd)
+    (old new : Option Holdings) (before now : ℕ) : Type 0 where
   pub same : new ≡ old
   pub tells : (held : Holdings) → old ≡ Some held → Tells (λ a. a ≡ answer held) result
   pub host : IsErrOf result ends.HostFault → ⊥
   pub remote : IsRemotes (IsErrOf result ends.RemoteFault) before now
 
--- Nothing changes outside, and each fault is that outside's own. Where the remotes tell what they hold and the host what objects
--- its store has, the answer, or the refusal, is by those.
-pub record Plans {A : Type 0} (answer : Holdings → Have → Result A Refusal) (result : Result A PullEnd) (u w : Outside) : Type 0 where
+-- Nothing changes outside, and each fault is that outside's own. Where the remotes tell what they
+-- hold and the host what objects its store has, the answer, or the refusal, is by those.
+pub record Plans {A : Type 0} (answer : Holdings → Have → Result A Refusal)
+    (result : Result A PullEnd) (u w : Outside) : Type 0 where
   pub looks : Looks result u w
-  pub tells : (held : Holdings) (stored : Have) → u.holdings ≡ Some held → Stores repo u.told stored → Answers result (answer held stored)
+  pub tells : (held : Holdings) (stored : Have) → u.holdings ≡ Some held
+      → Stores repo u.told stored → Answers result (answer held stored)

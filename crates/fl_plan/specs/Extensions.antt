@@ -32,24 +32,31 @@ abbrev pub if_any : Holdings → Have → Option Offer → Result (Option Offer)
 if_any held stored None = Ok None
 if_any held stored (Some offer) = mapped (λ c. Some c.offer) (chosen held stored offer)
 
--- what is installed for a point, besides what is to come: the first of its candidates that the remote offers, where the point is
--- automatic and no candidate is installed or to come
-unfoldable pub extension_at : Holdings → Have → State → RemoteRow → List Offer → Point → Result (Option Offer) Refusal
+-- what is installed for a point, besides what is to come: the first of its candidates that the
+-- remote offers, where the point is automatic and no candidate is installed or to come
+unfoldable pub extension_at : Holdings → Have → State → RemoteRow → List Offer → Point
+    → Result (Option Offer) Refusal
 extension_at held stored state remote plan point =
-    if is_done state plan point then Ok None else if_any held stored (first_of (offer_of held remote) point.candidates)
+    if is_done state plan point then Ok None
+    else if_any held stored (first_of (offer_of held remote) point.candidates)
 
 -- what is to come with the extensions for points, in their order
-abbrev pub with_points : Holdings → Have → State → RemoteRow → List Point → List Offer → Result (List Offer) Refusal
+abbrev pub with_points : Holdings → Have → State → RemoteRow → List Point → List Offer
+    → Result (List Offer) Refusal
 with_points held stored state remote [] plan = Ok plan
 with_points held stored state remote (point ∷ points) plan =
-    and_then (extension_at held stored state remote plan point) (λ more. with_points held stored state remote points (plan ++ option_to_list more))
+    and_then (extension_at held stored state remote plan point)
+    (λ more. with_points held stored state remote points (plan ++ option_to_list more))
 
 -- with the extensions of an application or a runtime, from the remote that it comes from
-unfoldable pub with_extensions : Holdings → Have → State → Chosen → List Offer → Result (List Offer) Refusal
+unfoldable pub with_extensions : Holdings → Have → State → Chosen → List Offer
+    → Result (List Offer) Refusal
 with_extensions held stored state owner plan =
-    with_points held stored state owner.offer.remote (points_in owner.offer.name owner.metadata) plan
+    with_points held stored state owner.offer.remote
+    (points_in owner.offer.name owner.metadata) plan
 
 -- and those of a runtime that is installed
-abbrev pub with_runtime : Holdings → Have → State → Option Chosen → List Offer → Result (List Offer) Refusal
+abbrev pub with_runtime : Holdings → Have → State → Option Chosen → List Offer
+    → Result (List Offer) Refusal
 with_runtime held stored state None plan = Ok plan
 with_runtime held stored state (Some runtime) plan = with_extensions held stored state runtime plan

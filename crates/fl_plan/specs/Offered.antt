@@ -1,4 +1,5 @@
--- A remote that offers a runtime, a store that has its objects, and states without it and with it at another commit.
+-- A remote that offers a runtime, a store that has its objects, and states without it and with it
+-- at another commit.
 use Rattle.std.specs.Prelude.{ℕ, List, [], ◌∷◌, ◌++◌, None, codes, if◌then◌else◌}
 use Rattle.fp_host.specs.Paths.{path_eq}
 use Rattle.fp_host.specs.Remote.{Holdings, nothing, contents}
@@ -15,13 +16,15 @@ stored = store repo deployed_disk
 -- `config` and the ref's file
 abbrev pub holdings : Holdings
 holdings url path =
-    if path_eq path config_path then contents 420 (codes "[core]\nrepo_version=1\nmode=bare-user-only\n")
+    if path_eq path config_path
+    then contents 420 (codes "[core]\nrepo_version=1\nmode=bare-user-only\n")
     else if path_eq path (ref_path platform) then contents 420 (commit_text ++ 10 ∷ [])
     else nothing
 
 -- deployed at another commit of this time
 abbrev pub since : ℕ → RefRow
-since time = record { name = platform; origin = codes "hub"; commit = []; timestamp = time; previous = None }
+since time =
+    record { name = platform; origin = codes "hub"; commit = []; timestamp = time; previous = None }
 
 abbrev pub with_rows : List RefRow → State
 with_rows rows = record deployed_state { refs = rows }

@@ -49,7 +49,8 @@ abbrev pub is_in_turn : List ℕ → Bool → RemoteRow → Bool
 is_in_turn own others row = if others then not (is_remote own row) else is_remote own row
 
 abbrev pub offer_if : Holdings → List ℕ → Bool → Ref → RemoteRow → Option Offer
-offer_if held own others name row = if is_in_turn own others row then offer_of held row name else None
+offer_if held own others name row =
+    if is_in_turn own others row then offer_of held row name else None
 
 abbrev pub first_offer : Holdings → List RemoteRow → Ref → Option Offer
 first_offer held rows name = first_of (λ row. offer_of held row name) rows
@@ -65,7 +66,8 @@ chosen_with offer head = record { offer = offer; metadata = head.metadata }
 
 -- an offer of what isn't deployed, with its head checked
 unfoldable pub chosen : Holdings → Have → Offer → Result Chosen Refusal
-chosen held stored offer = mapped (chosen_with offer) (head_of (have_at held stored offer.remote) offer.name offer.commit None)
+chosen held stored offer = mapped (chosen_with offer)
+    (head_of (have_at held stored offer.remote) offer.name offer.commit None)
 
 -- how a question ends where an offer does: a refusal is no offer
 abbrev pub declined : PullEnd → Result (Option Offer) PullEnd

@@ -28,7 +28,8 @@ use Rattle.fl_plan.specs.declared.offer.Chosen.{Chosen}
 
 -- a ref that is there moves, another comes
 abbrev pub op_of : State → Offer → Op
-op_of state offer = if has_ref state offer.name then Update offer.name offer.remote.name offer.commit else install_of offer
+op_of state offer = if has_ref state offer.name
+    then Update offer.name offer.remote.name offer.commit else install_of offer
 
 -- how many refs are deployed when all of a plan is done
 abbrev pub new_ones : State → List Offer → ℕ
@@ -38,7 +39,8 @@ abbrev pub number_after : State → List Offer → ℕ
 number_after state plan = length state.refs + new_ones state plan
 
 abbrev pub within : State → List Offer → Result (List Op) Refusal
-within state plan = if leb (number_after state plan) MOST_REFS then Ok (map (op_of state) plan) else Err (refusals.Limit whats.Refs (MOST_REFS + 1))
+within state plan = if leb (number_after state plan) MOST_REFS then Ok (map (op_of state) plan)
+    else Err (refusals.Limit whats.Refs (MOST_REFS + 1))
 
 -- ---- what is to come
 
@@ -47,16 +49,21 @@ abbrev pub begun : Option Chosen → Chosen → List Offer
 begun runtime target = option_to_list (option_map (λ c. c.offer) runtime) ++ target.offer ∷ []
 
 -- then the extensions of the runtime, and those of the target
-unfoldable pub extended : Holdings → Have → State → Chosen → Option Chosen → Result (List Offer) Refusal
-extended held stored state target runtime = and_then (with_runtime held stored state runtime (begun runtime target)) (with_extensions held stored state target)
+unfoldable pub extended : Holdings → Have → State → Chosen → Option Chosen
+    → Result (List Offer) Refusal
+extended held stored state target runtime = and_then
+    (with_runtime held stored state runtime (begun runtime target))
+    (with_extensions held stored state target)
 
 abbrev pub plan_with : Holdings → Have → State → Chosen → Option Chosen → Result (List Op) Refusal
-plan_with held stored state target runtime = and_then (extended held stored state target runtime) (within state)
+plan_with held stored state target runtime =
+    and_then (extended held stored state target runtime) (within state)
 
 -- the operations of a target that is checked
 unfoldable pub planned : Holdings → Have → State → Chosen → Result (List Op) Refusal
 planned held stored state target =
-    and_then (if_named held stored state target.offer.remote.name (runtime_named target.offer.name target.metadata)) (plan_with held stored state target)
+    and_then (if_named held stored state target.offer.remote.name
+    (runtime_named target.offer.name target.metadata)) (plan_with held stored state target)
 
 -- ---- the target
 
@@ -74,15 +81,20 @@ time_of row = option_map (λ r. r.timestamp) row
 
 -- an offer of the target, with its head checked
 unfoldable pub target_of : Holdings → Have → State → Offer → Result Chosen Refusal
-target_of held stored state offer = mapped (chosen_with offer) (head_of (have_at held stored offer.remote) offer.name offer.commit (time_of (deployed state offer.name)))
+target_of held stored state offer = mapped (chosen_with offer)
+    (head_of (have_at held stored offer.remote) offer.name offer.commit
+    (time_of (deployed state offer.name)))
 
 -- the operations of a target whose remote offers this: none where that is deployed
 unfoldable pub planned_at : Holdings → Have → State → Offer → Result (List Op) Refusal
 planned_at held stored state offer =
-    if is_at offer.commit (deployed state offer.name) then Ok [] else and_then (target_of held stored state offer) (planned held stored state)
+    if is_at offer.commit (deployed state offer.name) then Ok []
+    else and_then (target_of held stored state offer) (planned held stored state)
 
--- The operations of a target from a remote: its runtime's install, where its runtime isn't installed; its own install or update; and
--- the installs of that runtime's extensions and of its own. `held` is what the remotes hold, `stored` are the store's objects.
+-- The operations of a target from a remote: its runtime's install, where its runtime isn't
+-- installed; its own install or update; and the installs of that runtime's extensions and of its
+-- own. `held` is what the remotes hold, `stored` are the store's objects.
 unfoldable pub plan_of : Holdings → Have → State → RemoteRow → Ref → Result (List Op) Refusal
 plan_of held stored state remote name =
-    and_then (offered held remote name) (λ commit. planned_at held stored state (offer_with remote name commit))
+    and_then (offered held remote name)
+    (λ commit. planned_at held stored state (offer_with remote name commit))

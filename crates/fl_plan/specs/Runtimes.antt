@@ -19,11 +19,12 @@ abbrev pub if_offered : Holdings → Have → Ref → Option Offer → Result (O
 if_offered held stored runtime None = Err (refusals.RuntimeMissing runtime)
 if_offered held stored runtime (Some offer) = mapped (λ c. Some c) (chosen held stored offer)
 
--- Nothing where the runtime is installed; else what is offered of it by the remote of this name, or else by the first other one that
--- offers it.
+-- Nothing where the runtime is installed; else what is offered of it by the remote of this name, or
+-- else by the first other one that offers it.
 unfoldable pub runtime_for : Holdings → Have → State → List ℕ → Ref → Result (Option Chosen) Refusal
 runtime_for held stored state own runtime =
-    if has_ref state runtime then Ok None else if_offered held stored runtime (first_offer held (in_turn own state.remotes) runtime)
+    if has_ref state runtime then Ok None
+    else if_offered held stored runtime (first_offer held (in_turn own state.remotes) runtime)
 
 -- a runtime has no runtime of its own
 abbrev pub if_named : Holdings → Have → State → List ℕ → Option Ref → Result (Option Chosen) Refusal
@@ -38,4 +39,5 @@ install_in found = option_map (λ c. install_of c.offer) found
 
 -- the install of a runtime that isn't there, for what comes from the remote of this name
 abbrev pub runtime_install : Holdings → Have → State → List ℕ → Ref → Result (Option Op) Refusal
-runtime_install held stored state own runtime = mapped install_in (runtime_for held stored state own runtime)
+runtime_install held stored state own runtime =
+    mapped install_in (runtime_for held stored state own runtime)

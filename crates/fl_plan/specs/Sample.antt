@@ -1,4 +1,5 @@
--- A small installation: an application, its runtime, its extension, a runtime that is pinned, and one that nothing uses.
+-- A small installation: an application, its runtime, its extension, a runtime that is pinned, and
+-- one that nothing uses.
 use Rattle.std.specs.Prelude.{List, [], ◌∷◌, true, Some, None, codes}
 use Rattle.fp_name.specs.Refs.{Ref, ref_with}
 use Rattle.fp_name.specs.declared.kind.RefKind.TheVariants.{App, Runtime}
@@ -38,11 +39,25 @@ installation = record {
 }
 
 abbrev pub metas : List (Ref × Meta)
-metas = (app, record { kind = kinds.App; runtime = Some platform; command = None; mentions = []; extensions = [] }) ∷ []
+metas = (
+  app,
+  record {
+    kind = kinds.App;
+    runtime = Some platform;
+    command = None;
+    mentions = [];
+    extensions = [];
+  },
+) ∷ []
 
 -- an automatic point with these candidates
 abbrev pub point : List Ref → Point
-point candidates = record { name = codes "org.x.App.Locale"; directory = codes "share/locale"; candidates = candidates; auto = true }
+point candidates = record {
+  name = codes "org.x.App.Locale";
+  directory = codes "share/locale";
+  candidates = candidates;
+  auto = true;
+}
 
 -- one that finds the application's extension, of this ref alone
 abbrev pub points : Ref → List (Ref × List Point)

@@ -13,7 +13,8 @@ use Rattle.dep_states.specs.Shown.{at_name}
 use Rattle.fl_plan.specs.Plans.{deployed, is_at}
 
 -- the remote of this name offers this commit under the ref
-pub record IsOfferedBy (held : Holdings) (remotes : List RemoteRow) (name : Ref) (origin commit : List ℕ) : Type 0 where
+pub record IsOfferedBy (held : Holdings) (remotes : List RemoteRow) (name : Ref)
+    (origin commit : List ℕ) : Type 0 where
   pub remote : RemoteRow
   pub there : at_name name_of remotes origin ≡ Some remote
   pub offers : offered held remote name ≡ Ok commit
@@ -35,9 +36,11 @@ abbrev pub IsAmong : Ref → List Op → Type 0
 IsAmong name [] = ⊥
 IsAmong name (op ∷ ops) = IsOf name op ⊎ IsAmong name ops
 
--- A plan of a ref: what its remote offers is deployed, and there is no operation; or the operations take up what remotes offer, and the ref
--- is among them.
-pub record Settles (held : Holdings) (state : State) (remote : RemoteRow) (name : Ref) (ops : List Op) : Type 0 where
+-- A plan of a ref: what its remote offers is deployed, and there is no operation; or the operations
+-- take up what remotes offer, and the ref is among them.
+pub record Settles (held : Holdings) (state : State) (remote : RemoteRow) (name : Ref)
+    (ops : List Op) : Type 0 where
   pub commit : List ℕ
   pub offers : offered held remote name ≡ Ok commit
-  pub ends : ((is_at commit (deployed state name) ≡ true) × (ops ≡ [])) ⊎ (AllByRecursion (IsOffered held state.remotes) ops × IsAmong name ops)
+  pub ends : ((is_at commit (deployed state name) ≡ true) × (ops ≡ []))
+      ⊎ (AllByRecursion (IsOffered held state.remotes) ops × IsAmong name ops)

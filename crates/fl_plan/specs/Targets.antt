@@ -18,7 +18,8 @@ names_of rows = map (λ row. row.name) rows
 abbrev pub names_in : RefKind → List RefRow → List Ref
 names_in kind rows = filter (is_kind kind) (names_of rows)
 
--- the named one; or the installed runtimes, and then the installed applications, each in the order of the state
+-- the named one; or the installed runtimes, and then the installed applications, each in the order
+-- of the state
 abbrev pub targets_of : State → Option Ref → List Ref
 targets_of state None = names_in Runtime state.refs ++ names_in App state.refs
 targets_of state (Some name) = name ∷ []

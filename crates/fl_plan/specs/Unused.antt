@@ -39,12 +39,14 @@ abbrev pub is_owner : State → List (Ref × Meta) → Ref → Bool
 is_owner state metas name = is_kind App name || is_needed state metas name
 
 abbrev pub is_extension : State → List (Ref × Meta) → List (Ref × List Point) → Ref → Bool
-is_extension state metas points name = list_any (λ owner. is_owner state metas owner.0 && one_finds state name owner.1) points
+is_extension state metas points name =
+    list_any (λ owner. is_owner state metas owner.0 && one_finds state name owner.1) points
 
 abbrev pub is_unused : State → List (Ref × Meta) → List (Ref × List Point) → Ref → Bool
-is_unused state metas points name = is_kind Runtime name && not (is_needed state metas name || is_extension state metas points name)
+is_unused state metas points name =
+    is_kind Runtime name && not (is_needed state metas name || is_extension state metas points name)
 
--- the installed runtimes that aren't kept, in the order of the state, where `metas` has the metadata of the installed applications
--- and `points` has the points of the installed refs
+-- the installed runtimes that aren't kept, in the order of the state, where `metas` has the
+-- metadata of the installed applications and `points` has the points of the installed refs
 abbrev pub unused_of : State → List (Ref × Meta) → List (Ref × List Point) → List Ref
 unused_of state metas points = filter (is_unused state metas points) (names_of state.refs)

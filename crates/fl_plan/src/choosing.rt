@@ -17,8 +17,10 @@ pub(crate) fn choose<H: Host, R: Remotes>(
     offer: Offer,
 ) -> Result<Chosen, PullEnd>
     ensures plans { Plans (λ held stored. chosen held stored offer) result
-        (outside (H.moments host.old) (H.faults host.old) (R.holds remotes.old) (R.faults remotes.old))
-        (outside (H.moments host.new) (H.faults host.new) (R.holds remotes.new) (R.faults remotes.new)) }
+        (outside (H.moments host.old) (H.faults host.old) (R.holds remotes.old)
+        (R.faults remotes.old))
+        (outside (H.moments host.new) (H.faults host.new) (R.holds remotes.new)
+        (R.faults remotes.new)) }
     ensures same { IfOk result (λ chosen. chosen.offer ≡ offer) }
 {
     match read_head(

@@ -64,7 +64,8 @@ fn one_finds(state: &State, points: &Items<Point>, name: &RefName) -> bool
         .any(|point| finds(state, point, name))
 }
 
-/// Whether the points of the ref keep what they find: it is an application, or a runtime that is needed.
+/// Whether the points of the ref keep what they find: it is an application, or a runtime that is
+/// needed.
 fn is_owner(state: &State, metas: &[(RefName, Meta)], name: &RefName) -> bool
     ensures { result ≡ spec.is_owner state.now metas.now name.now }
 {
@@ -96,9 +97,10 @@ fn is_unused(
         && !(is_needed(state, metas, name) || is_extension(state, metas, points, name))
 }
 
-/// The installed runtimes that aren't kept, in the order of the state. `metas` has the metadata of each installed application, and
-/// `points` the extension points of each installed ref. Kept are the runtimes that an application names or a pin matches, and what
-/// a point of an application or of such a runtime finds.
+/// The installed runtimes that aren't kept, in the order of the state. `metas` has the metadata of
+/// each installed application, and `points` the extension points of each installed ref. Kept are
+/// the runtimes that an application names or a pin matches, and what a point of an application or
+/// of such a runtime finds.
 pub fn unused_extended(
     alloc: Global,
     state: &State,

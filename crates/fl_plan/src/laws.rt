@@ -1,5 +1,5 @@
-//! Laws of the words that the contracts use, for crates that build on them, and worked plans. Each is the contract of a function
-//! that does nothing.
+//! Laws of the words that the contracts use, for crates that build on them, and worked plans. Each
+//! is the contract of a function that does nothing.
 
 ghost use Rattle.std.specs.Prelude.{◌≡◌, ◌≤◌, ◌<◌, ◌+◌, ℕ, List, [], ◌∷◌, map, true, false, codes, Option, Some, None, Ok, Err};
 ghost use Rattle.fp_base.specs.declared.what.What.TheVariants as whats;
@@ -33,8 +33,9 @@ ghost use Rattle.fl_plan.specs.Targets.{targets_of};
 ghost use Rattle.fl_plan.specs.Unused.{unused_of};
 ghost use Rattle.fl_plan.specs.Worked.{Heads, IsTarget, Says};
 
-/// What the target's own remote refuses is what the plan refuses, and what its head is refused for, `Older` than what is deployed
-/// among it. That a ref isn't offered is said of the target itself, and never of a runtime or of an extension.
+/// What the target's own remote refuses is what the plan refuses, and what its head is refused for,
+/// `Older` than what is deployed among it. That a ref isn't offered is said of the target itself,
+/// and never of a runtime or of an extension.
 pub fn plans_refuse()
     ensures own { (held : Holdings) (stored : Have) (state : State) (remote : RemoteRow)
         (name : Ref) (refusal : Refusal) → offered held remote name ≡ Err refusal
@@ -69,7 +70,8 @@ pub fn runtimes_come_alone()
         ≡ Ok (op_of state (offer_with remote name commit) ∷ []) }
 {}
 
-/// An application without extensions whose runtime is installed is one operation, where that passes no limit.
+/// An application without extensions whose runtime is installed is one operation, where that passes
+/// no limit.
 pub fn runtime_is_installed()
     ensures planned { (held : Holdings) (stored : Have) (state : State) (remote : RemoteRow)
         (name : Ref) (commit : List ℕ) (head : Head) (runtime : Ref)
@@ -87,9 +89,10 @@ pub fn runtime_is_installed()
         ≡ Err (refusals.Limit whats.Refs (MOST_REFS + 1)) }
 {}
 
-/// An application whose runtime isn't installed: the runtime comes first, from the first remote in turn that offers it, and where
-/// none does it is missing. What its head is refused for is what the plan is refused for: no other remote is tried. The
-/// application's own remote is the first in turn, wherever it stands.
+/// An application whose runtime isn't installed: the runtime comes first, from the first remote in
+/// turn that offers it, and where none does it is missing. What its head is refused for is what the
+/// plan is refused for: no other remote is tried. The application's own remote is the first in
+/// turn, wherever it stands.
 pub fn runtime_comes_along()
     ensures planned { (held : Holdings) (stored : Have) (state : State) (remote : RemoteRow)
         (name : Ref) (commit : List ℕ) (head : Head)
@@ -127,9 +130,10 @@ pub fn runtime_comes_along()
         → first_offer held (first ∷ second ∷ []) runtime ≡ Some (offer_with second runtime d) }
 {}
 
-/// An application with an automatic extension that its remote offers: the extension comes after it. None comes for a point that
-/// is done, and none where no candidate is offered. What the head of the first candidate that is offered is refused for is what the
-/// plan is refused for: no later candidate is tried. The same goes for an extension of a runtime that comes along.
+/// An application with an automatic extension that its remote offers: the extension comes after it.
+/// None comes for a point that is done, and none where no candidate is offered. What the head of
+/// the first candidate that is offered is refused for is what the plan is refused for: no later
+/// candidate is tried. The same goes for an extension of a runtime that comes along.
 pub fn extension_comes_along()
     ensures planned { (held : Holdings) (stored : Have) (state : State) (remote : RemoteRow)
         (name : Ref) (commit : List ℕ) (head : Head)
@@ -202,8 +206,9 @@ pub fn candidates_in_order()
         ≡ first_of (offer_of held remote) more }
 {}
 
-/// A runtime that comes along and its application, each with an extension: the runtime, the application, then the extension of the
-/// runtime from the runtime's remote, and that of the application from its own.
+/// A runtime that comes along and its application, each with an extension: the runtime, the
+/// application, then the extension of the runtime from the runtime's remote, and that of the
+/// application from its own.
 pub fn extensions_come_last()
     ensures { (held : Holdings) (stored : Have) (state : State) (remote : RemoteRow)
         (name : Ref) (commit : List ℕ) (head : Head)
@@ -232,8 +237,8 @@ pub fn extensions_come_last()
         ∷ op_of state (offer_with remote second f) ∷ []) }
 {}
 
-/// Of the small installation: the order of an update; and what is unused, by whose point finds the extension. A runtime that
-/// nothing keeps keeps nothing.
+/// Of the small installation: the order of an update; and what is unused, by whose point finds the
+/// extension. A runtime that nothing keeps keeps nothing.
 pub fn small_installation()
     ensures targets { targets_of sample.installation None
         ≡ sample.locale ∷ sample.unneeded ∷ sample.pinned ∷ sample.platform ∷ sample.app ∷ [] }
@@ -249,7 +254,8 @@ pub fn small_installation()
         ≡ sample.locale ∷ sample.unneeded ∷ [] }
 {}
 
-/// Of the small installation: which points are done, what an offer becomes, and how many refs there are after two.
+/// Of the small installation: which points are done, what an offer becomes, and how many refs there
+/// are after two.
 pub fn small_plans()
     ensures filled { is_done sample.installation []
         (sample.point (sample.missing ∷ sample.locale ∷ [])) ≡ true }
@@ -267,8 +273,9 @@ pub fn small_plans()
         ∷ offer_with sample.lab sample.missing [] ∷ []) ≡ 6 }
 {}
 
-/// Plans over a store that has a commit under its true digest, and a remote that offers it: an install, an update, an update that
-/// would go back in time, and one that has nothing to do. So what the laws above ask of a target can be met.
+/// Plans over a store that has a commit under its true digest, and a remote that offers it: an
+/// install, an update, an update that would go back in time, and one that has nothing to do. So
+/// what the laws above ask of a target can be met.
 pub fn plans_can_be_made()
     ensures installs { plan_of shop.holdings shop.stored (shop.with_rows []) hub platform
         ≡ Ok (Install platform (codes "hub") commit ∷ []) }
@@ -279,8 +286,8 @@ pub fn plans_can_be_made()
     ensures stays { plan_of shop.holdings shop.stored deployed_state hub platform ≡ Ok [] }
 {}
 
-/// A plan settles its ref: what its remote offers is deployed, and there is no operation, or each operation takes up what a remote of
-/// the state offers, and one of them is of the ref.
+/// A plan settles its ref: what its remote offers is deployed, and there is no operation, or each
+/// operation takes up what a remote of the state offers, and one of them is of the ref.
 pub fn plans_settle()
     ensures { (held : Holdings) (stored : Have) (state : State) (remote : RemoteRow)
         (name : Ref) (ops : List Op) → is_ascending (map name_of state.remotes) ≡ true

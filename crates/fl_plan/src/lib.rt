@@ -1,5 +1,5 @@
-//! Which operations an install or an update is: the runtime first, then the ref itself, then the extensions of both; which refs an
-//! update is of; and which runtimes nothing uses.
+//! Which operations an install or an update is: the runtime first, then the ref itself, then the
+//! extensions of both; which refs an update is of; and which runtimes nothing uses.
 #![tactic(auto)]
 
 mod asking;

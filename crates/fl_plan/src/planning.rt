@@ -131,8 +131,10 @@ fn extended<H: Host, R: Remotes>(
         × (bytes_eq (ref_text c.offer.name) (ref_text target.now.offer.name) ≡ false)) }
     ensures plans { Plans (λ held stored. spec.extended held stored
         state.now target.now runtime.now) result
-        (outside (H.moments host.old) (H.faults host.old) (R.holds remotes.old) (R.faults remotes.old))
-        (outside (H.moments host.new) (H.faults host.new) (R.holds remotes.new) (R.faults remotes.new)) }
+        (outside (H.moments host.old) (H.faults host.old) (R.holds remotes.old)
+        (R.faults remotes.old))
+        (outside (H.moments host.new) (H.faults host.new) (R.holds remotes.new)
+        (R.faults remotes.new)) }
     ensures good { IfOk result (IsPlan state.now) }
 {
     let plan = begun(alloc, runtime, target)?;
@@ -156,8 +158,10 @@ fn plan_with<H: Host, R: Remotes>(
         × (bytes_eq (ref_text c.offer.name) (ref_text target.now.offer.name) ≡ false)) }
     ensures plans { Plans (λ held stored. spec.plan_with held stored
         state.now target.now runtime.now) result
-        (outside (H.moments host.old) (H.faults host.old) (R.holds remotes.old) (R.faults remotes.old))
-        (outside (H.moments host.new) (H.faults host.new) (R.holds remotes.new) (R.faults remotes.new)) }
+        (outside (H.moments host.old) (H.faults host.old) (R.holds remotes.old)
+        (R.faults remotes.old))
+        (outside (H.moments host.new) (H.faults host.new) (R.holds remotes.new)
+        (R.faults remotes.new)) }
     ensures allowed { IfOk result (AreAllowed state.now) }
     ensures coming { IfOk result (AllByRecursion IsComing) }
 {
@@ -167,7 +171,8 @@ fn plan_with<H: Host, R: Remotes>(
     }
 }
 
-/// The runtime that is installed along with a target, where its metadata names one and it isn't there.
+/// The runtime that is installed along with a target, where its metadata names one and it isn't
+/// there.
 fn if_named<H: Host, R: Remotes>(
     alloc: Global,
     host: &mut H,
@@ -177,8 +182,10 @@ fn if_named<H: Host, R: Remotes>(
     runtime: Option<RefName>,
 ) -> Result<Option<Chosen>, PullEnd>
     ensures plans { Plans (λ held stored. if_named held stored state.now own.now runtime) result
-        (outside (H.moments host.old) (H.faults host.old) (R.holds remotes.old) (R.faults remotes.old))
-        (outside (H.moments host.new) (H.faults host.new) (R.holds remotes.new) (R.faults remotes.new)) }
+        (outside (H.moments host.old) (H.faults host.old) (R.holds remotes.old)
+        (R.faults remotes.old))
+        (outside (H.moments host.new) (H.faults host.new) (R.holds remotes.new)
+        (R.faults remotes.new)) }
     ensures good { IfOk result (λ found. IfSome found
         (λ c. (Some c.offer.name ≡ runtime) × MayCome state.now c.offer)) }
 {
@@ -198,8 +205,10 @@ fn planned<H: Host, R: Remotes>(
 ) -> Result<Items<Op>, PullEnd>
     requires target { MayCome state.now target.now.offer }
     ensures plans { Plans (λ held stored. spec.planned held stored state.now target.now) result
-        (outside (H.moments host.old) (H.faults host.old) (R.holds remotes.old) (R.faults remotes.old))
-        (outside (H.moments host.new) (H.faults host.new) (R.holds remotes.new) (R.faults remotes.new)) }
+        (outside (H.moments host.old) (H.faults host.old) (R.holds remotes.old)
+        (R.faults remotes.old))
+        (outside (H.moments host.new) (H.faults host.new) (R.holds remotes.new)
+        (R.faults remotes.new)) }
     ensures allowed { IfOk result (AreAllowed state.now) }
     ensures coming { IfOk result (AllByRecursion IsComing) }
 {
@@ -226,8 +235,10 @@ fn target_of<H: Host, R: Remotes>(
     offer: Offer,
 ) -> Result<Chosen, PullEnd>
     ensures plans { Plans (λ held stored. spec.target_of held stored state.now offer) result
-        (outside (H.moments host.old) (H.faults host.old) (R.holds remotes.old) (R.faults remotes.old))
-        (outside (H.moments host.new) (H.faults host.new) (R.holds remotes.new) (R.faults remotes.new)) }
+        (outside (H.moments host.old) (H.faults host.old) (R.holds remotes.old)
+        (R.faults remotes.old))
+        (outside (H.moments host.new) (H.faults host.new) (R.holds remotes.new)
+        (R.faults remotes.new)) }
     ensures same { IfOk result (λ chosen. chosen.offer ≡ offer) }
 {
     let since = time_of(state, &offer.name);
@@ -258,8 +269,10 @@ fn planned_at<H: Host, R: Remotes>(
 ) -> Result<Items<Op>, PullEnd>
     requires { IsOfferOf state.now.remotes offer.name offer }
     ensures plans { Plans (λ held stored. spec.planned_at held stored state.now offer) result
-        (outside (H.moments host.old) (H.faults host.old) (R.holds remotes.old) (R.faults remotes.old))
-        (outside (H.moments host.new) (H.faults host.new) (R.holds remotes.new) (R.faults remotes.new)) }
+        (outside (H.moments host.old) (H.faults host.old) (R.holds remotes.old)
+        (R.faults remotes.old))
+        (outside (H.moments host.new) (H.faults host.new) (R.holds remotes.new)
+        (R.faults remotes.new)) }
     ensures allowed { IfOk result (AreAllowed state.now) }
     ensures coming { IfOk result (AllByRecursion IsComing) }
 {
@@ -272,13 +285,15 @@ fn planned_at<H: Host, R: Remotes>(
     }
 }
 
-/// The operations of an install or an update of the ref from this remote, in their order: the install of its runtime where that
-/// isn't installed; its own install, or its update where it is deployed; and the installs of the extensions of that runtime and of
-/// its own. None exactly where the commit that is offered is deployed. Nothing changes.
+/// The operations of an install or an update of the ref from this remote, in their order: the
+/// install of its runtime where that isn't installed; its own install, or its update where it is
+/// deployed; and the installs of the extensions of that runtime and of its own. None exactly where
+/// the commit that is offered is deployed. Nothing changes.
 ///
-/// `WrongMode` and `NoSuchRef` as `offer` says, of this remote and this ref alone; the refusals of the head; `RuntimeMissing` where
-/// no remote offers the runtime; the refusals of the heads of the runtime and of the extensions, but `Older`; `Limit` where more than
-/// 4,096 refs would be deployed.
+/// `WrongMode` and `NoSuchRef` as `offer` says, of this remote and this ref alone; the refusals of
+/// the head; `RuntimeMissing` where no remote offers the runtime; the refusals of the heads of the
+/// runtime and of the extensions, but `Older`; `Limit` where more than 4,096 refs would be
+/// deployed.
 pub fn ops<H: Host, R: Remotes>(
     alloc: Global,
     host: &mut H,
@@ -290,8 +305,10 @@ pub fn ops<H: Host, R: Remotes>(
     requires { has_name name_of state.now.remotes remote.now.name ≡ true }
     ensures plans { Plans (λ held stored. spec.plan_of held stored
         state.now remote.now name.now) result
-        (outside (H.moments host.old) (H.faults host.old) (R.holds remotes.old) (R.faults remotes.old))
-        (outside (H.moments host.new) (H.faults host.new) (R.holds remotes.new) (R.faults remotes.new)) }
+        (outside (H.moments host.old) (H.faults host.old) (R.holds remotes.old)
+        (R.faults remotes.old))
+        (outside (H.moments host.new) (H.faults host.new) (R.holds remotes.new)
+        (R.faults remotes.new)) }
     ensures allowed { IfOk result (AreAllowed state.now) }
     ensures coming { IfOk result (AllByRecursion IsComing) }
 {

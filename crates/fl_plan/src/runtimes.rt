@@ -35,8 +35,10 @@ fn if_offered<H: Host, R: Remotes>(
     offer: Option<Offer>,
 ) -> Result<Option<Chosen>, PullEnd>
     ensures plans { Plans (λ held stored. spec.if_offered held stored runtime.now offer) result
-        (outside (H.moments host.old) (H.faults host.old) (R.holds remotes.old) (R.faults remotes.old))
-        (outside (H.moments host.new) (H.faults host.new) (R.holds remotes.new) (R.faults remotes.new)) }
+        (outside (H.moments host.old) (H.faults host.old) (R.holds remotes.old)
+        (R.faults remotes.old))
+        (outside (H.moments host.new) (H.faults host.new) (R.holds remotes.new)
+        (R.faults remotes.new)) }
     ensures some { IfOk result (λ found. IsSomeAnd found (λ chosen. Some chosen.offer ≡ offer)) }
 {
     let Some(offer) = offer else {
@@ -48,7 +50,8 @@ fn if_offered<H: Host, R: Remotes>(
     }
 }
 
-/// The runtime that is installed for what comes from the remote of this name; None where it is there.
+/// The runtime that is installed for what comes from the remote of this name; None where it is
+/// there.
 pub(crate) fn find_runtime<H: Host, R: Remotes>(
     alloc: Global,
     host: &mut H,
@@ -59,8 +62,10 @@ pub(crate) fn find_runtime<H: Host, R: Remotes>(
 ) -> Result<Option<Chosen>, PullEnd>
     ensures plans { Plans (λ held stored. spec.runtime_for held stored
         state.now own.now runtime.now) result
-        (outside (H.moments host.old) (H.faults host.old) (R.holds remotes.old) (R.faults remotes.old))
-        (outside (H.moments host.new) (H.faults host.new) (R.holds remotes.new) (R.faults remotes.new)) }
+        (outside (H.moments host.old) (H.faults host.old) (R.holds remotes.old)
+        (R.faults remotes.old))
+        (outside (H.moments host.new) (H.faults host.new) (R.holds remotes.new)
+        (R.faults remotes.new)) }
     ensures installed { IfOk result (λ found. is_some found ≡ not (has_ref state.now runtime.now)) }
     ensures good { IfOk result (λ found. IfSome found
         (λ chosen. (chosen.offer.name ≡ runtime.now) × MayCome state.now chosen.offer)) }
@@ -100,9 +105,10 @@ fn install_in(found: Option<Chosen>) -> Option<Op>
     }
 }
 
-/// The install of a runtime for an application from the remote of this name, its head checked; None exactly where the runtime is
-/// installed. It is looked for at that remote, then at the state's others in their order; a remote that is refused doesn't offer
-/// it. `RuntimeMissing` where none offers it, and the refusals of its head but `Older`. Nothing changes.
+/// The install of a runtime for an application from the remote of this name, its head checked; None
+/// exactly where the runtime is installed. It is looked for at that remote, then at the state's
+/// others in their order; a remote that is refused doesn't offer it. `RuntimeMissing` where none
+/// offers it, and the refusals of its head but `Older`. Nothing changes.
 pub fn resolve_runtime<H: Host, R: Remotes>(
     alloc: Global,
     host: &mut H,
@@ -113,8 +119,10 @@ pub fn resolve_runtime<H: Host, R: Remotes>(
 ) -> Result<Option<Op>, PullEnd>
     ensures plans { Plans (λ held stored. spec.runtime_install held stored
         state.now remote.now runtime.now) result
-        (outside (H.moments host.old) (H.faults host.old) (R.holds remotes.old) (R.faults remotes.old))
-        (outside (H.moments host.new) (H.faults host.new) (R.holds remotes.new) (R.faults remotes.new)) }
+        (outside (H.moments host.old) (H.faults host.old) (R.holds remotes.old)
+        (R.faults remotes.old))
+        (outside (H.moments host.new) (H.faults host.new) (R.holds remotes.new)
+        (R.faults remotes.new)) }
     ensures installed { IfOk result (λ op. is_some op ≡ not (has_ref state.now runtime.now)) }
 {
     match find_runtime(alloc, host, remotes, state, remote, runtime) {

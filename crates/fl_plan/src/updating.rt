@@ -31,8 +31,8 @@ fn push_kind(out: &mut Items<RefName>, rows: &[RefRow], kind: RefKind) -> Result
     Ok(())
 }
 
-/// The refs that an update is of: the named one, or else the installed runtimes and then the installed applications, each in the
-/// order of the state.
+/// The refs that an update is of: the named one, or else the installed runtimes and then the
+/// installed applications, each in the order of the state.
 pub fn targets(
     alloc: Global,
     state: &State,

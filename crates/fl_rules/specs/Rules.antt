@@ -1,5 +1,5 @@
--- The rules of a filter as words, after xdg-dbus-proxy(1): `--see=B`, `--talk=B`, `--own=B`, `--call=B=RULE` and `--broadcast=B=RULE`.
--- B is a pattern of bus names.
+-- The rules of a filter as words, after xdg-dbus-proxy(1): `--see=B`, `--talk=B`, `--own=B`,
+-- `--call=B=RULE` and `--broadcast=B=RULE`. B is a pattern of bus names.
 use Rattle.std.specs.Prelude.{ℕ, ◌-◌, Bool, ◌||◌, ◌==◌, nat_eq, List, [], ◌∷◌, length, take, codes, Option, Some, None, option_map, option_and_then, option_to_list, flat_map, if◌then◌else◌}
 use Rattle.std.specs.List.{ends_with}
 use Rattle.std.specs.Option.{is_some}
@@ -35,12 +35,15 @@ split_last c (b ∷ bs) = before_last c b bs (split_last c bs)
 abbrev pub members_with : List ℕ × List ℕ → Option Members
 members_with parts =
     if is_interface parts.0
-    then (if bytes_eq parts.1 (codes "*") then Some (Of parts.0) else (if is_member parts.1 then Some (One parts.0 parts.1) else None))
+    then (if bytes_eq parts.1 (codes "*") then Some (Of parts.0)
+    else (if is_member parts.1 then Some (One parts.0 parts.1) else None))
     else None
 
 -- `*`, `INTERFACE.*` or `INTERFACE.MEMBER`
 abbrev pub members_read : List ℕ → Option Members
-members_read text = if bytes_eq text (codes "*") then Some All else option_and_then members_with (split_last 46 text)
+members_read text =
+    if bytes_eq text (codes "*") then Some All
+    else option_and_then members_with (split_last 46 text)
 
 abbrev pub below_read : List ℕ → Option Objects
 below_read path = if length path == 0 || is_path path then Some (Below path) else None
@@ -52,7 +55,8 @@ objects_read text =
     else (if is_path text then Some (At text) else None)
 
 abbrev pub on_objects : Option Members → List ℕ → Option Rule
-on_objects members path = option_map (λ objects. record { members = members; objects = Some objects }) (objects_read path)
+on_objects members path =
+    option_map (λ objects. record { members = members; objects = Some objects }) (objects_read path)
 
 -- before the `@` stand members or nothing, and after it objects
 abbrev pub parts_read : List ℕ × List ℕ → Option Rule
@@ -61,7 +65,8 @@ parts_read parts =
     else option_and_then (λ members. on_objects (Some members) parts.1) (members_read parts.0)
 
 abbrev pub alone_read : List ℕ → Option Rule
-alone_read text = option_map (λ members. record { members = Some members; objects = None }) (members_read text)
+alone_read text =
+    option_map (λ members. record { members = Some members; objects = None }) (members_read text)
 
 abbrev pub rule_at : List ℕ → Option (List ℕ × List ℕ) → Option Rule
 rule_at text None = alone_read text
@@ -87,11 +92,13 @@ kind_named name =
     else (if bytes_eq name (codes "--broadcast") then Some kind.Broadcast else None)
 
 abbrev pub on_names : Grant → List ℕ → Option PolicyRule
-on_names given pattern = if is_pattern pattern then Some (record { pattern = pattern; grant = given }) else None
+on_names given pattern =
+    if is_pattern pattern then Some (record { pattern = pattern; grant = given }) else None
 
 -- a pattern, and after `=` a rule
 abbrev pub message_rule : RuleKind → List ℕ × List ℕ → Option PolicyRule
-message_rule kind parts = option_and_then (λ rule. on_names (grant.Rule kind rule) parts.0) (rule_read parts.1)
+message_rule kind parts =
+    option_and_then (λ rule. on_names (grant.Rule kind rule) parts.0) (rule_read parts.1)
 
 abbrev pub rule_with : Option Level → Option RuleKind → List ℕ → Option PolicyRule
 rule_with (Some l) kind text = on_names (grant.Level l) text

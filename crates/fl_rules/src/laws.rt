@@ -1,4 +1,5 @@
-//! What holds of all rules, by their definitions. Each is the contract of a function that does nothing.
+//! What holds of all rules, by their definitions. Each is the contract of a function that does
+//! nothing.
 
 ghost use Rattle.std.specs.Prelude.{◌≡◌, ◌↔◌, ℕ, List, ◌++◌, Some, true, codes, nat_eq};
 ghost use Rattle.std.specs.List.{starts_with};

@@ -10,11 +10,12 @@ use bus_policy::{Level, Policy, PolicyError, RuleKind};
 use fp_base::Text;
 use std::alloc::{AllocError, Global};
 
-/// Whether a word is a rule of a filter: `--see=B`, `--talk=B`, `--own=B`, `--call=B=RULE` or `--broadcast=B=RULE`, after
-/// xdg-dbus-proxy(1).
+/// Whether a word is a rule of a filter: `--see=B`, `--talk=B`, `--own=B`, `--call=B=RULE` or
+/// `--broadcast=B=RULE`, after xdg-dbus-proxy(1).
 ///
-/// B is a bus name that isn't unique, or elements of one and `.*`. It ends before the first `=`. RULE is `*`,
-/// `INTERFACE.*` or `INTERFACE.MEMBER`, or `@` and `PATH`, `PATH/*` or `/*`, or the one and then the other.
+/// B is a bus name that isn't unique, or elements of one and `.*`. It ends before the first `=`.
+/// RULE is `*`, `INTERFACE.*` or `INTERFACE.MEMBER`, or `@` and `PATH`, `PATH/*` or `/*`, or the
+/// one and then the other.
 pub fn is_rule(alloc: Global, word: &str) -> Result<bool, AllocError>
     ensures { IfOk result (λ b. b ≡ spec.is_rule word.now) }
 {

@@ -14,20 +14,26 @@ use Rattle.fl_sandbox.specs.Parts.{parts_in}
 
 -- what the five layers grant: the last mention of each permission decides
 abbrev pub grants_with : State → Ref → List (List ℕ) → LaunchParts → List Mention
-grants_with state name options parts = granted_by (all_mentions state name.id parts.app.meta parts.runtime.meta (layer_of options))
+grants_with state name options parts =
+    granted_by (all_mentions state name.id parts.app.meta parts.runtime.meta (layer_of options))
 
 abbrev pub text_with : State → Ref → List (List ℕ) → LaunchParts → List Mention → List ℕ
-text_with state name options parts grants = launch_text state name parts.app.meta parts.app.points parts.runtime.points (last_command options) grants
+text_with state name options parts grants = launch_text state name parts.app.meta parts.app.points
+    parts.runtime.points (last_command options) grants
 
 unfoldable pub launch_of : State → Ref → List (List ℕ) → LaunchParts → LaunchText
 launch_of state name options parts =
-    record { text = text_with state name options parts (grants_with state name options parts); grants = grants_with state name options parts }
+    record {
+      text = text_with state name options parts (grants_with state name options parts);
+      grants = grants_with state name options parts;
+    }
 
-abbrev pub with_parts : State → Ref → List (List ℕ) → Result LaunchParts Refusal → Result LaunchText Refusal
+abbrev pub with_parts : State → Ref → List (List ℕ) → Result LaunchParts Refusal
+    → Result LaunchText Refusal
 with_parts state name options (Ok parts) = Ok (launch_of state name options parts)
 with_parts state name options (Err refusal) = Err refusal
 
--- The launch, or the first refusal: the application isn't installed, or its metadata doesn't read; its runtime isn't there, or that one's
--- metadata doesn't read.
+-- The launch, or the first refusal: the application isn't installed, or its metadata doesn't read;
+-- its runtime isn't there, or that one's metadata doesn't read.
 unfoldable pub launch_in : Have → State → Ref → List (List ℕ) → Result LaunchText Refusal
 launch_in have state name options = with_parts state name options (parts_in have state name)

@@ -10,8 +10,10 @@ use Rattle.fl_sandbox.specs.Launching.{launch_in}
 
 -- the deployed commits of the state have the same files `metadata`
 abbrev pub SayAlike : Have → Have → State → Type 0
-SayAlike i j state = (name : Ref) (row : RefRow) → row_of state name ≡ Some row → metadata_file j row.commit ≡ metadata_file i row.commit
+SayAlike i j state = (name : Ref) (row : RefRow) → row_of state name ≡ Some row
+    → metadata_file j row.commit ≡ metadata_file i row.commit
 
 -- a launch depends on these files, and on the state, alone
 abbrev pub LaunchIsLocal : Type 0
-LaunchIsLocal = (i j : Have) (state : State) (name : Ref) (options : List (List ℕ)) → SayAlike i j state → launch_in j state name options ≡ launch_in i state name options
+LaunchIsLocal = (i j : Have) (state : State) (name : Ref) (options : List (List ℕ))
+    → SayAlike i j state → launch_in j state name options ≡ launch_in i state name options

@@ -1,4 +1,5 @@
--- What a launch stands on: the metadata of an application and of its runtime, as their deployed commits have it.
+-- What a launch stands on: the metadata of an application and of its runtime, as their deployed
+-- commits have it.
 use Rattle.std.specs.Prelude.{ℕ, List, Option, Result, Ok, Err, IsSome}
 use Rattle.std.specs.Option.{option_map_or}
 use Rattle.fp_base.specs.declared.meta_rule.MetaRule.TheVariants as rules
@@ -16,7 +17,8 @@ use Rattle.fl_launch.specs.Extensions.{row_of}
 use Rattle.fl_sandbox.specs.declared.parts.DeployedMeta.{DeployedMeta}
 use Rattle.fl_sandbox.specs.declared.parts.LaunchParts.{LaunchParts}
 
--- the metadata of a commit of a ref, and the extension points that it says; or what is wrong with it
+-- the metadata of a commit of a ref, and the extension points that it says; or what is wrong with
+-- it
 abbrev pub with_points : List Point → Result Meta Refusal → Result DeployedMeta Refusal
 with_points points (Ok meta) = Ok (record { meta = meta; points = points })
 with_points points (Err refusal) = Err refusal
@@ -29,15 +31,19 @@ deployed have name commit = with_points (points_at have name commit) (described 
 
 -- of the application, which has to be installed
 unfoldable pub app_in : Have → State → Ref → Result DeployedMeta Refusal
-app_in have state name = option_map_or (λ row. deployed have name row.commit) (row_of state name) (Err (NotInstalled name))
+app_in have state name =
+    option_map_or (λ row. deployed have name row.commit) (row_of state name)
+    (Err (NotInstalled name))
 
 -- of the runtime, which has to be there
 unfoldable pub runtime_in : Have → State → Ref → Result DeployedMeta Refusal
-runtime_in have state name = option_map_or (λ row. deployed have name row.commit) (row_of state name) (Err (RuntimeMissing name))
+runtime_in have state name = option_map_or (λ row. deployed have name row.commit)
+    (row_of state name) (Err (RuntimeMissing name))
 
 -- The runtime is the one that the application's metadata names. (Metadata of a runtime names none.)
 unfoldable pub runtime_of : Have → State → Ref → Meta → Result DeployedMeta Refusal
-runtime_of have state name app = option_map_or (runtime_in have state) app.runtime (Err (broken name rules.Runtime))
+runtime_of have state name app =
+    option_map_or (runtime_in have state) app.runtime (Err (broken name rules.Runtime))
 
 abbrev pub with_runtime : DeployedMeta → Result DeployedMeta Refusal → Result LaunchParts Refusal
 with_runtime app (Ok runtime) = Ok (record { app = app; runtime = runtime })

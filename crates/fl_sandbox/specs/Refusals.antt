@@ -15,4 +15,5 @@ MayRefuse refusal = ⊥
 
 -- a launch has no other refusals
 abbrev pub LaunchRefuses : Type 0
-LaunchRefuses = (have : Have) (state : State) (name : Ref) (options : List (List ℕ)) (refusal : Refusal) → launch_in have state name options ≡ Err refusal → MayRefuse refusal
+LaunchRefuses = (have : Have) (state : State) (name : Ref) (options : List (List ℕ))
+    (refusal : Refusal) → launch_in have state name options ≡ Err refusal → MayRefuse refusal

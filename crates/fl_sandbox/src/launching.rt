@@ -76,9 +76,10 @@ fn with_parts(
     }
 }
 
-/// The launch of an installed application with the options of a user, after flatpak-run(1): its text, and what it grants; or the first
-/// refusal, which is that of `parts_in`. What the two files `metadata` say is read from the installation's store, and nothing
-/// changes. A word that is no option says nothing.
+/// The launch of an installed application with the options of a user, after flatpak-run(1): its
+/// text, and what it grants; or the first refusal, which is that of `parts_in`. What the two files
+/// `metadata` say is read from the installation's store, and nothing changes. A word that is no
+/// option says nothing.
 #[tactic(auto, unfolding(crate::specs::Launching::launch_in))]
 pub fn launch_in<H: Host>(
     alloc: Global,

@@ -1,8 +1,10 @@
-//! Laws of the words that the contracts use, for crates that build on them. Each is the contract of a function that does nothing.
+//! Laws of the words that the contracts use, for crates that build on them. Each is the contract of
+//! a function that does nothing.
 ghost use Rattle.fl_sandbox.specs.Local.{LaunchIsLocal};
 ghost use Rattle.fl_sandbox.specs.Refusals.{LaunchRefuses};
 
-/// A launch depends on the state and on the files `metadata` of its deployed commits, and on no other object.
+/// A launch depends on the state and on the files `metadata` of its deployed commits, and on no
+/// other object.
 pub fn launch_depends_on_metadata()
     ensures { LaunchIsLocal }
 {}

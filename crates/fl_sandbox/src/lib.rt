@@ -1,4 +1,5 @@
-//! The sandbox of an installed application: its launch over the state and the store of an installation.
+//! The sandbox of an installed application: its launch over the state and the store of an
+//! installation.
 #![tactic(auto)]
 
 mod launching;

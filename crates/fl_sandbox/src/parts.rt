@@ -63,7 +63,8 @@ fn with_points(meta: Result<Meta, Refusal>, points: Items<Point>) -> Result<Depl
     }
 }
 
-/// The metadata of a commit of a ref with the extension points that it says, or its refusal, which is that of `described`.
+/// The metadata of a commit of a ref with the extension points that it says, or its refusal, which
+/// is that of `described`.
 #[tactic(auto, unfolding(crate::specs::Parts::deployed))]
 fn deployed<H: Host>(
     alloc: Global,
@@ -194,9 +195,10 @@ fn with_app<H: Host>(
     }
 }
 
-/// What a launch of the application stands on, as the state and the installation's store have it, or the first refusal of these:
-/// `NotInstalled`; `BadMetadata` of the application; `RuntimeMissing`, where the runtime that it names isn't installed; and
-/// `BadMetadata` of the runtime. Nothing changes.
+/// What a launch of the application stands on, as the state and the installation's store have it,
+/// or the first refusal of these: `NotInstalled`; `BadMetadata` of the application;
+/// `RuntimeMissing`, where the runtime that it names isn't installed; and `BadMetadata` of the
+/// runtime. Nothing changes.
 #[tactic(auto, unfolding(crate::specs::Parts::parts_in))]
 pub fn parts_in<H: Host>(
     alloc: Global,

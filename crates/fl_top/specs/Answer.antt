@@ -61,8 +61,8 @@ use Rattle.fl_change.specs.Turns.{changing}
 use Rattle.fl_exercise.specs.Exercising.{exercising}
 use Rattle.fl_change.specs.Answer.{Answer, Piece, refusal_answer, text_answer}
 
--- What a run is given beside the installation's state: its input, what the remotes hold, what is found in the installation's store, and
--- the digest of the commit that the input describes.
+-- What a run is given beside the installation's state: its input, what the remotes hold, what is
+-- found in the installation's store, and the digest of the commit that the input describes.
 pub record Given : Type 0 where
   pub input : List ℕ
   pub held : Holdings
@@ -73,17 +73,20 @@ pub record Given : Type 0 where
 
 -- the key file of an override, nothing where there is none
 abbrev pub override_text : State → List ℕ → List ℕ
-override_text s name = option_map_or (λ row. text_of row.file) (at_name override_key s.overrides name) []
+override_text s name =
+    option_map_or (λ row. text_of row.file) (at_name override_key s.overrides name) []
 
 -- what is known of a deployed ref, or what is wrong with the metadata of its commit
 abbrev pub told_of : RefRow → Result Info Refusal → Answer
 told_of row (Ok info) = text_answer (info_text row info.runtime info.extensions)
 told_of row (Err refusal) = refusal_answer refusal
 
--- The deployed commit's metadata is read as the world's objects have it. (Those that it stands on are of the commit's order, so the
--- installation's store has them as the world does, whether it is sound or not.)
+-- The deployed commit's metadata is read as the world's objects have it. (Those that it stands on
+-- are of the commit's order, so the installation's store has them as the world does, whether it is
+-- sound or not.)
 abbrev pub known_of : Ref → World → Answer
-known_of name x = option_map_or (λ row. told_of row (info_in x.have name row.commit)) (row_at x.state name) (refusal_answer (NotInstalled name))
+known_of name x = option_map_or (λ row. told_of row (info_in x.have name row.commit))
+    (row_at x.state name) (refusal_answer (NotInstalled name))
 
 -- the text of a launch, or the first thing that speaks against it
 abbrev pub launched_of : Result LaunchText Refusal → Answer
@@ -152,7 +155,8 @@ abbrev pub launch_over : Ref → Result World Elements → Result LaunchText Ref
 launch_over name (Err path) = Err (Damaged path)
 launch_over name (Ok x) = launch_in x.have x.state name []
 
-abbrev pub of_launch : (LaunchText → List PolicyRule) → Result LaunchText Refusal → Result (List PolicyRule) Refusal
+abbrev pub of_launch : (LaunchText → List PolicyRule) → Result LaunchText Refusal
+    → Result (List PolicyRule) Refusal
 of_launch rules (Err refusal) = Err refusal
 of_launch rules (Ok launch) = Ok (rules launch)
 
@@ -216,14 +220,16 @@ of_batch (Ok changes) held shown = over (changing changes held) shown
 
 -- the whole input is read before anything is done
 abbrev pub over_input : (List ℕ → Answer) → List ℕ → Answer
-over_input f input = if nat_le (length input) input_most then f input else refusal_answer (Limit Input (input_most + 1))
+over_input f input = if nat_le (length input) input_most then f input
+    else refusal_answer (Limit Input (input_most + 1))
 
 abbrev pub answer_over : Command → Given → Result World Elements → Answer
 answer_over (Changing change) given shown = over (changing (change ∷ []) given.held) shown
 answer_over (Listed listing) given shown = over (listed listing) shown
 answer_over (Showing thing) given shown = over_input (shown_by thing) given.input
 answer_over (Filtering source) given shown = over_input (filter_by source shown) given.input
-answer_over Batch given shown = over_input (λ bytes. of_batch (batch_of bytes) given.held shown) given.input
+answer_over Batch given shown =
+    over_input (λ bytes. of_batch (batch_of bytes) given.held shown) given.input
 answer_over Fsck given shown = over (checked given.report) shown
 answer_over (Exporting remote name) given shown = over_input (commit_made given.commit) given.input
 answer_over (Exercising apps) given shown = over (exercising apps given.held) shown
@@ -232,18 +238,20 @@ abbrev pub answer_to : List (List ℕ) → Option Command → Given → Result W
 answer_to words None given shown = refusal_answer (BadWords (bad_index words))
 answer_to words (Some command) given shown = answer_over command given shown
 
--- The first refusal of these: the words; an input that is too long, and its first bad line; an image that shows no state;
--- and those of the commands.
+-- The first refusal of these: the words; an input that is too long, and its first bad line; an
+-- image that shows no state; and those of the commands.
 abbrev pub answer : List (List ℕ) → Given → Result World Elements → Answer
 answer words given shown = answer_to words (command_of words) given shown
 
--- what an image gives: the state that it shows with the objects that its commits use, or the first path that doesn't read
+-- what an image gives: the state that it shows with the objects that its commits use, or the first
+-- path that doesn't read
 abbrev pub GivesWorld : Disk → Result World Elements → Type 0
 GivesWorld disk (Ok x) = Gives disk (Ok x.state) × (x.have ≡ used_of x.state (store repo disk))
 GivesWorld disk (Err path) = Gives disk (Err path)
 
--- The answer over this result counts: the image gives the result, or the answer is the same over every result. (So words that
--- are no command, an input that is refused, and a command that reads no installation are answered over each image, also one
--- that gives no result.)
+-- The answer over this result counts: the image gives the result, or the answer is the same over
+-- every result. (So words that are no command, an input that is refused, and a command that reads
+-- no installation are answered over each image, also one that gives no result.)
 abbrev pub IsOver : (Result World Elements → Answer) → Disk → Result World Elements → Type 0
-IsOver by disk shown = GivesWorld disk shown ⊎ ((other : Result World Elements) → by other ≡ by shown)
+IsOver by disk shown =
+    GivesWorld disk shown ⊎ ((other : Result World Elements) → by other ≡ by shown)

@@ -35,7 +35,8 @@ abbrev pub OpsFor : Option Command → Option (List ℕ) → Op → Type 0
 OpsFor None left op = ⊥
 OpsFor (Some command) left op = OpsBy command left op
 
--- Those for which it may ask the remotes of the run. An exercise does its own over remotes that are made for it.
+-- Those for which it may ask the remotes of the run. An exercise does its own over remotes that are
+-- made for it.
 abbrev pub AsksFor : Option Command → Option (List ℕ) → Op → Type 0
 AsksFor (Some (Exercising apps)) left op = ⊥
 AsksFor command left op = OpsFor command left op
@@ -44,9 +45,10 @@ AsksFor command left op = OpsFor command left op
 abbrev pub AreToldFor : (Op → Type 0) → Option Holdings → Type 0
 AreToldFor May holds = AsksBy May → AreTold holds
 
--- What operations ask of the remotes. These stay as they are; they aren't asked where no commit is brought; and a run fails by
--- them only where they did.
-pub record AsksRemotes (May : Op → Type 0) (failed : Type 0) (old new : Option Holdings) (before now : ℕ) : Type 0 where
+-- What operations ask of the remotes. These stay as they are; they aren't asked where no commit is
+-- brought; and a run fails by them only where they did.
+pub record AsksRemotes (May : Op → Type 0) (failed : Type 0) (old new : Option Holdings)
+    (before now : ℕ) : Type 0 where
   pub same : new ≡ old
   pub later : before ≤ now
   pub rose : failed → Rose before now

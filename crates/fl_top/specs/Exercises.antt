@@ -14,9 +14,11 @@ abbrev pub is_exercise : Command → Bool
 is_exercise (Exercising apps) = true
 is_exercise command = false
 
--- An exercise is run over remotes that are made for it, which hold this; every other command over those of the run.
+-- An exercise is run over remotes that are made for it, which hold this; every other command over
+-- those of the run.
 abbrev pub IsRunOver : Option Command → Option Holdings → Option Holdings → Type 0
-IsRunOver (Some (Exercising apps)) given holds = (held : Holdings) × (holds ≡ Some held) × IsGenerated apps held
+IsRunOver (Some (Exercising apps)) given holds =
+    (held : Holdings) × (holds ≡ Some held) × IsGenerated apps held
 IsRunOver command given holds = holds ≡ given
 
 -- there was no memory to make those of an exercise, and nothing was done
@@ -25,17 +27,22 @@ IsUnmade (Some (Exercising apps)) status a b = (status ≡ 6) × Unchanged a b
 IsUnmade command status a b = ⊥
 
 -- a run over remotes that hold this, at every moment and at its return
-pub record RunsWith (words : List (List ℕ)) (left : Option (List ℕ)) (holds : Option Holdings) (status : ℕ) (a b : Option Moments) : Type 0 where
+pub record RunsWith (words : List (List ℕ)) (left : Option (List ℕ)) (holds : Option Holdings)
+    (status : ℕ) (a b : Option Moments) : Type 0 where
   pub any_moment : Always (RunsBy words (told left holds a)) a b
   pub at_return : AtEnd (RanBy words (told left holds a) status) a b
 
 -- So it is over the remotes that the command is run over, where there are such.
-abbrev pub IsRun : List (List ℕ) → Option (List ℕ) → Option Holdings → ℕ → Option Moments → Option Moments → Type 0
+abbrev pub IsRun : List (List ℕ) → Option (List ℕ) → Option Holdings → ℕ → Option Moments
+    → Option Moments → Type 0
 IsRun words left given status a b =
-    ((holds : Option Holdings) × IsRunOver (command_of words) given holds × RunsWith words left holds status a b) ⊎ IsUnmade (command_of words) status a b
+    ((holds : Option Holdings) × IsRunOver (command_of words) given holds
+    × RunsWith words left holds status a b) ⊎ IsUnmade (command_of words) status a b
 
 -- the same of an exercise
 abbrev pub IsExercised : ℕ → Option (List ℕ) → ℕ → Option Moments → Option Moments → Type 0
 IsExercised apps left status a b =
-    ((held : Holdings) × IsGenerated apps held × Goes a b (RunsOn (Exercising apps) (told left (Some held) a)) (RanOn (Exercising apps) (told left (Some held) a) status))
+    ((held : Holdings) × IsGenerated apps held
+    × Goes a b (RunsOn (Exercising apps) (told left (Some held) a))
+    (RanOn (Exercising apps) (told left (Some held) a) status))
     ⊎ ((status ≡ 6) × Unchanged a b)

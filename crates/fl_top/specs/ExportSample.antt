@@ -8,7 +8,8 @@ use Rattle.fl_export.specs.Texts.{desktop_path, icon_path, link_text}
 use Rattle.fl_export.specs.Sample.{stable}
 
 abbrev pub desktop_text : List ℕ
-desktop_text = codes "[Desktop Entry]\nName=App\nExec=fpk launch app/org.x.App/x86_64/stable --command=run\n"
+desktop_text =
+    codes "[Desktop Entry]\nName=App\nExec=fpk launch app/org.x.App/x86_64/stable --command=run\n"
 
 abbrev pub desktop_place : Elements
 desktop_place = desktop_path (codes "org.x.App.desktop") ++ exports
@@ -21,7 +22,8 @@ icon_link = link_text stable (icon_path (codes "48x48") (codes "org.x.App.png"))
 
 -- just these, in their folder
 abbrev pub placed_rows : List (Elements × Spot)
-placed_rows = (exports, folder) ∷ (desktop_place, holds 1 420 desktop_text) ∷ (icon_place, points icon_link) ∷ []
+placed_rows = (exports, folder) ∷ (desktop_place, holds 1 420 desktop_text)
+    ∷ (icon_place, points icon_link) ∷ []
 
 abbrev pub placed_disk : Disk
 placed_disk = rows_at placed_rows

@@ -34,7 +34,8 @@ exports_text rows = flat_map row_line rows
 
 -- ---- what stands
 
--- The files and links at or below `exports` are exactly those that the applications of the state export that the image shows.
+-- The files and links at or below `exports` are exactly those that the applications of the state
+-- export that the image shows.
 pub record HasExports (disk : Disk) : Type 0 where
   pub state : State
   pub shown : Shows disk state
@@ -49,19 +50,23 @@ pub record IsAtRest (v : View) : Type 0 where
   pub settled : Settled (shows v)
   pub exports : HasExports (shows v)
 
--- Every stop leaves the exported files and links of the state; and where the remotes tell what they hold, all is at rest.
+-- Every stop leaves the exported files and links of the state; and where the remotes tell what they
+-- hold, all is at rest.
 pub record IsInStep (holds : Option Holdings) (v : View) : Type 0 where
   pub exports : LeavesExports v
   pub rests : (held : Holdings) → holds ≡ Some held → IsAtRest v
 
--- Where all is at rest and nothing is done, pulled or refused, no name changes and no new file has a byte.
+-- Where all is at rest and nothing is done, pulled or refused, no name changes and no new file has
+-- a byte.
 abbrev pub StaysAtRest : Answer → View → View → Type 0
 StaysAtRest a u w = IsAtRest u → IsIdle a → a.refusal ≡ None → IsStill u w
 
 -- ---- what changes
 
--- Names may come to hold what these operations and tidying make of them, what a refresh of the exported files does, and what Make says.
-pub data MayCome (May : Op → Type 0) (Make : Elements → Slot → Type 0) (q : Elements) (e : Slot) : Type 0 where
+-- Names may come to hold what these operations and tidying make of them, what a refresh of the
+-- exported files does, and what Make says.
+pub data MayCome (May : Op → Type 0) (Make : Elements → Slot → Type 0) (q : Elements)
+    (e : Slot) : Type 0 where
   changed : MayHold May q e → MayCome May Make q e
   refreshed : MayRefresh q e → MayCome May Make q e
   made_by : Make q e → MayCome May Make q e
@@ -70,8 +75,9 @@ pub data MayCome (May : Op → Type 0) (Make : Elements → Slot → Type 0) (q 
 abbrev pub NoMaking : Elements → Slot → Type 0
 NoMaking q e = ⊥
 
--- Each name holds what it held, or what it may. Each file that was there keeps its mode and its bytes: what is new is in new
--- files. What came to a commit's folder is its record, or a file of the store.
+-- Each name holds what it held, or what it may. Each file that was there keeps its mode and its
+-- bytes: what is new is in new files. What came to a commit's folder is its record, or a file of
+-- the store.
 pub record Alters (May : Op → Type 0) (Make : Elements → Slot → Type 0) (u w : View) : Type 0 where
   pub names : (q : Elements) → (w.names q ≡ u.names q) ⊎ MayCome May Make q (w.names q)
   pub files : KeepsFiles u w
@@ -82,8 +88,8 @@ pub record IsMadeLine (a : Answer) : Type 0 where
   pub commit : List ℕ
   pub is : a ≡ text_answer (made_text commit)
 
--- Where nothing is done, names may come to hold what tidying makes of them; where nothing is refused, what a refresh does; and where a
--- remote is made, what that does.
+-- Where nothing is done, names may come to hold what tidying makes of them; where nothing is
+-- refused, what a refresh does; and where a remote is made, what that does.
 pub data MayRest (a : Answer) (s : State) (q : Elements) (e : Slot) : Type 0 where
   tidied_at : MayTidy s q e → MayRest a s q e
   refreshed_at : a.refusal ≡ None → MayRefresh q e → MayRest a s q e

@@ -23,7 +23,8 @@ is_bad (findings.Stray path) = false
 
 -- a line for each finding, and one with how many objects there are and how many of them are bad
 abbrev pub report_text : Report → List ℕ
-report_text report = flat_map finding_text report.findings ++ fsck_text report.objects (count_by is_bad report.findings)
+report_text report = flat_map finding_text report.findings
+    ++ fsck_text report.objects (count_by is_bad report.findings)
 
 -- ---- what is found
 

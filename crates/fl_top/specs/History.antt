@@ -24,16 +24,24 @@ pub record Reopens (w v : View) : Type 0 where
   pub settled : IsSettled v
   pub same : (q : Elements) → shows v q ≡ disk q
 
--- From the view u on. A run, that of an answer that counts, goes on from where the last one was left, at its return or at any moment before, or from what a
--- stop left. The latest run comes first.
+-- From the view u on. A run, that of an answer that counts, goes on from where the last one was
+-- left, at its return or at any moment before, or from what a stop left. The latest run comes
+-- first.
 pub data History (u : View) : List Stretch → View → Type 0 where
   begins : History u [] u
-  runs : (stretches : List Stretch) (v w : View) (words : List (List ℕ)) (given : Given) (shown : Result World Elements)
-      → History u stretches v → IsOver (answer words given) (shows v) shown → (run : Runs (answer words given shown) v w)
-      → History u (record { ops = ops_of (answer words given shown); acknowledged = ops_in run.said } ∷ stretches) w
-  stops : (stretches : List Stretch) (v w : View) → History u stretches w → Reopens w v → History u stretches v
+  runs : (stretches : List Stretch) (v w : View) (words : List (List ℕ)) (given : Given)
+      (shown : Result World Elements)
+      → History u stretches v → IsOver (answer words given) (shows v) shown
+      → (run : Runs (answer words given shown) v w)
+      → History u (record {
+        ops = ops_of (answer words given shown);
+        acknowledged = ops_in run.said;
+      } ∷ stretches) w
+  stops : (stretches : List Stretch) (v w : View) → History u stretches w → Reopens w v
+      → History u stretches v
 
--- a prefix of a run's operations that holds the acknowledged ones leads from the one state to the other
+-- a prefix of a run's operations that holds the acknowledged ones leads from the one state to the
+-- other
 pub record Leads (stretch : Stretch) (s t : State) : Type 0 where
   pub done : List Done
   pub undone : List Done

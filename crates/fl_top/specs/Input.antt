@@ -9,7 +9,8 @@ use Rattle.fl_top.specs.declared.input.InputEnd.TheVariants.{TooLong, Fault, NoM
 abbrev pub input_most : ℕ
 input_most = MOST_INPUT
 
--- The bytes are all that was left, and at most 64 MiB. Where the source doesn't tell what it has left, nothing is said of them.
+-- The bytes are all that was left, and at most 64 MiB. Where the source doesn't tell what it has
+-- left, nothing is said of them.
 abbrev pub IsWhole : Option (List ℕ) → List ℕ → Type 0
 IsWhole left bytes = (all : List ℕ) → left ≡ Some all → (bytes ≡ all) × (length all ≤ input_most)
 
@@ -25,16 +26,19 @@ IsDrained old new = (all : List ℕ) → old ≡ Some all → length all ≤ inp
 abbrev pub IsTooLong : Option (List ℕ) → Type 0
 IsTooLong left = (all : List ℕ) → left ≡ Some all → input_most < length all
 
--- `TooLong` comes only where more than 64 MiB were left, and `Fault` only where the count of faults rose
+-- `TooLong` comes only where more than 64 MiB were left, and `Fault` only where the count of faults
+-- rose
 abbrev pub InputStops : Option (List ℕ) → ℕ → ℕ → InputEnd → Type 0
 InputStops left before now TooLong = IsTooLong left
 InputStops left before now Fault = Rose before now
 InputStops left before now NoMemory = Unit {0}
 
--- One step of reading, from these bytes to those, which says whether it took some. Where the source tells what it has left,
--- nothing was lost, and where none was taken nothing is left.
+-- One step of reading, from these bytes to those, which says whether it took some. Where the source
+-- tells what it has left, nothing was lost, and where none was taken nothing is left.
 pub record Adds (old new : Option (List ℕ)) (before after : List ℕ) (more : Bool) : Type 0 where
-  pub told : (left : List ℕ) → old ≡ Some left → (rest : List ℕ) × (new ≡ Some rest) × (after ++ rest ≡ before ++ left) × (more ≡ false → rest ≡ [])
+  pub told : (left : List ℕ) → old ≡ Some left
+      → (rest : List ℕ) × (new ≡ Some rest) × (after ++ rest ≡ before ++ left)
+      × (more ≡ false → rest ≡ [])
   pub grows : more ≡ true → length before < length after
   pub same : more ≡ false → after ≡ before
 

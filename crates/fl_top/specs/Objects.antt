@@ -28,7 +28,8 @@ abbrev pub file_line : FileRow → List ℕ
 file_line f = codes "file " ++ (escaped f.name ++ (codes " " ++ (hex f.digest ++ codes "\n")))
 
 abbrev pub dir_line : DirRow → List ℕ
-dir_line d = codes "dir " ++ (escaped d.name ++ (codes " " ++ (hex d.tree ++ (codes " " ++ (hex d.meta ++ codes "\n")))))
+dir_line d = codes "dir "
+    ++ (escaped d.name ++ (codes " " ++ (hex d.tree ++ (codes " " ++ (hex d.meta ++ codes "\n")))))
 
 abbrev pub files_text : List FileRow → List ℕ
 files_text files = flat_map file_line files

@@ -29,15 +29,18 @@ abbrev pub MakesFor : Option Command → Elements → Slot → Type 0
 MakesFor None q e = ⊥
 MakesFor (Some command) q e = MakesBy command q e
 
--- The line of the commit was printed that the bytes describe. Where the store had nothing else under the names of its objects, as one
--- that wasn't there, every stop leaves a store in which the ref is offered with this commit, which has no fault; and the folder of the
--- remotes' refs is there.
+-- The line of the commit was printed that the bytes describe. Where the store had nothing else
+-- under the names of its objects, as one that wasn't there, every stop leaves a store in which the
+-- ref is offered with this commit, which has no fault; and the folder of the remotes' refs is
+-- there.
 pub record LeavesRemote (remote : List ℕ) (r : Ref) (bytes : List ℕ) (u w : View) : Type 0 where
   pub built : Built
   pub described_by : IsDescribed bytes r built
   pub printed : w.printed ≡ u.printed ++ made_text built.commit
-  pub offered : AreFit (have_of built.objects) (made remote) u → (disk : Disk) → Leaves w disk → IsOffered (have_of built.objects) (made remote) r built.commit disk
-  pub remotes_there : CanMake remote r u → u.names (remotes (made remote)) ≡ absent → w.names (remotes (made remote)) ≡ dir
+  pub offered : AreFit (have_of built.objects) (made remote) u → (disk : Disk) → Leaves w disk
+      → IsOffered (have_of built.objects) (made remote) r built.commit disk
+  pub remotes_there : CanMake remote r u → u.names (remotes (made remote)) ≡ absent
+      → w.names (remotes (made remote)) ≡ dir
 
 -- so it is for a command that makes one of all that is left of the input
 abbrev pub MadeBy : Command → Option (List ℕ) → View → View → Type 0
@@ -48,7 +51,8 @@ MadeBy (Filtering source) left u w = Unit {0}
 MadeBy Batch left u w = Unit {0}
 MadeBy Fsck left u w = Unit {0}
 MadeBy (Exercising apps) left u w = Unit {0}
-MadeBy (Exporting remote name) left u w = (bytes : List ℕ) → left ≡ Some bytes → LeavesRemote remote name bytes u w
+MadeBy (Exporting remote name) left u w =
+    (bytes : List ℕ) → left ≡ Some bytes → LeavesRemote remote name bytes u w
 
 abbrev pub MadeFor : Option Command → Option (List ℕ) → View → View → Type 0
 MadeFor None left u w = Unit {0}

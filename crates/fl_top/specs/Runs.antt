@@ -36,13 +36,15 @@ use Rattle.ost_description.specs.Commits.{IsDescribed}
 use Rattle.fl_make.specs.Making.{CanMake}
 use Rattle.fl_top.specs.Remotes.{MakesFor, MadeFor}
 
--- The image shows what these operations make of the state that stood at the start; where there are none, a state that a stop
--- at the start would have left.
+-- The image shows what these operations make of the state that stood at the start; where there are
+-- none, a state that a stop at the start would have left.
 abbrev pub ShowsAfter : View → List Done → Disk → Type 0
-ShowsAfter u [] disk = (before : Disk) × Leaves u before × (s : State) × Shows before s × Shows disk s
+ShowsAfter u [] disk =
+    (before : Disk) × Leaves u before × (s : State) × Shows before s × Shows disk s
 ShowsAfter u (op ∷ ops) disk = (s : State) × Shows (shows u) s × Shows disk (after_all s (op ∷ ops))
 
--- The image shows the installation after a prefix of the answer's operations that holds each acknowledged one, and is sound.
+-- The image shows the installation after a prefix of the answer's operations that holds each
+-- acknowledged one, and is sound.
 pub record IsPrefix (a : Answer) (acknowledged : List Done) (u : View) (disk : Disk) : Type 0 where
   pub done : List Done
   pub undone : List Done
@@ -57,9 +59,10 @@ pub record IsJust (acknowledged : List Done) (u : View) (disk : Disk) : Type 0 w
   pub shown : ShowsAfter u acknowledged disk
   pub sound : Sound disk
 
--- At every moment: the bytes printed since the start are the first pieces of the answer; every stop leaves the installation
--- after a prefix of its operations that holds those that these pieces acknowledge. Where the answer has no operation and nothing
--- is pulled, names only changed by tidying, and where nothing is refused by a refresh of the exported files. Where the words or the
+-- At every moment: the bytes printed since the start are the first pieces of the answer; every stop
+-- leaves the installation after a prefix of its operations that holds those that these pieces
+-- acknowledge. Where the answer has no operation and nothing is pulled, names only changed by
+-- tidying, and where nothing is refused by a refresh of the exported files. Where the words or the
 -- input are refused, no name changed, and no file.
 pub record Runs (a : Answer) (u w : View) : Type 0 where
   pub said : List Piece
@@ -74,20 +77,24 @@ pub record Stands (a : Answer) (u w : View) : Type 0 where
   pub so_far : Printed a said u w
   pub just : IsSound u → (disk : Disk) → Leaves w disk → IsJust (ops_in said) u disk
 
--- The whole answer was printed; what stands now is the state after its operations. Where one was done, or all was settled before,
--- all is settled. Where one of them set it, `config` has exactly its text, and the permission bits 0644. Without
--- a refusal each new file that has bytes came to a lasting name, and each operation in turn made just the objects that it lacked, by
--- what the remotes hold.
+-- The whole answer was printed; what stands now is the state after its operations. Where one was
+-- done, or all was settled before, all is settled. Where one of them set it, `config` has exactly
+-- its text, and the permission bits 0644. Without a refusal each new file that has bytes came to a
+-- lasting name, and each operation in turn made just the objects that it lacked, by what the
+-- remotes hold.
 pub record Answers (held : Holdings) (a : Answer) (status : ℕ) (u w : View) : Type 0 where
   pub status_is : status ≡ status_at a
   pub printed : w.printed ≡ u.printed ++ joined (lines_of a)
   pub shown : IsSound u → (s : State) → Shows (shows u) s → Shows (shows w) (after_all s (ops_of a))
   pub tidied : IsSound u → Settled (shows u) ⊎ (ops_of a ≢ []) → Settled (shows w)
-  pub text : set_config (ops_of a) ≡ true → (s : State) → Shows (shows u) s → HasText (after_all s (ops_of a)) w
+  pub text : set_config (ops_of a) ≡ true → (s : State) → Shows (shows u) s
+      → HasText (after_all s (ops_of a)) w
   pub shares : a.refusal ≡ None → Shares IsLasting u w
-  pub creates : a.refusal ≡ None → (s : State) → Shows (shows u) s → CreatesInTurn held (world_at s u) (ops_of a) u w
+  pub creates : a.refusal ≡ None → (s : State) → Shows (shows u) s
+      → CreatesInTurn held (world_at s u) (ops_of a) u w
 
--- At the return. 3 says that the host failed, 4 that the remotes did, 5 that the input did, and 6 that there was no memory.
+-- At the return. 3 says that the host failed, 4 that the remotes did, 5 that the input did, and 6
+-- that there was no memory.
 pub record Ran (held : Holdings) (a : Answer) (status : ℕ) (u w : View) : Type 0 where
   pub answers : IsAnswered status → Answers held a status u w
   pub stands : (status ≡ 3 → ⊥) → Stands a u w
@@ -120,7 +127,8 @@ abbrev pub Checks : Option Command → Type 0
 Checks None = ⊥
 Checks (Some command) = checks_store command ≡ true
 
--- what source, remotes and host tell at the start: what is left of the input, what the remotes hold, and what stands there
+-- what source, remotes and host tell at the start: what is left of the input, what the remotes
+-- hold, and what stands there
 pub record Told : Type 0 where
   pub left : Option (List ℕ)
   pub holds : Option Holdings
@@ -145,11 +153,12 @@ IsMadeOf (Filtering source) left digest = Unit {0}
 IsMadeOf Batch left digest = Unit {0}
 IsMadeOf Fsck left digest = Unit {0}
 IsMadeOf (Exercising apps) left digest = Unit {0}
-IsMadeOf (Exporting remote name) left digest = (bytes : List ℕ) → left ≡ Some bytes → IsCommitOf name bytes digest
+IsMadeOf (Exporting remote name) left digest =
+    (bytes : List ℕ) → left ≡ Some bytes → IsCommitOf name bytes digest
 
--- The command is given this: as its input all that is left, where it reads the input; what the remotes hold, where it asks them;
--- what is found in the store, where it looks at that; and the digest of the commit that the input describes, where it makes one. Else
--- it may be given any.
+-- The command is given this: as its input all that is left, where it reads the input; what the
+-- remotes hold, where it asks them; what is found in the store, where it looks at that; and the
+-- digest of the commit that the input describes, where it makes one. Else it may be given any.
 pub record IsGivenTo (command : Command) (t : Told) (given : Given) : Type 0 where
   pub input : (reads_input command ≡ false) ⊎ (t.left ≡ Some given.input)
   pub held : (asks_remotes command ≡ false) ⊎ (t.holds ≡ Some given.held)
@@ -164,12 +173,13 @@ IsGiven t (Some command) given = IsGivenTo command t given
 abbrev pub IsReady : View → Type 0
 IsReady v = IsSound v ⊎ NotShown (shows v)
 
--- where one of these operations brings a commit, the remotes tell what they hold, and the installation is ready
+-- where one of these operations brings a commit, the remotes tell what they hold, and the
+-- installation is ready
 abbrev pub IsKnown : (Op → Type 0) → Option Holdings → View → Type 0
 IsKnown May holds v = AsksBy May → AreTold holds × IsReady v
 
--- A fault of a command that may change the state has a cause over an installation that is sound, or shows no state. Another needs
--- neither.
+-- A fault of a command that may change the state has a cause over an installation that is sound, or
+-- shows no state. Another needs neither.
 abbrev pub Serves : Option Command → View → Type 0
 Serves command v = KeepsState command ⊎ IsReady v
 
@@ -185,42 +195,56 @@ IsFreeFor (Some Fsck) v = Unit {0}
 IsFreeFor (Some (Exporting remote name)) v = CanMake remote name v
 IsFreeFor (Some (Exercising apps)) v = Unit {0}
 
--- So a fault of a command has a cause. One that looks at each object of the store needs besides that no path there is too long, and one
--- that makes a remote that nothing is in its way.
+-- So a fault of a command has a cause. One that looks at each object of the store needs besides
+-- that no path there is too long, and one that makes a remote that nothing is in its way.
 pub record HasCauses (command : Option Command) (v : View) : Type 0 where
   pub serves : Serves command v
   pub listable : Checks command → IsListable v
   pub free : IsFreeFor command v
 
--- Over such an installation a command gives its answer; and over each one, where words or input are refused.
+-- Over such an installation a command gives its answer; and over each one, where words or input are
+-- refused.
 abbrev pub MayAnswer : Option Command → View → Answer → Type 0
 MayAnswer command v a = Serves command v ⊎ IsAtOnce a.refusal
 
--- At every moment the run is that of each answer that counts. Whatever the source tells, no name changed but those that the
--- command's operations, tidying and a refresh of the exported files change, or where a remote is made what that changes, each file
--- that was there keeps its mode and its bytes, and each that came to a commit's folder is its record or a file of the store: where a
--- commit may be brought, over remotes that tell what they hold and an installation that is ready. Where a command that may change the
--- state has nothing to do, and all is at rest, it stays so. Words that are no command, a command that only looks, and one that sees no
--- state change nothing, but one that makes a remote, which doesn't look.
+-- At every moment the run is that of each answer that counts. Whatever the source tells, no name
+-- changed but those that the command's operations, tidying and a refresh of the exported files
+-- change, or where a remote is made what that changes, each file that was there keeps its mode and
+-- its bytes, and each that came to a commit's folder is its record or a file of the store: where a
+-- commit may be brought, over remotes that tell what they hold and an installation that is ready.
+-- Where a command that may change the state has nothing to do, and all is at rest, it stays so.
+-- Words that are no command, a command that only looks, and one that sees no state change nothing,
+-- but one that makes a remote, which doesn't look.
 pub record RunsBy (words : List (List ℕ)) (t : Told) (u w : View) : Type 0 where
-  pub changes : IsKnown (OpsFor (command_of words) t.left) t.holds u → Alters (OpsFor (command_of words) t.left) (MakesFor (command_of words)) u w
+  pub changes : IsKnown (OpsFor (command_of words) t.left) t.holds u
+      → Alters (OpsFor (command_of words) t.left) (MakesFor (command_of words)) u w
   pub runs : (given : Given) → IsGiven t (command_of words) given → (shown : Result World Elements)
-      → IsOver (answer words given) (shows u) shown → MayAnswer (command_of words) u (answer words given shown) → Runs (answer words given shown) u w
-  pub rests : IsChange (command_of words) → (given : Given) → IsGiven t (command_of words) given → (shown : Result World Elements)
-      → IsOver (answer words given) (shows u) shown → MayAnswer (command_of words) u (answer words given shown) → StaysAtRest (answer words given shown) u w
-  pub untouched : Looks (command_of words) ⊎ (MakesNone (command_of words) × NotShown (shows u)) → IsUntouched u w
+      → IsOver (answer words given) (shows u) shown
+      → MayAnswer (command_of words) u (answer words given shown)
+      → Runs (answer words given shown) u w
+  pub rests : IsChange (command_of words) → (given : Given) → IsGiven t (command_of words) given
+      → (shown : Result World Elements)
+      → IsOver (answer words given) (shows u) shown
+      → MayAnswer (command_of words) u (answer words given shown)
+      → StaysAtRest (answer words given shown) u w
+  pub untouched : Looks (command_of words) ⊎ (MakesNone (command_of words) × NotShown (shows u))
+      → IsUntouched u w
 
--- At the return the run was that of each answer that counts. Where the whole answer was given, there is one that counts (so
--- that this isn't said of nothing). Where a remote was to be made, it is there.
+-- At the return the run was that of each answer that counts. Where the whole answer was given,
+-- there is one that counts (so that this isn't said of nothing). Where a remote was to be made, it
+-- is there.
 pub record RanBy (words : List (List ℕ)) (t : Told) (status : ℕ) (u w : View) : Type 0 where
   pub ran : (given : Given) → IsGiven t (command_of words) given → (shown : Result World Elements)
-      → IsOver (answer words given) (shows u) shown → MayAnswer (command_of words) u (answer words given shown) → Ran given.held (answer words given shown) status u w
+      → IsOver (answer words given) (shows u) shown
+      → MayAnswer (command_of words) u (answer words given shown)
+      → Ran given.held (answer words given shown) status u w
   pub given : (given : Given) → IsGiven t (command_of words) given → IsAnswered status
       → (shown : Result World Elements) × IsOver (answer words given) (shows u) shown
   pub made : status ≡ 0 → MadeFor (command_of words) t.left u w
 
--- A command that reads the input was given all of it, where the whole answer was given and the input wasn't too long; another
--- takes nothing of it.
+-- A command that reads the input was given all of it, where the whole answer was given and the
+-- input wasn't too long; another takes nothing of it.
 abbrev pub WasTaken : Option Command → ℕ → Option (List ℕ) → Option (List ℕ) → Type 0
 WasTaken None status old new = new ≡ old
-WasTaken (Some command) status old new = (reads_input command ≡ true → IsAnswered status → IsDrained old new) × (reads_input command ≡ false → new ≡ old)
+WasTaken (Some command) status old new = (reads_input command ≡ true → IsAnswered status
+    → IsDrained old new) × (reads_input command ≡ false → new ≡ old)

@@ -35,13 +35,17 @@ use Rattle.fl_top.specs.declared.command_end.CommandEnd.TheVariants as command
 
 -- so it is for each answer that counts, over what the image at the start gives
 abbrev pub OverView : (World → Answer) → View → (Answer → Type 0) → Type 0
-OverView f u Is = (shown : Result World Elements) → IsOver (over f) (shows u) shown → Is (over f shown)
+OverView f u Is =
+    (shown : Result World Elements) → IsOver (over f) (shows u) shown → Is (over f shown)
 
 -- and so much changes
-pub record RunsOver (holds : Option Holdings) (May : Op → Type 0) (f : Holdings → World → Answer) (u w : View) : Type 0 where
-  pub runs : IsReady u → (held : Holdings) → holds ≡ Some held → OverView (f held) u (λ a. Runs a u w)
+pub record RunsOver (holds : Option Holdings) (May : Op → Type 0) (f : Holdings → World → Answer)
+    (u w : View) : Type 0 where
+  pub runs : IsReady u → (held : Holdings) → holds ≡ Some held
+      → OverView (f held) u (λ a. Runs a u w)
   pub changes : IsKnown May holds u → Alters May NoMaking u w
-  pub rests : IsReady u → (held : Holdings) → holds ≡ Some held → OverView (f held) u (λ a. StaysAtRest a u w)
+  pub rests : IsReady u → (held : Holdings) → holds ≡ Some held
+      → OverView (f held) u (λ a. StaysAtRest a u w)
   pub untouched : NotShown (shows u) → IsUntouched u w
 
 -- and nothing changes
@@ -49,18 +53,21 @@ pub record LooksOver (f : World → Answer) (u w : View) : Type 0 where
   pub runs : OverView f u (λ a. Runs a u w)
   pub untouched : IsUntouched u w
 
--- All that isn't the line of a refusal was printed, and what stands is the state after the operations. Each file that was there is
--- as it was. Without a refusal each new file that has bytes came to a lasting name, and each operation in turn made just the objects
--- that it lacked, by what the remotes hold.
+-- All that isn't the line of a refusal was printed, and what stands is the state after the
+-- operations. Each file that was there is as it was. Without a refusal each new file that has bytes
+-- came to a lasting name, and each operation in turn made just the objects that it lacked, by what
+-- the remotes hold.
 pub record Completes (held : Holdings) (a : Answer) (u w : View) : Type 0 where
   pub printed : w.printed ≡ u.printed ++ joined a.pieces
   pub just : IsSound u → (disk : Disk) → Leaves w disk → IsJust (ops_of a) u disk
   pub shown : IsSound u → (s : State) → Shows (shows u) s → Shows (shows w) (after_all s (ops_of a))
   pub tidied : IsSound u → Settled (shows u) ⊎ (ops_of a ≢ []) → Settled (shows w)
-  pub text : set_config (ops_of a) ≡ true → (s : State) → Shows (shows u) s → HasText (after_all s (ops_of a)) w
+  pub text : set_config (ops_of a) ≡ true → (s : State) → Shows (shows u) s
+      → HasText (after_all s (ops_of a)) w
   pub files : KeepsFiles u w
   pub shares : a.refusal ≡ None → Shares IsLasting u w
-  pub creates : a.refusal ≡ None → (s : State) → Shows (shows u) s → CreatesInTurn held (world_at s u) (ops_of a) u w
+  pub creates : a.refusal ≡ None → (s : State) → Shows (shows u) s
+      → CreatesInTurn held (world_at s u) (ops_of a) u w
 
 abbrev pub Ended : Holdings → Answer → Result (Unit {0}) RunEnd → View → View → Type 0
 Ended held a (Ok t) u w = (a.refusal ≡ None) × Completes held a u w
@@ -83,15 +90,19 @@ IsGivenBy (Err NoMemory) = ⊥
 
 -- there is an answer that counts, where the whole answer was given
 abbrev pub HasOver : (World → Answer) → Result (Unit {0}) RunEnd → View → Type 0
-HasOver f result u = IsGivenBy result → (shown : Result World Elements) × IsOver (over f) (shows u) shown
+HasOver f result u =
+    IsGivenBy result → (shown : Result World Elements) × IsOver (over f) (shows u) shown
 
 -- So it ended for each answer that counts.
-pub record EndedOver (holds : Option Holdings) (f : Holdings → World → Answer) (result : Result (Unit {0}) RunEnd) (u w : View) : Type 0 where
-  pub ended : IsReady u → (held : Holdings) → holds ≡ Some held → OverView (f held) u (λ a. Ended held a result u w)
+pub record EndedOver (holds : Option Holdings) (f : Holdings → World → Answer)
+    (result : Result (Unit {0}) RunEnd) (u w : View) : Type 0 where
+  pub ended : IsReady u → (held : Holdings) → holds ≡ Some held
+      → OverView (f held) u (λ a. Ended held a result u w)
   pub given : (held : Holdings) → HasOver (f held) result u
 
 -- and a command that looks, whatever the installation
-pub record LookedOver (f : World → Answer) (result : Result (Unit {0}) RunEnd) (u w : View) : Type 0 where
+pub record LookedOver (f : World → Answer) (result : Result (Unit {0}) RunEnd)
+    (u w : View) : Type 0 where
   pub ended : OverView f u (λ a. EndsAnyway a result u w)
   pub given : HasOver f result u
 
@@ -99,12 +110,14 @@ pub record LookedOver (f : World → Answer) (result : Result (Unit {0}) RunEnd)
 
 -- So much of each report of the store was printed, and nothing changes.
 pub record ChecksOver (u w : View) : Type 0 where
-  pub runs : (report : Report) → Finds (shows u) report → OverView (checked report) u (λ a. Runs a u w)
+  pub runs : (report : Report) → Finds (shows u) report
+      → OverView (checked report) u (λ a. Runs a u w)
   pub untouched : IsUntouched u w
 
 -- So it ended for each; and there is one, where the whole answer was given.
 pub record CheckedOver (result : Result (Unit {0}) RunEnd) (u w : View) : Type 0 where
-  pub ended : (report : Report) → Finds (shows u) report → OverView (checked report) u (λ a. EndsAnyway a result u w)
+  pub ended : (report : Report) → Finds (shows u) report
+      → OverView (checked report) u (λ a. EndsAnyway a result u w)
   pub given : (report : Report) → HasOver (checked report) result u
   pub found : IsGivenBy result → HasReport (shows u)
 
@@ -113,32 +126,38 @@ pub record CheckedOver (result : Result (Unit {0}) RunEnd) (u w : View) : Type 0
 -- so it is for all that the command is given, and each answer that counts
 abbrev pub OverAll : Command → Told → View → (Holdings → Answer → Type 0) → Type 0
 OverAll asked t u Is = (given : Given) → IsGivenTo asked t given → (shown : Result World Elements)
-    → IsOver (answer_over asked given) (shows u) shown → MayAnswer (Some asked) u (answer_over asked given shown) → Is given.held (answer_over asked given shown)
+    → IsOver (answer_over asked given) (shows u) shown
+    → MayAnswer (Some asked) u (answer_over asked given shown)
+    → Is given.held (answer_over asked given shown)
 
 -- where this is so, there is an answer that counts for all such
 abbrev pub HasAnswer : Command → Told → View → Type 0 → Type 0
 HasAnswer asked t u Where = (given : Given) → IsGivenTo asked t given → Where
     → (shown : Result World Elements) × IsOver (answer_over asked given) (shows u) shown
 
--- Whatever it is given these are the changes, where what it brings is known; where all is at rest, and a command that may change the
--- state has nothing to do, it stays so; and a command that only looks, or sees no state, changes nothing, but one that makes a remote,
--- which doesn't look.
+-- Whatever it is given these are the changes, where what it brings is known; where all is at rest,
+-- and a command that may change the state has nothing to do, it stays so; and a command that only
+-- looks, or sees no state, changes nothing, but one that makes a remote, which doesn't look.
 pub record RunsOn (asked : Command) (t : Told) (u w : View) : Type 0 where
-  pub changes : IsKnown (OpsBy asked t.left) t.holds u → Alters (OpsBy asked t.left) (MakesBy asked) u w
+  pub changes : IsKnown (OpsBy asked t.left) t.holds u
+      → Alters (OpsBy asked t.left) (MakesBy asked) u w
   pub runs : OverAll asked t u (λ held a. Runs a u w)
   pub rests : changes_state asked ≡ true → OverAll asked t u (λ held a. StaysAtRest a u w)
-  pub untouched : (only_looks asked ≡ true) ⊎ ((makes_remote asked ≡ false) × NotShown (shows u)) → IsUntouched u w
+  pub untouched : (only_looks asked ≡ true) ⊎ ((makes_remote asked ≡ false) × NotShown (shows u))
+      → IsUntouched u w
 
 -- so a command ends; where the input failed, nothing was done
 abbrev pub Closed : Holdings → Answer → Result (Unit {0}) CommandEnd → View → View → Type 0
 Closed held a (Ok t) u w = (a.refusal ≡ None) × Completes held a u w
-Closed held a (Err (command.Refused refusal)) u w = (a.refusal ≡ Some refusal) × Completes held a u w
+Closed held a (Err (command.Refused refusal)) u w =
+    (a.refusal ≡ Some refusal) × Completes held a u w
 Closed held a (Err command.Fault) u w = Unit {0}
 Closed held a (Err command.RemoteFault) u w = Stands a u w
 Closed held a (Err command.InputFault) u w = w ≡ u
 Closed held a (Err command.NoMemory) u w = Stands a u w
 
--- a command that reads the input reads it to its end, unless that was too long, failed, or the run came to no end
+-- a command that reads the input reads it to its end, unless that was too long, failed, or the run
+-- came to no end
 abbrev pub TakenBy : Result (Unit {0}) CommandEnd → Option (List ℕ) → Option (List ℕ) → Type 0
 TakenBy (Ok t) old new = IsDrained old new
 TakenBy (Err (command.Refused refusal)) old new = IsDrained old new
@@ -147,7 +166,8 @@ TakenBy (Err command.RemoteFault) old new = Unit {0}
 TakenBy (Err command.InputFault) old new = Unit {0}
 TakenBy (Err command.NoMemory) old new = Unit {0}
 
-pub record Takes (asked : Command) (result : Result (Unit {0}) CommandEnd) (old new : Option (List ℕ)) : Type 0 where
+pub record Takes (asked : Command) (result : Result (Unit {0}) CommandEnd)
+    (old new : Option (List ℕ)) : Type 0 where
   pub read : reads_input asked ≡ true → TakenBy result old new
   pub left : reads_input asked ≡ false → new ≡ old
 
@@ -161,11 +181,13 @@ IsClosedBy (Err command.InputFault) = ⊥
 IsClosedBy (Err command.NoMemory) = ⊥
 
 -- and where it was done, the remote that it was to make is there
-abbrev pub MadeWhere : Result (Unit {0}) CommandEnd → Command → Option (List ℕ) → View → View → Type 0
+abbrev pub MadeWhere : Result (Unit {0}) CommandEnd → Command → Option (List ℕ) → View
+    → View → Type 0
 MadeWhere (Ok t) asked left u w = MadeBy asked left u w
 MadeWhere (Err e) asked left u w = Unit {0}
 
-pub record EndedOn (asked : Command) (t : Told) (result : Result (Unit {0}) CommandEnd) (u w : View) : Type 0 where
+pub record EndedOn (asked : Command) (t : Told) (result : Result (Unit {0}) CommandEnd)
+    (u w : View) : Type 0 where
   pub ended : OverAll asked t u (λ held a. Closed held a result u w)
   pub given : HasAnswer asked t u (IsClosedBy result)
   pub made : MadeWhere result asked t.left u w

@@ -6,7 +6,8 @@ use Rattle.fl_words.specs.declared.command.Command.{Command}
 use Rattle.fl_words.specs.declared.command.Command.TheVariants.{Change as Changing, List as Listed, Show as Showing, Filter as Filtering, Batch, Fsck, Export as Exporting, Exercise as Exercising}
 use Rattle.fl_change.specs.Answer.{Answer}
 
--- 0 done, 1 refused, 2 no command, 3 a fault of the host, 4 a fault of the remotes, 5 a fault of the input, 6 out of memory
+-- 0 done, 1 refused, 2 no command, 3 a fault of the host, 4 a fault of the remotes, 5 a fault of
+-- the input, 6 out of memory
 abbrev pub IsStatus : ℕ → Type 0
 IsStatus n = n ≤ 6
 
@@ -57,7 +58,8 @@ reads_input Fsck = false
 reads_input (Exporting remote name) = true
 reads_input (Exercising apps) = false
 
--- what it does may depend on what remotes hold: those of the run, or those that are made for an exercise
+-- what it does may depend on what remotes hold: those of the run, or those that are made for an
+-- exercise
 abbrev pub asks_remotes : Command → Bool
 asks_remotes (Changing change) = true
 asks_remotes (Listed listing) = false
@@ -92,11 +94,15 @@ status_by (Some refusal) = status_of refusal
 abbrev pub status_at : Answer → ℕ
 status_at a = status_by a.refusal
 
--- a command ends with these; 4 comes only for one that may change the state, and 5 for one that reads the input
+-- a command ends with these; 4 comes only for one that may change the state, and 5 for one that
+-- reads the input
 abbrev pub IsOfCommand : Command → ℕ → Type 0
-IsOfCommand command n = (n ≡ 0) ⊎ ((n ≡ 1) ⊎ ((n ≡ 3) ⊎ (((n ≡ 4) × (changes_state command ≡ true)) ⊎ (((n ≡ 5) × (reads_input command ≡ true)) ⊎ (n ≡ 6)))))
+IsOfCommand command n = (n ≡ 0)
+    ⊎ ((n ≡ 1) ⊎ ((n ≡ 3) ⊎ (((n ≡ 4) × (changes_state command ≡ true))
+    ⊎ (((n ≡ 5) × (reads_input command ≡ true)) ⊎ (n ≡ 6)))))
 
--- Whatever the host: 2 comes exactly for words that are no command, where nothing fails and memory doesn't run out.
+-- Whatever the host: 2 comes exactly for words that are no command, where nothing fails and memory
+-- doesn't run out.
 abbrev pub IsOfWords : Option Command → ℕ → Type 0
 IsOfWords None status = (status ≡ 2) ⊎ ((status ≡ 3) ⊎ (status ≡ 6))
 IsOfWords (Some command) status = IsOfCommand command status

@@ -31,7 +31,8 @@ end_of_filter filter.NoMemory = NoMemory
 -- What was read of a recording: its first bad line is refused.
 abbrev pub IsRecording : Result Recording ℕ → Result Recording RunEnd → Type 0
 IsRecording read (Ok recording) = read ≡ Ok recording
-IsRecording read (Err (Refused refusal)) = (line : ℕ) × (read ≡ Err line) × (refusal ≡ BadRecord line)
+IsRecording read (Err (Refused refusal)) =
+    (line : ℕ) × (read ≡ Err line) × (refusal ≡ BadRecord line)
 IsRecording read (Err Fault) = ⊥
 IsRecording read (Err RemoteFault) = ⊥
 IsRecording read (Err NoMemory) = Unit {0}
@@ -40,10 +41,13 @@ IsRecording read (Err NoMemory) = Unit {0}
 
 -- this is found over what the image gives, or over every result
 abbrev pub IsFound : {A : Type 0} → (Result World Elements → A) → A → Disk → Type 0
-IsFound by found disk = ((shown : Result World Elements) × GivesWorld disk shown × (by shown ≡ found)) ⊎ ((shown : Result World Elements) → by shown ≡ found)
+IsFound by found disk = ((shown : Result World Elements) × GivesWorld disk shown
+    × (by shown ≡ found)) ⊎ ((shown : Result World Elements) → by shown ≡ found)
 
--- What was found, or what speaks against it. Nothing is said where the host failed, or where there was no memory.
-abbrev pub Finds : {A : Type 0} → (Result World Elements → Result A Refusal) → Result A RunEnd → Disk → Type 0
+-- What was found, or what speaks against it. Nothing is said where the host failed, or where there
+-- was no memory.
+abbrev pub Finds : {A : Type 0} → (Result World Elements → Result A Refusal) → Result A RunEnd
+    → Disk → Type 0
 Finds by (Ok found) disk = IsFound by (Ok found) disk
 Finds by (Err (Refused refusal)) disk = IsFound by (Err refusal) disk
 Finds by (Err Fault) disk = Unit {0}
@@ -56,6 +60,8 @@ pub record LooksBy (by : Result World Elements → Answer) (u w : View) : Type 0
   pub untouched : IsUntouched u w
 
 -- So it ended for each answer that counts, and there is one where the whole answer was given.
-pub record LookedBy (by : Result World Elements → Answer) (result : Result (Unit {0}) RunEnd) (u w : View) : Type 0 where
-  pub ended : (shown : Result World Elements) → IsOver by (shows u) shown → EndsAnyway (by shown) result u w
+pub record LookedBy (by : Result World Elements → Answer) (result : Result (Unit {0}) RunEnd)
+    (u w : View) : Type 0 where
+  pub ended : (shown : Result World Elements) → IsOver by (shows u) shown
+      → EndsAnyway (by shown) result u w
   pub given : IsGivenBy result → (shown : Result World Elements) × IsOver by (shows u) shown

@@ -56,7 +56,8 @@ pub(crate) fn run_exercise<T: Threads + Sync, H: Host, I: Source, G: Gate + Sync
     gate: &G,
 ) -> u8
     ensures status { IsOfCommand (Exercising apps) result }
-    ensures runs { IsExercised apps (I.left input.old) result (H.moments host.old) (H.moments host.new) }
+    ensures runs { IsExercised apps (I.left input.old) result (H.moments host.old)
+        (H.moments host.new) }
     ensures fault_has_cause { IsCaused (result ≡ 3) (H.moments host.old)
         (HasCauses (Some (Exercising apps))) (H.faults host.old) (H.faults host.new) }
     ensures exports { (holds : Option Holdings) → result ≡ 0
@@ -74,8 +75,9 @@ pub(crate) fn run_exercise<T: Threads + Sync, H: Host, I: Source, G: Gate + Sync
     }
 }
 
-/// Opens the installation and makes the changes of an exercise, one after another up to the first refusal. Where none is refused,
-/// its last line is printed, and the exported files are brought in step with the state.
+/// Opens the installation and makes the changes of an exercise, one after another up to the first
+/// refusal. Where none is refused, its last line is printed, and the exported files are brought in
+/// step with the state.
 pub(crate) fn exercise<T: Threads + Sync, H: Host, R: Remotes>(
     rt: &T,
     alloc: Global,
@@ -86,13 +88,15 @@ pub(crate) fn exercise<T: Threads + Sync, H: Host, R: Remotes>(
     ensures any_moment { Goes (H.moments host.old) (H.moments host.new)
         (RunsOver (R.holds remotes.old) (MayDo (exercise_changes apps.now)) (exercising apps.now))
         (EndedOver (R.holds remotes.old) (exercising apps.now) result) }
-    ensures exports { OnOk result (AreToldFor (MayDo (exercise_changes apps.now)) (R.holds remotes.old)
+    ensures exports { OnOk result
+        (AreToldFor (MayDo (exercise_changes apps.now)) (R.holds remotes.old)
         → AtEnd (λ u w. IsSound u → IsInStep (R.holds remotes.old) w)
         (H.moments host.old) (H.moments host.new)) }
     ensures fault_has_cause { IsCaused (AreToldFor (MayDo (exercise_changes apps.now)) (R.holds remotes.old)
         × IsErrOf result RunEnd.Fault) (H.moments host.old) IsReady
         (H.faults host.old) (H.faults host.new) }
-    ensures remotes { AsksRemotes (MayDo (exercise_changes apps.now)) (IsErrOf result RunEnd.RemoteFault)
+    ensures remotes { AsksRemotes (MayDo (exercise_changes apps.now))
+        (IsErrOf result RunEnd.RemoteFault)
         (R.holds remotes.old) (R.holds remotes.new) (R.faults remotes.old) (R.faults remotes.new) }
 {
     let opened = open(alloc, host)?;

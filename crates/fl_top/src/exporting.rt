@@ -18,8 +18,8 @@ use fp_name::{RefName, RemoteName};
 use std::alloc::Global;
 use std::thread::Threads;
 
-/// Makes the commit of the tree that the input describes, offers it under the ref in the store of the remote, and prints its
-/// line. The installation isn't opened.
+/// Makes the commit of the tree that the input describes, offers it under the ref in the store of
+/// the remote, and prints its line. The installation isn't opened.
 pub(crate) fn export<T: Threads + Sync, H: Host, I: Source>(
     rt: &T,
     alloc: Global,
@@ -29,8 +29,10 @@ pub(crate) fn export<T: Threads + Sync, H: Host, I: Source>(
     name: &RefName,
 ) -> Result<(), CommandEnd>
     ensures any_moment { (holds : Option Holdings) → Goes (H.moments host.old) (H.moments host.new)
-        (RunsOn (Exporting remote.now name.now) (told (I.left input.old) holds (H.moments host.old)))
-        (EndedOn (Exporting remote.now name.now) (told (I.left input.old) holds (H.moments host.old)) result) }
+        (RunsOn (Exporting remote.now name.now)
+        (told (I.left input.old) holds (H.moments host.old)))
+        (EndedOn (Exporting remote.now name.now)
+        (told (I.left input.old) holds (H.moments host.old)) result) }
     ensures fault_has_cause { IsCaused (IsErrOf result CommandEnd.Fault) (H.moments host.old)
         (CanMake remote.now name.now) (H.faults host.old) (H.faults host.new) }
     ensures no_remote_fault { IsErrOf result CommandEnd.RemoteFault → ⊥ }

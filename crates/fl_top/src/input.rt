@@ -33,8 +33,8 @@ const MOST_INPUT: usize = 64 * 1024 * 1024;
 /// The bytes that are asked for at once.
 const PIECE: usize = 64 * 1024;
 
-/// All bytes that are left, at most 64 MiB. `TooLong` comes only where there are more, and `Fault` only where the source
-/// failed.
+/// All bytes that are left, at most 64 MiB. `TooLong` comes only where there are more, and `Fault`
+/// only where the source failed.
 pub(crate) fn read_input<I: Source>(alloc: Global, input: &mut I) -> Result<Blob, InputEnd>
     ensures ok { IfOk result (IsWhole (I.left input.old)) }
     ensures taken { IfOk result (λ bytes. IsTaken (I.left input.old) (I.left input.new)) }

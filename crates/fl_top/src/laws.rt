@@ -23,8 +23,8 @@ ghost use Rattle.fl_change.specs.World.{World};
 ghost use Rattle.fl_top.specs.History.{Stretch, History, Reopens, IsReached};
 ghost use Rattle.fl_top.specs.Runs.{Told, RunsBy, RanBy};
 
-/// The answers to words that count are the same. There is one over a view that is sound; and to words that are no command
-/// there is one over each image.
+/// The answers to words that count are the same. There is one over a view that is sound; and to
+/// words that are no command there is one over each image.
 pub fn one_answer_counts()
     ensures same { (words : List (List ℕ)) (given : Given) (disk : Disk)
         (shown other : Result World Elements)
@@ -37,9 +37,10 @@ pub fn one_answer_counts()
         → (shown : Result World Elements) × IsOver (answer words given) disk shown }
 {}
 
-/// Runs join. Whatever list of commands runs, one after another, with a stop at any moment between or within them: where
-/// every stop at the start would have left a sound installation, every stop at the end does; and what it shows is reached
-/// from a state of the start by a prefix of each run's operations that holds those that the run acknowledged.
+/// Runs join. Whatever list of commands runs, one after another, with a stop at any moment between
+/// or within them: where every stop at the start would have left a sound installation, every stop
+/// at the end does; and what it shows is reached from a state of the start by a prefix of each
+/// run's operations that holds those that the run acknowledged.
 pub fn runs_join()
     ensures sound { (u w : View) (stretches : List Stretch) → IsSound u → History u stretches w →
         IsSound w }
@@ -47,13 +48,15 @@ pub fn runs_join()
         (disk : Disk) → Leaves w disk → (t : State) → Shows disk t → IsReached u stretches disk t }
 {}
 
-/// That runs join is said of something: where every stop leaves what stands, what a stop leaves is opened again as what stood.
+/// That runs join is said of something: where every stop leaves what stands, what a stop leaves is
+/// opened again as what stood.
 pub fn settled_views_reopen()
     ensures as_it_stands { (v : View) → IsTree v → IsSettled v → Reopens v v }
 {}
 
-/// What is promised of exported files can be met: where the root stands alone nothing is exported, and nothing stands there. The
-/// files and links of a small application may stand just so; with a link of another application they don't.
+/// What is promised of exported files can be met: where the root stands alone nothing is exported,
+/// and nothing stands there. The files and links of a small application may stand just so; with a
+/// link of another application they don't.
 pub fn exports_can_stand()
     ensures bare { (holds : Option Holdings) (v : View) → IsTree v → IsSettled v
         → ((x : List ℕ) (up : Elements) → v.names (x ∷ up) ≡ absent) → IsInStep holds v }
@@ -61,8 +64,9 @@ pub fn exports_can_stand()
     ensures stale { ExportsAre (sample.exports sample.stable desktop_text) stale_disk → ⊥ }
 {}
 
-/// An update of all that was done leaves nothing to do: another one, over what it left and with the same remotes, has no operation
-/// and is not refused; at every moment no name has changed, each file keeps its mode and its bytes, and no new file has a byte.
+/// An update of all that was done leaves nothing to do: another one, over what it left and with the
+/// same remotes, has no operation and is not refused; at every moment no name has changed, each
+/// file keeps its mode and its bytes, and no new file has a byte.
 pub fn idle_updates_write_nothing()
     ensures answer { (words : List (List ℕ)) (first : Told) (given : Given) (held : Holdings)
         (u v : View) (shown : Result World Elements) → command_of words ≡ Some (Changing UpdateAll)

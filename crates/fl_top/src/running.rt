@@ -40,9 +40,10 @@ use par_digest::{Gate, NoGate};
 use std::alloc::{AllocError, Global};
 use std::thread::Threads;
 
-/// Runs the command of these words on the installation in the host, and prints what it answers there. The status is 0 where
-/// it was done, 1 where it was refused, 2 where the words are no command, 3 where the host failed, 4 where the remotes failed, 5
-/// where the input failed, 6 where there was no memory.
+/// Runs the command of these words on the installation in the host, and prints what it answers
+/// there. The status is 0 where it was done, 1 where it was refused, 2 where the words are no
+/// command, 3 where the host failed, 4 where the remotes failed, 5 where the input failed, 6 where
+/// there was no memory.
 pub fn run<H: Host, R: Remotes, I: Source>(
     rt: &(impl Threads + Sync),
     alloc: Global,
@@ -53,27 +54,32 @@ pub fn run<H: Host, R: Remotes, I: Source>(
 ) -> u8
     ensures status { IsStatus result }
     ensures words { IsOfWords (command_of (map string_bytes words.now)) result }
-    // Wherever the host stops: what was printed are the first pieces of the answer, and the installation is the one after a
-    // prefix of its operations that holds each acknowledged one. At the return what was printed, the status and the state are
-    // the answer's; every stop leaves the acknowledged operations. An exercise answers over remotes that are made for it.
-    ensures runs { IsRun (map string_bytes words.now) (I.left input.old) (R.holds remotes.old) result
+    // Wherever the host stops: what was printed are the first pieces of the answer, and the
+    // installation is the one after a prefix of its operations that holds each acknowledged one. At
+    // the return what was printed, the status and the state are the answer's; every stop leaves the
+    // acknowledged operations. An exercise answers over remotes that are made for it.
+    ensures runs { IsRun (map string_bytes words.now) (I.left input.old)
+        (R.holds remotes.old) result
         (H.moments host.old) (H.moments host.new) }
     ensures fault_has_cause { IsCaused (AreToldFor (AsksFor (command_of (map string_bytes words.now))
         (I.left input.old)) (R.holds remotes.old) × (result ≡ 3)) (H.moments host.old)
-        (HasCauses (command_of (map string_bytes words.now))) (H.faults host.old) (H.faults host.new) }
-    // Where a command that looks at each object of the store gave its whole answer, the store has a report, or no state is shown
-    // (so that this isn't said of nothing).
+        (HasCauses (command_of (map string_bytes words.now))) (H.faults host.old)
+        (H.faults host.new) }
+    // Where a command that looks at each object of the store gave its whole answer, the store has a
+    // report, or no state is shown (so that this isn't said of nothing).
     ensures found { Checks (command_of (map string_bytes words.now)) → IsAnswered result → AtEnd
         (λ u w. HasReport (shows u)) (H.moments host.old) (H.moments host.new) }
-    // Where a command that changes something was done, every stop leaves as the files and links at or below `exports` exactly those
-    // that the applications of its state export; and all is settled, where the remotes tell what they hold.
+    // Where a command that changes something was done, every stop leaves as the files and links at
+    // or below `exports` exactly those that the applications of its state export; and all is
+    // settled, where the remotes tell what they hold.
     ensures exports { IsChange (command_of (map string_bytes words.now)) → result ≡ 0
         → AreToldFor (AsksFor (command_of (map string_bytes words.now)) (I.left input.old))
         (R.holds remotes.old) → AtEnd (λ u w. IsSound u → IsInStep (R.holds remotes.old) w)
         (H.moments host.old) (H.moments host.new) }
-    // The remotes stay as they are. For an exercise, and where the command brings no commit, they aren't asked, and the status
-    // isn't 4; else it comes only where their count rose.
-    ensures remotes { AsksRemotes (AsksFor (command_of (map string_bytes words.now)) (I.left input.old))
+    // The remotes stay as they are. For an exercise, and where the command brings no commit, they
+    // aren't asked, and the status isn't 4; else it comes only where their count rose.
+    ensures remotes { AsksRemotes
+        (AsksFor (command_of (map string_bytes words.now)) (I.left input.old))
         (result ≡ 4) (R.holds remotes.old) (R.holds remotes.new)
         (R.faults remotes.old) (R.faults remotes.new) }
     // The input is read before anything is done.
@@ -86,7 +92,8 @@ pub fn run<H: Host, R: Remotes, I: Source>(
     run_gated(rt, alloc, words, input, host, remotes, &NoGate)
 }
 
-/// Runs the command of these words as `run` does, whatever the gate does. `fsck` hands the gate to each of its batches of objects.
+/// Runs the command of these words as `run` does, whatever the gate does. `fsck` hands the gate to
+/// each of its batches of objects.
 pub fn run_gated<H: Host, R: Remotes, I: Source, G: Gate + Sync>(
     rt: &(impl Threads + Sync),
     alloc: Global,
@@ -98,18 +105,21 @@ pub fn run_gated<H: Host, R: Remotes, I: Source, G: Gate + Sync>(
 ) -> u8
     ensures status { IsStatus result }
     ensures words { IsOfWords (command_of (map string_bytes words.now)) result }
-    ensures runs { IsRun (map string_bytes words.now) (I.left input.old) (R.holds remotes.old) result
+    ensures runs { IsRun (map string_bytes words.now) (I.left input.old)
+        (R.holds remotes.old) result
         (H.moments host.old) (H.moments host.new) }
     ensures fault_has_cause { IsCaused (AreToldFor (AsksFor (command_of (map string_bytes words.now))
         (I.left input.old)) (R.holds remotes.old) × (result ≡ 3)) (H.moments host.old)
-        (HasCauses (command_of (map string_bytes words.now))) (H.faults host.old) (H.faults host.new) }
+        (HasCauses (command_of (map string_bytes words.now))) (H.faults host.old)
+        (H.faults host.new) }
     ensures found { Checks (command_of (map string_bytes words.now)) → IsAnswered result → AtEnd
         (λ u w. HasReport (shows u)) (H.moments host.old) (H.moments host.new) }
     ensures exports { IsChange (command_of (map string_bytes words.now)) → result ≡ 0
         → AreToldFor (AsksFor (command_of (map string_bytes words.now)) (I.left input.old))
         (R.holds remotes.old) → AtEnd (λ u w. IsSound u → IsInStep (R.holds remotes.old) w)
         (H.moments host.old) (H.moments host.new) }
-    ensures remotes { AsksRemotes (AsksFor (command_of (map string_bytes words.now)) (I.left input.old))
+    ensures remotes { AsksRemotes
+        (AsksFor (command_of (map string_bytes words.now)) (I.left input.old))
         (result ≡ 4) (R.holds remotes.old) (R.holds remotes.new)
         (R.faults remotes.old) (R.faults remotes.new) }
     ensures input { result ≡ 5 → Rose (I.faults input.old) (I.faults input.new) × Unchanged
@@ -141,7 +151,8 @@ pub(crate) fn run_command<T: Threads + Sync, H: Host, R: Remotes, I: Source, G: 
     ensures status { IsOfCommand command result }
     ensures any_moment { Goes (H.moments host.old) (H.moments host.new)
         (RunsOn command (told (I.left input.old) (R.holds remotes.old) (H.moments host.old)))
-        (RanOn command (told (I.left input.old) (R.holds remotes.old) (H.moments host.old)) result) }
+        (RanOn command (told (I.left input.old) (R.holds remotes.old) (H.moments host.old))
+        result) }
     ensures fault_has_cause { IsCaused (AreToldFor (OpsBy command (I.left input.old))
         (R.holds remotes.old) × (result ≡ 3)) (H.moments host.old) (HasCauses (Some command))
         (H.faults host.old) (H.faults host.new) }
@@ -180,7 +191,8 @@ fn perform<T: Threads + Sync, H: Host, R: Remotes, I: Source, G: Gate + Sync>(
 ) -> Result<(), CommandEnd>
     ensures any_moment { Goes (H.moments host.old) (H.moments host.new)
         (RunsOn command (told (I.left input.old) (R.holds remotes.old) (H.moments host.old)))
-        (EndedOn command (told (I.left input.old) (R.holds remotes.old) (H.moments host.old)) result) }
+        (EndedOn command (told (I.left input.old) (R.holds remotes.old) (H.moments host.old))
+        result) }
     ensures fault_has_cause { IsCaused (AreToldFor (OpsBy command (I.left input.old))
         (R.holds remotes.old) × IsErrOf result CommandEnd.Fault) (H.moments host.old)
         (HasCauses (Some command)) (H.faults host.old) (H.faults host.new) }
@@ -245,7 +257,8 @@ fn filter<H: Host, I: Source>(
 ) -> Result<(), CommandEnd>
     ensures any_moment { (holds : Option Holdings) → Goes (H.moments host.old) (H.moments host.new)
         (RunsOn (Filtering source.now) (told (I.left input.old) holds (H.moments host.old)))
-        (EndedOn (Filtering source.now) (told (I.left input.old) holds (H.moments host.old)) result) }
+        (EndedOn (Filtering source.now) (told (I.left input.old) holds (H.moments host.old))
+        result) }
     ensures fault_has_cause { IsCounted (IsErrOf result CommandEnd.Fault)
         (H.moments host.old) (H.faults host.old) (H.faults host.new) }
     ensures no_remote_fault { IsErrOf result CommandEnd.RemoteFault → ⊥ }
@@ -269,7 +282,8 @@ fn batch<T: Threads + Sync, H: Host, R: Remotes, I: Source>(
 ) -> Result<(), CommandEnd>
     ensures any_moment { Goes (H.moments host.old) (H.moments host.new)
         (RunsOn Batch (told (I.left input.old) (R.holds remotes.old) (H.moments host.old)))
-        (EndedOn Batch (told (I.left input.old) (R.holds remotes.old) (H.moments host.old)) result) }
+        (EndedOn Batch (told (I.left input.old) (R.holds remotes.old) (H.moments host.old))
+        result) }
     ensures exports { OnOk result (AreToldFor (OpsBy Batch (I.left input.old))
         (R.holds remotes.old) → AtEnd (λ u w. IsSound u → IsInStep (R.holds remotes.old) w)
         (H.moments host.old) (H.moments host.new)) }
@@ -290,8 +304,8 @@ fn batch<T: Threads + Sync, H: Host, R: Remotes, I: Source>(
     Ok(make_changes(rt, alloc, host, remotes, changes.as_slice())?)
 }
 
-/// Opens the installation and makes the changes, one after another up to the first refusal. Where none is refused, the exported
-/// files are brought in step with the state after them.
+/// Opens the installation and makes the changes, one after another up to the first refusal. Where
+/// none is refused, the exported files are brought in step with the state after them.
 fn make_changes<T: Threads + Sync, H: Host, R: Remotes>(
     rt: &T,
     alloc: Global,

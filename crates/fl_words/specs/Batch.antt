@@ -14,7 +14,8 @@ use Rattle.fl_words.specs.declared.batch.BatchError.{BatchError}
 use Rattle.fl_words.specs.declared.batch.BatchError.TheVariants.{BadRecord, NoMemory}
 use Rattle.fl_words.specs.Forms.{command_of}
 
--- the words of a line: each space ends a word and begins another, so two side by side have an empty word between them
+-- the words of a line: each space ends a word and begins another, so two side by side have an empty
+-- word between them
 abbrev pub words_in : List ℕ → List (List ℕ)
 words_in line = slice_split (λ b. b == 32) line
 
@@ -35,8 +36,8 @@ abbrev pub changes_in : Option ℕ → List (List ℕ) → Result (List Change) 
 changes_in None lines = Ok (filter_map batch_change lines)
 changes_in (Some before) lines = Err (before + 1)
 
--- The changes that a batch asks for, one by each line, or the number of the first line that asks for none; the first line is
--- line 1. The last line may end without a newline.
+-- The changes that a batch asks for, one by each line, or the number of the first line that asks
+-- for none; the first line is line 1. The last line may end without a newline.
 unfoldable pub batch_of : List ℕ → Result (List Change) ℕ
 batch_of bytes = changes_in (position asks_none (lines_of bytes)) (lines_of bytes)
 

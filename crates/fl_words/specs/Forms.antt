@@ -1,7 +1,8 @@
--- The forms of words. A row says what stands at each place of a command line; P is the pattern of a pin, N the name of a remote
--- and U its URL, R a ref, A a ref of an application, I the ID of one, T the type string of a type of GVariant, O an option that
--- changes permissions, L an option of a launch, F a rule of the filter, and COUNT how many applications an exercise has. At some
--- places any number of words may stand.
+-- The forms of words. A row says what stands at each place of a command line; P is the pattern of a
+-- pin, N the name of a remote and U its URL, R a ref, A a ref of an application, I the ID of one, T
+-- the type string of a type of GVariant, O an option that changes permissions, L an option of a
+-- launch, F a rule of the filter, and COUNT how many applications an exercise has. At some places
+-- any number of words may stand.
 use Rattle.std.specs.Prelude.{ℕ, ◌+◌, ◌-◌, ◌&&◌, List, [], ◌∷◌, length, max, take, drop, slice_index_or, Bool, true, false, Option, Some, None, option_and_then, codes, if◌then◌else◌}
 use Rattle.std.specs.List.{find, list_all}
 use Rattle.std.specs.Option.{option_map, option_map_or, is_some}
@@ -28,7 +29,8 @@ use Rattle.fl_words.specs.Counts.{count_at, is_count_text}
 
 -- ---- places
 
--- what may stand at a place: this word alone, P, N, U, R, A, I, T or O, any number of O, of L or of F, `--from=` and A, or COUNT
+-- what may stand at a place: this word alone, P, N, U, R, A, I, T or O, any number of O, of L or of
+-- F, `--from=` and A, or COUNT
 pub data Place : Type 0 where
   literal : List ℕ → Place
   pattern : Place
@@ -100,7 +102,8 @@ forms =
     Pin ∷ Unpin ∷ RemoteAdd ∷ RemoteModify ∷ RemoteDelete
     ∷ Install ∷ UpdateAll ∷ UpdateOne ∷ Uninstall ∷ UninstallUnused ∷ Rollback
     ∷ Override ∷ OverrideApp ∷ OverrideReset ∷ OverrideResetApp
-    ∷ ListRefs ∷ ListRemotes ∷ ListPins ∷ ListExports ∷ Info ∷ Launch ∷ OverrideShow ∷ OverrideShowApp
+    ∷ ListRefs ∷ ListRemotes ∷ ListPins ∷ ListExports ∷ Info ∷ Launch ∷ OverrideShow
+    ∷ OverrideShowApp
     ∷ Filter ∷ FilterFrom ∷ FilterSystemFrom ∷ Batch ∷ Fsck ∷ Export ∷ Exercise
     ∷ ShowCommit ∷ ShowDirTree ∷ ShowDirMeta ∷ ShowValue ∷ []
 
@@ -165,7 +168,9 @@ made Uninstall words = Changing (changes.Uninstall (ref_at (word_at 1 words)))
 made UninstallUnused words = Changing changes.UninstallUnused
 made Rollback words = Changing (changes.Rollback (ref_at (word_at 1 words)))
 made Override words = Changing (changes.OverrideChange (codes "global") (drop 1 words))
-made OverrideApp words = Changing (changes.OverrideChange (word_at (last_place words) words) (drop 1 (take (last_place words) words)))
+made OverrideApp words = Changing
+    (changes.OverrideChange (word_at (last_place words) words)
+    (drop 1 (take (last_place words) words)))
 made OverrideReset words = Changing (changes.OverrideReset (codes "global"))
 made OverrideResetApp words = Changing (changes.OverrideReset (word_at 2 words))
 made ListRefs words = Listed listings.Refs
@@ -190,8 +195,9 @@ made ShowValue words = Showing (things.Value (word_at 2 words))
 
 -- ---- words in a form
 
--- The places that are left once a word has one. It takes the first place where it may stand; a place of any number of words is
--- passed over by a word that may not stand there, and stays where one may.
+-- The places that are left once a word has one. It takes the first place where it may stand; a
+-- place of any number of words is passed over by a word that may not stand there, and stays where
+-- one may.
 abbrev pub after : List Place → List ℕ → Option (List Place)
 after [] text = None
 after (place ∷ places) text =
@@ -201,7 +207,8 @@ after (place ∷ places) text =
 -- the places that are left once each of the words has one
 abbrev pub left_after : List Place → List (List ℕ) → Option (List Place)
 left_after places [] = Some places
-left_after places (text ∷ words) = option_and_then (λ left. left_after left words) (after places text)
+left_after places (text ∷ words) =
+    option_and_then (λ left. left_after left words) (after places text)
 
 -- each word has its place, and no place is left that needs one
 abbrev pub reads : List (List ℕ) → Form → Bool
@@ -222,6 +229,7 @@ abbrev pub most : List (List ℕ) → List Form → ℕ
 most words [] = 0
 most words (form ∷ more) = max (reach (slots_of form) words) (most words more)
 
--- The most words that begin one form. So it is the least i such that the first i + 1 words begin none, or the number of words.
+-- The most words that begin one form. So it is the least i such that the first i + 1 words begin
+-- none, or the number of words.
 abbrev pub bad_index : List (List ℕ) → ℕ
 bad_index words = most words forms

@@ -24,7 +24,8 @@ IsMisplaced place text NoMemory = Unit {0}
 
 -- after the first word stand no name and URL
 abbrev pub IsRemoteMisplaced : List (List ℕ) → WordsError → Type 0
-IsRemoteMisplaced words (BadWords index) = (fits remote (word_at 1 words) ≡ false) ⊎ (fits url (word_at 2 words) ≡ false)
+IsRemoteMisplaced words (BadWords index) =
+    (fits remote (word_at 1 words) ≡ false) ⊎ (fits url (word_at 2 words) ≡ false)
 IsRemoteMisplaced words NoMemory = Unit {0}
 
 -- it was read, or is bad

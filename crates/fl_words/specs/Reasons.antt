@@ -1,4 +1,5 @@
--- What is said of words that are of none of some forms: what is wrong with them, and how the forms are written that they begin.
+-- What is said of words that are of none of some forms: what is wrong with them, and how the forms
+-- are written that they begin.
 use Rattle.std.specs.Prelude.{ℕ, ◌-◌, List, [], ◌∷◌, ◌++◌, take, map, slice_get, slice_index_or, Bool, Option, Some, None, Result, Ok, Err, codes, decimal, flat_map, option_and_then, if◌then◌else◌}
 use Rattle.std.specs.Option.{option_or, is_some}
 use Rattle.std.specs.Str.Lossy.{utf8_lossy}
@@ -36,7 +37,8 @@ named_place place = 32 ∷ place_name place
 abbrev pub usage : List ℕ → Form → List ℕ
 usage program form = line (codes "usage:" ++ (program ++ flat_map named_place (slots_of form)))
 
--- the places of the form that are left once each of this number of words, from the first on, has one
+-- the places of the form that are left once each of this number of words, from the first on, has
+-- one
 abbrev pub places_left : List (List ℕ) → ℕ → Form → Option (List Place)
 places_left words count form = left_after (slots_of form) (take count words)
 
@@ -53,14 +55,17 @@ usages program words count fs = flat_map (usage_begun program words count) fs
 
 -- ---- what is wrong
 
--- the first place of a form that is left for the word at an index, where the words before it begin the form
+-- the first place of a form that is left for the word at an index, where the words before it begin
+-- the form
 abbrev pub place_begun : List (List ℕ) → ℕ → Form → Option Place
-place_begun words index form = option_and_then (λ left. slice_get left 0) (places_left words index form)
+place_begun words index form =
+    option_and_then (λ left. slice_get left 0) (places_left words index form)
 
 -- the first such place of some forms
 abbrev pub place_wanted : List (List ℕ) → ℕ → List Form → Option Place
 place_wanted words index [] = None
-place_wanted words index (form ∷ fs) = option_or (place_begun words index form) (place_wanted words index fs)
+place_wanted words index (form ∷ fs) =
+    option_or (place_begun words index form) (place_wanted words index fs)
 
 -- what a word is that may not stand at a place, or that has none
 abbrev pub fault_at : Option Place → List ℕ
@@ -85,15 +90,18 @@ abbrev pub fault_text : Option (List ℕ) → Option Place → List ℕ
 fault_text None place = codes "a word is missing"
 fault_text (Some word) place = codes "'" ++ (escaped word ++ (codes "' " ++ fault_at place))
 
--- What is wrong at the first word with which the words can't go on to be of one of the forms, or after the last word where they
--- can. Then the usage of the forms that the words before it begin.
+-- What is wrong at the first word with which the words can't go on to be of one of the forms, or
+-- after the last word where they can. Then the usage of the forms that the words before it begin.
 abbrev pub why_at : ℕ → List ℕ → List Form → List (List ℕ) → List ℕ
-why_at index program fs words = line (fault_text (slice_get words index) (place_wanted words index fs)) ++ usages program words index fs
+why_at index program fs words = line
+    (fault_text (slice_get words index) (place_wanted words index fs))
+    ++ usages program words index fs
 
 abbrev pub why : List ℕ → List Form → List (List ℕ) → List ℕ
 why program fs words = why_at (most words fs) program fs words
 
--- why the words of a command line are no command; the word that is blamed stands at the bad index of the refusal
+-- why the words of a command line are no command; the word that is blamed stands at the bad index
+-- of the refusal
 abbrev pub reason_text : List (List ℕ) → List ℕ
 reason_text words = codes "fpk: " ++ why (codes " fpk") forms words
 
@@ -111,11 +119,13 @@ abbrev pub words_shown : List ℕ → List (List ℕ)
 words_shown line = map utf8_lossy (words_in line)
 
 abbrev pub line_reason : ℕ → List ℕ → List ℕ
-line_reason number line = codes "fpk: line " ++ (decimal number ++ (codes ": " ++ why [] change_forms (words_shown line)))
+line_reason number line =
+    codes "fpk: line " ++ (decimal number ++ (codes ": " ++ why [] change_forms (words_shown line)))
 
 abbrev pub batch_reason_by : Result (List Change) ℕ → List (List ℕ) → Option (List ℕ)
 batch_reason_by (Ok changes) lines = None
-batch_reason_by (Err number) lines = Some (line_reason number (slice_index_or lines (number - 1) []))
+batch_reason_by (Err number) lines =
+    Some (line_reason number (slice_index_or lines (number - 1) []))
 
 -- why the first line that asks for no change asks for none, where there is one
 abbrev pub batch_reason_text : List ℕ → Option (List ℕ)

@@ -43,7 +43,8 @@ words_of (Changing (UpdateOne name)) = codes "update" ∷ ref_text name ∷ []
 words_of (Changing (Uninstall name)) = codes "uninstall" ∷ ref_text name ∷ []
 words_of (Changing UninstallUnused) = codes "uninstall" ∷ codes "--unused" ∷ []
 words_of (Changing (Rollback name)) = codes "rollback" ∷ ref_text name ∷ []
-words_of (Changing (OverrideChange name options)) = codes "override" ∷ (options ++ override_word name)
+words_of (Changing (OverrideChange name options)) =
+    codes "override" ∷ (options ++ override_word name)
 words_of (Changing (OverrideReset name)) = codes "override" ∷ codes "--reset" ∷ override_word name
 words_of (Listed Refs) = codes "list" ∷ []
 words_of (Listed Remotes) = codes "list" ∷ codes "--remotes" ∷ []

@@ -26,8 +26,8 @@ impl Model for AppCount {
 }
 
 impl AppCount {
-    /// The number that a word is in decimal. `Bad` comes exactly where it is none from 1 to `MOST_APPS`, or has a leading
-    /// zero or a sign.
+    /// The number that a word is in decimal. `Bad` comes exactly where it is none from 1 to
+    /// `MOST_APPS`, or has a leading zero or a sign.
     pub fn parse(alloc: Global, text: &str) -> Result<AppCount, NameError>
         ensures ok { IfOk result (λ count. count ≡ count_at text.now) }
         ensures good { OnOk result (is_count_text text.now ≡ true) }

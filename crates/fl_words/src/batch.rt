@@ -39,7 +39,8 @@ impl From<AllocError> for BatchError {
     }
 }
 
-/// The changes that a batch asks for, one by each line. `BadRecord` comes exactly where a line asks for none.
+/// The changes that a batch asks for, one by each line. `BadRecord` comes exactly where a line asks
+/// for none.
 pub fn read_batch(alloc: Global, bytes: &[u8]) -> Result<Items<Change>, BatchError>
     ensures ok { IfOk result (λ changes. batch_of bytes.now ≡ Ok changes) }
     ensures bad { IfErr result (IsBadBatch bytes.now) }

@@ -11,8 +11,8 @@ use fp_base::Text;
 use fp_keyfile::first_line;
 use std::alloc::{AllocError, Global};
 
-/// Why the first line of a batch that asks for no change asks for none, in lines that end with a newline; `None` where each
-/// line asks for one. The number is that of `BadRecord`.
+/// Why the first line of a batch that asks for no change asks for none, in lines that end with a
+/// newline; `None` where each line asks for one. The number is that of `BadRecord`.
 pub fn batch_reason(alloc: Global, bytes: &[u8]) -> Result<Option<Text>, AllocError>
     ensures { IfOk result (λ reason. reason ≡ batch_reason_text bytes.now) }
 {

@@ -22,21 +22,24 @@ pub enum Command {
     List(Listing),
     /// Prints what the input says.
     Show(Shown),
-    /// `filter`: forwards the messages of a bus, between the input and what is printed, that a policy lets through.
+    /// `filter`: forwards the messages of a bus, between the input and what is printed, that a
+    /// policy lets through.
     Filter(PolicySource),
     /// `batch`: does the changes that the lines of the input ask for.
     Batch,
     /// `fsck`: looks at each object of the store, and prints what is wrong there.
     Fsck,
-    /// `export N REF`: makes the commit of the tree that the input describes, and offers it under the ref in a store that serves as
-    /// a remote.
+    /// `export N REF`: makes the commit of the tree that the input describes, and offers it under
+    /// the ref in a store that serves as a remote.
     Export { remote: RemoteName, name: RefName },
-    /// `exercise COUNT`: does the changes of an exercise of this number of applications, over remotes that are made for it.
+    /// `exercise COUNT`: does the changes of an exercise of this number of applications, over
+    /// remotes that are made for it.
     Exercise(AppCount),
 }
 
 impl Command {
-    /// Whether it may change what stands in the installation's folder. What only lists or shows never does.
+    /// Whether it may change what stands in the installation's folder. What only lists or shows
+    /// never does.
     pub fn changes(&self) -> bool
         ensures { result ≡ may_change self.now }
     {
@@ -75,7 +78,8 @@ pub enum Change {
     UninstallUnused,
     /// `rollback REF`: puts a ref back to the commit that it was at before.
     Rollback(RefName),
-    /// `override OPTION..` or `override OPTION.. ID`: changes an override by options, which are as the words were.
+    /// `override OPTION..` or `override OPTION.. ID`: changes an override by options, which are as
+    /// the words were.
     OverrideChange {
         name: OverrideName,
         options: Items<Text>,
@@ -99,7 +103,8 @@ pub enum Listing {
     Exports,
     /// `info REF`: what is known of a deployed ref.
     Info(RefName),
-    /// `launch APP LAUNCHOPTION..`: what an application is launched with, by options, which are as the words were.
+    /// `launch APP LAUNCHOPTION..`: what an application is launched with, by options, which are as
+    /// the words were.
     Launch { name: RefName, options: Items<Text> },
     /// `override --show` or `override --show ID`: an override. The name is `global` or the ID.
     OverrideShow { name: Text },
@@ -132,8 +137,8 @@ pub enum PolicySource {
 /// Why words weren't read as a command.
 #[derive(Clone, Copy, Debug, PartialEq, Eq)]
 pub enum WordsError {
-    /// The words are no command. The index is that of the first word with which they can't go on to be one, or their
-    /// number where they could go on.
+    /// The words are no command. The index is that of the first word with which they can't go on to
+    /// be one, or their number where they could go on.
     BadWords { index: u64 },
     NoMemory,
 }

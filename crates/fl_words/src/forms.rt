@@ -1,4 +1,5 @@
-//! The forms of words: what stands at each place of a command line, and the command that it asks for.
+//! The forms of words: what stands at each place of a command line, and the command that it asks
+//! for.
 ghost use Rattle.std.specs.Prelude.{◌≡◌, IfOk, IfErr, map, string_bytes};
 ghost use Rattle.fl_words.specs.Forms.{place_of, repeats as may_repeat, forms, slots_of, made};
 ghost use Rattle.fl_words.specs.Reading.{IsMisfit};

@@ -16,8 +16,8 @@ pub fn words_read_back()
         (words ≡ words_of c) × (is_command c ≡ true) }
 {}
 
-/// The bad index is the least i such that the first i + 1 words begin no command, or the number of words where each
-/// beginning of them begins one.
+/// The bad index is the least i such that the first i + 1 words begin no command, or the number of
+/// words where each beginning of them begins one.
 pub fn bad_index_is_least()
     ensures before { (words : List (List ℕ)) (i : ℕ) → i < bad_index words → Begins
         (take (i + 1) words) }
@@ -26,7 +26,8 @@ pub fn bad_index_is_least()
     ensures within { (words : List (List ℕ)) → bad_index words ≤ length words }
 {}
 
-/// A form's usage is told exactly where the words before the wrong one can go on to be words of the form.
+/// A form's usage is told exactly where the words before the wrong one can go on to be words of the
+/// form.
 pub fn usage_is_of_forms_begun()
     ensures told { (words : List (List ℕ)) (n : ℕ) (form : Form) → begins words n form ≡ true →
         (more : List (List ℕ)) × (reads (take n words ++ more) form ≡ true) }

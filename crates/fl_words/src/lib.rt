@@ -1,4 +1,5 @@
-//! The words of a command line, read as a command, and the commands of a batch; and why other words are none.
+//! The words of a command line, read as a command, and the commands of a batch; and why other words
+//! are none.
 #![tactic(auto)]
 
 mod app_count;

@@ -7,7 +7,8 @@ use fp_name::AppId;
 use std::alloc::{AllocError, Global};
 use std::marker::Model;
 
-/// The name of an override, which contracts see as its bytes: `global`, or the ID of an application.
+/// The name of an override, which contracts see as its bytes: `global`, or the ID of an
+/// application.
 #[derive(Drop)]
 pub struct OverrideName {
     text: Text,

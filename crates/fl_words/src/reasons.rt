@@ -10,8 +10,9 @@ use fl_lines::escape;
 use fp_base::Text;
 use std::alloc::{AllocError, Global};
 
-/// Why words are no command, in lines that end with a newline. First what is wrong: with the word at the index of
-/// `BadWords`, or that one is missing there. Then how the commands are written that the words before it begin.
+/// Why words are no command, in lines that end with a newline. First what is wrong: with the word
+/// at the index of `BadWords`, or that one is missing there. Then how the commands are written that
+/// the words before it begin.
 pub fn reason(alloc: Global, words: &[String]) -> Result<Text, AllocError>
     ensures { IfOk result (λ t. t ≡ reason_text (map string_bytes words.now)) }
 {
@@ -20,7 +21,8 @@ pub fn reason(alloc: Global, words: &[String]) -> Result<Text, AllocError>
     Ok(Text::from_string(text))
 }
 
-/// Puts after a text why words are of none of the forms. The program is what stands before a form in its usage.
+/// Puts after a text why words are of none of the forms. The program is what stands before a form
+/// in its usage.
 pub(crate) fn push_reason(
     alloc: Global,
     text: &mut String,
@@ -67,7 +69,8 @@ fn push_word(alloc: Global, text: &mut String, word: &str, fault: &str) -> Resul
     write!(text, "'{word}' {fault}\n")
 }
 
-/// What a word at an index is, by the first form that has a place there and that the words before it begin.
+/// What a word at an index is, by the first form that has a place there and that the words before
+/// it begin.
 fn fault_in(
     alloc: Global,
     forms: &[Form],
@@ -86,7 +89,8 @@ fn fault_in(
     Ok("is one word too many")
 }
 
-/// What stands first of the places of a form that are left for the word at an index, where the words before it begin the form.
+/// What stands first of the places of a form that are left for the word at an index, where the
+/// words before it begin the form.
 fn slot_begun(
     alloc: Global,
     form: Form,
@@ -103,7 +107,8 @@ fn slot_begun(
     }
 }
 
-/// The places of a form that are left once each of this number of words, from the first on, has one.
+/// The places of a form that are left once each of this number of words, from the first on, has
+/// one.
 fn places_left(
     alloc: Global,
     form: Form,

@@ -29,7 +29,8 @@ impl Model for ValueType {
 }
 
 impl ValueType {
-    /// The type that a type string stands for. `Bad` comes exactly where it is not one type, nested at most 64 deep.
+    /// The type that a type string stands for. `Bad` comes exactly where it is not one type, nested
+    /// at most 64 deep.
     pub fn parse(alloc: Global, text: &[u8]) -> Result<ValueType, NameError>
         ensures ok { IfOk result (λ t. t ≡ text.now) }
         ensures good { OnOk result (is_type_text text.now ≡ true) }

@@ -200,7 +200,8 @@ fn add_text(alloc: Global, texts: &mut Vec<Text>, text: &str) -> Result<(), Allo
     Ok(())
 }
 
-/// The change of an application's override, whose ID is the last word, by the options between it and the first word.
+/// The change of an application's override, whose ID is the last word, by the options between it
+/// and the first word.
 pub(crate) fn app_override(alloc: Global, words: &[String]) -> Result<Change, WordsError>
     ensures ok { IfOk result (λ change. change ≡ OverrideChange
         (text_at (last_place (map string_bytes words.now)) (map string_bytes words.now))
@@ -235,7 +236,8 @@ pub(crate) fn count_at(
 ) -> Result<AppCount, WordsError>
     ensures ok { IfOk result (λ count. count ≡ count_of_text
         (text_at place (map string_bytes words.now))) }
-    ensures bad { IfErr result (IsMisplaced app_count (text_at place (map string_bytes words.now))) }
+    ensures bad { IfErr result
+        (IsMisplaced app_count (text_at place (map string_bytes words.now))) }
 {
     placed(AppCount::parse(alloc, word_at(words, place)))
 }

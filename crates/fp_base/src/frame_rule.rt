@@ -1,7 +1,7 @@
 //! The rules of D-Bus messages.
 
-/// A rule of a message, in the order in which the rules are tried: those of the first 16 bytes, then for each field
-/// `Fields` to `Value`, then the rest.
+/// A rule of a message, in the order in which the rules are tried: those of the first 16 bytes,
+/// then for each field `Fields` to `Value`, then the rest.
 #[derive(Clone, Copy, Debug, PartialEq, Eq)]
 pub enum FrameRule {
     /// The first byte is neither `l` nor `B`.

@@ -2,8 +2,8 @@
 
 use crate::KeyRule;
 
-/// The rule that a metadata file breaks. Where it breaks several, it is the first of them in this order. They belong
-/// to no line of the file.
+/// The rule that a metadata file breaks. Where it breaks several, it is the first of them in this
+/// order. They belong to no line of the file.
 #[derive(Clone, Copy, Debug, PartialEq, Eq)]
 pub enum MetaRule {
     /// There is no such file, or it is none that is read.

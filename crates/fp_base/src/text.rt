@@ -11,7 +11,8 @@ use std::alloc::{AllocError, Global};
 use std::cmp::Ordering;
 use std::marker::Model;
 
-/// A text in UTF-8, which contracts see as its bytes. Texts are equal and ordered as their bytes are.
+/// A text in UTF-8, which contracts see as its bytes. Texts are equal and ordered as their bytes
+/// are.
 #[derive(Debug, Drop)]
 pub struct Text {
     inner: String,

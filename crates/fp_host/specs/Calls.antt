@@ -59,15 +59,21 @@ Can (creates p mode id) v = CanCreate p mode v × (v.files id ≡ None)
 Can (appends p bytes) v = IsDirty v (v.names p)
 Can (links from to) v = IsFile (v.names from) × HasFolder v to × (v.names to ≡ absent)
 Can (makes_link text p) v = (is_link_text text ≡ true) × HasFolder v p × (v.names p ≡ absent)
-Can (renames from to) v = IsLeaf (v.names from) × HasFolder v to × IsNoDir (v.names to) × (from ≢ to) × (IsFile (v.names from) → v.names from ≢ v.names to)
+Can (renames from to) v = IsLeaf (v.names from) × HasFolder v to × IsNoDir (v.names to)
+    × (from ≢ to) × (IsFile (v.names from) → v.names from ≢ v.names to)
 Can (unlinks p) v = IsLeaf (v.names p)
-Can (removes_dir p) v = (v.names p ≡ dir) × (p ≢ []) × ((q : Elements) → IsAbove p q → v.names q ≡ absent)
+Can (removes_dir p) v =
+    (v.names p ≡ dir) × (p ≢ []) × ((q : Elements) → IsAbove p q → v.names q ≡ absent)
 Can syncs v = Unit {0}
 Can (says piece) v = Unit {0}
 
 -- the name holds this now, which is remembered, and a stop may bring back what it held
 abbrev pub put : Elements → Slot → View → View
-put p e v = record v { names = set_at v.names p e; earlier = set_at v.earlier p (v.earlier p ++ v.names p ∷ []); stood = v.stood ++ (p, e) ∷ [] }
+put p e v = record v {
+  names = set_at v.names p e;
+  earlier = set_at v.earlier p (v.earlier p ++ v.names p ∷ []);
+  stood = v.stood ++ (p, e) ∷ [];
+}
 
 -- the name holds what it held, and a stop may leave this
 abbrev pub may_put : Elements → Slot → View → View
@@ -75,7 +81,10 @@ may_put p e v = record v { earlier = set_at v.earlier p (v.earlier p ++ e ∷ []
 
 -- a file more, created since the last sync
 abbrev pub with_file : ℕ → ℕ → View → View
-with_file id mode v = record v { files = set_file v.files id (Some (record { mode = mode; bytes = [] })); dirty = set_file v.dirty id true }
+with_file id mode v = record v {
+  files = set_file v.files id (Some (record { mode = mode; bytes = [] }));
+  dirty = set_file v.dirty id true;
+}
 
 abbrev pub grown : Option Inode → List ℕ → Option Inode
 grown None bytes = None
@@ -113,7 +122,8 @@ half (removes_dir p) v = may_put p absent v
 half syncs v = v
 half (says piece) v = v
 
--- A failed call did nothing, was done, or was not done though a stop may leave it done. A failed sync did nothing.
+-- A failed call did nothing, was done, or was not done though a stop may leave it done. A failed
+-- sync did nothing.
 abbrev pub HalfDone : Change → View → View → Type 0
 HalfDone syncs v w = w ≡ v
 HalfDone change v w = Can change v × ((w ≡ half change v) ⊎ (w ≡ done change v))
@@ -135,7 +145,8 @@ CreatesOf p mode (Err Clash) v w = (CanCreate p mode v → ⊥) × (w ≡ v)
 CreatesOf p mode (Err NoMemory) v w = ⊥
 
 -- a new file has an id that no file had
-pub record Creates (p : Elements) (mode : ℕ) (result : Result (Unit {0}) HostError) (v w : View) : Type 0 where
+pub record Creates (p : Elements) (mode : ℕ) (result : Result (Unit {0}) HostError)
+    (v w : View) : Type 0 where
   pub how : CreatesOf p mode result v w
 
 abbrev pub Went : Change → View → View → Type 0

@@ -18,9 +18,10 @@ abbrev pub end_of_path : PathError → HostEnd
 end_of_path fault.Bad = end.Fault
 end_of_path fault.NoMemory = end.NoMemory
 
--- The cause of a function's fault: on a told host whose present view at the entry meets the condition, it comes only
--- where the count rose.
-pub record IsCaused (Faulted : Type 0) (told : Option Moments) (Condition : View → Type 0) (before now : ℕ) : Type 0 where
+-- The cause of a function's fault: on a told host whose present view at the entry meets the
+-- condition, it comes only where the count rose.
+pub record IsCaused (Faulted : Type 0) (told : Option Moments) (Condition : View → Type 0)
+    (before now : ℕ) : Type 0 where
   pub later : before ≤ now
   pub fault : Faulted → (m : Moments) → told ≡ Some m → Condition m.now → Rose before now
 

@@ -36,8 +36,8 @@ IsSameMode (Some f) None = ⊥
 abbrev pub MayHold : View → ℕ → Option Inode → Type 0
 MayHold v id row = (row ≡ v.files id) ⊎ ((v.dirty id ≡ true) × IsSameMode (v.files id) row)
 
--- A stop may leave this disk. Each name holds its entry or an earlier one, each by itself; a file created since
--- the last sync may hold any bytes.
+-- A stop may leave this disk. Each name holds its entry or an earlier one, each by itself; a file
+-- created since the last sync may hold any bytes.
 pub record Leaves (v : View) (disk : Disk) : Type 0 where
   pub names : Elements → Slot
   pub files : ℕ → Option Inode
@@ -45,13 +45,16 @@ pub record Leaves (v : View) (disk : Disk) : Type 0 where
   pub rows : (id : ℕ) → MayHold v id (files id)
   pub seen : (p : Elements) → disk p ≡ spot_of files (at names p)
 
--- Each disk that new may leave is one that old may leave, but at the paths to which G allows what stands there.
+-- Each disk that new may leave is one that old may leave, but at the paths to which G allows what
+-- stands there.
 pub record Follows (G : Elements → Spot → Type 0) (old new : View) : Type 0 where
-  pub from : (disk : Disk) → Leaves new disk → (before : Disk) × Leaves old before × ((p : Elements) → (disk p ≡ before p) ⊎ G p (disk p))
+  pub from : (disk : Disk) → Leaves new disk → (before : Disk) × Leaves old before
+      × ((p : Elements) → (disk p ≡ before p) ⊎ G p (disk p))
 
 -- the entry e stands at p, with what its file may hold
 abbrev pub Gives : View → Elements → Slot → Elements → Spot → Type 0
-Gives v p e q spot = (q ≡ p) × ((files : ℕ → Option Inode) × ((id : ℕ) → MayHold v id (files id)) × (spot ≡ spot_of files e))
+Gives v p e q spot = (q ≡ p)
+    × ((files : ℕ → Option Inode) × ((id : ℕ) → MayHold v id (files id)) × (spot ≡ spot_of files e))
 
 -- nothing is given
 abbrev pub Nothing : Elements → Spot → Type 0

@@ -5,7 +5,8 @@ use Rattle.std.specs.List.{list_all, slice_split, join_with_byte}
 use Rattle.std.specs.Str.{bytes_eq, is_utf8}
 use Rattle.fp_host.specs.declared.limits.TheConstants.{MOST_ELEMENT_BYTES, MOST_LINK_BYTES}
 
--- A path is the list of its elements, the innermost first: the folder above `x ∷ up` is `up`, and the root is `[]`.
+-- A path is the list of its elements, the innermost first: the folder above `x ∷ up` is `up`, and
+-- the root is `[]`.
 abbrev pub Elements : Type 0
 Elements = List (List ℕ)
 
@@ -15,7 +16,9 @@ is_name_byte b = not (b == 47 || b == 0)
 
 -- an element of a path: 1 to 255 such bytes, and neither `.` nor `..`
 abbrev pub is_element : List ℕ → Bool
-is_element x = leb 1 (length x) && (leb (length x) MOST_ELEMENT_BYTES && (list_all is_name_byte x && not (bytes_eq x (codes ".") || bytes_eq x (codes ".."))))
+is_element x = leb 1 (length x)
+    && (leb (length x) MOST_ELEMENT_BYTES
+    && (list_all is_name_byte x && not (bytes_eq x (codes ".") || bytes_eq x (codes ".."))))
 
 abbrev pub turned_onto : {A : Type 0} → List A → List A → List A
 turned_onto [] done = done
@@ -47,7 +50,8 @@ pub data Slot : Type 0 where
 
 -- a link's text: valid UTF-8 of 1 to 4,095 bytes without a zero byte
 abbrev pub is_link_text : List ℕ → Bool
-is_link_text text = leb 1 (length text) && (leb (length text) MOST_LINK_BYTES && (list_all (λ b. not (b == 0)) text && is_utf8 text))
+is_link_text text = leb 1 (length text)
+    && (leb (length text) MOST_LINK_BYTES && (list_all (λ b. not (b == 0)) text && is_utf8 text))
 
 abbrev pub path_eq : Elements → Elements → Bool
 path_eq = pointwise (pointwise nat_eq)

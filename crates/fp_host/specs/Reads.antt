@@ -17,7 +17,8 @@ abbrev pub IsStat : View → Slot → Stat → Type 0
 IsStat v absent s = s ≡ Absent
 IsStat v dir s = s ≡ Dir
 IsStat v (link text) s = s ≡ Link
-IsStat v (file id) s = (f : Inode) × (v.files id ≡ Some f) × (s ≡ StatFile id f.mode (length f.bytes))
+IsStat v (file id) s =
+    (f : Inode) × (v.files id ≡ Some f) × (s ≡ StatFile id f.mode (length f.bytes))
 
 -- `Ok` only where the condition holds, with what is told; `Clash` only where it doesn't
 abbrev pub Reads : {T : Type 0} → Type 0 → (T → Type 0) → Result T HostError → Type 0
@@ -50,20 +51,25 @@ HasBits Dir = Unit {0}
 HasBits Link = Unit {0}
 HasBits (StatFile id mode size) = mode ≤ PERMISSION_BITS
 
-pub record ListOf (p : Elements) (result : Result (List (List ℕ)) HostError) (v w : View) : Type 0 where
-  pub same : w ≡ v
-  pub tells : Reads (v.names p ≡ dir) (λ xs. (x : List ℕ) → Contains xs x ↔ (v.names (x ∷ p) ≢ absent)) result
+pub record ListOf (p : Elements) (result : Result (List (List ℕ)) HostError) (v w : View) : Type 0
+  where
+    pub same : w ≡ v
+    pub tells : Reads (v.names p ≡ dir) (λ xs. (x : List ℕ)
+        → Contains xs x ↔ (v.names (x ∷ p) ≢ absent)) result
 
 abbrev pub IsRead : View → Slot → ℕ → List ℕ → ℕ → Type 0
 IsRead v absent at into n = ⊥
 IsRead v dir at into n = ⊥
 IsRead v (link text) at into n = ⊥
-IsRead v (file id) at into n = (f : Inode) × (v.files id ≡ Some f) × (n ≡ min (length into) (length f.bytes - at)) × (take n into ≡ take n (drop at f.bytes))
+IsRead v (file id) at into n = (f : Inode) × (v.files id ≡ Some f)
+    × (n ≡ min (length into) (length f.bytes - at)) × (take n into ≡ take n (drop at f.bytes))
 
-pub record ReadOf (p : Elements) (at : ℕ) (into : List ℕ) (result : Result ℕ HostError) (v w : View) : Type 0 where
+pub record ReadOf (p : Elements) (at : ℕ) (into : List ℕ) (result : Result ℕ HostError)
+    (v w : View) : Type 0 where
   pub same : w ≡ v
   pub tells : Reads (IsFile (v.names p)) (λ n. IsRead v (v.names p) at into n) result
 
 pub record LinkOf (p : Elements) (result : Result (List ℕ) HostError) (v w : View) : Type 0 where
   pub same : w ≡ v
-  pub tells : Reads ((text : List ℕ) × (v.names p ≡ link text)) (λ text. v.names p ≡ link text) result
+  pub tells : Reads ((text : List ℕ) × (v.names p ≡ link text))
+      (λ text. v.names p ≡ link text) result

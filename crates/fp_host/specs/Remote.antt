@@ -44,16 +44,18 @@ pub record CameFrom (bytes : List ℕ) (at : ℕ) (into : List ℕ) (n : ℕ) : 
   pub many : n ≡ min (length into) (length bytes - at)
   pub same : take n into ≡ take n (drop at bytes)
 
--- The next bytes of what is left were taken into the buffer. The end, and nothing taken into a buffer with room, come
--- only where nothing is left. After a failure nothing is said.
+-- The next bytes of what is left were taken into the buffer. The end, and nothing taken into a
+-- buffer with room, come only where nothing is left. After a failure nothing is said.
 abbrev pub TakesOf : List ℕ → List ℕ → Taken → List ℕ → Type 0
-TakesOf left into (Took n) after = (n ≤ length left) × (take n into ≡ take n left) × (after ≡ drop n left) × (n ≡ 0 → 0 < length into → left ≡ [])
+TakesOf left into (Took n) after = (n ≤ length left) × (take n into ≡ take n left)
+    × (after ≡ drop n left) × (n ≡ 0 → 0 < length into → left ≡ [])
 TakesOf left into End after = (left ≡ []) × (after ≡ [])
 TakesOf left into Failed after = Unit {0}
 
 -- no call changes whether the source tells what it has left
 pub record Takes (old new : Option (List ℕ)) (into : List ℕ) (taken : Taken) : Type 0 where
-  pub told : (left : List ℕ) → old ≡ Some left → (after : List ℕ) × (new ≡ Some after) × TakesOf left into taken after
+  pub told : (left : List ℕ) → old ≡ Some left
+      → (after : List ℕ) × (new ≡ Some after) × TakesOf left into taken after
   pub untold : (after : List ℕ) → new ≡ Some after → (left : List ℕ) × (old ≡ Some left)
 
 -- at most what the buffer has room for

@@ -13,8 +13,8 @@ pub record View : Type 0 where
   pub names : Elements → Slot
   -- each file by its id
   pub files : ℕ → Option Inode
-  -- what a stop may bring back at a name besides, the oldest first: what it held since the last sync, or would hold had a
-  -- failed call been done
+  -- what a stop may bring back at a name besides, the oldest first: what it held since the last
+  -- sync, or would hold had a failed call been done
   pub earlier : Elements → List Slot
   -- the files created since the last sync
   pub dirty : ℕ → Bool
@@ -35,7 +35,8 @@ pub record IsTree (v : View) : Type 0 where
   -- the folder above a present name is there
   pub above : (x : List ℕ) (up : Elements) → (v.names (x ∷ up) ≡ absent) ⊎ (v.names up ≡ dir)
   -- and it may be there wherever something may be at the name
-  pub may_above : (x : List ℕ) (up : Elements) (e : Slot) → MayBe v (x ∷ up) e → (e ≡ absent) ⊎ MayBe v up dir
+  pub may_above : (x : List ℕ) (up : Elements) (e : Slot) → MayBe v (x ∷ up) e
+      → (e ≡ absent) ⊎ MayBe v up dir
   -- each file that a name may hold is there
   pub known : (p : Elements) (id : ℕ) → MayBe v p (file id) → v.files id ≢ None
   -- and so is each file created since the last sync
@@ -43,6 +44,7 @@ pub record IsTree (v : View) : Type 0 where
   -- each link's text is one
   pub linked : (p : Elements) (text : List ℕ) → MayBe v p (link text) → is_link_text text ≡ true
   -- what stands at a name was put there
-  pub remembered : (x : List ℕ) (up : Elements) → (v.names (x ∷ up) ≡ absent) ⊎ Contains v.stood (x ∷ up, v.names (x ∷ up))
+  pub remembered : (x : List ℕ) (up : Elements)
+      → (v.names (x ∷ up) ≡ absent) ⊎ Contains v.stood (x ∷ up, v.names (x ∷ up))
   -- permission bits are within 07777
   pub bits : (id : ℕ) (f : Inode) → v.files id ≡ Some f → f.mode ≤ PERMISSION_BITS

@@ -1,5 +1,5 @@
-//! Laws of the words that the contracts use, for crates that build on them. Each is the contract of a function that
-//! does nothing.
+//! Laws of the words that the contracts use, for crates that build on them. Each is the contract of
+//! a function that does nothing.
 
 ghost use Rattle.std.specs.Prelude.{◌≡◌, ◌⊎◌, ℕ, List, [], ◌∷◌, ◌++◌, None, Contains};
 ghost use Rattle.fp_host.specs.Paths.{Elements, Slot, absent, file};
@@ -7,8 +7,8 @@ ghost use Rattle.fp_host.specs.View.{View};
 ghost use Rattle.fp_host.specs.Calls.{Change, Called, creates, appends, renames, unlinks, syncs, done};
 ghost use Rattle.fp_host.specs.Frame.{Keeps, NoPath};
 
-/// What is put at a name stays remembered: what a call newly remembers stands after it, and each name that a call changed is
-/// remembered with what it holds.
+/// What is put at a name stays remembered: what a call newly remembers stands after it, and each
+/// name that a call changed is remembered with what it holds.
 pub fn remembered_names()
     ensures stays { (change : Change) (v w : View) (x : Elements × Slot) → Called change v w
         → Contains v.stood x → Contains w.stood x }

@@ -1,4 +1,5 @@
-//! The host that an installation lives on, the remotes that objects come from, and the source of a command's input.
+//! The host that an installation lives on, the remotes that objects come from, and the source of a
+//! command's input.
 #![tactic(auto)]
 
 mod host;

@@ -37,8 +37,8 @@ impl From<AllocError> for PathError {
     }
 }
 
-/// A path below the root of a host. Each of its elements has 1 to 255 bytes without a slash and a zero byte, and is
-/// neither `.` nor `..`.
+/// A path below the root of a host. Each of its elements has 1 to 255 bytes without a slash and a
+/// zero byte, and is neither `.` nor `..`.
 #[derive(Debug, Drop)]
 pub struct Path {
     // the elements joined by slashes
@@ -137,8 +137,8 @@ impl Path {
         }
     }
 
-    /// The path of a text, which is cut at its slashes. `Bad` where an element may not be one. So is the empty text: the
-    /// root has no element to write.
+    /// The path of a text, which is cut at its slashes. `Bad` where an element may not be one. So
+    /// is the empty text: the root has no element to write.
     pub fn parse(alloc: Global, text: &str) -> Result<Self, PathError>
         ensures path { IfOk result (λ p. p ≡ cut text.now) }
         ensures text { IfOk result (λ p. path_text p ≡ text.now) }
@@ -153,7 +153,8 @@ impl Path {
         })
     }
 
-    /// The elements joined by slashes, which `parse` reads back; the root's text is empty. It takes no memory.
+    /// The elements joined by slashes, which `parse` reads back; the root's text is empty. It takes
+    /// no memory.
     pub fn text(&self) -> &str
         ensures text { result.now ≡ path_text self.now }
         ensures back { elements_of result.now ≡ self.now }

@@ -56,8 +56,8 @@ pub trait Remotes {
         ensures failed { IsErrOf result RemoteError.Failed → Rose (faults self.old)
             (faults self.new) };
 
-    /// Bytes of the file at the path, from a place on: as many as the buffer has room for, or as are left. What is no
-    /// file has none.
+    /// Bytes of the file at the path, from a place on: as many as the buffer has room for, or as
+    /// are left. What is no file has none.
     fn read_at(
         &mut self,
         url: &str,

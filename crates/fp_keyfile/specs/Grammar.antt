@@ -1,4 +1,5 @@
--- What may stand in a key file: the profile of the Desktop Entry Specification, "Basic format of the file".
+-- What may stand in a key file: the profile of the Desktop Entry Specification, "Basic format of
+-- the file".
 use Rattle.std.specs.Prelude.{ℕ, Bool, false, not, ◌&&◌, ◌||◌, List, [], ◌∷◌, length, nat_lt, ◌==◌}
 use Rattle.std.specs.List.{list_all}
 
@@ -31,8 +32,8 @@ is_name_byte b = not (b == 91) && not (b == 93) && not (is_control b)
 abbrev pub is_name : List ℕ → Bool
 is_name bs = not (length bs == 0) && list_all is_name_byte bs
 
--- A key isn't empty, has no `=` and no control character, begins with none of `[`, `#`, space and tab, and ends
--- with neither a space nor a tab.
+-- A key isn't empty, has no `=` and no control character, begins with none of `[`, `#`, space and
+-- tab, and ends with neither a space nor a tab.
 abbrev pub is_key_byte : ℕ → Bool
 is_key_byte b = not (b == 61) && not (is_control b)
 
@@ -40,10 +41,11 @@ abbrev pub begins_no_key : ℕ → Bool
 begins_no_key b = b == 91 || b == 35 || is_blank b
 
 abbrev pub is_key : List ℕ → Bool
-is_key bs = not (length bs == 0) && not (begins_so begins_no_key bs) && list_all is_key_byte bs && not (ends_so is_blank bs)
+is_key bs = not (length bs == 0) && not (begins_so begins_no_key bs) && list_all is_key_byte bs
+    && not (ends_so is_blank bs)
 
--- A value has no newline and no zero byte, begins with neither a space nor a tab, and doesn't end with a carriage
--- return.
+-- A value has no newline and no zero byte, begins with neither a space nor a tab, and doesn't end
+-- with a carriage return.
 abbrev pub is_value_byte : ℕ → Bool
 is_value_byte b = not (b == 10) && not (b == 0)
 

@@ -54,24 +54,30 @@ keys_at file name = option_map_or (λ g. keys_of g.pairs) (group_at file name) [
 -- the pairs with this value at the key: at the place of the key where it is there, else at the end
 abbrev pub with_key : List Pair → List ℕ → List ℕ → List Pair
 with_key [] key value = record { key = key; value = value } ∷ []
-with_key (p ∷ pairs) key value = if bytes_eq p.key key then record p { value = value } ∷ pairs else p ∷ with_key pairs key value
+with_key (p ∷ pairs) key value =
+    if bytes_eq p.key key then record p { value = value } ∷ pairs else p ∷ with_key pairs key value
 
 -- the file with a group of this name, which is added at the end where it isn't there
 unfoldable pub with_group : List Group → List ℕ → List Group
 with_group [] name = record { name = name; pairs = [] } ∷ []
 with_group (g ∷ file) name = if bytes_eq g.name name then g ∷ file else g ∷ with_group file name
 
--- the file with this value at the key of the group; a new pair stands last in its group, and a new group last in the file
+-- the file with this value at the key of the group; a new pair stands last in its group, and a new
+-- group last in the file
 unfoldable pub with_pair : List Group → List ℕ → List ℕ → List ℕ → List Group
-with_pair [] name key value = record { name = name; pairs = record { key = key; value = value } ∷ [] } ∷ []
-with_pair (g ∷ file) name key value = if bytes_eq g.name name then record g { pairs = with_key g.pairs key value } ∷ file else g ∷ with_pair file name key value
+with_pair [] name key value =
+    record { name = name; pairs = record { key = key; value = value } ∷ [] } ∷ []
+with_pair (g ∷ file) name key value = if bytes_eq g.name name
+    then record g { pairs = with_key g.pairs key value } ∷ file
+    else g ∷ with_pair file name key value
 
 -- the pairs without the key
 abbrev pub without_key : List Pair → List ℕ → List Pair
 without_key [] key = []
 without_key (p ∷ pairs) key = if bytes_eq p.key key then pairs else p ∷ without_key pairs key
 
--- The file without the pair. Its group goes with its last pair. Where the pair isn't there, the file stays as it is.
+-- The file without the pair. Its group goes with its last pair. Where the pair isn't there, the
+-- file stays as it is.
 abbrev pub with_rest : List ℕ → List Pair → List Group → List Group
 with_rest name [] file = file
 with_rest name (p ∷ pairs) file = record { name = name; pairs = p ∷ pairs } ∷ file
@@ -82,7 +88,8 @@ group_without (Some p) g key file = with_rest g.name (without_key g.pairs key) f
 
 unfoldable pub without_pair : List Group → List ℕ → List ℕ → List Group
 without_pair [] name key = []
-without_pair (g ∷ file) name key = if bytes_eq g.name name then group_without (pair_at g.pairs key) g key file else g ∷ without_pair file name key
+without_pair (g ∷ file) name key = if bytes_eq g.name name
+    then group_without (pair_at g.pairs key) g key file else g ∷ without_pair file name key
 
 -- ---- reading
 
@@ -96,25 +103,29 @@ beginning = record { file = []; group = None }
 
 abbrev pub with_entry : Reading → Option (List ℕ) → List ℕ → List ℕ → Result Reading KeyRule
 with_entry so_far None key value = Err rules.NoGroup
-with_entry so_far (Some name) key value = Ok (record so_far { file = with_pair so_far.file name key value })
+with_entry so_far (Some name) key value =
+    Ok (record so_far { file = with_pair so_far.file name key value })
 
 abbrev pub after_statement : Reading → Result Statement KeyRule → Result Reading KeyRule
 after_statement so_far (Err rule) = Err rule
 after_statement so_far (Ok nothing) = Ok so_far
-after_statement so_far (Ok (header name)) = Ok (record { file = with_group so_far.file name; group = Some name })
+after_statement so_far (Ok (header name)) =
+    Ok (record { file = with_group so_far.file name; group = Some name })
 after_statement so_far (Ok (entry key value)) = with_entry so_far so_far.group key value
 
 abbrev pub after_line : Reading → List ℕ → Result Reading KeyRule
 after_line so_far line = after_statement so_far (line_says line)
 
 -- the rule that is broken at a line is the fault
-abbrev pub go_on : ℕ → Result Reading KeyRule → (Reading → Result (List Group) KeyFault) → Result (List Group) KeyFault
+abbrev pub go_on : ℕ → Result Reading KeyRule → (Reading → Result (List Group) KeyFault)
+    → Result (List Group) KeyFault
 go_on number (Err rule) next = Err (record { line = number; rule = rule })
 go_on number (Ok so_far) next = next so_far
 
 abbrev pub file_from : ℕ → Reading → List (List ℕ) → Result (List Group) KeyFault
 file_from number so_far [] = Ok so_far.file
-file_from number so_far (line ∷ lines) = go_on number (after_line so_far line) (λ next. file_from (suc number) next lines)
+file_from number so_far (line ∷ lines) =
+    go_on number (after_line so_far line) (λ next. file_from (suc number) next lines)
 
 -- what the bytes read as: the file, or the first bad line with the rule that it breaks
 unfoldable pub file_of : List ℕ → Result (List Group) KeyFault
@@ -137,7 +148,8 @@ pair_text p = p.key ++ (61 ∷ (p.value ++ (10 ∷ [])))
 abbrev pub group_text : Group → List ℕ
 group_text g = 91 ∷ (g.name ++ (93 ∷ 10 ∷ flat_map pair_text g.pairs))
 
--- the text of a file: a line `[NAME]` for each group, and after it a line `KEY=VALUE` for each of its pairs
+-- the text of a file: a line `[NAME]` for each group, and after it a line `KEY=VALUE` for each of
+-- its pairs
 unfoldable pub text_of : List Group → List ℕ
 text_of file = flat_map group_text file
 
@@ -152,7 +164,8 @@ abbrev pub is_good_pair : Pair → Bool
 is_good_pair p = is_key p.key && is_value p.value && is_utf8 p.key && is_utf8 p.value
 
 abbrev pub is_good_group : Group → Bool
-is_good_group g = is_name g.name && is_utf8 g.name && list_all is_good_pair g.pairs && are_distinct (keys_of g.pairs)
+is_good_group g = is_name g.name && is_utf8 g.name && list_all is_good_pair g.pairs
+    && are_distinct (keys_of g.pairs)
 
 -- names, keys and values that can be written, no name twice, and no key twice in a group
 unfoldable pub is_good : List Group → Bool

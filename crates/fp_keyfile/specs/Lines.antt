@@ -43,7 +43,8 @@ abbrev pub split_at : ℕ → List ℕ → Option (List ℕ × List ℕ)
 split_at c [] = None
 split_at c (b ∷ bs) = if b == c then Some ([], bs) else with_first b (split_at c bs)
 
--- What a good line says: nothing, as a blank line and a comment; that a group begins; or what a key's value is.
+-- What a good line says: nothing, as a blank line and a comment; that a group begins; or what a
+-- key's value is.
 pub data Statement : Type 0 where
   nothing : Statement
   header : List ℕ → Statement
@@ -56,12 +57,14 @@ is_text bs = is_utf8 bs && not (list_any (λ b. b == 0) bs)
 -- after `[`: the name, `]`, and nothing but spaces and tabs
 abbrev pub header_at : Option (List ℕ × List ℕ) → Result Statement KeyRule
 header_at None = Err rules.Group
-header_at (Some parts) = if is_name parts.0 && list_all is_blank parts.1 then Ok (header parts.0) else Err rules.Group
+header_at (Some parts) =
+    if is_name parts.0 && list_all is_blank parts.1 then Ok (header parts.0) else Err rules.Group
 
 abbrev pub header_of : List ℕ → Result Statement KeyRule
 header_of bs = header_at (split_at 93 bs)
 
--- The key without spaces and tabs at its end, the first `=`, and the value without those at its start.
+-- The key without spaces and tabs at its end, the first `=`, and the value without those at its
+-- start.
 abbrev pub entry_with : List ℕ → List ℕ → Result Statement KeyRule
 entry_with key value = if is_key key then Ok (entry key value) else Err rules.Key
 
@@ -75,11 +78,14 @@ entry_of bs = entry_at (split_at 61 bs)
 -- a line that is text, told apart by its first byte: `#` begins a comment, and `[` a group
 abbrev pub marked : List ℕ → Result Statement KeyRule
 marked [] = Ok nothing
-marked (b ∷ bs) = if b == 35 then Ok nothing else (if b == 91 then header_of bs else entry_of (b ∷ bs))
+marked (b ∷ bs) =
+    if b == 35 then Ok nothing else (if b == 91 then header_of bs else entry_of (b ∷ bs))
 
 abbrev pub text_says : List ℕ → Result Statement KeyRule
-text_says bs = if is_text bs then (if list_all is_blank bs then Ok nothing else marked bs) else Err rules.Text
+text_says bs =
+    if is_text bs then (if list_all is_blank bs then Ok nothing else marked bs) else Err rules.Text
 
--- what a line says, or the first rule that it breaks; the carriage returns at its end are no part of it
+-- what a line says, or the first rule that it breaks; the carriage returns at its end are no part
+-- of it
 unfoldable pub line_says : List ℕ → Result Statement KeyRule
 line_says line = text_says (trimmed_end is_return line)

@@ -30,7 +30,8 @@ pub(crate) fn set_pair(
     }
 }
 
-/// Takes the pair away, and its group with its last pair, and answers its value. Where it isn't there, all stays.
+/// Takes the pair away, and its group with its last pair, and answers its value. Where it isn't
+/// there, all stays.
 pub(crate) fn take_pair(groups: &mut Items<Group>, name: &str, key: &str) -> Option<Text>
     ensures value { result ≡ value_at groups.old name.now key.now }
     ensures after { groups.new ≡ without_pair groups.old name.now key.now }

@@ -1,4 +1,5 @@
-//! Tests of the parts of a key file, after the Desktop Entry Specification, "Basic format of the file".
+//! Tests of the parts of a key file, after the Desktop Entry Specification, "Basic format of the
+//! file".
 
 ghost use Rattle.std.specs.Prelude.{◌≡◌, ◌==◌};
 ghost use Rattle.std.specs.List.{list_all, list_any};
@@ -46,7 +47,8 @@ fn are_name_bytes(bytes: &[u8]) -> bool
     bytes.iter().all(|byte| is_name_byte(*byte))
 }
 
-/// Whether a text may name a group: it isn't empty, and has no `[`, no `]` and no control character.
+/// Whether a text may name a group: it isn't empty, and has no `[`, no `]` and no control
+/// character.
 pub fn is_group_name(text: &str) -> bool
     ensures { result ≡ grammar.is_name text.now }
 {
@@ -87,8 +89,8 @@ fn ends_in_blank(bytes: &[u8]) -> bool
     }
 }
 
-/// Whether a text may be a key: it isn't empty, has no `=` and no control character, begins with none of `[`, `#` and
-/// a space, and doesn't end with a space.
+/// Whether a text may be a key: it isn't empty, has no `=` and no control character, begins with
+/// none of `[`, `#` and a space, and doesn't end with a space.
 pub fn is_pair_key(text: &str) -> bool
     ensures { result ≡ grammar.is_key text.now }
 {
@@ -130,8 +132,8 @@ fn ends_in_return(bytes: &[u8]) -> bool
     }
 }
 
-/// Whether a text may be a value: it has no newline and no zero byte, begins with neither a space nor a tab, and
-/// doesn't end with a carriage return.
+/// Whether a text may be a value: it has no newline and no zero byte, begins with neither a space
+/// nor a tab, and doesn't end with a carriage return.
 pub fn is_pair_value(text: &str) -> bool
     ensures { result ≡ grammar.is_value text.now }
 {

@@ -72,7 +72,8 @@ impl Group {
         Some(pair.value.as_str())
     }
 
-    /// Sets the value at the key, at its place or in a new pair at the end. Running out of memory changes nothing.
+    /// Sets the value at the key, at its place or in a new pair at the end. Running out of memory
+    /// changes nothing.
     pub(crate) fn put(&mut self, key: &str, value: &str) -> Result<(), AllocError>
         ensures ok { OnOk result (self.new ≡ record self.old
             { pairs = with_key self.old.pairs key.now value.now }) }
@@ -89,7 +90,8 @@ impl Group {
         }
     }
 
-    /// Takes the pair of the key away, and answers its value. Where it isn't there, the group stays as it is.
+    /// Takes the pair of the key away, and answers its value. Where it isn't there, the group stays
+    /// as it is.
     pub(crate) fn take(&mut self, key: &str) -> Option<Text>
         ensures value { result ≡ option_map (λ p. p.value) (pair_at self.old.pairs key.now) }
         ensures found { OnSome result (self.new ≡ record self.old

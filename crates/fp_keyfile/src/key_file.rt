@@ -16,7 +16,8 @@ use std::marker::Model;
 
 /// A key file, which contracts see as the list of its groups.
 ///
-/// No name comes twice in the list, no key twice in a group, and all names, keys and values can be written.
+/// No name comes twice in the list, no key twice in a group, and all names, keys and values can be
+/// written.
 #[derive(Drop)]
 pub struct KeyFile {
     groups: Items<Group>,
@@ -55,11 +56,11 @@ impl KeyFile {
 
     /// Reads a key file, after the Desktop Entry Specification, "Basic format of the file".
     ///
-    /// The bytes are cut into lines at newlines, and the carriage returns at the end of a line are dropped. A line is
-    /// blank, a comment (`#` and anything), a group (`[NAME]`, and then spaces and tabs alone) or a pair
-    /// (`KEY=VALUE`, without spaces and tabs round the first `=`). A group that comes again goes on. A key that comes
-    /// again takes the later value at its first place. The error is the first bad line, with the first rule that it
-    /// breaks.
+    /// The bytes are cut into lines at newlines, and the carriage returns at the end of a line are
+    /// dropped. A line is blank, a comment (`#` and anything), a group (`[NAME]`, and then spaces
+    /// and tabs alone) or a pair (`KEY=VALUE`, without spaces and tabs round the first `=`). A
+    /// group that comes again goes on. A key that comes again takes the later value at its first
+    /// place. The error is the first bad line, with the first rule that it breaks.
     pub fn parse(alloc: Global, bytes: &[u8]) -> Result<Self, KeyError>
         ensures { Gives result (file_of bytes.now) }
     {
@@ -93,8 +94,9 @@ impl KeyFile {
         group.get(key)
     }
 
-    /// Sets the value of the key in the group, at its place or in a new pair at the end of the group. A group that
-    /// isn't there is added at the end. All else stays as it is. Running out of memory changes nothing.
+    /// Sets the value of the key in the group, at its place or in a new pair at the end of the
+    /// group. A group that isn't there is added at the end. All else stays as it is. Running out of
+    /// memory changes nothing.
     pub fn set(&mut self, group: &str, key: &str, value: &str) -> Result<(), AllocError>
         requires group { IsTrue (is_name group.now) }
         requires key { IsTrue (is_key key.now) }
@@ -105,8 +107,8 @@ impl KeyFile {
         set_pair(&mut self.groups, group, key, value)
     }
 
-    /// Takes the pair away, and its group with its last pair, and answers the value. Where the file has no such pair,
-    /// it stays as it is.
+    /// Takes the pair away, and its group with its last pair, and answers the value. Where the file
+    /// has no such pair, it stays as it is.
     pub fn remove(&mut self, group: &str, key: &str) -> Option<Text>
         ensures value { result ≡ value_at self.old group.now key.now }
         ensures after { self.new ≡ without_pair self.old group.now key.now }
@@ -127,8 +129,8 @@ impl KeyFile {
         })
     }
 
-    /// The text of the file: for each group the line `[NAME]`, and after it the line `KEY=VALUE` of each of its
-    /// pairs, each with a newline. `parse` reads it back as the same file.
+    /// The text of the file: for each group the line `[NAME]`, and after it the line `KEY=VALUE` of
+    /// each of its pairs, each with a newline. `parse` reads it back as the same file.
     pub fn write(&self) -> Result<Text, AllocError>
         ensures text { IfOk result (λ t. t ≡ text_of self.now) }
         ensures reads_back { file_of (text_of self.now) ≡ Ok self.now }

@@ -1,5 +1,5 @@
-//! Laws of the words that the contracts use, for crates that build on them. Each is the contract of a function that
-//! does nothing.
+//! Laws of the words that the contracts use, for crates that build on them. Each is the contract of
+//! a function that does nothing.
 
 ghost use Rattle.std.specs.Prelude.{◌≡◌, ℕ, List, Ok, Some, None, IfOk, IsTrue, ◌&&◌, if◌then◌else◌};
 ghost use Rattle.std.specs.Str.{bytes_eq, is_utf8};
@@ -24,7 +24,8 @@ pub fn set_gives_the_value()
         ≡ (if bytes_eq name n && bytes_eq key k then Some value else value_at file n k) }
 {}
 
-/// Once a value is set, names and keys stand in the order in which they stood. A new one is the last.
+/// Once a value is set, names and keys stand in the order in which they stood. A new one is the
+/// last.
 pub fn set_keeps_the_order()
     ensures names { (file : List Group) (name key value : List ℕ) → names_of
         (with_pair file name key value) ≡ with_name (names_of file) name }
@@ -37,7 +38,8 @@ pub fn set_keeps_the_order()
 pub fn set_is_good()
     ensures { (file : List Group) (name key value : List ℕ) → IsTrue (is_good file)
         → IsTrue (is_name name) → IsTrue (is_utf8 name) → IsTrue (is_key key) → IsTrue (is_utf8 key)
-        → IsTrue (is_value value) → IsTrue (is_utf8 value) → IsTrue (is_good (with_pair file name key value)) }
+        → IsTrue (is_value value) → IsTrue (is_utf8 value)
+        → IsTrue (is_good (with_pair file name key value)) }
 {}
 
 /// Once a pair is taken away, it isn't there, and each other pair has the value that it had.

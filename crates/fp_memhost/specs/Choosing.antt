@@ -15,11 +15,13 @@ abbrev pub entry_in : Name → ℕ → Slot
 entry_in name number = numbered (slot_of name.entry) (map slot_of name.earlier.items) number
 
 -- the names of a view with the chosen entries
-pub record ChoosesNames (v : View) (numbers : List (Elements × ℕ)) (chosen : List (Elements × Entry)) : Type 0 where
+pub record ChoosesNames (v : View) (numbers : List (Elements × ℕ))
+    (chosen : List (Elements × Entry)) : Type 0 where
   pub names : (q : Elements) → listed chosen q ≡ chosen_slot v numbers q
 
 -- the files with the chosen bytes
-pub record ChoosesFiles (files : List Content) (bytes : List (ℕ × List ℕ)) (chosen : List FileRow) : Type 0 where
+pub record ChoosesFiles (files : List Content) (bytes : List (ℕ × List ℕ))
+    (chosen : List FileRow) : Type 0 where
   pub rows : (id : ℕ) → rows_of chosen id ≡ with_bytes (files_of files id) (bytes_for bytes id)
 
 -- the names at which a stop may bring something back

@@ -39,12 +39,14 @@ pub record SameFiles (old new : List Content) : Type 0 where
 
 -- an empty file more
 pub record AddsFile (id mode : ℕ) (old new : List Content) : Type 0 where
-  pub files : (i : ℕ) → files_of new i ≡ set_file (files_of old) id (Some (record { mode = mode; bytes = [] })) i
+  pub files : (i : ℕ) → files_of new i ≡ set_file (files_of old) id
+      (Some (record { mode = mode; bytes = [] })) i
   pub dirty : (i : ℕ) → dirty_of new i ≡ set_file (dirty_of old) id true i
 
 -- bytes more in a file
 pub record GrowsFile (id : ℕ) (bytes : List ℕ) (old new : List Content) : Type 0 where
-  pub files : (i : ℕ) → files_of new i ≡ set_file (files_of old) id (grown (files_of old id) bytes) i
+  pub files : (i : ℕ) → files_of new i ≡ set_file (files_of old) id
+      (grown (files_of old id) bytes) i
   pub dirty : (i : ℕ) → dirty_of new i ≡ dirty_of old i
 
 -- no file is new

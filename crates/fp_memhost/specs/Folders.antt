@@ -24,4 +24,5 @@ is_child p name = is_some name.entry && child_in p name.path
 
 abbrev pub children_of : List Name → Elements → List (List ℕ)
 children_of [] p = []
-children_of (name ∷ names) p = if is_child p name then last_of name.path ∷ children_of names p else children_of names p
+children_of (name ∷ names) p =
+    if is_child p name then last_of name.path ∷ children_of names p else children_of names p

@@ -20,7 +20,9 @@ node_bits (Link text) = true
 
 -- these remotes with a file or symlink more, and the folders above it
 abbrev pub put_held : Holdings → List ℕ → Elements → Held → Holdings
-put_held held url p node u q = if bytes_eq u url then (if path_eq q p then node else (if is_above q p then directory else held u q)) else held u q
+put_held held url p node u q = if bytes_eq u url
+    then (if path_eq q p then node else (if is_above q p then directory else held u q))
+    else held u q
 
 -- neither a file nor a symlink
 abbrev pub IsOpen : Held → Type 0
@@ -29,7 +31,8 @@ IsOpen directory = Unit {0}
 IsOpen (contents mode bytes) = ⊥
 IsOpen (target text) = ⊥
 
--- what may be put there: the path is neither the root nor a folder, and no file or symlink is above it
+-- what may be put there: the path is neither the root nor a folder, and no file or symlink is above
+-- it
 pub record CanPut (held : Elements → Held) (p : Elements) (node : MemNode) : Type 0 where
   pub no_root : p ≢ []
   pub no_folder : held p ≢ directory

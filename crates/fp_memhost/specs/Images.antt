@@ -25,16 +25,24 @@ slots_of names (x ∷ up) = listed names (x ∷ up)
 -- each file by its id; the first that is listed counts
 abbrev pub rows_of : List FileRow → ℕ → Option Inode
 rows_of [] id = None
-rows_of (f ∷ fs) id = if id == f.id then Some (record { mode = f.mode; bytes = f.bytes }) else rows_of fs id
+rows_of (f ∷ fs) id =
+    if id == f.id then Some (record { mode = f.mode; bytes = f.bytes }) else rows_of fs id
 
 -- what a list says of a name is remembered as put there
 abbrev pub put_of : Elements × Entry → Elements × Slot
 put_of x = (x.0, slot_of (Some x.1))
 
--- The image as it is found when it is opened again: a name counts where each folder above it is one. Nothing stood
--- earlier, nothing was printed, and what is listed is remembered.
+-- The image as it is found when it is opened again: a name counts where each folder above it is
+-- one. Nothing stood earlier, nothing was printed, and what is listed is remembered.
 abbrev pub opened : Image → View
-opened image = record { names = at (slots_of image.names); files = rows_of image.files; earlier = λ q. []; dirty = λ id. false; printed = []; stood = map put_of image.names }
+opened image = record {
+  names = at (slots_of image.names);
+  files = rows_of image.files;
+  earlier = λ q. [];
+  dirty = λ id. false;
+  printed = [];
+  stood = map put_of image.names;
+}
 
 -- the disk that an image is
 abbrev pub disk_of : Image → Disk
@@ -42,8 +50,10 @@ disk_of image q = spot_of (rows_of image.files) (at (slots_of image.names) q)
 
 -- each file of a name has a row, each link's text is one, and permission bits are within 07777
 pub record IsImage (image : Image) : Type 0 where
-  pub known : (p : Elements) (id : ℕ) → slots_of image.names p ≡ file id → rows_of image.files id ≢ None
-  pub linked : (p : Elements) (text : List ℕ) → slots_of image.names p ≡ link text → is_link_text text ≡ true
+  pub known : (p : Elements) (id : ℕ) → slots_of image.names p ≡ file id
+      → rows_of image.files id ≢ None
+  pub linked : (p : Elements) (text : List ℕ) → slots_of image.names p ≡ link text
+      → is_link_text text ≡ true
   pub bits : (id : ℕ) (f : Inode) → rows_of image.files id ≡ Some f → f.mode ≤ 4095
 
 -- which entry of a name is chosen: the listed one, else its present one
@@ -56,7 +66,8 @@ abbrev pub bytes_for : List (ℕ × List ℕ) → ℕ → Option (List ℕ)
 bytes_for [] id = None
 bytes_for (x ∷ xs) id = if id == x.0 then Some x.1 else bytes_for xs id
 
--- entry 0 of a name is its present one, and entry n the n-th one that a stop may bring back, the oldest first
+-- entry 0 of a name is its present one, and entry n the n-th one that a stop may bring back, the
+-- oldest first
 abbrev pub numbered : Slot → List Slot → ℕ → Slot
 numbered present earlier zero = present
 numbered present earlier (suc n) = slice_index_or earlier n absent

@@ -57,8 +57,10 @@ pub record IsAt (names : List Name) (p : Elements) (i : ℕ) : Type 0 where
 -- no name has this text, and one that has it would stand here
 pub record IsPlace (names : List Name) (text : List ℕ) (i : ℕ) : Type 0 where
   pub low : i ≤ length names
-  pub before : (k : ℕ) (d : Name) → k < i → slice_cmp nat_cmp (path_text (slice_index_or names k d).path) text ≡ Less
-  pub remainder : (k : ℕ) (d : Name) → i ≤ k → k < length names → slice_cmp nat_cmp (path_text (slice_index_or names k d).path) text ≡ Greater
+  pub before : (k : ℕ) (d : Name) → k < i
+      → slice_cmp nat_cmp (path_text (slice_index_or names k d).path) text ≡ Less
+  pub remainder : (k : ℕ) (d : Name) → i ≤ k → k < length names
+      → slice_cmp nat_cmp (path_text (slice_index_or names k d).path) text ≡ Greater
 
 abbrev pub room_in : Option Name → ℕ → Type 0
 room_in None n = ⊥
@@ -76,12 +78,14 @@ pub record SameNames (old new : List Name) : Type 0 where
 -- the name holds this now, and held what it did
 pub record PutsName (p : Elements) (e : Slot) (old new : List Name) : Type 0 where
   pub names : (q : Elements) → names_of new q ≡ set_at (names_of old) p e q
-  pub earlier : (q : Elements) → earlier_of new q ≡ set_at (earlier_of old) p (earlier_of old p ++ names_of old p ∷ []) q
+  pub earlier : (q : Elements) → earlier_of new q
+      ≡ set_at (earlier_of old) p (earlier_of old p ++ names_of old p ∷ []) q
 
 -- a stop may leave this at the name
 pub record MayPutName (p : Elements) (e : Slot) (old new : List Name) : Type 0 where
   pub names : (q : Elements) → names_of new q ≡ names_of old q
-  pub earlier : (q : Elements) → earlier_of new q ≡ set_at (earlier_of old) p (earlier_of old p ++ e ∷ []) q
+  pub earlier : (q : Elements) → earlier_of new q
+      ≡ set_at (earlier_of old) p (earlier_of old p ++ e ∷ []) q
 
 -- no name held anything
 pub record ForgetsNames (old new : List Name) : Type 0 where

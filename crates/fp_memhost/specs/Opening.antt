@@ -26,13 +26,16 @@ may_stand names [] = false
 may_stand names (x ∷ up) = is_open names (x ∷ up)
 
 -- what stands once these names were added to what stood, the last first
-abbrev pub built : List (Elements × Entry) → (Elements → Slot) → List (Elements × Entry) → Elements → Slot
+abbrev pub built : List (Elements × Entry) → (Elements → Slot) → List (Elements × Entry)
+    → Elements → Slot
 built names stood [] q = stood q
-built names stood (x ∷ xs) q = if may_stand names x.0 && path_eq q x.0 then slot_of (Some x.1) else built names stood xs q
+built names stood (x ∷ xs) q =
+    if may_stand names x.0 && path_eq q x.0 then slot_of (Some x.1) else built names stood xs q
 
 -- the name stands there now, or it doesn't count
 pub record AddsName (counts : Bool) (p : Elements) (e : Slot) (old new : List Name) : Type 0 where
-  pub names : (q : Elements) → names_of new q ≡ (if counts && path_eq q p then e else names_of old q)
+  pub names : (q : Elements)
+      → names_of new q ≡ (if counts && path_eq q p then e else names_of old q)
 
 pub record AddsNames (listed : List (Elements × Entry)) (old new : List Name) : Type 0 where
   pub names : (q : Elements) → names_of new q ≡ built listed (names_of old) listed q

@@ -24,16 +24,19 @@ pub record Counts (old new : MemHost) : Type 0 where
   pub failing : new.failing.items ≡ old.failing.items
 
 -- the answer, where the call isn't to fail
-abbrev pub Answers : {T : Type 0} → Option Bool → Result T HostError → Result T HostError → ℕ → ℕ → Type 0
+abbrev pub Answers : {T : Type 0} → Option Bool → Result T HostError → Result T HostError
+    → ℕ → ℕ → Type 0
 Answers None answer result old new = (result ≡ answer) × (new ≡ old)
 Answers (Some late) answer result old new = (result ≡ Err Failed) × (new ≡ bumped old) × (old ≤ new)
 
 -- a call that changes nothing
-pub record Looked {T : Type 0} (answer : Result T HostError) (old new : MemHost) (result : Result T HostError) : Type 0 where
+pub record Looked {T : Type 0} (answer : Result T HostError) (old new : MemHost)
+    (result : Result T HostError) : Type 0 where
   pub counts : Counts old new
   pub log : new.history.log.items ≡ old.history.log.items
   pub starved : new.starved ≡ old.starved
-  pub answers : Answers (fails_at old.failing.items old.history.calls) answer result old.faults new.faults
+  pub answers : Answers (fails_at old.failing.items old.history.calls) answer result
+      old.faults new.faults
 
 -- a call for whose own note there was no memory
 pub record IsStarved (old new : MemHost) (result : Result (Unit {0}) HostError) : Type 0 where
@@ -45,11 +48,18 @@ pub record IsStarved (old new : MemHost) (result : Result (Unit {0}) HostError) 
   pub failed : result ≡ Err Failed
 
 -- a call that was kept
-pub record IsNoted (event : Event) (old new : MemHost) (result : Result (Unit {0}) HostError) : Type 0 where
+pub record IsNoted (event : Event) (old new : MemHost)
+    (result : Result (Unit {0}) HostError) : Type 0 where
   pub counts : Counts old new
-  pub log : new.history.log.items ≡ old.history.log.items ++ record { call = old.history.calls; is_done = done_by (fails_at old.failing.items old.history.calls) event; event = event } ∷ []
+  pub log : new.history.log.items ≡ old.history.log.items
+      ++ record {
+        call = old.history.calls;
+        is_done = done_by (fails_at old.failing.items old.history.calls) event;
+        event = event;
+      } ∷ []
   pub starved : new.starved ≡ old.starved
-  pub answers : Answers (fails_at old.failing.items old.history.calls) (Ok tt) result old.faults new.faults
+  pub answers : Answers (fails_at old.failing.items old.history.calls)
+      (Ok tt) result old.faults new.faults
 
 abbrev pub PlayedOf : Bool → Option Event → MemHost → MemHost → Result (Unit {0}) HostError → Type 0
 PlayedOf false event old new result = Looked (Err Clash) old new result
@@ -57,5 +67,6 @@ PlayedOf true None old new result = IsStarved old new result
 PlayedOf true (Some event) old new result = IsStarved old new result ⊎ IsNoted event old new result
 
 -- a call that changes something
-pub record Played (can : Bool) (event : Option Event) (old new : MemHost) (result : Result (Unit {0}) HostError) : Type 0 where
+pub record Played (can : Bool) (event : Option Event) (old new : MemHost)
+    (result : Result (Unit {0}) HostError) : Type 0 where
   pub how : PlayedOf can event old new result

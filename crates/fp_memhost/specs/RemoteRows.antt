@@ -42,6 +42,9 @@ pub record IsRowAt (rows : List Row) (url : List ℕ) (p : Elements) (i : ℕ) :
   pub here : (d : Row) → is_row url p (slice_index_or rows i d) ≡ true
 
 -- the row of the url and the path has this node now, and each other one is what it was
-pub record PutsRow (url : List ℕ) (p : Elements) (node : MemNode) (old new : List Row) : Type 0 where
-  pub held : (u : List ℕ) (q : Elements) → (is_above q p ≡ true → bytes_eq u url ≡ true → IsOpen (held_of old u q)) → held_of new u q ≡ put_held (held_of old) url p (node_held node) u q
-  pub bits : list_all has_bits old ≡ true → node_bits node ≡ true → list_all has_bits new ≡ true
+pub record PutsRow (url : List ℕ) (p : Elements) (node : MemNode) (old new : List Row) : Type 0
+  where
+    pub held : (u : List ℕ) (q : Elements)
+        → (is_above q p ≡ true → bytes_eq u url ≡ true → IsOpen (held_of old u q))
+        → held_of new u q ≡ put_held (held_of old) url p (node_held node) u q
+    pub bits : list_all has_bits old ≡ true → node_bits node ≡ true → list_all has_bits new ≡ true

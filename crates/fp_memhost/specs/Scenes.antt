@@ -10,7 +10,14 @@ use Rattle.fp_memhost.specs.Names.{names_of, earlier_of}
 use Rattle.fp_memhost.specs.Files.{files_of, dirty_of}
 
 abbrev pub view_from : List Name → List Content → List ℕ → List (Elements × Slot) → View
-view_from names files printed stood = record { names = names_of names; files = files_of files; earlier = earlier_of names; dirty = dirty_of files; printed = printed; stood = stood }
+view_from names files printed stood = record {
+  names = names_of names;
+  files = files_of files;
+  earlier = earlier_of names;
+  dirty = dirty_of files;
+  printed = printed;
+  stood = stood;
+}
 
 abbrev pub seen : Scene → View
 seen s = view_from s.names.items s.files.items s.printed.items (map stood_of s.stood.items)

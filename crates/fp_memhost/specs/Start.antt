@@ -10,10 +10,17 @@ abbrev pub root_alone : Elements → Slot
 root_alone [] = dir
 root_alone (x ∷ up) = absent
 
--- The empty view: it names the root alone, there are no files, nothing stood earlier, nothing was printed, and
--- nothing is remembered.
+-- The empty view: it names the root alone, there are no files, nothing stood earlier, nothing was
+-- printed, and nothing is remembered.
 abbrev pub empty_view : View
-empty_view = record { names = root_alone; files = λ id. None; earlier = λ q. []; dirty = λ id. false; printed = []; stood = [] }
+empty_view = record {
+  names = root_alone;
+  files = λ id. None;
+  earlier = λ q. [];
+  dirty = λ id. false;
+  printed = [];
+  stood = [];
+}
 
 -- The host tells this view, and no call was made.
 pub record Begins (v : View) (story : Story) (moments : Option Moments) (count : ℕ) : Type 0 where

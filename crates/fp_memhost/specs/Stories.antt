@@ -14,7 +14,8 @@ told_of m = moments_of (opened m.history.start) m.history.log.items
 abbrev pub story_of : MemHost → Story
 story_of m = record {
   calls = m.history.calls;
-  after = λ n. if nat_le n m.history.calls then Some (view_after (opened m.history.start) m.history.log.items n) else None;
+  after = λ n. if nat_le n m.history.calls
+      then Some (view_after (opened m.history.start) m.history.log.items n) else None;
   fails = fails_at m.failing.items;
   starved = m.starved;
   made = made_of m.history.log.items;

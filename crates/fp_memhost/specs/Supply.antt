@@ -26,10 +26,11 @@ left_by (Took n) left = drop n left
 left_by End left = left
 left_by Failed left = left
 
--- One call: the one with the number fails and takes nothing, another one gives as many bytes as there is room for, at
--- most a step.
+-- One call: the one with the number fails and takes nothing, another one gives as many bytes as
+-- there is room for, at most a step.
 pub record Gives (old new : Supply) (room : ℕ) (taken : Taken) : Type 0 where
-  pub answer : taken ≡ (if fails_now old.fail_at old.calls then Failed else taken_of old.left old.step room)
+  pub answer : taken ≡ (if fails_now old.fail_at old.calls then Failed
+      else taken_of old.left old.step room)
   pub left : new.left ≡ left_by taken old.left
   pub step : new.step ≡ old.step
   pub fail_at : new.fail_at ≡ old.fail_at

@@ -36,12 +36,14 @@ slot_cases dir (file id) = inr (λ e. cc)
 slot_cases dir (link text) = inr (λ e. cc)
 slot_cases (file id) absent = inr (λ e. cc)
 slot_cases (file id) dir = inr (λ e. cc)
-slot_cases (file i) (file j) = elim (cases_eq i j) [ inl e ↦ inl (ap file e) | inr ne ↦ inr (λ e. ne (cc)) ]
+slot_cases (file i) (file j) =
+    elim (cases_eq i j) [ inl e ↦ inl (ap file e) | inr ne ↦ inr (λ e. ne (cc)) ]
 slot_cases (file id) (link text) = inr (λ e. cc)
 slot_cases (link text) absent = inr (λ e. cc)
 slot_cases (link text) dir = inr (λ e. cc)
 slot_cases (link text) (file id) = inr (λ e. cc)
-slot_cases (link s) (link t) = elim (bytes_cases s t) [ inl e ↦ inl (ap link e) | inr ne ↦ inr (λ e. ne (cc)) ]
+slot_cases (link s) (link t) =
+    elim (bytes_cases s t) [ inl e ↦ inl (ap link e) | inr ne ↦ inr (λ e. ne (cc)) ]
 
 module _ {A : Type 0} (decide : (a b : A) → (a ≡ b) ⊎ (a ≢ b)) where
   had_cases : (l : List A) (e : A) → Decided (Contains l e)
@@ -54,20 +56,27 @@ module _ {A : Type 0} (decide : (a b : A) → (a ≡ b) ⊎ (a ≢ b)) where
     ]
   ]
     where
-      later : (k : ℕ) → k < length (x ∷ xs) → slice_index_or (x ∷ xs) k e ≡ e → x ≢ e → (Contains xs e → ⊥) → ⊥
+      later : (k : ℕ) → k < length (x ∷ xs) → slice_index_or (x ∷ xs) k e ≡ e → x ≢ e
+          → (Contains xs e → ⊥) → ⊥
       later zero low is ne none = ne is
       later (suc k) low is ne none = none (k, omega arith, is)
 
 put_cases : (a b : Elements × Slot) → (a ≡ b) ⊎ (a ≢ b)
 put_cases a b = elim (path_cases a.0 b.0) [
-  | inl path ↦ elim (slot_cases a.1 b.1) [ inl slot ↦ inl (λ i. (path i, slot i)) | inr ne ↦ inr (λ e. ne (ap (λ (x : Elements × Slot). x.1) e)) ]
+  | inl path ↦ elim (slot_cases a.1 b.1) [
+    | inl slot ↦ inl (λ i. (path i, slot i))
+    | inr ne ↦ inr (λ e. ne (ap (λ (x : Elements × Slot). x.1) e))
+  ]
   | inr ne ↦ inr (λ e. ne (ap (λ (x : Elements × Slot). x.0) e))
 ]
 
 may_cases : (v : View) (p : Elements) (e : Slot) → Decided (MayBe v p e)
 may_cases v p e = elim (slot_cases e (v.names p)) [
   | inl is ↦ inl (inl is)
-  | inr ne ↦ elim (had_cases slot_cases (v.earlier p) e) [ inl had ↦ inl (inr had) | inr none ↦ inr (λ m. elim m [ inl is ↦ ne is | inr had ↦ none had ]) ]
+  | inr ne ↦ elim (had_cases slot_cases (v.earlier p) e) [
+    | inl had ↦ inl (inr had)
+    | inr none ↦ inr (λ m. elim m [ inl is ↦ ne is | inr had ↦ none had ])
+  ]
 ]
 
 -- what is decided and not denied
@@ -81,18 +90,24 @@ told_tree v t = record {
   only_root = λ e m. settle (slot_cases e dir) t (λ tree. tree.only_root e m);
   above = λ x up. elim (absent_cases (v.names (x ∷ up))) [
     | inl gone ↦ inl gone
-    | inr some ↦ inr (settle (slot_cases (v.names up) dir) t (λ tree. elim (tree.above x up) [ inl gone ↦ absurd (some gone) | inr there ↦ there ]))
+    | inr some ↦ inr (settle (slot_cases (v.names up) dir) t
+        (λ tree. elim (tree.above x up) [ inl gone ↦ absurd (some gone) | inr there ↦ there ]))
   ];
   may_above = λ x up e m. elim (absent_cases e) [
     | inl gone ↦ inl gone
-    | inr some ↦ inr (settle (may_cases v up dir) t (λ tree. elim (tree.may_above x up e m) [ inl gone ↦ absurd (some gone) | inr there ↦ there ]))
+    | inr some ↦ inr (settle (may_cases v up dir) t
+        (λ tree. elim (tree.may_above x up e m) [
+          | inl gone ↦ absurd (some gone)
+          | inr there ↦ there
+        ]))
   ];
   known = λ p id m none. ∥∥₁_elim t ⊥_prop (λ tree. tree.known p id m none);
   known_dirty = λ id d none. ∥∥₁_elim t ⊥_prop (λ tree. tree.known_dirty id d none);
   linked = λ p text m. ∥∥₁_elim t (search props) (λ tree. tree.linked p text m);
   remembered = λ x up. elim (absent_cases (v.names (x ∷ up))) [
     | inl gone ↦ inl gone
-    | inr some ↦ inr (settle (had_cases put_cases v.stood (x ∷ up, v.names (x ∷ up))) t (λ tree. elim (tree.remembered x up) [ inl gone ↦ absurd (some gone) | inr had ↦ had ]))
+    | inr some ↦ inr (settle (had_cases put_cases v.stood (x ∷ up, v.names (x ∷ up))) t
+        (λ tree. elim (tree.remembered x up) [ inl gone ↦ absurd (some gone) | inr had ↦ had ]))
   ];
   bits = λ id f is. ∥∥₁_elim t (search props) (λ tree. tree.bits id f is);
 }
@@ -101,5 +116,6 @@ told_tree v t = record {
 pub law : (host : MemHost) (m : Moments) → Some (told_of host) ≡ Some m → IsTree m.now
 law host m is =
     let same : told_of host ≡ m = cc is in
-    let now : ∥ IsTree (view_now (opened host.history.start) host.history.log.items) ∥₁ = ∥∥₁_map host.history.trees (λ t. t.now) in
+    let now : ∥ IsTree (view_now (opened host.history.start) host.history.log.items) ∥₁ =
+    ∥∥₁_map host.history.trees (λ t. t.now) in
     subst (λ (k : Moments). IsTree k.now) same (told_tree _ now)

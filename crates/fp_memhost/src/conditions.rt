@@ -75,7 +75,8 @@ pub fn can_unlink(scene: &Scene, path: &Path) -> bool
 /// Whether the two hold different entries, or the first is no file.
 fn are_apart(from: Option<&Entry>, to: Option<&Entry>) -> bool
     ensures { IsTrue result
-        ↔ (IsFile (slot_of (option_copied from.entry)) → slot_of (option_copied from.entry) ≢ slot_of (option_copied to.entry)) }
+        ↔ (IsFile (slot_of (option_copied from.entry))
+        → slot_of (option_copied from.entry) ≢ slot_of (option_copied to.entry)) }
 {
     match (from, to) {
         (Some(Entry::File(one)), Some(Entry::File(other))) => one != other,

@@ -22,8 +22,8 @@ pub enum Event {
     Say(Blob),
 }
 
-/// A change with the number of its call, and whether it was done. One that wasn't leaves what stood, and may come about
-/// at a stop.
+/// A change with the number of its call, and whether it was done. One that wasn't leaves what
+/// stood, and may come about at a stop.
 #[derive(Drop)]
 pub struct Noted {
     pub call: u64,

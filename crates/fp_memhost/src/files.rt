@@ -6,7 +6,8 @@ ghost use Rattle.fp_memhost.specs.Appended.{size_of};
 
 use std::alloc::AllocError;
 
-/// A file by its id: its permission bits, its bytes, and whether it was created since the last sync.
+/// A file by its id: its permission bits, its bytes, and whether it was created since the last
+/// sync.
 #[derive(Drop)]
 pub struct Content {
     pub id: u64,

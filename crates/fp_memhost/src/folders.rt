@@ -59,7 +59,8 @@ pub fn has_child(names: &[Name], folder: &str) -> bool
         .any(|name| name.entry.is_some() && is_in(&name.path, folder))
 }
 
-/// The last element of the name, where something stands there and it is in the folder with this text.
+/// The last element of the name, where something stands there and it is in the folder with this
+/// text.
 fn child_name<'a>(name: &'a Name, folder: &str) -> Option<&'a str>
     ensures some { is_some result ≡ is_child (elements_of folder.now) name.now }
     ensures last { IfSome result (λ x. x.now ≡ last_of name.now.path) }

@@ -74,13 +74,14 @@ impl History {
         self.calls = self.calls.saturating_add(1);
     }
 
-    /// A call that makes this change, or leaves it for a stop to bring about. Whether there was memory to keep it;
-    /// without it nothing that is told changes.
+    /// A call that makes this change, or leaves it for a stop to bring about. Whether there was
+    /// memory to keep it; without it nothing that is told changes.
     pub fn note(&mut self, event: Event, is_done: bool) -> bool
         requires { Can (change_of event) (seen self.old.scene) }
         ensures start { self.new.start ≡ self.old.start }
         ensures yes { IsTrue result
-            → self.new.log.items ≡ self.old.log.items ++ record { call = self.old.calls; is_done = is_done; event = event } ∷ [] }
+            → self.new.log.items ≡ self.old.log.items
+            ++ record { call = self.old.calls; is_done = is_done; event = event } ∷ [] }
         ensures no { result ≡ false → self.new.log.items ≡ self.old.log.items }
         ensures calls { self.new.calls ≡ min (self.old.calls + 1) (2 ^ 64 - 1) }
         ensures later { self.old.calls ≤ self.new.calls }

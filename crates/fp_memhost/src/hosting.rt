@@ -24,9 +24,9 @@ impl Recorder for MemHost {
     ghost story = { story_of };
 }
 
-// Each call is the one of the trait, and says besides what it records: where it isn't to fail, it fails only where memory for
-// its own note runs out, and then nothing changes; where it is, it leaves the view as it is to. One that only reads needs no
-// note, so it is never starved.
+// Each call is the one of the trait, and says besides what it records: where it isn't to fail, it
+// fails only where memory for its own note runs out, and then nothing changes; where it is, it
+// leaves the view as it is to. One that only reads needs no note, so it is never starved.
 impl Host for MemHost {
     ghost moments = { λ m. Some (told_of m) };
 

@@ -17,16 +17,18 @@ pub struct FileRow {
     pub bytes: Blob,
 }
 
-/// What is found on a disk. The root is a folder, listed or not. Where a path or an id is listed twice, the first counts.
+/// What is found on a disk. The root is a folder, listed or not. Where a path or an id is listed
+/// twice, the first counts.
 #[derive(Drop)]
 pub struct Image {
     pub names: Items<(Path, Entry)>,
     pub files: Items<FileRow>,
 }
 
-/// What a stop leaves of what it may leave. Entry 0 of a name is its present one, and entry n the n-th one that a stop may
-/// bring back, the oldest first. A name that isn't listed takes entry 0, and a file that isn't listed keeps its bytes.
-/// Where a path or an id is listed twice, the first counts.
+/// What a stop leaves of what it may leave. Entry 0 of a name is its present one, and entry n the
+/// n-th one that a stop may bring back, the oldest first. A name that isn't listed takes entry 0,
+/// and a file that isn't listed keeps its bytes. Where a path or an id is listed twice, the first
+/// counts.
 #[derive(Drop)]
 pub struct Choice {
     pub names: Items<(Path, u64)>,
@@ -103,8 +105,8 @@ impl Image {
         true
     }
 
-    /// Whether a host may begin with it: each file of a name has a row, each link's text is one, and permission bits are
-    /// at most 0o7777.
+    /// Whether a host may begin with it: each file of a name has a row, each link's text is one,
+    /// and permission bits are at most 0o7777.
     pub fn is_good(&self) -> bool
         ensures { IsTrue result ↔ IsImage self.now }
     {

@@ -1,4 +1,5 @@
-//! Fakes in memory: a host that keeps what was done and tells what a stop would leave, remotes and a source.
+//! Fakes in memory: a host that keeps what was done and tells what a stop would leave, remotes and
+//! a source.
 #![tactic(auto)]
 
 mod choosing;

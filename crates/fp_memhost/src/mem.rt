@@ -20,7 +20,8 @@ use fp_base::Items;
 use fp_host::{Host, HostError, Path};
 use std::alloc::{AllocError, Global};
 
-/// A host in memory. It keeps what was done, and tells what a stop after any number of calls would leave.
+/// A host in memory. It keeps what was done, and tells what a stop after any number of calls would
+/// leave.
 #[derive(Drop)]
 pub struct MemHost {
     history: History,
@@ -58,8 +59,8 @@ impl MemHost {
         })
     }
 
-    /// The host that is found when the image is opened again: a name counts where each folder above it is one. No call was
-    /// made, and nothing was printed.
+    /// The host that is found when the image is opened again: a name counts where each folder above
+    /// it is one. No call was made, and nothing was printed.
     pub fn from_image(alloc: Global, image: Image) -> Result<Self, AllocError>
         requires { IsImage image }
         ensures { IfOk result (λ m. Begins (opened image) (⟦<MemHost as Recorder>⟧.story m)
@@ -75,8 +76,9 @@ impl MemHost {
         })
     }
 
-    /// One image that a stop after so many calls may leave: the one that is chosen. There is none exactly where a listed
-    /// name has no such entry, a listed file wasn't created since the last sync, or fewer calls were made.
+    /// One image that a stop after so many calls may leave: the one that is chosen. There is none
+    /// exactly where a listed name has no such entry, a listed file wasn't created since the last
+    /// sync, or fewer calls were made.
     pub fn image_after(&self, calls: u64, choice: &Choice) -> Result<Option<Image>, AllocError>
         ensures gives { IfOk result (GivesImage ((⟦<MemHost as Recorder>⟧.story self.now).after
             calls) choice.now) }
@@ -92,8 +94,8 @@ impl MemHost {
         Ok(Some(choose(self.alloc(), &scene, choice)?))
     }
 
-    /// After so many calls: each name at which a stop may bring something back, ascending, with how many entries. None
-    /// where fewer calls were made.
+    /// After so many calls: each name at which a stop may bring something back, ascending, with how
+    /// many entries. None where fewer calls were made.
     pub fn choices(&self, calls: u64) -> Result<Items<(Path, u64)>, AllocError>
         ensures { IfOk result (ChoicesOf ((⟦<MemHost as Recorder>⟧.story self.now).after calls)) }
     {
@@ -103,8 +105,8 @@ impl MemHost {
         choices_of(self.alloc(), &self.history.scene_after(calls)?)
     }
 
-    /// How many bytes were appended to files that were created below this path, which takes no memory; the count stands
-    /// still at 2^64 - 1.
+    /// How many bytes were appended to files that were created below this path, which takes no
+    /// memory; the count stands still at 2^64 - 1.
     pub fn appended(&self, front: &Path) -> u64
         ensures { TellsAppended front.now (⟦<MemHost as Host>⟧.moments self.now)
             (⟦<MemHost as Recorder>⟧.story self.now).made result }
@@ -126,16 +128,18 @@ impl MemHost {
         self.history.calls
     }
 
-    /// How many calls failed because there was no memory to keep them; the count stands still at 2^64 - 1.
+    /// How many calls failed because there was no memory to keep them; the count stands still at
+    /// 2^64 - 1.
     pub fn starved(&self) -> u64
         ensures { result ≡ (⟦<MemHost as Recorder>⟧.story self.now).starved }
     {
         self.starved
     }
 
-    /// Makes the calls with these numbers, counted from 0 over all calls, fail. The truth value says whether what the call
-    /// asks for is done; a stop may leave either. A failing sync, and a failing call whose condition doesn't hold, changes
-    /// nothing. Where a number is listed twice, the first counts. The list takes the place of an earlier one.
+    /// Makes the calls with these numbers, counted from 0 over all calls, fail. The truth value
+    /// says whether what the call asks for is done; a stop may leave either. A failing sync, and a
+    /// failing call whose condition doesn't hold, changes nothing. Where a number is listed twice,
+    /// the first counts. The list takes the place of an earlier one.
     pub fn fail_calls(&mut self, list: &[(u64, bool)]) -> Result<(), AllocError>
         ensures ok { OnOk result (⟦<MemHost as Recorder>⟧.story self.new ≡ record
             (⟦<MemHost as Recorder>⟧.story self.old) { fails = fails_at list.now }) }

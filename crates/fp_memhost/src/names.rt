@@ -48,7 +48,8 @@ pub fn entry<'a>(names: &'a [Name], text: &str) -> Option<&'a Entry>
     }
 }
 
-/// Makes room for two entries that the name held, and the name itself where it has no row. Nothing that is told changes.
+/// Makes room for two entries that the name held, and the name itself where it has no row. Nothing
+/// that is told changes.
 pub fn ready(names: &mut Vec<Name>, path: &Path) -> Result<(), AllocError>
     requires { IsAscending names.old.items }
     ensures ascending { IsAscending names.new.items }

@@ -62,7 +62,8 @@ pub fn stat_of(scene: &Scene, path: &Path) -> Stat
 /// The names in the folder.
 pub fn list_of(alloc: Global, scene: &Scene, path: &Path) -> Result<Items<Text>, HostError>
     ensures tells { Reads ((seen scene.now).names path.now ≡ dir)
-        (λ xs. (x : List ℕ) → Contains xs x ↔ ((seen scene.now).names (x ∷ path.now) ≢ absent)) result }
+        (λ xs. (x : List ℕ) → Contains xs x ↔ ((seen scene.now).names (x ∷ path.now) ≢ absent))
+        result }
     ensures names { IfOk result AreNames }
     ensures no_fault { IsErrOf result HostError.Failed → ⊥ }
 {

@@ -149,8 +149,8 @@ impl MemRemotes {
         })
     }
 
-    /// Whether the node may be put there: the path isn't the root and is no folder, no file or symlink is above it, and a
-    /// file's permission bits are at most 0o7777.
+    /// Whether the node may be put there: the path isn't the root and is no folder, no file or
+    /// symlink is above it, and a file's permission bits are at most 0o7777.
     pub fn can_put(&self, url: &str, path: &Path, node: &MemNode) -> bool
         ensures { IsTrue result ↔ CanPut (holdings_of self.now url.now) path.now node.now }
     {
@@ -166,8 +166,8 @@ impl MemRemotes {
         !has_leaf_above(&self.rows, url, path)
     }
 
-    /// Puts a file or a symlink at the path of the url, and folders above it. It takes the place of a file or symlink that
-    /// is there.
+    /// Puts a file or a symlink at the path of the url, and folders above it. It takes the place of
+    /// a file or symlink that is there.
     pub fn put(&mut self, url: &str, path: &Path, node: MemNode) -> Result<(), AllocError>
         requires { CanPut (holdings_of self.old url.now) path.now node }
         ensures ok { OnOk result ((u : List ℕ) (q : Elements) → holdings_of self.new u q ≡ put_held
@@ -180,7 +180,8 @@ impl MemRemotes {
         put_row(&mut self.rows, url, path, node)
     }
 
-    /// Makes the calls with these numbers, counted from 0 over all calls, fail. The list takes the place of an earlier one.
+    /// Makes the calls with these numbers, counted from 0 over all calls, fail. The list takes the
+    /// place of an earlier one.
     pub fn fail_calls(&mut self, list: &[u64]) -> Result<(), AllocError>
         ensures ok { OnOk result (keeping_of self.new ≡ record (keeping_of self.old)
             { fails = λ n. list_any (λ x. eqb x n) list.now }) }

@@ -20,8 +20,8 @@ pub struct MemSource {
 }
 
 impl MemSource {
-    /// Gives at most `step` bytes a call, which is not 0, and fails at the call with this number, counted from 0. It takes
-    /// no memory.
+    /// Gives at most `step` bytes a call, which is not 0, and fails at the call with this number,
+    /// counted from 0. It takes no memory.
     pub fn new(bytes: Blob, step: usize, fail_at: Option<u64>) -> Self
         requires { step ≢ 0 }
         ensures supply { ⟦<MemSource as Supplier>⟧.supply result ≡ record

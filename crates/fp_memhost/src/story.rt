@@ -4,7 +4,8 @@
 pub trait Recorder {
     ghost use Rattle.fp_memhost.specs.Story.{Story};
 
-    /// How many calls were made, the view after each, which calls are to fail, and which files were created.
+    /// How many calls were made, the view after each, which calls are to fail, and which files were
+    /// created.
     ghost story: { Self → Story };
 }
 

@@ -9,4 +9,7 @@ is_name_byte b = not (b == 47 || b == 0)
 
 -- 1 to 255 bytes without `/` and zero, and neither `.` nor `..`
 abbrev pub is_file_name : List ℕ → Bool
-is_file_name name = nat_le 1 (length name) && (nat_le (length name) MOST_NAME_BYTES && (list_all is_name_byte name && not (bytes_eq name (codes ".") || bytes_eq name (codes ".."))))
+is_file_name name = nat_le 1 (length name) &&
+    (nat_le (length name) MOST_NAME_BYTES
+    && (list_all is_name_byte name
+    && not (bytes_eq name (codes ".") || bytes_eq name (codes ".."))))

@@ -21,20 +21,27 @@ are_elements (element ∷ next ∷ more) = is_element element && are_elements (n
 
 -- An ID has at most 255 bytes and at least three elements, which dots separate.
 unfoldable pub is_id : List ℕ → Bool
-is_id text = nat_le (length text) MOST_NAME_BYTES && (nat_le 3 (length (slice_split is_dot text)) && are_elements (slice_split is_dot text))
+is_id text = nat_le (length text) MOST_NAME_BYTES
+    && (nat_le 3 (length (slice_split is_dot text)) && are_elements (slice_split is_dot text))
 
 -- An ARCH is 1 to 255 letters, digits and `_`.
 unfoldable pub is_arch : List ℕ → Bool
-is_arch text = nat_le (length text) MOST_NAME_BYTES && (begins_with is_word text && list_all is_word text)
+is_arch text =
+    nat_le (length text) MOST_NAME_BYTES && (begins_with is_word text && list_all is_word text)
 
 -- A BRANCH is 1 to 255 letters, digits, `_`, `-` and `.`, and doesn't begin with `.`.
 unfoldable pub is_branch : List ℕ → Bool
-is_branch text = nat_le (length text) MOST_NAME_BYTES && (begins_with is_dashed text && list_all is_dotted text)
+is_branch text =
+    nat_le (length text) MOST_NAME_BYTES && (begins_with is_dashed text && list_all is_dotted text)
 
--- A remote's name is 1 to 64 letters, digits, `_`, `-` and `.`, and begins with a letter, a digit or `_`.
+-- A remote's name is 1 to 64 letters, digits, `_`, `-` and `.`, and begins with a letter, a digit
+-- or `_`.
 unfoldable pub is_remote_name : List ℕ → Bool
-is_remote_name text = nat_le (length text) MOST_REMOTE_NAME_BYTES && (begins_with is_word text && list_all is_dotted text)
+is_remote_name text = nat_le (length text) MOST_REMOTE_NAME_BYTES
+    && (begins_with is_word text && list_all is_dotted text)
 
--- A remote's url is `file:///` followed by any number of bytes 0x21 to 0x7e, at most 1,024 bytes in all.
+-- A remote's url is `file:///` followed by any number of bytes 0x21 to 0x7e, at most 1,024 bytes in
+-- all.
 unfoldable pub is_url : List ℕ → Bool
-is_url text = nat_le (length text) MOST_URL_BYTES && (bytes_eq (take 8 text) (codes "file:///") && list_all is_ascii_graphic (drop 8 text))
+is_url text = nat_le (length text) MOST_URL_BYTES
+    && (bytes_eq (take 8 text) (codes "file:///") && list_all is_ascii_graphic (drop 8 text))

@@ -22,7 +22,8 @@ hex (b ∷ bs) = digit (b / 16) ∷ digit (b % 16) ∷ hex bs
 
 -- the number of a digit, in lower case
 abbrev pub digit_value : ℕ → Option ℕ
-digit_value c = if is_in_range 48 57 c then Some (c - 48) else (if is_in_range 97 102 c then Some (c - 87) else None)
+digit_value c = if is_in_range 48 57 c then Some (c - 48)
+    else (if is_in_range 97 102 c then Some (c - 87) else None)
 
 -- a byte of two digits, in front of other bytes
 abbrev pub with_byte : Option ℕ → Option ℕ → Option (List ℕ) → Option (List ℕ)

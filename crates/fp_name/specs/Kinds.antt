@@ -11,4 +11,5 @@ kind_word Runtime = codes "runtime"
 
 -- the kind of a word
 abbrev pub kind_of : List ℕ → Option RefKind
-kind_of word = if bytes_eq word (codes "app") then Some App else (if bytes_eq word (codes "runtime") then Some Runtime else None)
+kind_of word = if bytes_eq word (codes "app") then Some App
+    else (if bytes_eq word (codes "runtime") then Some Runtime else None)

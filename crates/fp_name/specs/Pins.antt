@@ -11,7 +11,8 @@ is_star part = bytes_eq part (codes "*")
 
 abbrev pub are_pin_parts : Option Ref → Bool
 are_pin_parts None = false
-are_pin_parts (Some p) = (is_star p.id || is_id p.id) && ((is_star p.arch || is_arch p.arch) && (is_star p.branch || is_branch p.branch))
+are_pin_parts (Some p) = (is_star p.id || is_id p.id)
+    && ((is_star p.arch || is_arch p.arch) && (is_star p.branch || is_branch p.branch))
 
 unfoldable pub is_pin : List ℕ → Bool
 is_pin text = are_pin_parts (parts_of text)
@@ -28,7 +29,8 @@ part_matches pattern part = is_star pattern || bytes_eq pattern part
 
 abbrev pub parts_match : Option Ref → Ref → Bool
 parts_match None r = false
-parts_match (Some p) r = same_kind p.kind r.kind && (part_matches p.id r.id && (part_matches p.arch r.arch && part_matches p.branch r.branch))
+parts_match (Some p) r = same_kind p.kind r.kind
+    && (part_matches p.id r.id && (part_matches p.arch r.arch && part_matches p.branch r.branch))
 
 -- whether the pattern of this text matches a ref
 unfoldable pub pin_matches : List ℕ → Ref → Bool

@@ -115,7 +115,8 @@ pub fn is_arch(text: &str) -> bool
         && all_words(text)
 }
 
-/// Whether a text is a BRANCH: 1 to 255 letters, digits, `_`, `-` and `.`, the first of them no `.`.
+/// Whether a text is a BRANCH: 1 to 255 letters, digits, `_`, `-` and `.`, the first of them no
+/// `.`.
 #[tactic(auto, unfolding(crate::specs::Grammar::is_branch))]
 pub fn is_branch(text: &str) -> bool
     ensures { result ≡ is_branch text.now }
@@ -136,8 +137,8 @@ pub fn is_remote_name(text: &str) -> bool
         && all_dotted(text)
 }
 
-/// Whether a text is the url of a remote: `file:///` followed by any number of bytes 0x21 to 0x7e, at
-/// most 1,024 bytes in all.
+/// Whether a text is the url of a remote: `file:///` followed by any number of bytes 0x21 to 0x7e,
+/// at most 1,024 bytes in all.
 #[tactic(auto, unfolding(crate::specs::Grammar::is_url))]
 pub fn is_url(text: &str) -> bool
     ensures { result ≡ is_url text.now }

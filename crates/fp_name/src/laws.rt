@@ -18,8 +18,8 @@ use crate::remote_name::RemoteName;
 use crate::remote_url::RemoteUrl;
 use fp_base::Text;
 
-/// A ref determines its text and the text its ref: what is written reads back, and only the text of a
-/// good ref reads as it.
+/// A ref determines its text and the text its ref: what is written reads back, and only the text of
+/// a good ref reads as it.
 pub fn refs_read_back()
     ensures written { (r : Ref) → is_ref r ≡ true → ref_of (ref_text r) ≡ Some r }
     ensures read { (text : List ℕ) (r : Ref) → ref_of text ≡ Some r → (text ≡ ref_text r) ×

@@ -74,8 +74,8 @@ impl PinPattern {
         })
     }
 
-    /// Whether the pattern matches a ref: the kinds are equal, and each other part of the pattern is
-    /// equal to the ref's or `*`. It takes no memory.
+    /// Whether the pattern matches a ref: the kinds are equal, and each other part of the pattern
+    /// is equal to the ref's or `*`. It takes no memory.
     #[tactic(auto, unfolding(crate::specs::Pins::pin_matches))]
     pub fn matches(&self, name: &RefName) -> bool
         ensures { result ≡ pin_matches self.now name.now }

@@ -1,4 +1,5 @@
-//! A line on standard error that says how far a long command is, and a system that is watched for it.
+//! A line on standard error that says how far a long command is, and a system that is watched for
+//! it.
 #![tactic(auto)]
 
 mod file;

@@ -14,9 +14,10 @@ const BLANK: &str =
 
 const KIB: u64 = 1024;
 
-/// How far a command is: the files and bytes that it read from remotes, and the files and folders that it synced. Once it takes
-/// longer than half a second, it is said on standard error as one line without an end, which is rewritten at its beginning, at
-/// most ten times a second. Where standard error is no terminal nothing is ever said.
+/// How far a command is: the files and bytes that it read from remotes, and the files and folders
+/// that it synced. Once it takes longer than half a second, it is said on standard error as one
+/// line without an end, which is rewritten at its beginning, at most ten times a second. Where
+/// standard error is no terminal nothing is ever said.
 pub struct Progress<'a, R> {
     rt: &'a R,
     // When the line is written next, by the system's clock. None where it never is.

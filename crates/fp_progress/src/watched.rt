@@ -16,7 +16,8 @@ use std::time::Clock;
 /// How many files or folders are synced between two lines.
 const PART: usize = 1000;
 
-/// A system, and how far the command is that it is used for. The line of the command is taken away before anything is printed.
+/// A system, and how far the command is that it is used for. The line of the command is taken away
+/// before anything is printed.
 pub struct Watched<'a, R> {
     rt: &'a R,
     progress: &'a Progress<'a, R>,
@@ -196,7 +197,8 @@ impl<R: System + Clock> System for Watched<'_, R> {
         if met.is_some() {
             return met;
         }
-        // Where there was no memory for a list of all of them, the others are synced one after another.
+        // Where there was no memory for a list of all of them, the others are synced one after
+        // another.
         let listed = inner.len();
         for (i, file) in files.iter().enumerate() {
             if i >= listed

@@ -1,4 +1,5 @@
-//! Tests of the adapters as data: what is done in a folder, one act after another, and what is to come of it.
+//! Tests of the adapters as data: what is done in a folder, one act after another, and what is to
+//! come of it.
 #![tactic(auto)]
 
 mod remote;

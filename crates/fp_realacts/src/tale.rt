@@ -14,8 +14,8 @@ use std::time::{SystemTime, UNIX_EPOCH};
 #[derive(Clone, Copy)]
 pub enum Act<'a> {
     Make(&'a [Made<'a>]),
-    /// What a host over a folder is opened for, the folder, what is asked of it, how often a call failed, and what was refused last,
-    /// where that is told.
+    /// What a host over a folder is opened for, the folder, what is asked of it, how often a call
+    /// failed, and what was refused last, where that is told.
     Run(Access, &'a str, &'a [Part<'a>], (u64, &'a str)),
     /// The same over a system that notes what it is asked.
     Logged(Access, &'a str, &'a [Part<'a>]),
@@ -30,8 +30,8 @@ pub enum Act<'a> {
     Dated(&'a str, bool),
 }
 
-/// Whether each act is as it says. Where one isn't, standard error is told of the first. The folder is cleared before and
-/// after.
+/// Whether each act is as it says. Where one isn't, standard error is told of the first. The folder
+/// is cleared before and after.
 pub fn tell<T: Threads + Sync>(
     rt: &HostRuntime,
     threads: &T,

@@ -25,7 +25,8 @@ fn no_file(kind: Kind) -> Cause {
     }
 }
 
-/// Opens a file of ours, also where its own permission bits are in the way: they are widened while it is opened.
+/// Opens a file of ours, also where its own permission bits are in the way: they are widened while
+/// it is opened.
 pub fn open_own<R: Files>(rt: &R, how: &OpenOptions, at: &str) -> Result<R::File, Cause> {
     match known(how.open(rt, at)) {
         Err(e) if e.is(ErrorKind::PermissionDenied) => open_denied(rt, how, at),

@@ -14,7 +14,8 @@ use std::fs::DirEntry;
 use std::rt::Files;
 use std::{fs, io};
 
-/// The names in the folder but the hidden one, ascending by their bytes. A name that no path may have is an error.
+/// The names in the folder but the hidden one, ascending by their bytes. A name that no path may
+/// have is an error.
 pub fn list_names<R: Files + AllocGlobal>(
     rt: &R,
     alloc: Global,
@@ -29,7 +30,8 @@ pub fn list_names<R: Files + AllocGlobal>(
     }
 }
 
-/// The names but the hidden one, ascending by their bytes. A name that no path may have is an error.
+/// The names but the hidden one, ascending by their bytes. A name that no path may have is an
+/// error.
 pub fn sorted_names(mut names: Vec<Text>, hidden: &str) -> Result<Items<Text>, Cause>
     ensures { IfOk result AreNames }
 {

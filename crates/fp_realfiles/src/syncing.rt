@@ -47,8 +47,8 @@ impl<'a> Syncer<&'a File> for HostRuntime {
     }
 }
 
-/// Syncs by several threads where there are many paths or files. It answers the first failure; but a sync that failed comes
-/// before what could not be opened.
+/// Syncs by several threads where there are many paths or files. It answers the first failure; but
+/// a sync that failed comes before what could not be opened.
 pub fn sync_by_threads<T: Threads + Sync, I: Sync, S: Syncer<I> + Sync>(
     threads: &T,
     syncer: &S,
@@ -57,8 +57,8 @@ pub fn sync_by_threads<T: Threads + Sync, I: Sync, S: Syncer<I> + Sync>(
     sync_parts(threads, syncer, 0, items, items.len().div_ceil(THREADS))
 }
 
-/// Cuts them in halves, down to this length, and each half is synced by a thread of its own. The first one has this place in the
-/// list.
+/// Cuts them in halves, down to this length, and each half is synced by a thread of its own. The
+/// first one has this place in the list.
 fn sync_parts<T: Threads + Sync, I: Sync, S: Syncer<I> + Sync>(
     threads: &T,
     syncer: &S,
@@ -138,7 +138,8 @@ pub fn sync_open_in_turn<F: OpenFile>(files: &[&F]) -> Option<Failure> {
     None
 }
 
-/// Syncs files and folders one after another, as they may be opened, and answers the first that failed.
+/// Syncs files and folders one after another, as they may be opened, and answers the first that
+/// failed.
 pub fn sync_in_turn<R: Files>(rt: &R, paths: &[&str]) -> Option<Failure> {
     for (i, at) in paths.iter().enumerate() {
         if let Some(unsynced) = sync_plain(rt, at) {
@@ -148,8 +149,8 @@ pub fn sync_in_turn<R: Files>(rt: &R, paths: &[&str]) -> Option<Failure> {
     None
 }
 
-/// The same of what is ours, whose permission bits are widened where they are in the way. What may not be opened is spared where
-/// others may own it. The first path has this place in a list.
+/// The same of what is ours, whose permission bits are widened where they are in the way. What may
+/// not be opened is spared where others may own it. The first path has this place in a list.
 pub fn sync_own<R: Files>(rt: &R, start: usize, paths: &[&str], spares: bool) -> Option<Failure> {
     for (i, at) in paths.iter().enumerate() {
         if let Some(unsynced) = sync_at(rt, at, spares) {
@@ -173,8 +174,8 @@ fn sync_plain<R: Files>(rt: &R, at: &str) -> Option<Unsynced> {
     }
 }
 
-/// Syncs a file or folder of ours, or of an earlier run. What is gone is left out, and so is what may not be opened where others may
-/// own it.
+/// Syncs a file or folder of ours, or of an earlier run. What is gone is left out, and so is what
+/// may not be opened where others may own it.
 pub fn sync_at<R: Files>(rt: &R, at: &str, spares: bool) -> Option<Unsynced> {
     match open_to_read(rt, at) {
         Ok(opened) => sync_opened(&opened),

@@ -2,7 +2,8 @@
 use std::marker::PhantomData;
 use std::thread::Threads;
 
-/// The leave to start threads that a handle gives. It takes no bytes, so threads may share it, whatever the handle is.
+/// The leave to start threads that a handle gives. It takes no bytes, so threads may share it,
+/// whatever the handle is.
 pub struct Team<T> {
     handle: PhantomData<T>,
 }

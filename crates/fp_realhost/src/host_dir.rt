@@ -19,31 +19,40 @@ use std::thread::Threads;
 
 /// A folder of the system as a host, and where it prints.
 ///
-/// It tells nothing of its content. Whatever the system refuses, and whatever breaks a call's condition, is counted and
-/// answered `Failed`, and so is running out of memory in a call that may not answer `NoMemory`; no call answers `Clash`.
+/// It tells nothing of its content. Whatever the system refuses, and whatever breaks a call's
+/// condition, is counted and answered `Failed`, and so is running out of memory in a call that may
+/// not answer `NoMemory`; no call answers `Clash`.
 ///
-/// It is opened to look or to change. At its first call, but for `say`, it takes the advisory lock (`flock`) of the file
-/// `.lock` at the top of the root, shared to look and alone to change, and keeps it as long as it is there. Where another
-/// holds it, that it waits is said once on standard error. A host that looks makes nothing: where there is no lock file it takes
-/// none, an absent root reads as an empty folder, and every change fails. A host that changes makes the root, the folders above
-/// it and the lock file at its first call, where they are absent. The list of the root's names leaves the lock file out.
+/// It is opened to look or to change. At its first call, but for `say`, it takes the advisory lock
+/// (`flock`) of the file `.lock` at the top of the root, shared to look and alone to change, and
+/// keeps it as long as it is there. Where another holds it, that it waits is said once on standard
+/// error. A host that looks makes nothing: where there is no lock file it takes none, an absent
+/// root reads as an empty folder, and every change fails. A host that changes makes the root, the
+/// folders above it and the lock file at its first call, where they are absent. The list of the
+/// root's names leaves the lock file out.
 ///
-/// A folder gets the permission bits 0755 and a file exactly those that were asked for, whatever the umask. What is moved
-/// into `repo/objects`, or written in `repo/tmp/pull/objects` to be moved there, gets the modification time 0, as OSTree's
-/// objects have. Ids are the numbers of inodes, and of a file that the host made itself a number of its own.
+/// A folder gets the permission bits 0755 and a file exactly those that were asked for, whatever
+/// the umask. What is moved into `repo/objects`, or written in `repo/tmp/pull/objects` to be moved
+/// there, gets the modification time 0, as OSTree's objects have. Ids are the numbers of inodes,
+/// and of a file that the host made itself a number of its own.
 ///
-/// The root may be a symlink or stand below one. Below the root no symlink is followed: a call fails where one stands in the
-/// place of a folder above its path. What was found is remembered until the host changes it, and so is what the host made itself:
-/// each folder and file is looked at once, and a folder that is absent too. The names in a folder that it made, and the bits and
-/// size of a file, it answers itself. What another program puts in its place later is followed, or not seen.
+/// The root may be a symlink or stand below one. Below the root no symlink is followed: a call
+/// fails where one stands in the place of a folder above its path. What was found is remembered
+/// until the host changes it, and so is what the host made itself: each folder and file is looked
+/// at once, and a folder that is absent too. The names in a folder that it made, and the bits and
+/// size of a file, it answers itself. What another program puts in its place later is followed, or
+/// not seen.
 ///
-/// A `sync` makes last each file and then each folder that was changed since the last one, many of them by several threads.
-/// At most 192 files that wait for it stay open: where more are made, those are synced before. While changes wait for it, the
-/// lock file holds the text that Linux gives this start of the machine. Where an earlier run of the same start left that, or the
-/// root was there without a lock file, the first `sync` makes last every file and folder that may be opened. After a sync of a
-/// file or folder that failed no later one succeeds, nor after a change that there was no memory to note.
+/// A `sync` makes last each file and then each folder that was changed since the last one, many of
+/// them by several threads. At most 192 files that wait for it stay open: where more are made,
+/// those are synced before. While changes wait for it, the lock file holds the text that Linux
+/// gives this start of the machine. Where an earlier run of the same start left that, or the root
+/// was there without a lock file, the first `sync` makes last every file and folder that may be
+/// opened. After a sync of a file or folder that failed no later one succeeds, nor after a change
+/// that there was no memory to note.
 ///
-/// Contracts see how often it failed, whether nothing waits for a sync, and how many bytes were printed.
+/// Contracts see how often it failed, whether nothing waits for a sync, and how many bytes were
+/// printed.
 pub struct HostDir<'a, R: Files, T, O> {
     tree: Tree<'a, R>,
     team: Team<T>,
@@ -71,8 +80,8 @@ impl<R: Files, T, O> Drop for HostDir<'_, R, T, O> {
 }
 
 impl<'a, R: System, T: Threads, O: Print> HostDir<'a, R, T, O> {
-    /// The host over the folder of this name, which prints to this output; the empty name is the current folder. It asks
-    /// nothing of the system yet.
+    /// The host over the folder of this name, which prints to this output; the empty name is the
+    /// current folder. It asks nothing of the system yet.
     pub fn new(
         rt: &'a R,
         threads: &T,

@@ -5,7 +5,8 @@ ghost use Rattle.fp_system.specs.Counts.{many_more};
 use fp_system::{Cause, known};
 use std::marker::Model;
 
-/// The standard output. Contracts see how many bytes were printed; the number stands still at 2^64 - 1.
+/// The standard output. Contracts see how many bytes were printed; the number stands still at 2^64
+/// - 1.
 pub struct Output<'a, O> {
     out: &'a O,
     printed: u64,

@@ -3,9 +3,10 @@ use std::alloc::{AllocError, Global};
 use std::fmt::{Display, Write};
 use std::io;
 
-/// The standard output of a system. Where it is a terminal, control characters but the newline (C0, DEL and C1) and those
-/// that turn the direction of text (Unicode's Bidi_Control) are shown as escapes, as `\u{1b}`; of bytes that are no UTF-8
-/// those outside ASCII too, as `\x9b`. Elsewhere the bytes are untouched.
+/// The standard output of a system. Where it is a terminal, control characters but the newline (C0,
+/// DEL and C1) and those that turn the direction of text (Unicode's Bidi_Control) are shown as
+/// escapes, as `\u{1b}`; of bytes that are no UTF-8 those outside ASCII too, as `\x9b`. Elsewhere
+/// the bytes are untouched.
 #[derive(Drop)]
 pub struct Screen<'a, R> {
     rt: &'a R,

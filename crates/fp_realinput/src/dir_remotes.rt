@@ -10,15 +10,16 @@ use std::alloc::Global;
 use std::marker::Model;
 use std::rt::Files;
 
-/// The remotes whose urls are `file://` and the absolute path of a folder, byte for byte. Contracts see it as its count
-/// of faults.
+/// The remotes whose urls are `file://` and the absolute path of a folder, byte for byte. Contracts
+/// see it as its count of faults.
 ///
-/// It tells nothing of what they hold. Whatever the system refuses, a url of another form and a socket, pipe or device
-/// are counted and answered `Failed`, and so is running out of memory in `read_at`.
+/// It tells nothing of what they hold. Whatever the system refuses, a url of another form and a
+/// socket, pipe or device are counted and answered `Failed`, and so is running out of memory in
+/// `read_at`.
 ///
-/// The folder that a url names may be a symlink or stand below one. Below it no symlink is followed: a call fails where one
-/// stands in the place of a folder above its path. Each folder is looked at once: a symlink that another program puts in
-/// its place later is followed.
+/// The folder that a url names may be a symlink or stand below one. Below it no symlink is
+/// followed: a call fails where one stands in the place of a folder above its path. Each folder is
+/// looked at once: a symlink that another program puts in its place later is followed.
 pub struct DirRemotes<'a, R: Files> {
     places: Places<'a, R>,
     faults: Faults,

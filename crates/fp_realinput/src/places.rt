@@ -50,8 +50,8 @@ impl<'a, R: Files> Places<'a, R> {
         self.alloc
     }
 
-    /// Finds the path for the system, and answers whether all folders above it are there. No symlink stands above it, below the
-    /// folder of the url.
+    /// Finds the path for the system, and answers whether all folders above it are there. No
+    /// symlink stands above it, below the folder of the url.
     fn reach(&mut self, url: &str, path: &Path) -> Result<bool, Cause> {
         match write_path(url, path, &mut self.at) {
             Ok(below) => self.folders.look_above(self.rt, &self.at, below),
@@ -91,7 +91,8 @@ fn folder_of_url(url: &str) -> &str {
     url.strip_prefix("file://").unwrap_or("")
 }
 
-/// Writes the path for the system: the folder of the url, a slash and the elements. Answers where the elements begin.
+/// Writes the path for the system: the folder of the url, a slash and the elements. Answers where
+/// the elements begin.
 fn write_path(url: &str, path: &Path, into: &mut String) -> Result<usize, Cause> {
     let folder = folder_of_url(url);
     if !folder.starts_with('/') {

@@ -13,8 +13,8 @@ use std::marker::Model;
 /// The most bytes that are kept.
 const MOST_KEPT: usize = 1024 * 1024;
 
-/// The standard input, which tells nothing of what is left in it. It may keep what was taken, as long as that is at most
-/// 1 MiB. Contracts see it as its count of faults and what it keeps.
+/// The standard input, which tells nothing of what is left in it. It may keep what was taken, as
+/// long as that is at most 1 MiB. Contracts see it as its count of faults and what it keeps.
 #[derive(Drop)]
 pub struct StdinSource<'a, R> {
     rt: &'a R,

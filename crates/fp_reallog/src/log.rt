@@ -1,4 +1,5 @@
-//! What a test notes: what its system is asked to change, in order, as lines, and what doesn't hold.
+//! What a test notes: what its system is asked to change, in order, as lines, and what doesn't
+//! hold.
 use std::alloc::Global;
 use std::cell::Cell;
 use std::io;

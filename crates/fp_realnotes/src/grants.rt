@@ -3,8 +3,8 @@ use fp_system::{FOLDER_BITS, folder_of, note};
 use std::alloc::Global;
 use std::collections::BTreeSet;
 
-/// The folders in which the umask, or what the folder says in its place, takes none of a folder's bits. Where a folder is one, so
-/// is each that is made in it.
+/// The folders in which the umask, or what the folder says in its place, takes none of a folder's
+/// bits. Where a folder is one, so is each that is made in it.
 #[derive(Drop)]
 pub struct Grants {
     alloc: Global,

@@ -32,8 +32,8 @@ impl MadeFile {
     }
 }
 
-/// The folders, files and other things that were made. In a folder that was made nothing stands but what was made there, as
-/// long as no other program puts something there.
+/// The folders, files and other things that were made. In a folder that was made nothing stands but
+/// what was made there, as long as no other program puts something there.
 #[derive(Drop)]
 pub struct Made {
     alloc: Global,
@@ -43,7 +43,8 @@ pub struct Made {
     others: BTreeSet<String>,
     // Whether there was memory to note all of it, and each folder was made as it was asked for.
     is_whole: bool,
-    // Whether no file was written that has a second name: its size is then noted under one of them alone.
+    // Whether no file was written that has a second name: its size is then noted under one of them
+    // alone.
     has_sizes: bool,
     // How many files were made.
     count: u64,
@@ -68,7 +69,8 @@ impl Made {
         self.files.contains_key(at)
     }
 
-    /// What is known of a file that was made. Its id is none that the system gives: they count down from the greatest number.
+    /// What is known of a file that was made. Its id is none that the system gives: they count down
+    /// from the greatest number.
     pub fn stat(&self, at: &str) -> Option<Stat>
         ensures { IfSome result HasBits }
     {

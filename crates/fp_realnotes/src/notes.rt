@@ -7,8 +7,8 @@ use fp_system::{Folders, Found, Kind};
 use std::alloc::Global;
 use std::marker::Model;
 
-/// The folders and files that were looked at, what was made, with which bits, and what waits for a sync. Contracts see whether
-/// nothing waits.
+/// The folders and files that were looked at, what was made, with which bits, and what waits for a
+/// sync. Contracts see whether nothing waits.
 #[derive(Drop)]
 pub struct Notes {
     pub folders: Folders,

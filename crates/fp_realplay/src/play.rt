@@ -27,7 +27,8 @@ pub enum Part<'a> {
     Free(&'a str, bool, bool),
     /// Calls, the first of them that fails, and whether a sync succeeds afterwards.
     Stop(&'a [Step<'a>], usize, bool),
-    /// How many files are made, how many of them are synced before a sync, and by it, and whether it succeeds, twice.
+    /// How many files are made, how many of them are synced before a sync, and by it, and whether
+    /// it succeeds, twice.
     Many(u32, &'a (usize, usize, bool)),
 }
 

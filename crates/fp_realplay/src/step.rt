@@ -77,7 +77,8 @@ fn change_at<H: Host>(
     }
 }
 
-/// Whether the path shows this: a folder's names, a file's permission bits, size and first bytes, a symlink's text.
+/// Whether the path shows this: a folder's names, a file's permission bits, size and first bytes, a
+/// symlink's text.
 pub(crate) fn shows<H: Host>(log: &Log<'_>, host: &mut H, at: &str, want: &str) -> bool {
     shows_at(log.alloc, host, &path(log, at), want)
 }

@@ -123,7 +123,8 @@ impl<F> Gate<F> {
 }
 
 impl<F: Write + Seek + OpenFile + Drop> Gate<F> {
-    /// Finds the root and takes the lock, once. A host that changes makes the root for it where it is absent.
+    /// Finds the root and takes the lock, once. A host that changes makes the root for it where it
+    /// is absent.
     pub fn enter<R: System<File = F>>(
         &mut self,
         rt: &R,
@@ -250,7 +251,8 @@ fn some_lock<R: System>(rt: &R, at: &str, root: &str) -> Result<Option<Lock<R::F
     }
 }
 
-/// The lock to look, where there is a file for it that may be opened: who may only read an installation looks without it.
+/// The lock to look, where there is a file for it that may be opened: who may only read an
+/// installation looks without it.
 fn find_lock<R: System>(rt: &R, at: &str, root: &str) -> Result<Lock<R::File>, Cause> {
     match known(fs::open(rt, at)) {
         Ok(file) => share(rt, file, root),
@@ -266,7 +268,8 @@ fn share<R: System>(rt: &R, file: R::File, root: &str) -> Result<Lock<R::File>, 
     }
 }
 
-/// The lock to change. Its file is made where it is absent, so that all may read it, whatever the umask.
+/// The lock to change. Its file is made where it is absent, so that all may read it, whatever the
+/// umask.
 fn take_lock<R: System>(
     rt: &R,
     at: &str,

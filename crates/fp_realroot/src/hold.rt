@@ -11,8 +11,9 @@ const BOOT_ID: &str = "/proc/sys/kernel/random/boot_id";
 /// The mark where the system tells no such text.
 const UNKNOWN: &str = "unknown\n";
 
-/// A lock file that is open and locked. While changes are not yet synced, it holds the text of the machine's start as a mark.
-/// What is seen of an earlier start is on the disk, so its mark means nothing.
+/// A lock file that is open and locked. While changes are not yet synced, it holds the text of the
+/// machine's start as a mark. What is seen of an earlier start is on the disk, so its mark means
+/// nothing.
 pub struct Hold<F> {
     file: F,
     boot: Option<String>,
@@ -73,8 +74,8 @@ fn mark_of(boot: &Option<String>) -> &str {
     }
 }
 
-/// Whether the file holds a mark of this start of the machine, or one of a start that the system didn't name. A file that can't
-/// be read may hold one.
+/// Whether the file holds a mark of this start of the machine, or one of a start that the system
+/// didn't name. A file that can't be read may hold one.
 fn has_mark<R: Files + AllocGlobal>(rt: &R, at: &str, boot: &Option<String>) -> bool {
     match fs::read_to_string(rt, at) {
         Ok(text) => is_mark(text.as_str(), boot),

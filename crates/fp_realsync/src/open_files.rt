@@ -6,8 +6,9 @@ use std::alloc::{AllocError, Global};
 use std::collections::BTreeMap;
 use std::thread::Threads;
 
-/// As many are open at most. A thread costs a dozen calls of the system, so they are synced many at a time. Where a process may have
-/// no more than 256 open files, that leaves enough for what is read and for what the process was given.
+/// As many are open at most. A thread costs a dozen calls of the system, so they are synced many at
+/// a time. Where a process may have no more than 256 open files, that leaves enough for what is
+/// read and for what the process was given.
 const MOST: usize = 192;
 
 /// New files that stay open, by their paths, so that none is opened again for its sync.
@@ -36,7 +37,8 @@ impl<F: Drop> OpenFiles<F> {
         self.files.len() >= MOST
     }
 
-    /// Keeps a file open, where there is memory and no more are open than may be. Else it is closed, and synced by its path.
+    /// Keeps a file open, where there is memory and no more are open than may be. Else it is
+    /// closed, and synced by its path.
     pub fn keep(&mut self, at: &str, file: F) {
         if self.files.len() < MOST {
             let _kept = insert(self.alloc, &mut self.files, at, file);
@@ -60,8 +62,8 @@ fn insert<F: Drop>(
     Ok(())
 }
 
-/// Makes the files last, by several threads where the system has them, and closes them. Where there is no memory for a list of
-/// them, they are only closed.
+/// Makes the files last, by several threads where the system has them, and closes them. Where there
+/// is no memory for a list of them, they are only closed.
 pub fn sync_open<R: System, T: Threads + Sync>(
     rt: &R,
     threads: &T,

@@ -5,8 +5,9 @@ use std::alloc::{AllocError, Global};
 use std::collections::BTreeSet;
 use std::thread::Threads;
 
-/// Makes all of a set last but what is synced already, by several threads where the system has them. The path of a failure is kept
-/// where there is memory. What may not be opened is spared where others may own it.
+/// Makes all of a set last but what is synced already, by several threads where the system has
+/// them. The path of a failure is kept where there is memory. What may not be opened is spared
+/// where others may own it.
 pub fn sync_set<R: System, T: Threads + Sync>(
     rt: &R,
     threads: &T,
@@ -36,8 +37,8 @@ fn list_of<'a>(
     Ok(list)
 }
 
-/// What may not be opened as it is, is opened one after another: its permission bits are widened meanwhile, and a file may
-/// stand in the list under several names.
+/// What may not be opened as it is, is opened one after another: its permission bits are widened
+/// meanwhile, and a file may stand in the list under several names.
 fn sync_list<R: System, T: Threads + Sync>(
     rt: &R,
     threads: &T,

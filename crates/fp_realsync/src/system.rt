@@ -17,17 +17,19 @@ pub enum Access {
     Change,
 }
 
-/// A system whose open files have advisory locks, as `flock` of Linux gives them: the system takes a lock away when the
-/// process that holds it ends, however it ends.
+/// A system whose open files have advisory locks, as `flock` of Linux gives them: the system takes
+/// a lock away when the process that holds it ends, however it ends.
 pub trait System: Files + Eprint + AllocGlobal {
-    /// Takes the lock of the open file, and answers whether nobody else holds one that is in the way.
+    /// Takes the lock of the open file, and answers whether nobody else holds one that is in the
+    /// way.
     fn try_lock(&self, file: &Self::File, access: Access) -> io::Result<bool>;
 
     /// Takes the lock of the open file, and waits while somebody else holds one that is in the way.
     fn lock(&self, file: &Self::File, access: Access) -> io::Result<()>;
 
-    /// Makes the files and folders at these paths last, as they may be opened, and answers the first that failed; but one whose
-    /// sync failed comes before one that could not be opened. What is gone is left out.
+    /// Makes the files and folders at these paths last, as they may be opened, and answers the
+    /// first that failed; but one whose sync failed comes before one that could not be opened. What
+    /// is gone is left out.
     fn sync_paths<T: Threads + Sync>(&self, threads: &T, paths: &[&str]) -> Option<Failure>
         requires sync { IsSync T.row };
 

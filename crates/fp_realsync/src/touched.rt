@@ -10,9 +10,9 @@ use std::collections::BTreeSet;
 use std::marker::Model;
 use std::thread::Threads;
 
-/// The files that were created or written and the folders whose names changed since the last sync, by their paths. A
-/// file stands here under each of its names. Where there is no memory to note a change, no later sync succeeds. Contracts
-/// see whether nothing waits for a sync.
+/// The files that were created or written and the folders whose names changed since the last sync,
+/// by their paths. A file stands here under each of its names. Where there is no memory to note a
+/// change, no later sync succeeds. Contracts see whether nothing waits for a sync.
 #[derive(Drop)]
 pub struct Touched {
     alloc: Global,
@@ -23,7 +23,8 @@ pub struct Touched {
     synced: BTreeSet<String>,
     folders: BTreeSet<String>,
     is_settled: bool,
-    // A change could not be noted, or a sync of it failed, after which the system forgets it: no later sync succeeds.
+    // A change could not be noted, or a sync of it failed, after which the system forgets it: no
+    // later sync succeeds.
     is_lost: bool,
     // What the sync of an open file met, until it is answered, and the path.
     met: Option<Unsynced>,
@@ -107,7 +108,8 @@ impl Touched {
         self.synced.remove(at);
     }
 
-    /// The file is synced before the next sync of all. Where there is no memory to note it, it is synced again.
+    /// The file is synced before the next sync of all. Where there is no memory to note it, it is
+    /// synced again.
     pub fn add_synced(&mut self, at: &str) {
         let _noted = note(self.alloc, &mut self.synced, at);
     }
@@ -155,7 +157,8 @@ impl Touched {
         self.add_name(at);
     }
 
-    /// Makes all of it last, the files before the folders. On an error it stays as it was, and the path is in the buffer.
+    /// Makes all of it last, the files before the folders. On an error it stays as it was, and the
+    /// path is in the buffer.
     pub fn sync<R: System, T: Threads + Sync>(
         &mut self,
         rt: &R,
@@ -206,7 +209,8 @@ impl Touched {
     }
 }
 
-/// What the sync of an open file met, with its path in the buffer, or else that something may be lost.
+/// What the sync of an open file met, with its path in the buffer, or else that something may be
+/// lost.
 fn told(met: Option<Unsynced>, met_at: &str, at: &mut String) -> Unsynced {
     at.clear();
     match met {

@@ -30,7 +30,8 @@ pub enum Change<'a> {
 }
 
 impl<R: System> Tree<'_, R> {
-    /// Makes the change. Folders get the permission bits 0755, and bytes go to a file that was created since the last sync.
+    /// Makes the change. Folders get the permission bits 0755, and bytes go to a file that was
+    /// created since the last sync.
     pub fn change(&mut self, path: &Path, change: Change<'_>) -> Result<(), Cause> {
         match self.reach_to_change(path) {
             Ok(()) => change_at(
@@ -46,8 +47,8 @@ impl<R: System> Tree<'_, R> {
         }
     }
 
-    /// Creates an empty file with exactly these permission bits. Where many files are open that wait for a sync, they are synced
-    /// before.
+    /// Creates an empty file with exactly these permission bits. Where many files are open that
+    /// wait for a sync, they are synced before.
     pub fn create<T: Threads + Sync>(
         &mut self,
         threads: &T,

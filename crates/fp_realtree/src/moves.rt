@@ -8,7 +8,8 @@ use std::fs::OpenFile;
 use std::io::Write;
 use std::rt::Files;
 
-/// Moves a file or symlink to nothing, or in the place of another one. A file that goes into the store is dated.
+/// Moves a file or symlink to nothing, or in the place of another one. A file that goes into the
+/// store is dated.
 pub fn rename<F: Write + OpenFile + Drop, R: Files<File = F>>(
     rt: &R,
     from: &str,

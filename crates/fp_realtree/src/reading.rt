@@ -1,5 +1,5 @@
-//! The calls of a host over a folder of the system that only read. They make nothing: a root that is absent reads as an
-//! empty folder.
+//! The calls of a host over a folder of the system that only read. They make nothing: a root that
+//! is absent reads as an empty folder.
 ghost use Rattle.std.specs.Prelude.{◌≤◌, length, IfOk};
 ghost use Rattle.fp_host.specs.Reads.{AreNames, HasBits};
 
@@ -38,7 +38,8 @@ impl<R: System> Tree<'_, R> {
         }
     }
 
-    /// Reads the file from a place on, until the buffer is full or the file ends, and answers how many bytes it read.
+    /// Reads the file from a place on, until the buffer is full or the file ends, and answers how
+    /// many bytes it read.
     pub fn read_at(&mut self, path: &Path, from: u64, into: &mut [u8]) -> Result<usize, Cause>
         ensures { IfOk result (λ n. n ≤ length into.old) }
     {

@@ -14,8 +14,8 @@ use std::mem::swap;
 use std::rt::Files;
 use std::thread::Threads;
 
-/// A folder of the system under the calls of a host. Each call answers the system's refusal as a cause. Contracts see whether
-/// nothing waits for a sync.
+/// A folder of the system under the calls of a host. Each call answers the system's refusal as a
+/// cause. Contracts see whether nothing waits for a sync.
 pub struct Tree<'a, R: Files> {
     pub(crate) rt: &'a R,
     alloc: Global,
@@ -59,7 +59,8 @@ impl<R: Files> Drop for Tree<'_, R> {
 }
 
 impl<'a, R: Files> Tree<'a, R> {
-    /// The folder of this name; the empty name is the current folder. It asks nothing of the system yet.
+    /// The folder of this name; the empty name is the current folder. It asks nothing of the system
+    /// yet.
     pub fn new(rt: &'a R, alloc: Global, root: &str, access: Access) -> Result<Self, AllocError> {
         match Gate::new(alloc, root, access) {
             Ok(gate) => Ok(Tree {
@@ -208,8 +209,8 @@ fn look_above<R: Files>(
     }
 }
 
-/// Notes the folders above the root, and what is below it where an earlier run may have left something. Where nothing was
-/// changed or left, it does nothing and answers that.
+/// Notes the folders above the root, and what is below it where an earlier run may have left
+/// something. Where nothing was changed or left, it does nothing and answers that.
 fn add_left<R: System>(
     rt: &R,
     alloc: Global,

@@ -12,7 +12,8 @@ use std::time::UNIX_EPOCH;
 /// Where objects wait until they are moved into the store.
 const WAITING: &str = "/repo/tmp/pull/objects/";
 
-/// At most one open file, with its path. An object that waits for the store is dated when it was written, while it is open.
+/// At most one open file, with its path. An object that waits for the store is dated when it was
+/// written, while it is open.
 pub struct Writer<F> {
     alloc: Global,
     at: String,
@@ -71,7 +72,8 @@ impl<F: Drop> Writer<F> {
 }
 
 impl<F: Write + OpenFile + Drop> Writer<F> {
-    /// Keeps a file that was created, and gives it exactly these permission bits, unless it is known to have them.
+    /// Keeps a file that was created, and gives it exactly these permission bits, unless it is
+    /// known to have them.
     pub fn keep_new(&mut self, at: &str, file: F, mode: u32, is_given: bool) -> Result<(), Cause> {
         let given = give_bits(&file, mode, is_given);
         match self.keep(at, file) {
@@ -80,8 +82,8 @@ impl<F: Write + OpenFile + Drop> Writer<F> {
         }
     }
 
-    /// Lets the file go that was written last, which stays open until it is synced. Where it is an object that waits for the store,
-    /// it is dated; where that fails, it is dated later.
+    /// Lets the file go that was written last, which stays open until it is synced. Where it is an
+    /// object that waits for the store, it is dated; where that fails, it is dated later.
     pub fn finish(&mut self, open: &mut OpenFiles<F>) {
         if let Some(file) = self.file.take() {
             if self.at.contains(WAITING) && date(&file).is_ok() {
@@ -124,7 +126,8 @@ impl<F: Write + OpenFile + Drop> Writer<F> {
         }
     }
 
-    /// Dates the last change of a file of ours to the beginning of 1970, as OSTree dates what it stores.
+    /// Dates the last change of a file of ours to the beginning of 1970, as OSTree dates what it
+    /// stores.
     pub fn date<R: Files<File = F>>(&self, rt: &R, at: &str) -> Result<(), Cause> {
         if self.dated.contains(at) {
             return Ok(());

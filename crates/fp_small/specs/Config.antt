@@ -43,15 +43,18 @@ abbrev pub remote_front : List ℕ
 remote_front = codes "remote \""
 
 abbrev pub is_quoted : List ℕ → Bool
-is_quoted header = nat_le 9 (length header) && bytes_eq (take 8 header) remote_front && bytes_eq (drop (length header - 1) header) (codes "\"")
+is_quoted header = nat_le 9 (length header) && bytes_eq (take 8 header) remote_front
+    && bytes_eq (drop (length header - 1) header) (codes "\"")
 
 abbrev pub quoted_name : List ℕ → Option (List ℕ)
-quoted_name header = if is_quoted header then Some (take (length header - 9) (drop 8 header)) else None
+quoted_name header =
+    if is_quoted header then Some (take (length header - 9) (drop 8 header)) else None
 
 -- a good name with the one key `url`, whose value is a good URL
 abbrev pub row_of : List ℕ → List Pair → Option RemoteRow
 row_of name [] = None
-row_of name (p ∷ []) = if bytes_eq p.key (codes "url") && is_remote_name name && is_url p.value then Some (record { name = name; url = p.value }) else None
+row_of name (p ∷ []) = if bytes_eq p.key (codes "url") && is_remote_name name && is_url p.value
+    then Some (record { name = name; url = p.value }) else None
 row_of name (p ∷ q ∷ pairs) = None
 
 -- the remote that a group says
@@ -67,13 +70,18 @@ remotes_in file = filter_map remote_of file
 abbrev pub pins_in : List Group → List (List ℕ)
 pins_in file = keys_at file (codes "pins")
 
--- The group `installation` is there. Each group is it, a remote or the pins. There are at most 256 remotes and at
--- most 1,024 pins.
+-- The group `installation` is there. Each group is it, a remote or the pins. There are at most 256
+-- remotes and at most 1,024 pins.
 unfoldable pub is_config : List Group → Bool
-is_config file = list_any is_layout file && list_all is_part file && nat_le (length (remotes_in file)) MOST_REMOTES && nat_le (length (pins_in file)) MOST_PINS
+is_config file = list_any is_layout file && list_all is_part file
+    && nat_le (length (remotes_in file)) MOST_REMOTES && nat_le (length (pins_in file)) MOST_PINS
 
 abbrev pub settings_of : List Group → Option Settings
-settings_of file = if is_config file then Some (record { remotes = sorted_by name_of (remotes_in file); pins = sorted_by (λ pin. pin) (pins_in file) }) else None
+settings_of file = if is_config file
+    then Some (record {
+      remotes = sorted_by name_of (remotes_in file);
+      pins = sorted_by (λ pin. pin) (pins_in file);
+    }) else None
 
 abbrev pub settings_read : Result (List Group) KeyFault → Option Settings
 settings_read (Ok file) = settings_of file
@@ -86,10 +94,16 @@ config_of bytes = settings_read (file_of bytes)
 -- ---- writing
 
 abbrev pub layout_group : Group
-layout_group = record { name = codes "installation"; pairs = record { key = codes "layout"; value = codes "2" } ∷ [] }
+layout_group = record {
+  name = codes "installation";
+  pairs = record { key = codes "layout"; value = codes "2" } ∷ [];
+}
 
 abbrev pub remote_group : RemoteRow → Group
-remote_group row = record { name = remote_front ++ (row.name ++ codes "\""); pairs = record { key = codes "url"; value = row.url } ∷ [] }
+remote_group row = record {
+  name = remote_front ++ (row.name ++ codes "\"");
+  pairs = record { key = codes "url"; value = row.url } ∷ [];
+}
 
 abbrev pub pin_pair : List ℕ → Pair
 pin_pair pin = record { key = pin; value = codes "true" }

@@ -4,7 +4,8 @@ use Rattle.fp_host.specs.Paths.{Elements, Slot, file}
 use Rattle.fp_host.specs.View.{View, Inode}
 use Rattle.fp_small.specs.declared.limits.TheConstants.{FILE_MODE}
 
--- each file that was there keeps its mode and its bytes, and what was put at a name stays remembered
+-- each file that was there keeps its mode and its bytes, and what was put at a name stays
+-- remembered
 pub record KeepsFiles (u w : View) : Type 0 where
   pub rows : (id : ℕ) (f : Inode) → u.files id ≡ Some f → w.files id ≡ Some f
   pub stood : (x : Elements × Slot) → Contains u.stood x → Contains w.stood x
@@ -16,9 +17,11 @@ pub record SameFiles (u w : View) : Type 0 where
 
 -- no two files were made
 pub record MakesOneAtMost (u w : View) : Type 0 where
-  pub one : (i j : ℕ) (f g : Inode) → u.files i ≡ None → w.files i ≡ Some f → u.files j ≡ None → w.files j ≡ Some g → i ≡ j
+  pub one : (i j : ℕ) (f g : Inode) → u.files i ≡ None → w.files i ≡ Some f → u.files j ≡ None
+      → w.files j ≡ Some g → i ≡ j
 
--- One file was made. It stands at the path, where it was put, with these bytes and the permission bits 0644.
+-- One file was made. It stands at the path, where it was put, with these bytes and the permission
+-- bits 0644.
 pub record MakesFile (p : Elements) (bytes : List ℕ) (u w : View) : Type 0 where
   pub id : ℕ
   pub free : u.files id ≡ None

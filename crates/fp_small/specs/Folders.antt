@@ -36,4 +36,5 @@ pub record AreDirs (paths : List Elements) (v : View) : Type 0 where
 
 -- each path stands in the root or in one that comes before it
 abbrev pub IsLadder : List Elements → Type 0
-IsLadder paths = (i : ℕ) (x : List ℕ) (up : Elements) → i < length paths → slice_index_or paths i (x ∷ up) ≡ x ∷ up → (up ≡ []) ⊎ Contains (take i paths) up
+IsLadder paths = (i : ℕ) (x : List ℕ) (up : Elements) → i < length paths
+    → slice_index_or paths i (x ∷ up) ≡ x ∷ up → (up ≡ []) ⊎ Contains (take i paths) up

@@ -11,7 +11,8 @@ abbrev pub loaded_of : ℕ → Spot → Loaded
 loaded_of most gone = Absent
 loaded_of most folder = NotFile
 loaded_of most (points text) = NotFile
-loaded_of most (holds id mode bytes) = if leb (length bytes) most then Bytes bytes else TooLong (length bytes)
+loaded_of most (holds id mode bytes) =
+    if leb (length bytes) most then Bytes bytes else TooLong (length bytes)
 
 -- what stands at the path of the present view was loaded
 pub record Loads (p : Elements) (most : ℕ) (v : View) (loaded : Loaded) : Type 0 where
@@ -19,4 +20,5 @@ pub record Loads (p : Elements) (most : ℕ) (v : View) (loaded : Loaded) : Type
 
 -- of a file of this size these are the bytes
 pub record IsWhole (p : Elements) (size : ℕ) (v : View) (bytes : List ℕ) : Type 0 where
-  pub whole : (id : ℕ) (f : Inode) → v.names p ≡ file id → v.files id ≡ Some f → size ≡ length f.bytes → bytes ≡ f.bytes
+  pub whole : (id : ℕ) (f : Inode) → v.names p ≡ file id → v.files id ≡ Some f
+      → size ≡ length f.bytes → bytes ≡ f.bytes

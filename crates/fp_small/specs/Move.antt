@@ -20,7 +20,8 @@ MovesName from to q e = ((q ≡ to) × IsFile e) ⊎ ((q ≡ from) × (e ≡ abs
 
 -- Where the file is ready, it may come to its name, and from the one that it had.
 pub record Moves (from to : Elements) (u w : View) : Type 0 where
-  pub keeps : (bytes : List ℕ) → IsReady from bytes u → Keeps (MovesAt from to bytes) (MovesName from to) (Only from) u w
+  pub keeps : (bytes : List ℕ) → IsReady from bytes u
+      → Keeps (MovesAt from to bytes) (MovesName from to) (Only from) u w
 
 -- every stop leaves the file there
 pub record HasNew (p : Elements) (bytes : List ℕ) (v : View) : Type 0 where

@@ -17,7 +17,8 @@ use Rattle.fp_small.specs.declared.state.RemoteRow.{RemoteRow}
 
 -- each group is a remote, and there are at most 256
 abbrev pub are_remotes : List Group → Bool
-are_remotes file = list_all (λ g. is_some (remote_of g)) file && nat_le (length (remotes_in file)) MOST_REMOTES
+are_remotes file =
+    list_all (λ g. is_some (remote_of g)) file && nat_le (length (remotes_in file)) MOST_REMOTES
 
 abbrev pub remotes_seen : List Group → Option (List RemoteRow)
 remotes_seen file = if are_remotes file then Some (sorted_by name_of (remotes_in file)) else None

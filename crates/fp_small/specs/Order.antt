@@ -11,7 +11,8 @@ comes_before x y = is_lt (slice_cmp nat_cmp x y)
 -- the list with one more, before the first whose name doesn't come before its own
 abbrev pub inserted : {A : Type 0} → (A → List ℕ) → List A → A → List A
 inserted name [] x = x ∷ []
-inserted name (y ∷ ys) x = if comes_before (name y) (name x) then y ∷ inserted name ys x else x ∷ y ∷ ys
+inserted name (y ∷ ys) x =
+    if comes_before (name y) (name x) then y ∷ inserted name ys x else x ∷ y ∷ ys
 
 -- the elements in the order of their names, after those of a list that is in order
 abbrev pub sorted_onto : {A : Type 0} → (A → List ℕ) → List A → List A → List A

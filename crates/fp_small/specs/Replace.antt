@@ -21,23 +21,25 @@ pub record IsStaging (v : View) (q : Elements) : Type 0 where
 abbrev pub folders_of : Elements → List Elements
 folders_of p = ancestors p ++ repo ∷ tmp ∷ []
 
--- What may stand where, against an outcome of the view at the entry: the new file at the path, folders above it, repo
--- and tmp, and anything at the staging name.
+-- What may stand where, against an outcome of the view at the entry: the new file at the path,
+-- folders above it, repo and tmp, and anything at the staging name.
 abbrev pub ReplacesAt : Elements → List ℕ → View → Elements → Spot → Type 0
-ReplacesAt p bytes u q spot = ((q ≡ p) × IsNew bytes spot) ⊎ ((Contains (folders_of p) q × (spot ≡ folder)) ⊎ IsStaging u q)
+ReplacesAt p bytes u q spot =
+    ((q ≡ p) × IsNew bytes spot) ⊎ ((Contains (folders_of p) q × (spot ≡ folder)) ⊎ IsStaging u q)
 
 -- what a name may come to hold in the present view
 abbrev pub ReplacesName : Elements → View → Elements → Slot → Type 0
-ReplacesName p u q e = ((q ≡ p) × IsFile e) ⊎ ((Contains (folders_of p) q × (e ≡ dir)) ⊎ IsStaging u q)
+ReplacesName p u q e =
+    ((q ≡ p) × IsFile e) ⊎ ((Contains (folders_of p) q × (e ≡ dir)) ⊎ IsStaging u q)
 
--- Only the file of the staging name gets bytes, and it is a new one: each file that was there keeps its mode and its bytes,
--- also the one that stood at the path.
+-- Only the file of the staging name gets bytes, and it is a new one: each file that was there keeps
+-- its mode and its bytes, also the one that stood at the path.
 pub record Replaces (p : Elements) (bytes : List ℕ) (u w : View) : Type 0 where
   pub keeps : Keeps (ReplacesAt p bytes u) (ReplacesName p u) (IsStaging u) u w
   pub files : KeepsFiles u w
 
--- On Ok every stop leaves the new file, and all that stands; the names in tmp are as they were. The file at the path is the
--- only one that was made.
+-- On Ok every stop leaves the new file, and all that stands; the names in tmp are as they were. The
+-- file at the path is the only one that was made.
 pub record WasReplaced (p : Elements) (bytes : List ℕ) (u w : View) : Type 0 where
   pub new : HasNew p bytes w
   pub settled : IsSettled w

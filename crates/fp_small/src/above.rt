@@ -9,8 +9,8 @@ use crate::replacing::{ancestors, make_folders};
 use fp_host::{Host, HostEnd, Path};
 use std::alloc::Global;
 
-/// Makes the folders above the path where they are absent, the outermost first. All memory is taken before the first
-/// change. It is for a path above which each name is absent or a folder.
+/// Makes the folders above the path where they are absent, the outermost first. All memory is taken
+/// before the first change. It is for a path above which each name is absent or a folder.
 pub fn make_above<H: Host>(alloc: Global, host: &mut H, path: &Path) -> Result<(), HostEnd>
     ensures frame { Frame (FoldersAt (ancestors path.now)) (DirsAt (ancestors path.now)) NoPath
         (H.moments host.old) (H.moments host.new) }

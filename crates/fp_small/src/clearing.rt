@@ -16,8 +16,8 @@ fn levels_below(path: &Path) -> usize
     MOST_ELEMENTS.saturating_sub(path.len())
 }
 
-/// Takes the path away, and all that is below it. Where it is absent, nothing is done. It isn't for the root, nor for paths
-/// of more than 128 elements.
+/// Takes the path away, and all that is below it. Where it is absent, nothing is done. It isn't for
+/// the root, nor for paths of more than 128 elements.
 pub fn clear<H: Host>(alloc: Global, host: &mut H, path: &Path) -> Result<(), HostEnd>
     ensures frame { Frame (GoneWithin path.now) (AbsentWithin path.now) NoPath
         (H.moments host.old) (H.moments host.new) }
@@ -32,8 +32,8 @@ pub fn clear<H: Host>(alloc: Global, host: &mut H, path: &Path) -> Result<(), Ho
     clear_within(alloc, host, path, levels_below(path))
 }
 
-/// Takes away all that is below the path, and leaves the path itself. Where it is no folder, nothing is done. It isn't for
-/// paths of more than 128 elements.
+/// Takes away all that is below the path, and leaves the path itself. Where it is no folder,
+/// nothing is done. It isn't for paths of more than 128 elements.
 pub fn clear_below<H: Host>(alloc: Global, host: &mut H, path: &Path) -> Result<(), HostEnd>
     ensures frame { Frame (GoneBelow path.now) (AbsentBelow path.now) NoPath
         (H.moments host.old) (H.moments host.new) }

@@ -227,9 +227,10 @@ fn settings_of(alloc: Global, groups: &[Group]) -> Result<Settings, ConfigError>
     })
 }
 
-/// Reads a `config`: the group `installation` with the one key `layout=2`, the groups `remote "NAME"` with the one key
-/// `url`, and the group `pins`, whose keys are patterns with the value `true`. There are at most 256 remotes and at most
-/// 1,024 pins. The bytes are Bad where they are anything else.
+/// Reads a `config`: the group `installation` with the one key `layout=2`, the groups `remote
+/// "NAME"` with the one key `url`, and the group `pins`, whose keys are patterns with the value
+/// `true`. There are at most 256 remotes and at most 1,024 pins. The bytes are Bad where they are
+/// anything else.
 pub fn read_config(alloc: Global, bytes: &[u8]) -> Result<Settings, ConfigError>
     ensures ok { IfOk result (λ s. config_of bytes.now ≡ Some s) }
     ensures good { IfOk result (λ s. IsSettings s) }

@@ -70,8 +70,9 @@ fn config_groups(
     Ok(groups)
 }
 
-/// The text of the `config` of these remotes and pins, which `read_config` reads as the same: the layout, the remotes and
-/// then the pins, each in order. Where there is no pin, it has no group of pins.
+/// The text of the `config` of these remotes and pins, which `read_config` reads as the same: the
+/// layout, the remotes and then the pins, each in order. Where there is no pin, it has no group of
+/// pins.
 pub fn write_config(
     alloc: Global,
     remotes: &[RemoteRow],

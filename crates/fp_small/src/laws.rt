@@ -1,5 +1,5 @@
-//! Laws of the words that the contracts use, for crates that build on them. Each is the contract of a function that
-//! does nothing.
+//! Laws of the words that the contracts use, for crates that build on them. Each is the contract of
+//! a function that does nothing.
 
 ghost use Rattle.std.specs.Prelude.{◌≡◌, ◌≢◌, ◌↔◌, ◌⊎◌, ◌<◌, ◌+◌, ℕ, List, length, true, false, Some, Contains};
 ghost use Rattle.std.specs.Prelude.{map, not, ◌∷◌, [], None, codes};
@@ -84,15 +84,16 @@ pub fn dropped_remote()
         (record s { remotes = removed name_of s.remotes name }) }
 {}
 
-/// A list that is put in order by names keeps its elements, each as often as it was there. Where no name comes twice, the names
-/// ascend.
+/// A list that is put in order by names keeps its elements, each as often as it was there. Where no
+/// name comes twice, the names ascend.
 pub fn sorted_lists<T>()
     ensures keeps { (name : T → List ℕ) (xs : List T) → IsPermutation xs (sorted_by name xs) }
     ensures ascends { (name : T → List ℕ) (xs : List T) → are_distinct (map name xs) ≡ true →
         is_ascending (map name (sorted_by name xs)) ≡ true }
 {}
 
-/// With one more remote the rows are those of before and this one; without the remotes of a name they are all others, in order.
+/// With one more remote the rows are those of before and this one; without the remotes of a name
+/// they are all others, in order.
 pub fn rows_of_remotes()
     ensures added { (rows : List RemoteRow) (row : RemoteRow) → IsPermutation (row ∷ rows)
         (inserted name_of rows row) }
@@ -100,9 +101,9 @@ pub fn rows_of_remotes()
         (λ row. not (bytes_eq row.name name)) rows }
 {}
 
-/// What is done until the next sync leaves unsynced what was: after a folder is made no file is new, and after a file is
-/// created that one alone. What is unsynced and settled in the end was settled before: so nothing that syncs leaves unsynced
-/// what a stop could bring back or tear.
+/// What is done until the next sync leaves unsynced what was: after a folder is made no file is
+/// new, and after a file is created that one alone. What is unsynced and settled in the end was
+/// settled before: so nothing that syncs leaves unsynced what a stop could bring back or tear.
 pub fn unsynced_views()
     ensures folder { (v : View) (p : Elements) → MakesNoFile v (done (makes_dir p) v) }
     ensures file { (v : View) (p : Elements) (id mode : ℕ) → v.files id ≡ None
@@ -110,18 +111,21 @@ pub fn unsynced_views()
     ensures settled { (u w : View) → IsTree u → Unsynced u w → IsSettled w → IsSettled u }
 {}
 
-/// A file that is created, written and synced is the one file that was made, and its name may be given to it.
+/// A file that is created, written and synced is the one file that was made, and its name may be
+/// given to it.
 pub fn made_files()
     ensures made { (v : View) (p : Elements) (bytes : List ℕ) (id : ℕ) → CanCreate p FILE_MODE v
         → v.files id ≡ None
-        → MakesFile p bytes v (done syncs (done (appends p bytes) (done (creates p FILE_MODE id) v))) }
+        → MakesFile p bytes v (done syncs
+        (done (appends p bytes) (done (creates p FILE_MODE id) v))) }
     ensures ready { (v : View) (p : Elements) (bytes : List ℕ) (id : ℕ) → CanCreate p FILE_MODE v
         → v.files id ≡ None
         → IsReady p bytes (done syncs (done (appends p bytes) (done (creates p FILE_MODE id) v))) }
 {}
 
-/// Where no file is made, or none gets bytes, each file that is new and has bytes came to a name of any kind. After two steps it
-/// did if it did in each, where the second gives bytes to no file that was there. The one file that is made came to its name.
+/// Where no file is made, or none gets bytes, each file that is new and has bytes came to a name of
+/// any kind. After two steps it did if it did in each, where the second gives bytes to no file that
+/// was there. The one file that is made came to its name.
 pub fn shared_files()
     ensures same { (p : Elements) (v w : View) → SameFiles v w → Shares (Only p) v w }
     ensures empty { (p : Elements) (v w : View) →
@@ -134,18 +138,22 @@ pub fn shared_files()
         → Shares (Only p) u w }
 {}
 
-/// A file that is created, written and renamed came to its new name. One that is not renamed did so only if it is empty.
+/// A file that is created, written and renamed came to its new name. One that is not renamed did so
+/// only if it is empty.
 pub fn shared_file()
-    ensures renamed { (v : View) (p q : Elements) (bytes : List ℕ) (id : ℕ) → CanCreate p FILE_MODE v
+    ensures renamed { (v : View) (p q : Elements) (bytes : List ℕ) (id : ℕ)
+        → CanCreate p FILE_MODE v
         → v.files id ≡ None → p ≢ q → Shares (Only q) v (done (renames p q)
         (done syncs (done (appends p bytes) (done (creates p FILE_MODE id) v)))) }
     ensures left { (v : View) (p q : Elements) (bytes : List ℕ) (id : ℕ) → CanCreate p FILE_MODE v
         → v.files id ≡ None → v.stood ≡ [] → p ≢ q
-        → Shares (Only q) v (done (appends p bytes) (done (creates p FILE_MODE id) v)) → bytes ≡ [] }
+        → Shares (Only q) v (done (appends p bytes) (done (creates p FILE_MODE id) v))
+        → bytes ≡ [] }
 {}
 
-/// Where nothing stands but the root, folders may be made, a file may be written anew in the root, and each path may be
-/// cleared. No folder may be emptied that has a path below it with one element too many.
+/// Where nothing stands but the root, folders may be made, a file may be written anew in the root,
+/// and each path may be cleared. No folder may be emptied that has a path below it with one element
+/// too many.
 pub fn bare_views()
     ensures folders { (v : View) (paths : List Elements) → IsBare v → AreFree paths v }
     ensures file { (v : View) (name : List ℕ) → IsBare v → name ≢ codes "repo"

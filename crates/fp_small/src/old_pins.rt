@@ -58,8 +58,8 @@ fn are_ascending(pins: &[PinPattern]) -> bool
     true
 }
 
-/// Reads a `pins`: one pattern a line, strictly ascending by bytes, at most 1,024, and each line with its newline. The
-/// bytes are Bad where they are anything else.
+/// Reads a `pins`: one pattern a line, strictly ascending by bytes, at most 1,024, and each line
+/// with its newline. The bytes are Bad where they are anything else.
 pub fn read_pins(alloc: Global, bytes: &[u8]) -> Result<Items<PinPattern>, ConfigError>
     ensures ok { IfOk result (λ pins. pins_of bytes.now ≡ Some pins) }
     ensures good { IfOk result (λ pins. ArePatterns pins) }

@@ -39,8 +39,8 @@ fn rows_of(alloc: Global, groups: &[Group]) -> Result<Items<RemoteRow>, ConfigEr
     Ok(Items::from_vec(remote_rows(alloc, groups)?))
 }
 
-/// Reads a `remotes.conf`: a key file whose groups are `remote "NAME"` with the one key `url`, at most 256 and in any
-/// order. The bytes are Bad where they are anything else.
+/// Reads a `remotes.conf`: a key file whose groups are `remote "NAME"` with the one key `url`, at
+/// most 256 and in any order. The bytes are Bad where they are anything else.
 pub fn read_remotes(alloc: Global, bytes: &[u8]) -> Result<Items<RemoteRow>, ConfigError>
     ensures ok { IfOk result (λ rows. remotes_of bytes.now ≡ Some rows) }
     ensures good { IfOk result (λ rows. AreRows rows) }

@@ -3,7 +3,8 @@ use crate::state::{OverrideRow, RemoteRow};
 use fp_base::Text;
 use fp_name::{Digest, PinPattern, RefName, RemoteName};
 
-/// One operation on an installation: the step that is done wholly or not at all, and that one line acknowledges.
+/// One operation on an installation: the step that is done wholly or not at all, and that one line
+/// acknowledges.
 #[derive(Drop)]
 pub enum Op {
     /// A ref that isn't there comes at this commit, from this remote.

@@ -85,7 +85,8 @@ pub fn has_pin(pins: &[PinPattern], pin: &PinPattern) -> bool
     false
 }
 
-/// Puts a remote among others where it belongs by the bytes of its name. Running out of memory changes nothing.
+/// Puts a remote among others where it belongs by the bytes of its name. Running out of memory
+/// changes nothing.
 pub fn insert_remote(remotes: &mut Vec<RemoteRow>, row: RemoteRow) -> Result<(), AllocError>
     ensures ok { OnOk result (remotes.new.items ≡ inserted name_of remotes.old.items row) }
     ensures err { OnErr result (remotes.new.items ≡ remotes.old.items) }

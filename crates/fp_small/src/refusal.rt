@@ -7,7 +7,8 @@ use fp_name::{Digest, PinPattern, RefName, RemoteName};
 /// Why a command is refused.
 #[derive(Drop)]
 pub enum Refusal {
-    /// The words are no command. The index is that of the first word with which they can't go on to be one.
+    /// The words are no command. The index is that of the first word with which they can't go on to
+    /// be one.
     BadWords {
         index: u64,
     },
@@ -24,7 +25,8 @@ pub enum Refusal {
         remote: RemoteName,
         name: RefName,
     },
-    /// The remote is no repository of the mode `bare-user-only`. Where it doesn't say its mode, the mode is `-`.
+    /// The remote is no repository of the mode `bare-user-only`. Where it doesn't say its mode, the
+    /// mode is `-`.
     WrongMode {
         remote: RemoteName,
         mode: Text,
@@ -82,7 +84,8 @@ pub enum Refusal {
     ReservedName {
         commit: Digest,
     },
-    /// The metadata of the ref doesn't read. The line counts from 1, and is 0 where the rule belongs to none.
+    /// The metadata of the ref doesn't read. The line counts from 1, and is 0 where the rule
+    /// belongs to none.
     BadMetadata {
         name: RefName,
         line: u64,

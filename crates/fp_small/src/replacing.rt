@@ -123,7 +123,8 @@ fn free_name(alloc: Global, names: &[Text]) -> Result<String, AllocError>
     }
 }
 
-/// Where new work is staged: the first of the names `repo/tmp/new0`, `repo/tmp/new1` and so on at which nothing stands.
+/// Where new work is staged: the first of the names `repo/tmp/new0`, `repo/tmp/new1` and so on at
+/// which nothing stands.
 pub fn staging_place<H: Host>(alloc: Global, host: &mut H) -> Result<Path, HostEnd>
     ensures unchanged { Unchanged (H.moments host.old) (H.moments host.new) }
     ensures tells { IfOk result (λ place. AtEnd (λ u w. IsStaging u place)
@@ -161,16 +162,18 @@ fn folders_of(alloc: Global, path: &Path) -> Result<Vec<Path>, AllocError>
     Ok(folders)
 }
 
-/// Writes the file anew, with the permission bits 0644: the folders above it, `repo` and `repo/tmp` are made where they are
-/// absent, the new file is written at the first free name `repo/tmp/new0`, `repo/tmp/new1` and so on, synced, renamed onto
-/// the path, and synced again. All memory is taken before the first change.
+/// Writes the file anew, with the permission bits 0644: the folders above it, `repo` and `repo/tmp`
+/// are made where they are absent, the new file is written at the first free name `repo/tmp/new0`,
+/// `repo/tmp/new1` and so on, synced, renamed onto the path, and synced again. All memory is taken
+/// before the first change.
 pub fn replace<H: Host>(
     alloc: Global,
     host: &mut H,
     path: &Path,
     bytes: &[u8],
 ) -> Result<(), HostEnd>
-    // A stop at any moment leaves at the path what some stop before would have left, or the whole new file.
+    // A stop at any moment leaves at the path what some stop before would have left, or the whole
+    // new file.
     ensures any_moment { Always (Replaces path.now bytes.now)
         (H.moments host.old) (H.moments host.new) }
     // After it every stop leaves the new file, and no other file was made.

@@ -61,7 +61,8 @@ pub struct OverrideRow {
     pub file: KeyFile,
 }
 
-/// The state of an installation. Each list ascends by the bytes of its rows' names and has no name twice.
+/// The state of an installation. Each list ascends by the bytes of its rows' names and has no name
+/// twice.
 #[derive(Drop)]
 pub struct State {
     pub layout: Layout,

@@ -65,7 +65,8 @@ impl fmt::Display for Call {
     }
 }
 
-/// What the system refused, as in `cannot sync installation/config: No space left on device (os error 28)`.
+/// What the system refused, as in `cannot sync installation/config: No space left on device (os
+/// error 28)`.
 #[derive(Drop)]
 pub struct SystemError {
     pub call: Call,

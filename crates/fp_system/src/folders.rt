@@ -6,9 +6,10 @@ use std::alloc::{AllocError, Global};
 use std::collections::BTreeSet;
 use std::rt::Files;
 
-/// The folders that were looked at, by their paths. Each is looked at once, and remembered until it is removed: what
-/// another program puts in its place meanwhile is followed. Above one that is remembered no symlink stands. That nothing
-/// stands at a path is remembered too, until it is forgotten or a folder is made there.
+/// The folders that were looked at, by their paths. Each is looked at once, and remembered until it
+/// is removed: what another program puts in its place meanwhile is followed. Above one that is
+/// remembered no symlink stands. That nothing stands at a path is remembered too, until it is
+/// forgotten or a folder is made there.
 #[derive(Drop)]
 pub struct Folders {
     alloc: Global,
@@ -43,8 +44,8 @@ impl Folders {
         self.absent.remove(at);
     }
 
-    /// Looks at each folder above the path, from a place in its text on, up to one that isn't there. Answers whether all of
-    /// them are. A symlink is an error.
+    /// Looks at each folder above the path, from a place in its text on, up to one that isn't
+    /// there. Answers whether all of them are. A symlink is an error.
     pub fn look_above<R: Files>(&mut self, rt: &R, at: &str, from: usize) -> Result<bool, Cause> {
         if self.has(folder_of(at)) {
             return Ok(true);

@@ -1,4 +1,5 @@
-//! What the adapters share: what the system refused, what stands at a path, and files that stay open.
+//! What the adapters share: what the system refused, what stands at a path, and files that stay
+//! open.
 #![tactic(auto)]
 
 mod cause;

@@ -45,7 +45,8 @@ impl<F: Drop> Reader<F> {
         }
     }
 
-    /// Whether a read at the place opens the file: one from the beginning, and one of another file than the one before.
+    /// Whether a read at the place opens the file: one from the beginning, and one of another file
+    /// than the one before.
     pub fn begins(&self, at: &str, from: u64) -> bool {
         from == 0 || self.file.is_none() || self.at.as_str() != at
     }
@@ -68,8 +69,8 @@ impl<F: Drop> Reader<F> {
 }
 
 impl<F: Read + Seek + Drop> Reader<F> {
-    /// Reads the file at the path from a place on, until the buffer is full or the file ends. It has to be opened before a read
-    /// that begins it.
+    /// Reads the file at the path from a place on, until the buffer is full or the file ends. It
+    /// has to be opened before a read that begins it.
     pub fn read(&mut self, from: u64, into: &mut [u8]) -> Result<usize, Cause>
         ensures { IfOk result (λ n. n ≤ length into.old) }
     {

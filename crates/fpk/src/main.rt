@@ -162,7 +162,8 @@ fn run_over<R: System + Input + Clock + Threads + Sync, O: Print>(
     status
 }
 
-/// What the words open the installation for: what may change it has it alone. Words that are no command change nothing.
+/// What the words open the installation for: what may change it has it alone. Words that are no
+/// command change nothing.
 fn access_of(alloc: Global, words: &[String]) -> Result<Access, AllocError> {
     match read_words(alloc, words) {
         Ok(command) if command.changes() => Ok(Access::Change),
@@ -179,7 +180,8 @@ fn input_of<'a, R: Input>(rt: &'a R, alloc: Global, words: &[String]) -> StdinSo
     }
 }
 
-/// Says on standard error why words are no command, and how the commands are written that they begin.
+/// Says on standard error why words are no command, and how the commands are written that they
+/// begin.
 fn explain(rt: &impl Eprint, alloc: Global, words: &[String]) {
     match reason(alloc, words) {
         Ok(text) => say(rt, text.as_str()),
@@ -187,7 +189,8 @@ fn explain(rt: &impl Eprint, alloc: Global, words: &[String]) {
     }
 }
 
-/// Says on standard error why a line of a batch asks for no change, where the batch was kept and there is such a line.
+/// Says on standard error why a line of a batch asks for no change, where the batch was kept and
+/// there is such a line.
 fn explain_batch(rt: &impl Eprint, alloc: Global, kept: Option<&[u8]>) {
     let Some(bytes) = kept else {
         return;

@@ -22,7 +22,8 @@ const INSTALLATION: &str = "cases.tmp/installation";
 /// The input that is too long to come a second time.
 const LONG_INPUT: usize = 1_048_576;
 
-/// Whether a case is played over a folder: nothing stops it, no call of the host is made to fail, and no input is long.
+/// Whether a case is played over a folder: nothing stops it, no call of the host is made to fail,
+/// and no input is long.
 pub fn is_for_folder(case: &Case) -> bool {
     case.stops.is_none()
         && case
@@ -149,7 +150,8 @@ fn lay<H: Host>(alloc: Global, host: &mut H, wares: &Wares) -> Result<(), HostEn
     Ok(())
 }
 
-/// Lays out what stands at a path of a remote whose url begins with `file:///`, in the place of what is there.
+/// Lays out what stands at a path of a remote whose url begins with `file:///`, in the place of
+/// what is there.
 fn lay_path<H: Host>(alloc: Global, host: &mut H, row: &RemotePath) -> Result<(), HostEnd> {
     let Some(folder) = row.url.strip_prefix("file:///") else {
         return Ok(());

@@ -11,7 +11,8 @@ use fpk_case_text::{Case, Command, Failing, Failure, Fixture};
 use std::alloc::{AllocError, Global};
 use std::thread::Threads;
 
-/// The most steps of a case that is played in memory too. There each call looks through all earlier ones.
+/// The most steps of a case that is played in memory too. There each call looks through all earlier
+/// ones.
 const MOST_STEPS: usize = 1000;
 
 /// Whether a case is played in memory: it hasn't too many steps, or can't be played over a folder.
@@ -169,8 +170,8 @@ impl MemStage {
     }
 }
 
-/// How a command ended, by what was printed and how many calls were made since it began. The files that it made are judged
-/// where it did what it was to do.
+/// How a command ended, by what was printed and how many calls were made since it began. The files
+/// that it made are judged where it did what it was to do.
 fn ran_since(
     alloc: Global,
     noted: &NotedHost,

@@ -57,7 +57,8 @@ impl<R: System> Stage<'_, '_, R> {
         }
     }
 
-    /// Runs a command over these remotes. Its input fails at the call with this number, counted from 0.
+    /// Runs a command over these remotes. Its input fails at the call with this number, counted
+    /// from 0.
     pub fn run<P: Program, T: Threads + Sync>(
         &mut self,
         program: &P,
@@ -90,7 +91,8 @@ pub fn unless_fault<T>(answer: Result<T, HostEnd>) -> Result<Option<T>, AllocErr
     }
 }
 
-/// Puts something into a host, synced, with the folders above it, in the place of a file or a link that is there.
+/// Puts something into a host, synced, with the folders above it, in the place of a file or a link
+/// that is there.
 pub fn give<H: Host>(
     alloc: Global,
     host: &mut H,

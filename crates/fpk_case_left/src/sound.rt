@@ -1,4 +1,5 @@
-//! Whether what a stop left is whole, read from its names and files alone: nothing of the program under test looks at it.
+//! Whether what a stop left is whole, read from its names and files alone: nothing of the program
+//! under test looks at it.
 use fp_base::ObjKind;
 use fp_host::Entry;
 use fp_memhost::Image;
@@ -6,9 +7,9 @@ use fpk_case_remotes::MadeCommit;
 use ost_commit::{BuiltObject, TreeRow};
 use ost_model::Object;
 
-/// Says what isn't whole, where a case has commits: what stands below `repo/objects` is an object of one of them; and for
-/// each `active`, the commit that it names and the one before it have all their objects, and folders with just their paths,
-/// each file a hard link of its object.
+/// Says what isn't whole, where a case has commits: what stands below `repo/objects` is an object
+/// of one of them; and for each `active`, the commit that it names and the one before it have all
+/// their objects, and folders with just their paths, each file a hard link of its object.
 pub fn fault_in(image: &Image, commits: &[MadeCommit]) -> Option<&'static str> {
     if commits.is_empty() {
         return None;
@@ -79,7 +80,8 @@ fn has_object_at(image: &Image, made: &MadeCommit, path: &str, entry: &Entry) ->
     objects.iter().any(|object| is_place(path, object) && is_object(image, entry, &object.object))
 }
 
-/// Whether an object belongs at this path: `repo/objects`, two digits, the other ones, and its kind.
+/// Whether an object belongs at this path: `repo/objects`, two digits, the other ones, and its
+/// kind.
 fn is_place(path: &str, object: &BuiltObject) -> bool {
     let digits = object.digest.digits();
     match cut_place(path) {
@@ -200,7 +202,8 @@ fn has_objects(image: &Image, made: &MadeCommit) -> bool {
     })
 }
 
-/// Whether a row of the commit stands below its folder: a file is the one that stands as its object.
+/// Whether a row of the commit stands below its folder: a file is the one that stands as its
+/// object.
 fn has_row(image: &Image, made: &MadeCommit, home: &str, digits: &str, row: &TreeRow) -> bool {
     let path = row.path().text();
     let Some(entry) = entry_within(image, home, digits, path) else {

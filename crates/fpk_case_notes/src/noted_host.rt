@@ -37,7 +37,8 @@ impl NotedHost {
         self.lacks_memory = false;
     }
 
-    /// What is wrong with the files that were made since the notes began, where a command did what it was to do.
+    /// What is wrong with the files that were made since the notes began, where a command did what
+    /// it was to do.
     pub fn flaw(&self, alloc: Global) -> Result<Option<String>, AllocError> {
         match self.lacks_memory {
             true => Err(AllocError),

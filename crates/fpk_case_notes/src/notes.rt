@@ -87,8 +87,8 @@ impl Notes {
         self.names.retain(|name| name.path.as_str() != path);
     }
 
-    /// What is wrong where a command did what it was to do: a file that got bytes for nothing, or that was copied out of the
-    /// store.
+    /// What is wrong where a command did what it was to do: a file that got bytes for nothing, or
+    /// that was copied out of the store.
     pub fn flaw(&self, alloc: Global) -> Result<Option<String>, AllocError> {
         if let Some(path) = &self.copied {
             let path = path.as_str();

@@ -19,7 +19,8 @@ pub fn is_deploy_file(path: &str) -> bool {
     is_deployed(path) && path.ends_with("/deploy") && depth == DEPTH_OF_DEPLOY
 }
 
-/// Whether what is written there is what an installation is made of. Elsewhere it is work that goes again.
+/// Whether what is written there is what an installation is made of. Elsewhere it is work that goes
+/// again.
 pub fn is_lasting(path: &str) -> bool {
     path == "config"
         || path == "repo/config"

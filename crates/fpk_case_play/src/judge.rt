@@ -33,7 +33,8 @@ impl Lines {
     }
 }
 
-/// Judges moments one after another. A moment that looks like the one that was judged last isn't judged again.
+/// Judges moments one after another. A moment that looks like the one that was judged last isn't
+/// judged again.
 #[derive(Drop)]
 pub struct Judge<'a> {
     alloc: Global,
@@ -58,8 +59,8 @@ impl<'a> Judge<'a> {
         }
     }
 
-    /// Says what isn't as it has to be where a call failed: the status that came is the one that was wanted, and a stop
-    /// shows the state after one of these numbers of lines.
+    /// Says what isn't as it has to be where a call failed: the status that came is the one that
+    /// was wanted, and a stop shows the state after one of these numbers of lines.
     pub fn refused<P: Program, R: Threads + Sync>(
         &mut self,
         program: &P,
@@ -75,7 +76,8 @@ impl<'a> Judge<'a> {
         self.moment(program, rt, host, host.calls(), lines)
     }
 
-    /// Says which outcome after so many calls isn't whole, or shows another state than those after these numbers of lines.
+    /// Says which outcome after so many calls isn't whole, or shows another state than those after
+    /// these numbers of lines.
     pub fn moment<P: Program, R: Threads + Sync>(
         &mut self,
         program: &P,

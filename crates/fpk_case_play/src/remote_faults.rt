@@ -9,8 +9,8 @@ use std::thread::Threads;
 /// More calls than a command of a case makes.
 const MOST_CALLS: u64 = 10_000;
 
-/// Lets each call of the remotes fail. Answers the first after which the status isn't 4, or a stop shows another state than
-/// that after the last line that was printed.
+/// Lets each call of the remotes fail. Answers the first after which the status isn't 4, or a stop
+/// shows another state than that after the last line that was printed.
 pub fn fail_remotes<P: Program, R: Threads + Sync>(
     program: &P,
     rt: &R,

@@ -14,8 +14,8 @@ pub enum Trouble {
     Nothing,
     /// A call of the host, counted from 0 where the stops begin.
     Host(Failure),
-    /// A call of the remotes, counted from 0 at the command with this number, which is counted from 0 at the first one of
-    /// the case.
+    /// A call of the remotes, counted from 0 at the command with this number, which is counted from
+    /// 0 at the first one of the case.
     Remotes { command: usize, call: u64 },
 }
 
@@ -29,7 +29,8 @@ pub struct Start<'a> {
     host: MemHost,
 }
 
-/// The commands of a case from the start of its stops on, up to the first whose status is another than it says.
+/// The commands of a case from the start of its stops on, up to the first whose status is another
+/// than it says.
 #[derive(Drop)]
 pub struct Replay {
     /// Its calls are counted from 0 at the start.
@@ -68,7 +69,8 @@ pub fn start_of<'a, P: Program, R: Threads + Sync>(
 }
 
 impl Start<'_> {
-    /// The numbers of the commands that come after the start, counted from 0 at the first one of the case.
+    /// The numbers of the commands that come after the start, counted from 0 at the first one of
+    /// the case.
     pub fn commands(&self) -> Range<usize> {
         let steps = &self.case.steps;
         let before = steps
@@ -121,7 +123,8 @@ fn give_all(alloc: Global, host: &mut MemHost, case: &Case) -> Result<(), AllocE
     Ok(())
 }
 
-/// Runs the commands of these steps, and answers the first status that is another than the case says.
+/// Runs the commands of these steps, and answers the first status that is another than the case
+/// says.
 fn run_steps<P: Program, R: Threads + Sync>(
     program: &P,
     rt: &R,

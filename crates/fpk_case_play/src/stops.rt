@@ -28,8 +28,8 @@ impl Course {
     }
 }
 
-/// Plays a case with a stop and with a failure at each call of the host. Answers the first that shows another state than
-/// those after the last line that was printed, or after the next one.
+/// Plays a case with a stop and with a failure at each call of the host. Answers the first that
+/// shows another state than those after the last line that was printed, or after the next one.
 pub fn play_stops<P: Program, R: Threads + Sync>(
     program: &P,
     rt: &R,
@@ -109,7 +109,8 @@ fn course_of<P: Program, R: Threads + Sync>(
     })
 }
 
-/// The first call before which so many lines were printed, by halves: a line that was printed stays.
+/// The first call before which so many lines were printed, by halves: a line that was printed
+/// stays.
 fn call_after<P: Program, R: Threads + Sync>(
     program: &P,
     rt: &R,
@@ -193,8 +194,9 @@ fn judge_shown(
     }
 }
 
-/// Compares what a stop may bring back, at the last moment where it may bring back anything, with what the case says, where
-/// it says so. All names at their oldest entries show the state before the last line, and the present ones that after it.
+/// Compares what a stop may bring back, at the last moment where it may bring back anything, with
+/// what the case says, where it says so. All names at their oldest entries show the state before
+/// the last line, and the present ones that after it.
 fn judge_open<P: Program, R: Threads + Sync>(
     program: &P,
     rt: &R,
@@ -215,8 +217,8 @@ fn judge_open<P: Program, R: Threads + Sync>(
     judge_last(program, rt, alloc, host, calls, states)
 }
 
-/// Says where all names at their oldest entries don't show the state before the last line, or the present ones that after
-/// it.
+/// Says where all names at their oldest entries don't show the state before the last line, or the
+/// present ones that after it.
 fn judge_last<P: Program, R: Threads + Sync>(
     program: &P,
     rt: &R,

@@ -6,7 +6,8 @@ use ost_content::{file_digest, is_permission, meta_digest};
 use ost_model::Object;
 use std::alloc::{AllocError, Global};
 
-/// What stands at a remote in the place of an object that is broken so. A link can be absent, or a folder.
+/// What stands at a remote in the place of an object that is broken so. A link can be absent, or a
+/// folder.
 pub fn harmed(alloc: Global, object: &Object, harm: Harm) -> Result<Option<Ware>, AllocError> {
     match harm {
         Harm::Absent => Ok(Some(Ware::Nothing)),

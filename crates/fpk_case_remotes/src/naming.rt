@@ -37,8 +37,8 @@ fn push_piece(made: &mut Vec<u8>, wares: &Wares, piece: &str) -> Result<(), Allo
     Ok(())
 }
 
-/// Adds what a name stands for: `at` and an object is its path in the installation, another one its digits. Answers whether
-/// there is such an object.
+/// Adds what a name stands for: `at` and an object is its path in the installation, another one its
+/// digits. Answers whether there is such an object.
 fn push_name(made: &mut Vec<u8>, wares: &Wares, name: &str) -> Result<bool, AllocError> {
     if let Some(object) = name.strip_prefix("at ") {
         return match wares.place(object)? {

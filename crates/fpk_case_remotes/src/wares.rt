@@ -76,7 +76,8 @@ impl Wares {
         &self.paths
     }
 
-    /// Does what a step says of remotes, with the steps after it, and answers the first that can't be done.
+    /// Does what a step says of remotes, with the steps after it, and answers the first that can't
+    /// be done.
     pub fn take<T: Threads + Sync>(
         &mut self,
         rt: &T,
@@ -340,7 +341,8 @@ fn at_line(line: u64, text: Option<String>) -> Option<Wrong> {
     Some(Wrong { line, text })
 }
 
-/// Why no commit can be made of the steps below the line with this number, at the line of the step that is refused.
+/// Why no commit can be made of the steps below the line with this number, at the line of the step
+/// that is refused.
 fn refused(
     alloc: Global,
     error: BuildError,
@@ -422,7 +424,8 @@ fn row_digest(alloc: Global, row: &TreeRow) -> Result<Option<Digest>, AllocError
     }
 }
 
-/// The digest of an object of a commit: of a file or a link by its path, of the root's dirtree, of the dirmeta, or the commit.
+/// The digest of an object of a commit: of a file or a link by its path, of the root's dirtree, of
+/// the dirmeta, or the commit.
 fn digest_in(alloc: Global, made: &MadeCommit, words: &ObjectWords) -> Option<Digest> {
     match words.kind {
         ObjKind::File => made.file_digest(&words.path),

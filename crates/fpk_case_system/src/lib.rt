@@ -1,4 +1,5 @@
-//! A system for cases: what is printed is kept, files wait for no disk, and remotes stand below the folder of a run.
+//! A system for cases: what is printed is kept, files wait for no disk, and remotes stand below the
+//! folder of a run.
 #![tactic(auto)]
 
 mod capture;

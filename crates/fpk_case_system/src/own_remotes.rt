@@ -8,7 +8,8 @@ use fp_realinput::DirRemotes;
 use std::alloc::{AllocError, Global};
 use std::rt::Files;
 
-/// Remotes whose urls are `file://` and a path, which stand below a folder: so a case needs no path of the machine.
+/// Remotes whose urls are `file://` and a path, which stand below a folder: so a case needs no path
+/// of the machine.
 pub struct OwnRemotes<'a, R: Files> {
     remotes: DirRemotes<'a, R>,
     alloc: Global,

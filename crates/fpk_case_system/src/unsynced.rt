@@ -2,8 +2,8 @@
 use std::fs::{FileTimes, Metadata, OpenFile, Permissions};
 use std::io::{self, Read, Seek, SeekFrom, Write};
 
-/// A file whose sync is no call of the system: what a case looks at is the same, and hundreds of cases don't wait for a
-/// disk.
+/// A file whose sync is no call of the system: what a case looks at is the same, and hundreds of
+/// cases don't wait for a disk.
 #[derive(Drop)]
 pub struct Unsynced<F> {
     file: F,

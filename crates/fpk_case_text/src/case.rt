@@ -168,7 +168,8 @@ pub struct Command {
     pub calls: Option<u64>,
 }
 
-/// An input that comes in pieces of one size. Each of so many calls takes some of it or finds its end.
+/// An input that comes in pieces of one size. Each of so many calls takes some of it or finds its
+/// end.
 #[derive(Clone, Copy)]
 pub struct Pieces {
     pub size: usize,
@@ -206,10 +207,11 @@ impl Failing {
 pub struct Stops {
     /// The number of its line, from 1.
     pub line: u64,
-    /// The names at which a stop may bring back something at the last moment where it may, each with how many entries.
-    /// Not tried where it is empty.
+    /// The names at which a stop may bring back something at the last moment where it may, each
+    /// with how many entries. Not tried where it is empty.
     pub open: Vec<u8>,
-    /// What the installation shows at first and after each line that is printed. Not tried where there is none.
+    /// What the installation shows at first and after each line that is printed. Not tried where
+    /// there is none.
     pub shown: Vec<ShownText>,
 }
 

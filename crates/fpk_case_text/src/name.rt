@@ -12,7 +12,8 @@ pub struct Name {
     pub harm: Option<Harm>,
 }
 
-/// Reads `LABEL`, which is the commit, `LABEL KIND` or `LABEL file PATH`, and how it is broken, if it is.
+/// Reads `LABEL`, which is the commit, `LABEL KIND` or `LABEL file PATH`, and how it is broken, if
+/// it is.
 pub fn name_of(alloc: Global, text: &str) -> Result<Name, CaseError> {
     let words = cut_words(alloc, text)?;
     let label = word_at(alloc, &words, 0)?;

@@ -26,7 +26,8 @@ pub enum Sign {
     HardLink,
     /// `remote URL`: what follows is about the remote at this url.
     Remote,
-    /// `commit LABEL REF TIME`: a commit of the remote, with what follows, which it offers under the ref.
+    /// `commit LABEL REF TIME`: a commit of the remote, with what follows, which it offers under
+    /// the ref.
     Commit,
     /// `offer REF LABEL`: the remote offers this commit under the ref.
     Offer,
@@ -38,7 +39,8 @@ pub enum Sign {
     Input(Form),
     /// `<0 NUMBER`: so many zero bytes of its input.
     Zeros,
-    /// `<! SIZE CALLS`: the input comes in pieces of this size, and each of so many calls fails in turn.
+    /// `<! SIZE CALLS`: the input comes in pieces of this size, and each of so many calls fails in
+    /// turn.
     Pieces,
     /// `? NUMBER`: its status, which is 0 where nothing is said.
     Status,
@@ -62,7 +64,8 @@ pub enum Sign {
     FromHere,
     /// `stops`: the case again from its start, with a stop or a failure at each call of the host.
     Stops,
-    /// `shown`: what the installation shows before the first line that was printed, or after the next one.
+    /// `shown`: what the installation shows before the first line that was printed, or after the
+    /// next one.
     ShownText,
     /// Two spaces, and a line of what the line above has.
     Content,

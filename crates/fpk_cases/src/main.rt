@@ -1,5 +1,5 @@
-//! Runs the cases of the files that its arguments name: over the host in memory, over a real folder, and with a stop at
-//! each call. `docs/CASES.md` says how to write one.
+//! Runs the cases of the files that its arguments name: over the host in memory, over a real
+//! folder, and with a stop at each call. `docs/CASES.md` says how to write one.
 #![tactic(auto)]
 
 use fl_top::run;

@@ -41,7 +41,8 @@ AreShort (bytes ∷ others) = (length bytes ≤ MOST_BYTES) × AreShort others
 abbrev pub children_of : Shape → List ℕ → Option (List (List ℕ))
 children_of (Shape.array t) bytes = array_children (align_of t) (size_of t) bytes
 children_of (Shape.tuple ts) bytes = tuple_children (size_of (Shape.tuple ts)) ts bytes
-children_of (Shape.entry k v) bytes = tuple_children (size_of (Shape.entry k v)) (two_shapes k v) bytes
+children_of (Shape.entry k v) bytes =
+    tuple_children (size_of (Shape.entry k v)) (two_shapes k v) bytes
 children_of _ bytes = None
 
 -- the first offsets of a frame

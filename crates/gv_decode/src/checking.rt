@@ -72,7 +72,8 @@ fn check_array(alloc: Global, element: &Plan, bytes: &[u8], room: u32) -> Result
     requires planned { IsTrue (is_plan element.now) }
     requires short { length bytes.now ≤ MOST_BYTES }
     ensures { Passes result (option_and_then (read_all (value_at room (plan_shape element.now)))
-        (array_children (align_of (plan_shape element.now)) (size_of (plan_shape element.now)) bytes.now)) }
+        (array_children (align_of (plan_shape element.now))
+        (size_of (plan_shape element.now)) bytes.now)) }
 {
     if is_byte(element) {
         return Ok(());
@@ -114,7 +115,8 @@ fn check_members(
         (end_of 0 (plan_shapes plans.now)) }
     requires short { length bytes.now ≤ MOST_BYTES }
     ensures { Passes result (option_and_then (read_each (value_at room) (plan_shapes plans.now))
-        (tuple_children (size_of (tuple (plan_shapes plans.now))) (plan_shapes plans.now) bytes.now)) }
+        (tuple_children (size_of (tuple (plan_shapes plans.now)))
+        (plan_shapes plans.now) bytes.now)) }
 {
     let children = members(alloc, run, plans, bytes)?;
     check_each(alloc, plans, &children, room)

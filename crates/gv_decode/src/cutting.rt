@@ -26,7 +26,8 @@ pub fn elements<'a>(
     requires planned { IsTrue (is_plan element.now) }
     requires short { length bytes.now ≤ MOST_BYTES }
     ensures { Gives (λ children. slices children.items) result
-        (array_children (align_of (plan_shape element.now)) (size_of (plan_shape element.now)) bytes.now) }
+        (array_children (align_of (plan_shape element.now))
+        (size_of (plan_shape element.now)) bytes.now) }
 {
     let extent = element.extent();
     match extent.size {
@@ -55,7 +56,8 @@ fn row<'a>(alloc: Global, size: usize, bytes: &'a [u8]) -> Result<Vec<&'a [u8]>,
     }
 }
 
-/// Elements of variable size. The last offset, where the last element ends, says where the offsets begin.
+/// Elements of variable size. The last offset, where the last element ends, says where the offsets
+/// begin.
 fn framed<'a>(alloc: Global, align: u64, bytes: &'a [u8]) -> Result<Vec<&'a [u8]>, DecodeError>
     requires pos { 0 < align }
     requires small { align ≤ 8 }
@@ -107,7 +109,8 @@ pub fn members<'a>(
         (end_of 0 (plan_shapes plans.now)) }
     requires short { length bytes.now ≤ MOST_BYTES }
     ensures { Gives (λ children. slices children.items) result
-        (tuple_children (size_of (tuple (plan_shapes plans.now))) (plan_shapes plans.now) bytes.now) }
+        (tuple_children (size_of (tuple (plan_shapes plans.now)))
+        (plan_shapes plans.now) bytes.now) }
 {
     match (run.size, run.filled().size) {
         (Some(whole), Some(size)) => {
@@ -131,7 +134,9 @@ fn framed_members<'a>(
     requires whole { IsWhole frame }
     requires short { length frame.body.now ≤ MOST_BYTES }
     ensures { Gives (λ children. slices children.items) result
-        (cut frame.entry.body.now 0 (marks (length frame.entry.body.now) 0 (plan_shapes plans.now) (offsets_left frame.entry frame.entry.count))) }
+        (cut frame.entry.body.now 0
+        (marks (length frame.entry.body.now) 0 (plan_shapes plans.now)
+        (offsets_left frame.entry frame.entry.count))) }
 {
     let mut children = Vec::with_capacity(alloc, plans.len())?;
     let mut at = 0;

@@ -15,10 +15,11 @@ use crate::reading::read;
 use gv_value::{GvType, GvValue, MOST_BYTES, MOST_DEPTH, Plan, is_type, plan_of};
 use std::alloc::Global;
 
-/// The value of a type that bytes are, in the normal form of the GVariant specification.
-/// Time and memory are at most linear in the bytes, however they were made: children never overlap, and where an offset
-/// runs backwards or a padding byte isn't zero, reading ends. But the value of one byte can be 64 deep and take 15 KiB, so
-/// bytes from elsewhere are better checked by `check_normal`.
+/// The value of a type that bytes are, in the normal form of the GVariant specification. Time and
+/// memory are at most linear in the bytes, however they were made: children never overlap, and
+/// where an offset runs backwards or a padding byte isn't zero, reading ends. But the value of one
+/// byte can be 64 deep and take 15 KiB, so bytes from elsewhere are better checked by
+/// `check_normal`.
 pub fn decode(alloc: Global, of: &GvType, bytes: &[u8]) -> Result<GvValue, DecodeError>
     ensures too_long { (result ≡ Err DecodeError.TooLong) ↔ (MOST_BYTES < length bytes.now) }
     ensures spelled { IfOk result (λ value. Spelled (shape_of of.now) (plain value) bytes.now) }
@@ -37,8 +38,9 @@ pub fn decode(alloc: Global, of: &GvType, bytes: &[u8]) -> Result<GvValue, Decod
     read(alloc, &plan, bytes, MOST_DEPTH)
 }
 
-/// Whether bytes are some value of a type, in the normal form of the GVariant specification: `decode` without the value.
-/// Its memory is at most 24 bytes for each byte, and what the greatest type in a variant takes.
+/// Whether bytes are some value of a type, in the normal form of the GVariant specification:
+/// `decode` without the value. Its memory is at most 24 bytes for each byte, and what the greatest
+/// type in a variant takes.
 pub fn check_normal(alloc: Global, of: &GvType, bytes: &[u8]) -> Result<(), DecodeError>
     ensures too_long { (result ≡ Err DecodeError.TooLong) ↔ (MOST_BYTES < length bytes.now) }
     ensures normal { IfOk result (λ _. (v : Tree) × Spelled (shape_of of.now) v bytes.now) }
@@ -57,8 +59,9 @@ pub fn check_normal(alloc: Global, of: &GvType, bytes: &[u8]) -> Result<(), Deco
     check(alloc, &plan, bytes, MOST_DEPTH)
 }
 
-/// The bytes of the elements of an array, of the members of a tuple, or of a dictionary entry's key and value. What
-/// stands in them isn't looked at. `NotNormal` comes where they don't stand in these bytes so, or the type is another.
+/// The bytes of the elements of an array, of the members of a tuple, or of a dictionary entry's key
+/// and value. What stands in them isn't looked at. `NotNormal` comes where they don't stand in
+/// these bytes so, or the type is another.
 pub fn children<'a>(
     alloc: Global,
     of: &GvType,
@@ -66,7 +69,8 @@ pub fn children<'a>(
 ) -> Result<Vec<&'a [u8]>, DecodeError>
     ensures too_long { (result ≡ Err DecodeError.TooLong) ↔ (MOST_BYTES < length bytes.now) }
     ensures found { length bytes.now ≤ MOST_BYTES
-        → Gives (λ children. slices children.items) result (children_of (shape_of of.now) bytes.now) }
+        → Gives (λ children. slices children.items) result
+        (children_of (shape_of of.now) bytes.now) }
 {
     if bytes.len() > MOST_BYTES as usize {
         return Err(DecodeError::TooLong);

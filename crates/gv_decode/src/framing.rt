@@ -11,7 +11,8 @@ use crate::error::DecodeError;
 use crate::numbers::{all_zero, number};
 use gv_value::{Extent, Plan, padding, width};
 
-/// The bytes of a child that stands after a position and ends at another, where what is padding before it is zero.
+/// The bytes of a child that stands after a position and ends at another, where what is padding
+/// before it is zero.
 pub fn child_at(body: &[u8], at: usize, align: u64, end: usize) -> Result<&[u8], DecodeError>
     requires pos { 0 < align }
     requires small { align ≤ 8 }
@@ -108,7 +109,8 @@ pub fn offset_at(frame: Frame<'_>, index: usize) -> usize
 pub fn filled_frame(whole: usize, size: usize, bytes: &[u8]) -> Result<Frame<'_>, DecodeError>
     requires { whole ≤ size }
     ensures body { Gives (λ f. f.body.now) result
-        (if length bytes.now == size && all_are_zero (drop whole bytes.now) then Some (take whole bytes.now) else None) }
+        (if length bytes.now == size && all_are_zero (drop whole bytes.now)
+        then Some (take whole bytes.now) else None) }
     ensures frame { IfOk result (λ f. IsWhole f × (f.count ≡ 0)) }
 {
     if bytes.len() != size {
@@ -131,9 +133,11 @@ pub fn open_frame<'a>(plans: &[Plan], bytes: &'a [u8]) -> Result<Frame<'a>, Deco
     requires planned { IsTrue (are_plans plans.now) }
     requires short { length bytes.now ≤ MOST_BYTES }
     ensures offsets { Gives offsets_of result
-        (offsets_after (length bytes.now - offset_count_of (plan_shapes plans.now) * width_in (length bytes.now)) (offset_count_of (plan_shapes plans.now)) bytes.now) }
+        (offsets_after (length bytes.now - offset_count_of (plan_shapes plans.now) * width_in
+        (length bytes.now)) (offset_count_of (plan_shapes plans.now)) bytes.now) }
     ensures frame { IfOk result (λ f. IsFrame f bytes.now
-        (length bytes.now - offset_count_of (plan_shapes plans.now) * width_in (length bytes.now)) (offset_count_of (plan_shapes plans.now))) }
+        (length bytes.now - offset_count_of (plan_shapes plans.now) * width_in (length bytes.now))
+        (offset_count_of (plan_shapes plans.now))) }
 {
     let count = offset_count(plans);
     if count > bytes.len() {
@@ -143,8 +147,8 @@ pub fn open_frame<'a>(plans: &[Plan], bytes: &'a [u8]) -> Result<Frame<'a>, Deco
     take_apart(bytes, before, count)
 }
 
-/// Where a member ends that stands after a position: by its size, by its offset, or, for the last one, with the body.
-/// And how many offsets are left.
+/// Where a member ends that stands after a position: by its size, by its offset, or, for the last
+/// one, with the body. And how many offsets are left.
 pub fn member_end(
     extent: Extent,
     last: bool,
@@ -157,7 +161,8 @@ pub fn member_end(
     requires within { at ≤ length frame.body.now }
     requires short { length frame.body.now ≤ MOST_BYTES }
     ensures found { (result.0, offsets_left frame.entry result.1)
-        ≡ member_end_of extent.size last (length frame.entry.body.now) at extent.align (offsets_left frame.entry left) }
+        ≡ member_end_of extent.size last (length frame.entry.body.now) at extent.align
+        (offsets_left frame.entry left) }
     ensures fewer { result.1 ≤ left }
 {
     match extent.size {

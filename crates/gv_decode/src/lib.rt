@@ -1,4 +1,5 @@
-//! Reads values of GVariant from bytes, in normal form alone, or checks the bytes without their value.
+//! Reads values of GVariant from bytes, in normal form alone, or checks the bytes without their
+//! value.
 #![tactic(auto)]
 
 mod checking;

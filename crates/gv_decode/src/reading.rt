@@ -105,7 +105,8 @@ fn read_array(
     requires short { length bytes.now ≤ MOST_BYTES }
     ensures { Gives plain result (option_map array_tree
         (option_and_then (read_all (value_at room (plan_shape element.now)))
-        (array_children (align_of (plan_shape element.now)) (size_of (plan_shape element.now)) bytes.now))) }
+        (array_children (align_of (plan_shape element.now))
+        (size_of (plan_shape element.now)) bytes.now))) }
 {
     if is_byte(element) {
         let kept = Vec::from_slice(alloc, bytes)?;
@@ -151,7 +152,8 @@ fn read_members(
     requires short { length bytes.now ≤ MOST_BYTES }
     ensures { Gives (λ values. plains values.items) result
         (option_and_then (read_each (value_at room) (plan_shapes plans.now))
-        (tuple_children (size_of (tuple (plan_shapes plans.now))) (plan_shapes plans.now) bytes.now)) }
+        (tuple_children (size_of (tuple (plan_shapes plans.now)))
+        (plan_shapes plans.now) bytes.now)) }
 {
     let children = members(alloc, run, plans, bytes)?;
     read_each_member(alloc, plans, &children, room)

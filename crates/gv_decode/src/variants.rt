@@ -9,8 +9,8 @@ use crate::error::DecodeError;
 use gv_value::{GvType, TypeError};
 use std::alloc::Global;
 
-/// The bytes of the value in a variant, and the type string of its type: what stands before the last zero byte, and after
-/// it. Neither is looked at.
+/// The bytes of the value in a variant, and the type string of its type: what stands before the
+/// last zero byte, and after it. Neither is looked at.
 pub fn variant_parts(bytes: &[u8]) -> Result<(&[u8], &[u8]), DecodeError>
     ensures { Gives (λ p. (p.0.now, p.1.now)) result (parted bytes.now) }
 {

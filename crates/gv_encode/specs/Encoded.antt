@@ -27,7 +27,8 @@ Adds (Err e) before after bytes = Fails e before bytes
 abbrev pub offset_bytes : ℕ → List ℕ → List ℕ
 offset_bytes used offsets = flat_map (le_bytes (width used (length offsets))) offsets
 
--- what stands after the members of a tuple, which take so many bytes: zero bytes up to its fixed size, or offsets
+-- what stands after the members of a tuple, which take so many bytes: zero bytes up to its fixed
+-- size, or offsets
 abbrev pub closing : Option ℕ → ℕ → List ℕ → List ℕ
 closing (Some size) used offsets = zeros (size - used)
 closing None used offsets = offset_bytes used offsets

@@ -11,7 +11,8 @@ use fp_base::Blob;
 use gv_value::{GvType, GvValue, MOST_DEPTH, fits, plan_of};
 use std::alloc::Global;
 
-/// The bytes of a value of a type, in the normal form of the GVariant specification. A value has at most 16 MiB.
+/// The bytes of a value of a type, in the normal form of the GVariant specification. A value has at
+/// most 16 MiB.
 pub fn encode(alloc: Global, of: &GvType, value: &GvValue) -> Result<Blob, EncodeError>
     ensures spelled { IfOk result (λ bytes. Spelled (shape_of of.now) (plain value.now) bytes) }
     ensures not_of_type { (result ≡ Err EncodeError.NotOfType)

@@ -29,7 +29,8 @@ pub fn append_offsets(out: &mut Vec<u8>, start: usize, offsets: &[usize]) -> Res
     Ok(())
 }
 
-/// Notes where a member ends, if an offset says so: the member has no fixed size and is not the last one.
+/// Notes where a member ends, if an offset says so: the member has no fixed size and is not the
+/// last one.
 pub fn note_end(
     ends: &mut Vec<usize>,
     end: usize,
@@ -46,7 +47,8 @@ pub fn note_end(
     Ok(())
 }
 
-/// Adds what stands after the members of a tuple: zero bytes up to its fixed size, or offsets, the last one first.
+/// Adds what stands after the members of a tuple: zero bytes up to its fixed size, or offsets, the
+/// last one first.
 pub fn close(
     out: &mut Vec<u8>,
     start: usize,
@@ -56,7 +58,8 @@ pub fn close(
     requires room { vec_len out.old ≤ MOST_BYTES }
     requires inside { start ≤ vec_len out.old }
     ensures { (whole : Option ℕ) → size ≡ capped_size whole →
-        Adds result out.old.items out.new.items (closing whole (vec_len out.old - start) (reverse ends.items)) }
+        Adds result out.old.items out.new.items
+        (closing whole (vec_len out.old - start) (reverse ends.items)) }
 {
     match size {
         Some(size) => {

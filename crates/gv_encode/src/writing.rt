@@ -142,7 +142,8 @@ fn write_framed(
     requires fits { IsTrue (all_fit (fits_within room (plan_shape element.now))
         (plains items.now)) }
     ensures { Adds result out.old.items out.new.items
-        (array_bytes (align_of (plan_shape element.now)) None (spelling_of_all (plains items.now) (plan_shape element.now))) }
+        (array_bytes (align_of (plan_shape element.now)) None
+        (spelling_of_all (plains items.now) (plan_shape element.now))) }
 {
     let start = out.len();
     let mut ends = Vec::new(alloc);
@@ -168,7 +169,8 @@ fn write_placed(
     requires planned { IsTrue (is_plan plan.now) }
     requires fits { IsTrue (fits_within room (plan_shape plan.now) (plain item.now)) }
     ensures { Adds result out.old.items out.new.items
-        (zeros (padding_of (vec_len out.old - start) (align_of (plan_shape plan.now))) ++ spelling (plain item.now) (plan_shape plan.now)) }
+        (zeros (padding_of (vec_len out.old - start) (align_of (plan_shape plan.now)))
+        ++ spelling (plain item.now) (plan_shape plan.now)) }
 {
     let align = plan.extent().align;
     append_zeros(out, padding((out.len() - start) as u64, align) as usize)?;
@@ -245,9 +247,11 @@ fn write_members(
     requires fits { IsTrue (each_fits (fits_within room) (plan_shapes plans.now)
         (plains items.now)) }
     ensures body { Adds result out.old.items out.new.items
-        (tuple_body (plan_shapes plans.now) (spelling_of_each (plains items.now) (plan_shapes plans.now))) }
+        (tuple_body (plan_shapes plans.now)
+        (spelling_of_each (plains items.now) (plan_shapes plans.now))) }
     ensures noted { IfOk result (λ noted. noted.items ≡ written (plan_shapes plans.now)
-        (ends_of [] (parts_of (plan_shapes plans.now) (spelling_of_each (plains items.now) (plan_shapes plans.now))))) }
+        (ends_of [] (parts_of (plan_shapes plans.now)
+        (spelling_of_each (plains items.now) (plan_shapes plans.now))))) }
 {
     if plans.len() != items.len() {
         return Err(EncodeError::NotOfType);

@@ -1,4 +1,5 @@
--- The basic types, and the bytes of their values (GVariant specification, "Serialisation of base types").
+-- The basic types, and the bytes of their values (GVariant specification, "Serialisation of base
+-- types").
 use Rattle.std.specs.Int.{Width, w8, w16, w32, w64}
 use Rattle.gv_value.specs.declared.basic.Basic.{Basic}
 use Rattle.gv_value.specs.declared.basic.Basic.TheVariants as basics

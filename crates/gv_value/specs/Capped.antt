@@ -18,7 +18,8 @@ pub record IsExtent (e : Extent) (t : Shape) : Type 0 where
 
 -- where one more member ends, after members that end at a place
 abbrev pub run_end : Option ℕ → ℕ → Option ℕ → Option ℕ
-run_end at align size = option_and_then (λ a. option_map (λ n. capped (padded_end a align n)) size) at
+run_end at align size =
+    option_and_then (λ a. option_map (λ n. capped (padded_end a align n)) size) at
 
 -- members so far: their greatest alignment, and where they end
 pub record IsRun (e : Extent) (align : ℕ) (end : Option ℕ) : Type 0 where

@@ -10,15 +10,19 @@ use Rattle.gv_value.specs.Reading.{value_of}
 
 -- a text is the type string of a type exactly where it reads as the type
 abbrev pub ReadsTypes : Type 0
-ReadsTypes = (text : List ℕ) (t : Shape) → (type_of text ≡ Some t) ↔ ((text ≡ type_text t) × IsTrue (is_type t))
+ReadsTypes = (text : List ℕ) (t : Shape) → (type_of text ≡ Some t)
+    ↔ ((text ≡ type_text t) × IsTrue (is_type t))
 
 -- bytes are a value of a type exactly where they read as the value
 abbrev pub ReadsValues : Type 0
-ReadsValues = (t : Shape) (v : Tree) (bytes : List ℕ) → (value_of t bytes ≡ Some v) ↔ Spelled t v bytes
+ReadsValues =
+    (t : Shape) (v : Tree) (bytes : List ℕ) → (value_of t bytes ≡ Some v) ↔ Spelled t v bytes
 
--- bytes are a value of a type exactly where the value is of the type and they are its spelling, of at most 16 MiB
+-- bytes are a value of a type exactly where the value is of the type and they are its spelling, of
+-- at most 16 MiB
 abbrev pub SpellsValues : Type 0
-SpellsValues = (t : Shape) (v : Tree) (bytes : List ℕ) → Spelled t v bytes ↔ (IsTrue (fits t v) × (bytes ≡ spelling v t) × (length bytes ≤ MOST_BYTES))
+SpellsValues = (t : Shape) (v : Tree) (bytes : List ℕ)
+    → Spelled t v bytes ↔ (IsTrue (fits t v) × (bytes ≡ spelling v t) × (length bytes ≤ MOST_BYTES))
 
 -- a value of a type has one spelling
 abbrev pub HasOneSpelling : Type 0
@@ -26,7 +30,8 @@ HasOneSpelling = (t : Shape) (v : Tree) (a b : List ℕ) → Spelled t v a → S
 
 -- a spelling has one value
 abbrev pub HasOneValue : Type 0
-HasOneValue = (t : Shape) (v w : Tree) (bytes : List ℕ) → Spelled t v bytes → Spelled t w bytes → v ≡ w
+HasOneValue =
+    (t : Shape) (v w : Tree) (bytes : List ℕ) → Spelled t v bytes → Spelled t w bytes → v ≡ w
 
 -- how deep a value is
 abbrev mutual
@@ -45,4 +50,5 @@ abbrev mutual
 
 -- the bound on depth in the relation bounds the depth, and nothing else
 abbrev pub BoundsDepth : Type 0
-BoundsDepth = (n m : ℕ) (t : Shape) (v : Tree) (bytes : List ℕ) → SpelledWithin n t v bytes → (depth v ≤ n) × (depth v ≤ m → SpelledWithin m t v bytes)
+BoundsDepth = (n m : ℕ) (t : Shape) (v : Tree) (bytes : List ℕ) → SpelledWithin n t v bytes
+    → (depth v ≤ n) × (depth v ≤ m → SpelledWithin m t v bytes)

@@ -1,4 +1,5 @@
--- How children stand in a container, and where each ends (GVariant specification, "Framing offsets").
+-- How children stand in a container, and where each ends (GVariant specification, "Framing
+-- offsets").
 use Rattle.std.specs.Prelude.{ℕ, zero, suc, ◌+◌, ◌-◌, ◌*◌, ◌/◌, ◌%◌, ◌^◌, Bool, true, false, ◌&&◌, ◌==◌, nat_le, if◌then◌else◌, ◌≡◌, List, [], ◌∷◌, ◌++◌, length, take, drop, map, reverse, slice_range, Option, Some, None, option_map, option_and_then, unwrap_or}
 use Rattle.std.specs.List.{flat_map, concat}
 use Rattle.std.specs.Str.{bytes_eq}
@@ -26,10 +27,12 @@ abbrev pub ends : List ℕ → List Part → List ℕ
 ends body [] = []
 ends body (part ∷ parts) = length (placed body part) ∷ ends (placed body part) parts
 
--- how many bytes an offset takes, with so many bytes before the offsets and so many offsets: the least that fits
+-- how many bytes an offset takes, with so many bytes before the offsets and so many offsets: the
+-- least that fits
 abbrev pub width : ℕ → ℕ → ℕ
 width before count = if nat_le (before + count) 0xFF then 1
-    else (if nat_le (before + 2 * count) 0xFFFF then 2 else (if nat_le (before + 4 * count) 0xFFFFFFFF then 4 else 8))
+    else (if nat_le (before + 2 * count) 0xFFFF then 2
+    else (if nat_le (before + 4 * count) 0xFFFFFFFF then 4 else 8))
 
 -- offsets after a body
 abbrev pub framed : List ℕ → List ℕ → List ℕ
@@ -60,7 +63,8 @@ put_offset (Some size) last end offsets = offsets
 put_offset None true end offsets = offsets
 put_offset None false end offsets = end ∷ offsets
 
--- of the ends of a tuple's members those that are written: of each member of variable size but the last
+-- of the ends of a tuple's members those that are written: of each member of variable size but the
+-- last
 abbrev pub written : Shapes → List ℕ → List ℕ
 written no_shapes es = []
 written (shape t ts) [] = []
@@ -77,7 +81,8 @@ tuple_offsets ts children = reverse (written ts (ends [] (parts_of ts children))
 -- the bytes of a child, where what is padding before it is zero
 abbrev pub child_at : List ℕ → ℕ → ℕ → ℕ → Option (List ℕ)
 child_at body at start end =
-    if nat_le start end && nat_le end (length body) && all_zero (slice_range body at start) then Some (slice_range body start end) else None
+    if nat_le start end && nat_le end (length body) && all_zero (slice_range body at start)
+    then Some (slice_range body start end) else None
 
 -- an alignment, and where a child ends
 abbrev pub Mark : Type 0
@@ -86,7 +91,8 @@ Mark = ℕ × ℕ
 -- the children in a body from a position on, to its end
 abbrev pub cut : List ℕ → ℕ → List Mark → Option (List (List ℕ))
 cut body at [] = if at == length body then Some [] else None
-cut body at (mark ∷ marks) = option_and_then (λ child. option_map (λ others. child ∷ others) (cut body mark.1 marks))
+cut body at (mark ∷ marks) =
+    option_and_then (λ child. option_map (λ others. child ∷ others) (cut body mark.1 marks))
     (child_at body at (at + padding at mark.0) mark.1)
 
 -- how many bytes an offset takes in a container of so many bytes
@@ -99,12 +105,14 @@ numbers w (suc count) table = le_value (take w table) ∷ numbers w count (drop 
 
 -- so many offsets of so many bytes, where the table is nothing else
 abbrev pub offsets_at : ℕ → ℕ → List ℕ → Option (List ℕ)
-offsets_at w count table = let found = numbers w count table in if bytes_eq (flat_map (le_bytes w) found) table then Some found else None
+offsets_at w count table = let found = numbers w count table in if bytes_eq
+    (flat_map (le_bytes w) found) table then Some found else None
 
 -- the offsets after the first bytes of a container, where their width is the least that fits
 abbrev pub offsets_after : ℕ → ℕ → List ℕ → Option (List ℕ)
 offsets_after before count bytes =
-    if nat_le before (length bytes) && width before count == width_in (length bytes) then offsets_at (width before count) count (drop before bytes) else None
+    if nat_le before (length bytes) && width before count == width_in (length bytes)
+    then offsets_at (width before count) count (drop before bytes) else None
 
 -- so many children of one size
 abbrev pub steps : ℕ → ℕ → ℕ → List Mark
@@ -113,20 +121,24 @@ steps size at (suc count) = (1, at + size) ∷ steps size (at + size) count
 
 -- the elements before the offsets, which begin after so many bytes
 abbrev pub elements_before : ℕ → ℕ → List ℕ → Option (List (List ℕ))
-elements_before align before bytes = option_and_then (λ es. cut (take before bytes) 0 (map (λ e. (align, e)) es))
+elements_before align before bytes =
+    option_and_then (λ es. cut (take before bytes) 0 (map (λ e. (align, e)) es))
     (offsets_after before ((length bytes - before) / width_in (length bytes)) bytes)
 
--- the elements of an array that have no fixed size: the last offset, where the last element ends, says where the offsets begin
+-- the elements of an array that have no fixed size: the last offset, where the last element ends,
+-- says where the offsets begin
 abbrev pub framed_children : ℕ → List ℕ → Option (List (List ℕ))
 framed_children align [] = Some []
 framed_children align (b ∷ bytes) =
-    elements_before align (le_value (drop (length (b ∷ bytes) - width_in (length (b ∷ bytes))) (b ∷ bytes))) (b ∷ bytes)
+    elements_before align (le_value
+    (drop (length (b ∷ bytes) - width_in (length (b ∷ bytes))) (b ∷ bytes))) (b ∷ bytes)
 
 abbrev pub array_children : ℕ → Option ℕ → List ℕ → Option (List (List ℕ))
 array_children align (Some size) bytes = cut bytes 0 (steps size 0 (length bytes / size))
 array_children align None bytes = framed_children align bytes
 
--- the end of a member by its size, and the offsets that are left: the last one of variable size ends where the offsets begin
+-- the end of a member by its size, and the offsets that are left: the last one of variable size
+-- ends where the offsets begin
 abbrev pub member_end : Option ℕ → Bool → ℕ → ℕ → ℕ → List ℕ → ℕ × List ℕ
 member_end (Some size) last whole at align offsets = (padded_end at align size, offsets)
 member_end None true whole at align offsets = (whole, offsets)
@@ -137,7 +149,8 @@ member_end None false whole at align (end ∷ offsets) = (end, offsets)
 abbrev pub marks : ℕ → ℕ → Shapes → List ℕ → List Mark
 marks whole at no_shapes offsets = []
 marks whole at (shape t ts) offsets =
-    let found = member_end (size_of t) (is_none_left ts) whole at (align_of t) offsets in (align_of t, found.0) ∷ marks whole found.0 ts found.1
+    let found = member_end (size_of t) (is_none_left ts) whole at (align_of t) offsets in
+    (align_of t, found.0) ∷ marks whole found.0 ts found.1
 
 -- how many offsets a tuple has
 abbrev pub offset_count : Shapes → ℕ
@@ -147,13 +160,16 @@ offset_count (shape t ts) = length (put_offset (size_of t) (is_none_left ts) 0 [
 -- the members of a tuple of variable size, whose offsets begin after so many bytes
 abbrev pub open_children : Shapes → ℕ → List ℕ → Option (List (List ℕ))
 open_children ts before bytes =
-    option_and_then (λ os. cut (take before bytes) 0 (marks before 0 ts (reverse os))) (offsets_after before (offset_count ts) bytes)
+    option_and_then (λ os. cut (take before bytes) 0 (marks before 0 ts (reverse os)))
+    (offsets_after before (offset_count ts) bytes)
 
 -- the members of a tuple of this size, filled with zero bytes after the last one
 abbrev pub filled_children : Shapes → ℕ → ℕ → List ℕ → Option (List (List ℕ))
 filled_children ts size whole bytes =
-    if length bytes == size && all_zero (drop whole bytes) then cut (take whole bytes) 0 (marks whole 0 ts []) else None
+    if length bytes == size && all_zero (drop whole bytes)
+    then cut (take whole bytes) 0 (marks whole 0 ts []) else None
 
 abbrev pub tuple_children : Option ℕ → Shapes → List ℕ → Option (List (List ℕ))
 tuple_children (Some size) ts bytes = filled_children ts size (unwrap_or (end_of 0 ts) 0) bytes
-tuple_children None ts bytes = open_children ts (length bytes - offset_count ts * width_in (length bytes)) bytes
+tuple_children None ts bytes =
+    open_children ts (length bytes - offset_count ts * width_in (length bytes)) bytes

@@ -1,4 +1,5 @@
--- The alignment of each type, and its size where that is fixed (GVariant specification, "Alignment" and "Fixed-size").
+-- The alignment of each type, and its size where that is fixed (GVariant specification, "Alignment"
+-- and "Fixed-size").
 use Rattle.std.specs.Prelude.{ℕ, ◌+◌, ◌-◌, ◌%◌, max, Bool, Option, Some, None, option_map, option_and_then, unwrap_or}
 use Rattle.std.specs.Int.{byte_len}
 use Rattle.gv_value.specs.Basics.{Form, truth, unsigned, signed, double, text, form_of}
@@ -32,7 +33,8 @@ abbrev mutual
 abbrev pub padded_end : ℕ → ℕ → ℕ → ℕ
 padded_end at align size = at + padding at align + size
 
--- the size of a tuple, by its alignment and by where its last member ends: a multiple of the alignment, and not 0
+-- the size of a tuple, by its alignment and by where its last member ends: a multiple of the
+-- alignment, and not 0
 abbrev pub filled : ℕ → ℕ → ℕ
 filled align end = max 1 (end + padding end align)
 
@@ -45,9 +47,12 @@ abbrev mutual
   size_of (tuple ts) = option_map (filled (greatest_align ts)) (end_of 0 ts)
   -- as a tuple of two
   size_of (entry k v) = option_map (filled (max (align_of k) (max (align_of v) 1)))
-      (option_and_then (λ m. option_and_then (λ n. Some (padded_end (padded_end 0 (align_of k) m) (align_of v) n)) (size_of v)) (size_of k))
+      (option_and_then (λ m. option_and_then
+      (λ n. Some (padded_end (padded_end 0 (align_of k) m) (align_of v) n)) (size_of v))
+      (size_of k))
 
   -- where the last of members of fixed size ends, which begin after a position
   pub end_of : ℕ → Shapes → Option ℕ
   end_of at no_shapes = Some at
-  end_of at (shape t ts) = option_and_then (λ n. end_of (padded_end at (align_of t) n) ts) (size_of t)
+  end_of at (shape t ts) =
+      option_and_then (λ n. end_of (padded_end at (align_of t) n) ts) (size_of t)

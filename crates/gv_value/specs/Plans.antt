@@ -35,17 +35,29 @@ all_good [] = true
 all_good (s ∷ ss) = s.good && all_good ss
 
 abbrev pub seen_entry : Extent → List Seen → Seen
-seen_entry e (k ∷ v ∷ []) = record { shape = Shape.entry k.shape v.shape; good = k.good && v.good && run_is e (two_shapes k.shape v.shape) }
+seen_entry e (k ∷ v ∷ []) = record {
+  shape = Shape.entry k.shape v.shape;
+  good = k.good && v.good && run_is e (two_shapes k.shape v.shape);
+}
 seen_entry e _ = record { shape = Shape.variant; good = false }
 
 -- one level, with what is seen of each plan inside in its place
 abbrev pub seen_step : Plan-F Seen → Seen
 seen_step (Plan-F.Basic b) = record { shape = Shape.basic b; good = true }
 seen_step Plan-F.Variant = record { shape = Shape.variant; good = true }
-seen_step (Plan-F.Array e t) = record { shape = Shape.array t.value.shape; good = t.value.good && extent_is e (Shape.array t.value.shape) }
-seen_step (Plan-F.Maybe e t) = record { shape = Shape.maybe t.value.shape; good = t.value.good && extent_is e (Shape.maybe t.value.shape) }
+seen_step (Plan-F.Array e t) = record {
+  shape = Shape.array t.value.shape;
+  good = t.value.good && extent_is e (Shape.array t.value.shape);
+}
+seen_step (Plan-F.Maybe e t) = record {
+  shape = Shape.maybe t.value.shape;
+  good = t.value.good && extent_is e (Shape.maybe t.value.shape);
+}
 seen_step (Plan-F.Tuple e ts) =
-    record { shape = Shape.tuple (seen_shapes ts.items); good = all_good ts.items && run_is e (seen_shapes ts.items) }
+    record {
+      shape = Shape.tuple (seen_shapes ts.items);
+      good = all_good ts.items && run_is e (seen_shapes ts.items);
+    }
 seen_step (Plan-F.Entry e ts) = seen_entry e ts.items
 
 abbrev pub seen : Plan → Seen

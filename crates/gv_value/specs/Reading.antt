@@ -43,7 +43,8 @@ text_at kind bytes = option_and_then (text_if kind) (before_zero (length bytes -
 abbrev pub content_at : Form → List ℕ → Option Content
 content_at Form.truth bytes = truth_at bytes
 content_at (Form.unsigned w) bytes = option_map Content.number (number_at (byte_len w) bytes)
-content_at (Form.signed w) bytes = option_map (λ n. Content.integer (cast_signed w n)) (number_at (byte_len w) bytes)
+content_at (Form.signed w) bytes =
+    option_map (λ n. Content.integer (cast_signed w n)) (number_at (byte_len w) bytes)
 content_at Form.double bytes = eight_at bytes
 content_at (Form.text kind) bytes = text_at kind bytes
 
@@ -54,11 +55,13 @@ Reader = List ℕ → Option Tree
 
 abbrev pub read_all : Reader → List (List ℕ) → Option Trees
 read_all one [] = Some no_trees
-read_all one (child ∷ children) = option_and_then (λ v. option_map (tree v) (read_all one children)) (one child)
+read_all one (child ∷ children) =
+    option_and_then (λ v. option_map (tree v) (read_all one children)) (one child)
 
 abbrev pub read_each : (Shape → Reader) → Shapes → List (List ℕ) → Option Trees
 read_each one no_shapes [] = Some no_trees
-read_each one (shape t ts) (child ∷ children) = option_and_then (λ v. option_map (tree v) (read_each one ts children)) (one t child)
+read_each one (shape t ts) (child ∷ children) =
+    option_and_then (λ v. option_map (tree v) (read_each one ts children)) (one t child)
 read_each one _ _ = None
 
 abbrev pub just_at : Reader → Option ℕ → Reader
@@ -81,7 +84,8 @@ parted (b ∷ bytes) = parted_with b bytes (parted bytes)
 
 abbrev pub variant_at : (Shape → Reader) → Reader
 variant_at one bytes =
-    option_and_then (λ p. option_and_then (λ t. option_map (Tree.variant t) (one t p.0)) (type_of p.1)) (parted bytes)
+    option_and_then (λ p. option_and_then (λ t. option_map (Tree.variant t) (one t p.0))
+    (type_of p.1)) (parted bytes)
 
 abbrev pub as_entry : Trees → Option Tree
 as_entry (tree a (tree b no_trees)) = Some (Tree.entry a b)
@@ -92,14 +96,19 @@ abbrev pub value_at : ℕ → Shape → Reader
 value_at n (Shape.basic b) bytes = option_map (Tree.leaf b) (content_at (form_of b) bytes)
 value_at (suc n) Shape.variant bytes = variant_at (value_at n) bytes
 value_at (suc n) (Shape.array t) bytes =
-    option_map Tree.array (option_and_then (read_all (value_at n t)) (array_children (align_of t) (size_of t) bytes))
+    option_map Tree.array (option_and_then (read_all (value_at n t))
+    (array_children (align_of t) (size_of t) bytes))
 value_at (suc n) (Shape.maybe t) bytes = maybe_at (value_at n t) (size_of t) bytes
 value_at (suc n) (Shape.tuple ts) bytes =
-    option_map Tree.tuple (option_and_then (read_each (value_at n) ts) (tuple_children (size_of (Shape.tuple ts)) ts bytes))
+    option_map Tree.tuple (option_and_then (read_each (value_at n) ts)
+    (tuple_children (size_of (Shape.tuple ts)) ts bytes))
 value_at (suc n) (Shape.entry k v) bytes =
-    option_and_then as_entry (option_and_then (read_each (value_at n) (two_shapes k v)) (tuple_children (size_of (Shape.entry k v)) (two_shapes k v) bytes))
+    option_and_then as_entry
+    (option_and_then (read_each (value_at n) (two_shapes k v))
+    (tuple_children (size_of (Shape.entry k v)) (two_shapes k v) bytes))
 value_at _ _ bytes = None
 
 -- the value of a type that bytes are, if they are one
 abbrev pub value_of : Shape → Reader
-value_of t bytes = if is_type t && nat_le (length bytes) MOST_BYTES then value_at MOST_DEPTH t bytes else None
+value_of t bytes =
+    if is_type t && nat_le (length bytes) MOST_BYTES then value_at MOST_DEPTH t bytes else None

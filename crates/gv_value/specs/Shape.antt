@@ -30,8 +30,8 @@ abbrev pub all_shapes : (Shape → Bool) → Shapes → Bool
 all_shapes test no_shapes = true
 all_shapes test (shape t ts) = test t && all_shapes test ts
 
--- It is a type nested at most so deep: a basic type nests 0, and each other type is 1 deeper than what stands in it.
--- A dictionary's key is basic.
+-- It is a type nested at most so deep: a basic type nests 0, and each other type is 1 deeper than
+-- what stands in it. A dictionary's key is basic.
 abbrev pub nests_within : ℕ → Shape → Bool
 nests_within n (basic b) = true
 nests_within zero variant = false

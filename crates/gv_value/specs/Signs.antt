@@ -38,10 +38,13 @@ sign_among letter (s ∷ ss) = if letter == letter_of s then Some s else sign_am
 
 abbrev pub all_signs : List Sign
 all_signs =
-    signs.Basic basics.Bool ∷ signs.Basic basics.Byte ∷ signs.Basic basics.Int16 ∷ signs.Basic basics.Uint16 ∷ signs.Basic basics.Int32
-    ∷ signs.Basic basics.Uint32 ∷ signs.Basic basics.Int64 ∷ signs.Basic basics.Uint64 ∷ signs.Basic basics.Handle ∷ signs.Basic basics.Double
+    signs.Basic basics.Bool ∷ signs.Basic basics.Byte ∷ signs.Basic basics.Int16
+    ∷ signs.Basic basics.Uint16 ∷ signs.Basic basics.Int32
+    ∷ signs.Basic basics.Uint32 ∷ signs.Basic basics.Int64 ∷ signs.Basic basics.Uint64
+    ∷ signs.Basic basics.Handle ∷ signs.Basic basics.Double
     ∷ signs.Basic basics.Str ∷ signs.Basic basics.ObjectPath ∷ signs.Basic basics.Signature
-    ∷ signs.Variant ∷ signs.Array ∷ signs.Maybe ∷ signs.TupleOpen ∷ signs.TupleClose ∷ signs.EntryOpen ∷ signs.EntryClose ∷ []
+    ∷ signs.Variant ∷ signs.Array ∷ signs.Maybe ∷ signs.TupleOpen ∷ signs.TupleClose
+    ∷ signs.EntryOpen ∷ signs.EntryClose ∷ []
 
 -- the sign that a letter stands for
 abbrev pub sign_of : ℕ → Option Sign

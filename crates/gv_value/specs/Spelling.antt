@@ -43,13 +43,15 @@ each_fits one _ _ = false
 
 -- the value is of the type, at most so deep
 abbrev pub fits_within : ℕ → Shape → Tree → Bool
-fits_within n (Shape.basic b) (Tree.leaf c content) = basic_letter b == basic_letter c && content_fits (form_of b) content
+fits_within n (Shape.basic b) (Tree.leaf c content) =
+    basic_letter b == basic_letter c && content_fits (form_of b) content
 fits_within (suc n) Shape.variant (Tree.variant t v) = is_type t && fits_within n t v
 fits_within (suc n) (Shape.array t) (Tree.array vs) = all_fit (fits_within n t) vs
 fits_within (suc n) (Shape.maybe t) Tree.nothing = true
 fits_within (suc n) (Shape.maybe t) (Tree.just v) = fits_within n t v
 fits_within (suc n) (Shape.tuple ts) (Tree.tuple vs) = each_fits (fits_within n) ts vs
-fits_within (suc n) (Shape.entry k v) (Tree.entry a b) = each_fits (fits_within n) (two_shapes k v) (two_trees a b)
+fits_within (suc n) (Shape.entry k v) (Tree.entry a b) =
+    each_fits (fits_within n) (two_shapes k v) (two_trees a b)
 fits_within _ _ _ = false
 
 abbrev pub fits : Shape → Tree → Bool
@@ -67,14 +69,16 @@ content_bytes _ _ = []
 
 abbrev pub array_bytes : ℕ → Option ℕ → List (List ℕ) → List ℕ
 array_bytes align (Some size) children = concat children
-array_bytes align None children = let parts = same_parts align children in framed (laid [] parts) (ends [] parts)
+array_bytes align None children =
+    let parts = same_parts align children in framed (laid [] parts) (ends [] parts)
 
 abbrev pub just_bytes : Option ℕ → List ℕ → List ℕ
 just_bytes (Some size) child = child
 just_bytes None child = child ++ 0 ∷ []
 
 abbrev pub tuple_bytes : Option ℕ → Shapes → List (List ℕ) → List ℕ
-tuple_bytes (Some size) ts children = tuple_body ts children ++ zeros (size - length (tuple_body ts children))
+tuple_bytes (Some size) ts children =
+    tuple_body ts children ++ zeros (size - length (tuple_body ts children))
 tuple_bytes None ts children = framed (tuple_body ts children) (tuple_offsets ts children)
 
 abbrev mutual
@@ -82,10 +86,12 @@ abbrev mutual
   pub spelling : Tree → Shape → List ℕ
   spelling (Tree.leaf c content) (Shape.basic b) = content_bytes (form_of b) content
   spelling (Tree.variant t v) Shape.variant = spelling v t ++ 0 ∷ type_text t
-  spelling (Tree.array vs) (Shape.array t) = array_bytes (align_of t) (size_of t) (spelling_of_all vs t)
+  spelling (Tree.array vs) (Shape.array t) =
+      array_bytes (align_of t) (size_of t) (spelling_of_all vs t)
   spelling Tree.nothing (Shape.maybe t) = []
   spelling (Tree.just v) (Shape.maybe t) = just_bytes (size_of t) (spelling v t)
-  spelling (Tree.tuple vs) (Shape.tuple ts) = tuple_bytes (size_of (Shape.tuple ts)) ts (spelling_of_each vs ts)
+  spelling (Tree.tuple vs) (Shape.tuple ts) =
+      tuple_bytes (size_of (Shape.tuple ts)) ts (spelling_of_each vs ts)
   spelling (Tree.entry a b) (Shape.entry k v) =
       tuple_bytes (size_of (Shape.entry k v)) (two_shapes k v) (spelling a k ∷ spelling b v ∷ [])
   spelling _ _ = []

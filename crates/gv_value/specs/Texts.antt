@@ -1,4 +1,5 @@
--- Which texts the three kinds of text are (D-Bus specification, "Valid Object Paths" and "Valid Signatures").
+-- Which texts the three kinds of text are (D-Bus specification, "Valid Object Paths" and "Valid
+-- Signatures").
 use Rattle.std.specs.Prelude.{ℕ, zero, suc, pred, ◌+◌, Bool, true, false, not, ◌&&◌, ◌||◌, ◌==◌, nat_le, if◌then◌else◌, List, [], ◌∷◌, length, Option, Some, None, option_map, option_and_then, unwrap_or}
 use Rattle.std.specs.Int.{is_in_range}
 use Rattle.std.specs.Str.{is_utf8}
@@ -18,10 +19,12 @@ has_zero (b ∷ bytes) = b == 0 || has_zero bytes
 abbrev pub is_path_char : ℕ → Bool
 is_path_char c = is_in_range 97 122 c || is_in_range 65 90 c || is_in_range 48 57 c || c == 95
 
--- Elements separated by single slashes. The flag says whether the element at hand has a character already.
+-- Elements separated by single slashes. The flag says whether the element at hand has a character
+-- already.
 abbrev pub are_elements : Bool → List ℕ → Bool
 are_elements begun [] = begun
-are_elements begun (c ∷ cs) = if c == 47 then begun && are_elements false cs else is_path_char c && are_elements true cs
+are_elements begun (c ∷ cs) =
+    if c == 47 then begun && are_elements false cs else is_path_char c && are_elements true cs
 
 -- `/` alone, or a slash and elements
 abbrev pub is_object_path : List ℕ → Bool
@@ -47,7 +50,8 @@ after_key value _ rest = None
 
 -- what follows the element of an array; it alone may be a dictionary entry
 abbrev pub after_element : After → List ℕ → Sign → After
-after_element one text signs.EntryOpen rest = option_and_then (λ p. after_key one p.0 p.1) (sign_at rest)
+after_element one text signs.EntryOpen rest =
+    option_and_then (λ p. after_key one p.0 p.1) (sign_at rest)
 after_element one text _ rest = one text
 
 abbrev pub after_member : After → List ℕ → Sign → After
@@ -58,12 +62,14 @@ after_member members text _ rest = members text
 abbrev pub after_members : After → ℕ → After
 after_members one zero text = None
 after_members one (suc n) text =
-    option_and_then (λ r. option_and_then (λ p. after_member (after_members one n) r p.0 p.1) (sign_at r)) (one text)
+    option_and_then (λ r. option_and_then (λ p. after_member (after_members one n) r p.0 p.1)
+    (sign_at r)) (one text)
 
 -- what follows an array's element, where so many arrays may still open
 abbrev pub after_array : ℕ → After → After
 after_array zero one text = None
-after_array (suc arrays) one text = option_and_then (λ p. after_element one text p.0 p.1) (sign_at text)
+after_array (suc arrays) one text =
+    option_and_then (λ p. after_element one text p.0 p.1) (sign_at text)
 
 -- what follows the members of a struct, where so many structs may still open
 abbrev pub after_struct : ℕ → After → After
@@ -80,7 +86,8 @@ after_sign element members _ rest = None
 -- What follows one complete type, in which at most so many arrays and structs are open at a place.
 -- The first number is their sum.
 abbrev pub after_type : ℕ → ℕ → ℕ → After
-after_type zero arrays structs text = option_and_then (λ p. after_sign (λ _. None) (λ _. None) p.0 p.1) (sign_at text)
+after_type zero arrays structs text =
+    option_and_then (λ p. after_sign (λ _. None) (λ _. None) p.0 p.1) (sign_at text)
 after_type (suc both) arrays structs text = option_and_then (λ p. after_sign
     (after_array arrays (after_type both (pred arrays) structs))
     (after_struct structs (after_type both arrays (pred structs))) p.0 p.1) (sign_at text)
@@ -93,7 +100,8 @@ are_types one (suc n) (c ∷ cs) = unwrap_or (option_map (are_types one n) (one 
 
 -- at most 255 bytes, at most 32 arrays and 32 structs open at a place
 abbrev pub is_signature : List ℕ → Bool
-is_signature text = nat_le (length text) MOST_SIGNATURE_BYTES && are_types (after_type (MOST_OPEN + MOST_OPEN) MOST_OPEN MOST_OPEN) (length text) text
+is_signature text = nat_le (length text) MOST_SIGNATURE_BYTES
+    && are_types (after_type (MOST_OPEN + MOST_OPEN) MOST_OPEN MOST_OPEN) (length text) text
 
 -- ---- the three kinds
 

@@ -1,4 +1,5 @@
--- The type string of a type, and the type that a type string is (GVariant specification, "Type strings").
+-- The type string of a type, and the type that a type string is (GVariant specification, "Type
+-- strings").
 use Rattle.std.specs.Prelude.{ℕ, zero, suc, List, [], ◌∷◌, ◌++◌, length, Option, Some, None, option_map, option_and_then}
 use Rattle.gv_value.specs.declared.limits.TheConstants.{MOST_DEPTH}
 use Rattle.gv_value.specs.declared.sign.Sign.{Sign}
@@ -12,8 +13,10 @@ abbrev mutual
   type_text variant = letter_of signs.Variant ∷ []
   type_text (array t) = letter_of signs.Array ∷ type_text t
   type_text (maybe t) = letter_of signs.Maybe ∷ type_text t
-  type_text (tuple ts) = letter_of signs.TupleOpen ∷ (type_texts ts ++ letter_of signs.TupleClose ∷ [])
-  type_text (entry k v) = letter_of signs.EntryOpen ∷ (type_text k ++ (type_text v ++ letter_of signs.EntryClose ∷ []))
+  type_text (tuple ts) =
+      letter_of signs.TupleOpen ∷ (type_texts ts ++ letter_of signs.TupleClose ∷ [])
+  type_text (entry k v) =
+      letter_of signs.EntryOpen ∷ (type_text k ++ (type_text v ++ letter_of signs.EntryClose ∷ []))
 
   pub type_texts : Shapes → List ℕ
   type_texts no_shapes = []
@@ -28,14 +31,17 @@ abbrev pub type_map : {A B : Type 0} → (A → B) → Option (A × List ℕ) �
 type_map f read = option_map (λ p. (f p.0, p.1)) read
 
 -- a member and those after it, where no closing bracket stands at the front
-abbrev pub members_from : TypeReader → (List ℕ → Option (Shapes × List ℕ)) → List ℕ → Sign → List ℕ → Option (Shapes × List ℕ)
+abbrev pub members_from : TypeReader → (List ℕ → Option (Shapes × List ℕ)) → List ℕ → Sign → List ℕ
+    → Option (Shapes × List ℕ)
 members_from one more text signs.TupleClose rest = Some (no_shapes, rest)
-members_from one more text _ rest = option_and_then (λ p. type_map (shape p.0) (more p.1)) (one text)
+members_from one more text _ rest =
+    option_and_then (λ p. type_map (shape p.0) (more p.1)) (one text)
 
 -- the members of a tuple up to the closing bracket; the number bounds them
 abbrev pub members_at : TypeReader → ℕ → List ℕ → Option (Shapes × List ℕ)
 members_at one zero text = None
-members_at one (suc n) text = option_and_then (λ p. members_from one (members_at one n) text p.0 p.1) (sign_at text)
+members_at one (suc n) text =
+    option_and_then (λ p. members_from one (members_at one n) text p.0 p.1) (sign_at text)
 
 abbrev pub entry_closed : Shape → Sign → List ℕ → Option (Shape × List ℕ)
 entry_closed t signs.EntryClose rest = Some (t, rest)
@@ -44,7 +50,8 @@ entry_closed t _ rest = None
 -- a key, a value and a closing brace
 abbrev pub entry_from : TypeReader → Sign → List ℕ → Option (Shape × List ℕ)
 entry_from one (signs.Basic b) rest =
-    option_and_then (λ v. option_and_then (λ p. entry_closed (entry (basic b) v.0) p.0 p.1) (sign_at v.1)) (one rest)
+    option_and_then (λ v. option_and_then (λ p. entry_closed (entry (basic b) v.0) p.0 p.1)
+    (sign_at v.1)) (one rest)
 entry_from one _ rest = None
 
 -- the same with the key's sign at the front

@@ -16,8 +16,8 @@ use crate::texts::{has_zero, is_object_path};
 use crate::types::GvType;
 use crate::value::GvValue;
 
-/// Whether a value is of a type: it has the type's form, its texts are of their kinds, and it is at most 64 deep.
-/// Nothing is of a `GvType` that is no type.
+/// Whether a value is of a type: it has the type's form, its texts are of their kinds, and it is at
+/// most 64 deep. Nothing is of a `GvType` that is no type.
 pub fn fits(of: &GvType, value: &GvValue) -> bool
     ensures { result ≡ tree_fits (shape_of of.now) (plain value.now) }
 {

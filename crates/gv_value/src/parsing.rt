@@ -12,7 +12,8 @@ use crate::types::GvType;
 use std::alloc::Global;
 
 impl GvType {
-    /// The type that a type string stands for. `Bad` comes exactly where it is not one type, nested at most 64 deep.
+    /// The type that a type string stands for. `Bad` comes exactly where it is not one type, nested
+    /// at most 64 deep.
     pub fn parse(alloc: Global, text: &[u8]) -> Result<GvType, TypeError>
         ensures { Reads shape_of result (type_of text.now) }
     {

@@ -7,7 +7,8 @@ ghost use Rattle.gv_value.specs.Texts.{is_signature as is_signature_text, after_
 use crate::limits::{MOST_OPEN, MOST_SIGNATURE_BYTES};
 use crate::sign::Sign;
 
-/// Whether a text is a D-Bus signature: at most 255 bytes, which are complete types, one after the other.
+/// Whether a text is a D-Bus signature: at most 255 bytes, which are complete types, one after the
+/// other.
 pub fn is_signature(text: &[u8]) -> bool
     ensures { result ≡ is_signature_text text.now }
 {
@@ -53,7 +54,9 @@ fn after_type(text: &[u8], arrays: u32, structs: u32) -> Option<&[u8]>
 #[cycle(signature)]
 fn after_element(text: &[u8], arrays: u32, structs: u32) -> Option<&[u8]>
     ensures { option_copied result
-        ≡ option_and_then (λ p. rest_after_element (rest_after_type (arrays + structs) arrays structs) text.now p.0 p.1) (sign_at text.now) }
+        ≡ option_and_then (λ p. rest_after_element
+        (rest_after_type (arrays + structs) arrays structs) text.now p.0 p.1)
+        (sign_at text.now) }
 {
     let (sign, rest) = Sign::at_front(text)?;
     match sign {
@@ -66,7 +69,8 @@ fn after_element(text: &[u8], arrays: u32, structs: u32) -> Option<&[u8]>
 #[cycle(signature)]
 fn after_entry(text: &[u8], arrays: u32, structs: u32) -> Option<&[u8]>
     ensures { option_copied result
-        ≡ option_and_then (λ p. after_key (rest_after_type (arrays + structs) arrays structs) p.0 p.1) (sign_at text.now) }
+        ≡ option_and_then (λ p. after_key (rest_after_type (arrays + structs) arrays structs) p.0
+        p.1) (sign_at text.now) }
 {
     let (key, rest) = Sign::at_front(text)?;
     match key {
@@ -85,7 +89,8 @@ fn after_entry(text: &[u8], arrays: u32, structs: u32) -> Option<&[u8]>
 #[cycle(signature)]
 fn after_members(text: &[u8], arrays: u32, structs: u32) -> Option<&[u8]>
     ensures { option_copied result
-        ≡ rest_after_members (rest_after_type (arrays + structs) arrays structs) (length text.now) text.now }
+        ≡ rest_after_members (rest_after_type (arrays + structs) arrays structs)
+        (length text.now) text.now }
 {
     let mut left = text;
     'members: loop {

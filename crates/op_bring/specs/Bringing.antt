@@ -36,26 +36,33 @@ use Rattle.op_bring.specs.Readying.{store_config, a_head}
 -- a folder above the commit's own, above an object, above the store's refs, or for work
 pub data IsFolderFor (name : Ref) (commit : List ℕ) (q : Elements) : Type 0 where
   above_commit : IsAbove q (commit_dir name commit) → IsFolderFor name commit q
-  above_object : (d : List ℕ) (kind : ObjKind) → is_digest d ≡ true → IsAbove q (object_path repo d kind) → IsFolderFor name commit q
+  above_object : (d : List ℕ) (kind : ObjKind) → is_digest d ≡ true
+      → IsAbove q (object_path repo d kind) → IsFolderFor name commit q
   above_head : IsAbove q a_head → IsFolderFor name commit q
   for_work : q ≡ tmp → IsFolderFor name commit q
 
--- What names may come to hold: work; the folder of a commit that the state doesn't keep, its record, and the link to it; objects;
--- the store's `config`; and folders above these.
-pub data BringsName (s : State) (name : Ref) (commit : List ℕ) (q : Elements) (e : Slot) : Type 0 where
-  some_work : IsAbove tmp q → BringsName s name commit q e
-  in_folder : (KeptIn s name commit → ⊥) → IsWithin (commit_dir name commit) q → BringsName s name commit q e
-  a_record : q ≡ deploy (commit_dir name commit) → (e ≡ absent) ⊎ IsFile e → BringsName s name commit q e
-  at_active : q ≡ active name → e ≡ link (hex commit) → BringsName s name commit q e
-  an_object : (d : List ℕ) (kind : ObjKind) → is_digest d ≡ true → q ≡ object_path repo d kind → BringsName s name commit q e
-  a_config : q ≡ store_config → IsFile e → BringsName s name commit q e
-  a_folder : IsFolderFor name commit q → e ≡ dir → BringsName s name commit q e
+-- What names may come to hold: work; the folder of a commit that the state doesn't keep, its
+-- record, and the link to it; objects; the store's `config`; and folders above these.
+pub data BringsName (s : State) (name : Ref) (commit : List ℕ) (q : Elements) (e : Slot) : Type 0
+  where
+    some_work : IsAbove tmp q → BringsName s name commit q e
+    in_folder : (KeptIn s name commit → ⊥) → IsWithin (commit_dir name commit) q
+        → BringsName s name commit q e
+    a_record : q ≡ deploy (commit_dir name commit) → (e ≡ absent) ⊎ IsFile e
+        → BringsName s name commit q e
+    at_active : q ≡ active name → e ≡ link (hex commit) → BringsName s name commit q e
+    an_object : (d : List ℕ) (kind : ObjKind) → is_digest d ≡ true → q ≡ object_path repo d kind
+        → BringsName s name commit q e
+    a_config : q ≡ store_config → IsFile e → BringsName s name commit q e
+    a_folder : IsFolderFor name commit q → e ≡ dir → BringsName s name commit q e
 
--- No other names change, an object's name that held something holds it still, each file that was there keeps its mode and its
--- bytes, one that comes to a commit's folder is a record or was put below the store's objects, and nothing is printed.
+-- No other names change, an object's name that held something holds it still, each file that was
+-- there keeps its mode and its bytes, one that comes to a commit's folder is a record or was put
+-- below the store's objects, and nothing is printed.
 pub record ChangesFor (s : State) (name : Ref) (commit : List ℕ) (u w : View) : Type 0 where
   pub names : (q : Elements) → (w.names q ≡ u.names q) ⊎ BringsName s name commit q (w.names q)
-  pub objects : (d : List ℕ) (kind : ObjKind) → is_digest d ≡ true → u.names (object_path repo d kind) ≢ absent
+  pub objects : (d : List ℕ) (kind : ObjKind) → is_digest d ≡ true
+      → u.names (object_path repo d kind) ≢ absent
       → w.names (object_path repo d kind) ≡ u.names (object_path repo d kind)
   pub files : KeepsFiles u w
   pub links : Links u w
@@ -67,41 +74,57 @@ pub record ChangesFor (s : State) (name : Ref) (commit : List ℕ) (u w : View) 
 abbrev pub AreTold : Option Holdings → Type 0
 AreTold holds = (held : Holdings) × (holds ≡ Some held)
 
--- At every moment the state of before, or where the remotes tell what they hold, the one after; where the commit is refused, only
--- that of before.
-pub record Brings (s : State) (origin : RemoteRow) (name : Ref) (commit : List ℕ) (holds : Option Holdings) (u w : View) : Type 0 where
-  pub either : (held : Holdings) → holds ≡ Some held → Opens s u → OpensEither s (state_brought (supply_at held (Some origin.url) u) s name origin.name commit) w
-  pub refused : (held : Holdings) → holds ≡ Some held → (r : Refusal) → brought_refusal (supply_at held (Some origin.url) u) name commit ≡ Some r → Opens s u → Opens s w
+-- At every moment the state of before, or where the remotes tell what they hold, the one after;
+-- where the commit is refused, only that of before.
+pub record Brings (s : State) (origin : RemoteRow) (name : Ref) (commit : List ℕ)
+    (holds : Option Holdings) (u w : View) : Type 0 where
+  pub either : (held : Holdings) → holds ≡ Some held → Opens s u
+      → OpensEither s (state_brought (supply_at held (Some origin.url) u) s name
+      origin.name commit) w
+  pub refused : (held : Holdings) → holds ≡ Some held → (r : Refusal)
+      → brought_refusal (supply_at held (Some origin.url) u) name commit ≡ Some r
+      → Opens s u → Opens s w
   pub changes : Opens s u → ChangesFor s name commit u w
 
--- In the end the one after, the commit's objects, and every stop leaves what stands. Each new file that has bytes came to a lasting
--- name, and just those of the commit's objects were made that the store lacked.
-pub record WasBrought (s : State) (origin : RemoteRow) (name : Ref) (commit : List ℕ) (holds : Option Holdings) (u w : View) : Type 0 where
-  pub opens : (held : Holdings) → holds ≡ Some held → Opens s u → Opens (state_brought (supply_at held (Some origin.url) u) s name origin.name commit) w
-  pub objects : (held : Holdings) → holds ≡ Some held → Opens s u → HasObjects (supply_at held (Some origin.url) u) commit u w
+-- In the end the one after, the commit's objects, and every stop leaves what stands. Each new file
+-- that has bytes came to a lasting name, and just those of the commit's objects were made that the
+-- store lacked.
+pub record WasBrought (s : State) (origin : RemoteRow) (name : Ref) (commit : List ℕ)
+    (holds : Option Holdings) (u w : View) : Type 0 where
+  pub opens : (held : Holdings) → holds ≡ Some held → Opens s u
+      → Opens (state_brought (supply_at held (Some origin.url) u) s name origin.name commit) w
+  pub objects : (held : Holdings) → holds ≡ Some held → Opens s u
+      → HasObjects (supply_at held (Some origin.url) u) commit u w
   pub shares : (held : Holdings) → holds ≡ Some held → Opens s u → Shares IsLasting u w
-  pub creates : (held : Holdings) → holds ≡ Some held → Opens s u → Creates repo (IsLacked repo (supply_at held (Some origin.url) u) commit u) u w
+  pub creates : (held : Holdings) → holds ≡ Some held → Opens s u
+      → Creates repo (IsLacked repo (supply_at held (Some origin.url) u) commit u) u w
   pub settled : IsSettled w
 
 -- or the state of before, where it was given up
 pub record WasGivenUp (s : State) (holds : Option Holdings) (u w : View) : Type 0 where
   pub opens : AreTold holds → Opens s u → Opens s w
 
--- and the store has the same objects, where a remote was at fault or the commit was refused; and all is settled where it was
+-- and the store has the same objects, where a remote was at fault or the commit was refused; and
+-- all is settled where it was
 pub record WasLeft (s : State) (holds : Option Holdings) (u w : View) : Type 0 where
   pub opens : AreTold holds → Opens s u → Opens s w
   pub objects : AreTold holds → Opens s u → SameObjects u w
   pub settled : AreTold holds → Opens s u → Settled (shows u) → Settled (shows w)
 
--- what is left of the names where it was refused: no work, folders for it, and no folder of a commit that isn't kept
-pub data LeftName (s : State) (name : Ref) (commit : List ℕ) (q : Elements) (e : Slot) : Type 0 where
-  work_gone : IsAbove tmp q → e ≡ absent → LeftName s name commit q e
-  work_folder : (q ≡ repo) ⊎ (q ≡ tmp) → e ≡ dir → LeftName s name commit q e
-  unkept_gone : (KeptIn s name commit → ⊥) → IsWithin (commit_dir name commit) q → e ≡ absent → LeftName s name commit q e
+-- what is left of the names where it was refused: no work, folders for it, and no folder of a
+-- commit that isn't kept
+pub data LeftName (s : State) (name : Ref) (commit : List ℕ) (q : Elements) (e : Slot) : Type 0
+  where
+    work_gone : IsAbove tmp q → e ≡ absent → LeftName s name commit q e
+    work_folder : (q ≡ repo) ⊎ (q ≡ tmp) → e ≡ dir → LeftName s name commit q e
+    unkept_gone : (KeptIn s name commit → ⊥) → IsWithin (commit_dir name commit) q → e ≡ absent
+        → LeftName s name commit q e
 
 -- no other name has changed
-pub record LeavesNames (s : State) (name : Ref) (commit : List ℕ) (holds : Option Holdings) (u w : View) : Type 0 where
-  pub names : AreTold holds → Opens s u → (q : Elements) → (w.names q ≡ u.names q) ⊎ LeftName s name commit q (w.names q)
+pub record LeavesNames (s : State) (name : Ref) (commit : List ℕ) (holds : Option Holdings)
+    (u w : View) : Type 0 where
+  pub names : AreTold holds → Opens s u → (q : Elements)
+      → (w.names q ≡ u.names q) ⊎ LeftName s name commit q (w.names q)
 
 -- the host is at fault, where the remotes tell what they hold
 abbrev pub HostFaulted : {A : Type 0} → Option Holdings → Result A PullEnd → Type 0

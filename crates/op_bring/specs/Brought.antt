@@ -26,9 +26,11 @@ abbrev pub refusal_in : {A : Type 0} → Result A Refusal → Option Refusal
 refusal_in (Ok a) = None
 refusal_in (Err refusal) = Some refusal
 
--- What a commit is refused for: its head, which may be of any time, and else the first fault of its order.
+-- What a commit is refused for: its head, which may be of any time, and else the first fault of its
+-- order.
 abbrev pub brought_refusal : Have → Ref → List ℕ → Option Refusal
-brought_refusal have name commit = or_else (refusal_in (head_of have name commit None)) (first_refusal have commit)
+brought_refusal have name commit =
+    or_else (refusal_in (head_of have name commit None)) (first_refusal have commit)
 
 -- ---- the state
 
@@ -49,15 +51,24 @@ previous_for s name = option_map left_at (row_at s name)
 
 -- the row of the ref at this commit, with the one of before as its previous one
 abbrev pub row_brought : State → Ref → List ℕ → List ℕ → ℕ → RefRow
-row_brought s name origin commit timestamp = record { name = name; origin = origin; commit = commit; timestamp = timestamp; previous = previous_for s name }
+row_brought s name origin commit timestamp =
+    record {
+      name = name;
+      origin = origin;
+      commit = commit;
+      timestamp = timestamp;
+      previous = previous_for s name;
+    }
 
 -- the state with that row, whose timestamp is the commit's
 abbrev pub state_brought : Have → State → Ref → List ℕ → List ℕ → State
-state_brought have s name origin commit = with_row s (row_brought s name origin commit (commit_time have commit))
+state_brought have s name origin commit =
+    with_row s (row_brought s name origin commit (commit_time have commit))
 
 -- the state after, or the refusal
 abbrev pub brought : Have → State → Ref → List ℕ → List ℕ → Result State Refusal
-brought have s name origin commit = unless_refused (brought_refusal have name commit) (Ok (state_brought have s name origin commit))
+brought have s name origin commit =
+    unless_refused (brought_refusal have name commit) (Ok (state_brought have s name origin commit))
 
 -- ---- the objects
 
@@ -65,8 +76,12 @@ brought have s name origin commit = unless_refused (brought_refusal have name co
 abbrev pub supply_at : Holdings → Option (List ℕ) → View → Have
 supply_at held url v = supply (store repo (shows v)) (remote held url)
 
--- The objects of the commit are there as they were supplied, those that stood stand as they did, and no other has come.
+-- The objects of the commit are there as they were supplied, those that stood stand as they did,
+-- and no other has come.
 pub record HasObjects (have : Have) (commit : List ℕ) (u w : View) : Type 0 where
   pub there : Agree have (store repo (shows w)) (order have commit)
-  pub stood : (d : List ℕ) (kind : ObjKind) → is_digest d ≡ true → store repo (shows u) d kind ≢ None → store repo (shows w) d kind ≡ store repo (shows u) d kind
-  pub others : (d : List ℕ) (kind : ObjKind) → is_digest d ≡ true → IsNoneOf have commit (d, kind) → store repo (shows w) d kind ≡ store repo (shows u) d kind
+  pub stood : (d : List ℕ) (kind : ObjKind) → is_digest d ≡ true
+      → store repo (shows u) d kind ≢ None → store repo (shows w) d kind
+      ≡ store repo (shows u) d kind
+  pub others : (d : List ℕ) (kind : ObjKind) → is_digest d ≡ true → IsNoneOf have commit (d, kind)
+      → store repo (shows w) d kind ≡ store repo (shows u) d kind

@@ -23,12 +23,14 @@ use Rattle.op_bring.specs.Bringing.{AreTold, ChangesFor, LeftName}
 use Rattle.op_bring.specs.Brought.{supply_at, HasObjects}
 
 -- At every moment each stop leaves the state.
-pub record Fetches (s : State) (name : Ref) (commit : List ℕ) (holds : Option Holdings) (u w : View) : Type 0 where
+pub record Fetches (s : State) (name : Ref) (commit : List ℕ) (holds : Option Holdings)
+    (u w : View) : Type 0 where
   pub opens : AreTold holds → Opens s u → Opens s w
   pub changes : Opens s u → ChangesFor s name commit u w
 
 -- its objects are there, it is laid out where it isn't kept, and nothing is at the new link's name
-pub record IsFetched (name : Ref) (commit : List ℕ) (kept : Bool) (have : Have) (u w : View) : Type 0 where
+pub record IsFetched (name : Ref) (commit : List ℕ) (kept : Bool) (have : Have)
+    (u w : View) : Type 0 where
   pub clean : first_fault have commit ≡ None
   pub objects : HasObjects have commit u w
   pub link_free : w.names new_link ≡ absent
@@ -36,17 +38,24 @@ pub record IsFetched (name : Ref) (commit : List ℕ) (kept : Bool) (have : Have
 
 -- So it is. Each new file that has bytes came to a lasting name, and just those of the commit's
 -- objects were made that the store lacked.
-pub record WasFetched (s : State) (name : Ref) (commit : List ℕ) (kept : Bool) (url : List ℕ) (holds : Option Holdings) (u w : View) : Type 0 where
-  pub fetched : (held : Holdings) → holds ≡ Some held → Opens s u → IsFetched name commit kept (supply_at held (Some url) u) u w
+pub record WasFetched (s : State) (name : Ref) (commit : List ℕ) (kept : Bool) (url : List ℕ)
+    (holds : Option Holdings) (u w : View) : Type 0 where
+  pub fetched : (held : Holdings) → holds ≡ Some held → Opens s u
+      → IsFetched name commit kept (supply_at held (Some url) u) u w
   pub shares : (held : Holdings) → holds ≡ Some held → Opens s u → Shares IsLasting u w
-  pub creates : (held : Holdings) → holds ≡ Some held → Opens s u → Creates repo (IsLacked repo (supply_at held (Some url) u) commit u) u w
+  pub creates : (held : Holdings) → holds ≡ Some held → Opens s u
+      → Creates repo (IsLacked repo (supply_at held (Some url) u) commit u) u w
 
 -- the root of the commit has no entry `deploy`
 abbrev pub HasNoDeploy : Have → List ℕ → Type 0
 HasNoDeploy have commit = look have commit deploy_name ≡ nothing
 
--- where it is refused, and where a remote is at fault: the store has the same objects, and what was made is gone
-pub record WasTurnedDown (s : State) (name : Ref) (commit url : List ℕ) (holds : Option Holdings) (u w : View) : Type 0 where
-  pub objects : (held : Holdings) → holds ≡ Some held → Opens s u → HasNoDeploy (supply_at held (Some url) u) commit → SameObjects u w
-  pub names : (held : Holdings) → holds ≡ Some held → Opens s u → HasNoDeploy (supply_at held (Some url) u) commit
+-- where it is refused, and where a remote is at fault: the store has the same objects, and what was
+-- made is gone
+pub record WasTurnedDown (s : State) (name : Ref) (commit url : List ℕ) (holds : Option Holdings)
+    (u w : View) : Type 0 where
+  pub objects : (held : Holdings) → holds ≡ Some held → Opens s u
+      → HasNoDeploy (supply_at held (Some url) u) commit → SameObjects u w
+  pub names : (held : Holdings) → holds ≡ Some held → Opens s u
+      → HasNoDeploy (supply_at held (Some url) u) commit
       → (q : Elements) → (w.names q ≡ u.names q) ⊎ LeftName s name commit q (w.names q)

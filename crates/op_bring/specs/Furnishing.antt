@@ -10,7 +10,8 @@ use Rattle.op_bring.specs.Readying.{ReadiesStore, CanReady}
 -- the one, and then the other
 pub data Furnishes (commit : List ℕ) (to : Elements) (kept : Bool) (u w : View) : Type 0 where
   readies : ReadiesStore u w → Furnishes commit to kept u w
-  lays : (between : View) → IsTree between → ReadiesStore u between → kept ≡ false → LaysOut commit to between w → Furnishes commit to kept u w
+  lays : (between : View) → IsTree between → ReadiesStore u between → kept ≡ false
+      → LaysOut commit to between w → Furnishes commit to kept u w
 
 -- It is laid out where it isn't kept. A new file that has bytes came to a lasting name.
 pub record WasFurnished (commit : List ℕ) (to : Elements) (kept : Bool) (u w : View) : Type 0 where

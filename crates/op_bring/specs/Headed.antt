@@ -11,7 +11,8 @@ use Rattle.ost_model.specs.Order.{commit_at}
 use Rattle.ost_model.specs.Standing.{deploy_name, metadata_name}
 use Rattle.dep_states.specs.Sound.{reads_as}
 
--- the commit has this timestamp, no entry `deploy`, and a file `metadata` that reads as that of the ref's kind
+-- the commit has this timestamp, no entry `deploy`, and a file `metadata` that reads as that of the
+-- ref's kind
 pub record IsHeaded (have : Have) (name : Ref) (commit : List ℕ) (time : ℕ) : Type 0 where
   pub view : CommitView
   pub read : commit_at have commit ≡ Some view

@@ -18,12 +18,14 @@ MakesAbove to u w = Keeps (FoldersAt (ancestors to)) (DirsAt (ancestors to)) NoP
 -- they come, and then the commit's paths
 pub data LaysOut (commit : List ℕ) (to : Elements) (u w : View) : Type 0 where
   folders_come : MakesAbove to u w → LaysOut commit to u w
-  paths_come : (between : View) → IsTree between → MakesAbove to u between → ChecksOut repo commit to between w → LaysOut commit to u w
+  paths_come : (between : View) → IsTree between → MakesAbove to u between
+      → ChecksOut repo commit to between w → LaysOut commit to u w
 
 abbrev pub WasLaidOut : List ℕ → Elements → View → View → Type 0
 WasLaidOut commit to u w = IsApart repo to → IsCheckedOut repo commit to w
 
--- Where it can be: the folder is absent, folders can be made above it, no object has its name there, and the commit's order has no fault.
+-- Where it can be: the folder is absent, folders can be made above it, no object has its name
+-- there, and the commit's order has no fault.
 pub record CanLayOut (commit : List ℕ) (to : Elements) (v : View) : Type 0 where
   pub apart : IsApart repo to
   pub above : (d : List ℕ) (kind : ObjKind) → IsAbove (object_path repo d kind) to → ⊥

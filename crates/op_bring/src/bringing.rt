@@ -27,9 +27,10 @@ use ost_head::{PullEnd, read_head};
 use std::alloc::Global;
 use std::thread::Threads;
 
-/// Brings a commit from the remote and deploys it. Its head is read first, and its time plays no part. What stands in `repo/tmp`,
-/// and in the folder of the commit where the ref doesn't keep it, goes then. Once all objects of the commit are stored, the store
-/// is made ready, and the commit is laid out, recorded and linked, synced, and switched to. It is for a commit at which the ref
+/// Brings a commit from the remote and deploys it. Its head is read first, and its time plays no
+/// part. What stands in `repo/tmp`, and in the folder of the commit where the ref doesn't keep it,
+/// goes then. Once all objects of the commit are stored, the store is made ready, and the commit is
+/// laid out, recorded and linked, synced, and switched to. It is for a commit at which the ref
 /// isn't.
 pub fn bring<H: Host, R: Remotes>(
     rt: &(impl Threads + Sync),
@@ -65,7 +66,8 @@ pub fn bring<H: Host, R: Remotes>(
         → AtEnd (LeavesNames opened name.now commit.now (R.holds remotes.old))
         (H.moments host.old) (H.moments host.new) }
     ensures starved_opens { IsErrOf result PullEnd.NoMemory
-        → AtEnd (WasGivenUp opened (R.holds remotes.old)) (H.moments host.old) (H.moments host.new) }
+        → AtEnd (WasGivenUp opened (R.holds remotes.old)) (H.moments host.old)
+        (H.moments host.new) }
     ensures fault_has_cause { IsCaused (HostFaulted (R.holds remotes.old) result)
         (H.moments host.old) (Opens opened) (H.faults host.old) (H.faults host.new) }
     ensures remote_fault_has_cause { IsRemotes (IsErrOf result PullEnd.RemoteFault)

@@ -26,8 +26,8 @@ use ost_pull::pull;
 use std::alloc::Global;
 use std::thread::Threads;
 
-/// Pulls the commit into the store, and lays it out in its folder where the state doesn't keep it. What stands in `repo/tmp` and in
-/// that folder goes before. The state isn't changed.
+/// Pulls the commit into the store, and lays it out in its folder where the state doesn't keep it.
+/// What stands in `repo/tmp` and in that folder goes before. The state isn't changed.
 pub(crate) fn fetch<H: Host, R: Remotes>(
     rt: &(impl Threads + Sync),
     alloc: Global,

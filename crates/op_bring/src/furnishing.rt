@@ -31,8 +31,8 @@ fn end_of(end: CheckoutEnd, commit: &Digest) -> PullEnd
     }
 }
 
-/// Makes the store ready, and lays the commit out in its folder where it isn't kept there. It is refused where its root has an
-/// entry `deploy`.
+/// Makes the store ready, and lays the commit out in its folder where it isn't kept there. It is
+/// refused where its root has an entry `deploy`.
 pub(crate) fn furnish<H: Host>(
     alloc: Global,
     host: &mut H,

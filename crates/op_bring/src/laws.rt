@@ -16,8 +16,9 @@ ghost use Rattle.op_bring.specs.Places.{pull_work};
 ghost use Rattle.op_bring.specs.Readying.{CanReady};
 ghost use Rattle.op_bring.specs.Rooms.{CanMakeRoom};
 
-/// Each step before a commit is recorded can be done in a view that opens some state: room can be made, a pull can be done, the
-/// store can be made ready, and a commit that the store has without a fault can be laid out where nothing stands in its folder.
+/// Each step before a commit is recorded can be done in a view that opens some state: room can be
+/// made, a pull can be done, the store can be made ready, and a commit that the store has without a
+/// fault can be laid out where nothing stands in its folder.
 pub fn steps_can_be_done()
     ensures room { (s : State) (v : View) (name : Ref) (commit : List ℕ) (kept : Bool) → IsTree v
         → Opens s v → CanMakeRoom tmp (commit_dir name commit) kept v }

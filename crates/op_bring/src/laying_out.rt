@@ -14,17 +14,20 @@ use fp_small::{make_above, repo_path};
 use ost_checkout::{CheckoutEnd, checkout};
 use std::alloc::Global;
 
-/// Lays the commit of the installation's store out in the folder, which is absent. The folders above it are made. Nothing is synced.
+/// Lays the commit of the installation's store out in the folder, which is absent. The folders
+/// above it are made. Nothing is synced.
 pub(crate) fn lay_out<H: Host>(
     alloc: Global,
     host: &mut H,
     commit: &Digest,
     to: &Path,
 ) -> Result<(), CheckoutEnd>
-    ensures any_moment { Always (LaysOut commit.now to.now) (H.moments host.old) (H.moments host.new) }
+    ensures any_moment { Always (LaysOut commit.now to.now) (H.moments host.old)
+        (H.moments host.new) }
     ensures on_success { OnOk result (AtEnd (WasLaidOut commit.now to.now)
         (H.moments host.old) (H.moments host.new)) }
-    ensures reserved { IsErrOf result ends.ReservedName → AtEnd (λ u w. HasReserved repo commit.now w)
+    ensures reserved { IsErrOf result ends.ReservedName
+        → AtEnd (λ u w. HasReserved repo commit.now w)
         (H.moments host.old) (H.moments host.new) }
     ensures fault_has_cause { IsCaused (IsErrOf result ends.Fault) (H.moments host.old)
         (CanLayOut commit.now to.now) (H.faults host.old) (H.faults host.new) }

@@ -37,8 +37,8 @@ fn write_config<H: Host>(alloc: Global, host: &mut H, config: &Path) -> Result<(
     }
 }
 
-/// Makes the folder `repo/refs/heads`, and then `repo/config`, each where it is absent. So where the store has a `config`, it has
-/// the folder of its refs.
+/// Makes the folder `repo/refs/heads`, and then `repo/config`, each where it is absent. So where
+/// the store has a `config`, it has the folder of its refs.
 pub(crate) fn ready_store<H: Host>(alloc: Global, host: &mut H) -> Result<(), HostEnd>
     ensures any_moment { Always ReadiesStore (H.moments host.old) (H.moments host.new) }
     ensures on_success { OnOk result (AtEnd WasReadied

@@ -85,8 +85,10 @@ have_for s op held v = supply_at held (url_for s op) v
 
 -- the operation, with the timestamp of the commit that it brings
 abbrev pub done_with : Have → Op → Done
-done_with have (Install name origin commit) = record { op = Install name origin commit; timestamp = commit_time have commit }
-done_with have (Update name origin commit) = record { op = Update name origin commit; timestamp = commit_time have commit }
+done_with have (Install name origin commit) =
+    record { op = Install name origin commit; timestamp = commit_time have commit }
+done_with have (Update name origin commit) =
+    record { op = Update name origin commit; timestamp = commit_time have commit }
 done_with have op = plain op
 
 -- what an operation is refused for
@@ -95,7 +97,8 @@ op_refusal have (Install name origin commit) = brought_refusal have name commit
 op_refusal have (Update name origin commit) = brought_refusal have name commit
 op_refusal have op = None
 
--- What was answered is the state after, or what the operation is refused for. Nothing is said of faults and of running out of memory.
+-- What was answered is the state after, or what the operation is refused for. Nothing is said of
+-- faults and of running out of memory.
 abbrev pub AppliesWith : Have → State → Op → Result State ApplyEnd → Type 0
 AppliesWith have s op (Ok t) = (op_refusal have op ≡ None) × (t ≡ after s (done_with have op))
 AppliesWith have s op (Err (ends.Refused refusal)) = op_refusal have op ≡ Some refusal
@@ -128,8 +131,8 @@ MayChange s (DropOverride name) u q e = AbsentAt (override_path name) q e
 MayChange s Migrate u q e = ReplacesName config u q e
 MayChange s (Rollback name commit) u q e = DeploysName name commit q e
 
--- No name changes but these, each file that was there keeps its mode and its bytes, one that comes to a commit's folder is a record
--- or was put below the store's objects, and nothing is printed.
+-- No name changes but these, each file that was there keeps its mode and its bytes, one that comes
+-- to a commit's folder is a record or was put below the store's objects, and nothing is printed.
 pub record ChangesBy (s : State) (op : Op) (u w : View) : Type 0 where
   pub names : (q : Elements) → (w.names q ≡ u.names q) ⊎ MayChange s op u q (w.names q)
   pub files : KeepsFiles u w
@@ -140,15 +143,19 @@ pub record ChangesBy (s : State) (op : Op) (u w : View) : Type 0 where
 abbrev pub IsHeldFor : Op → Option Holdings → Holdings → Type 0
 IsHeldFor op holds held = Brings op → holds ≡ Some held
 
--- The state of before or the one after, at every moment; where the operation is refused, only that of before.
+-- The state of before or the one after, at every moment; where the operation is refused, only that
+-- of before.
 pub record Applies (s : State) (op : Op) (holds : Option Holdings) (u w : View) : Type 0 where
-  pub either : (held : Holdings) → IsHeldFor op holds held → Opens s u → OpensEither s (after s (done_with (have_for s op held u) op)) w
-  pub refused : (held : Holdings) → IsHeldFor op holds held → (r : Refusal) → op_refusal (have_for s op held u) op ≡ Some r → Opens s u → Opens s w
+  pub either : (held : Holdings) → IsHeldFor op holds held → Opens s u
+      → OpensEither s (after s (done_with (have_for s op held u) op)) w
+  pub refused : (held : Holdings) → IsHeldFor op holds held → (r : Refusal)
+      → op_refusal (have_for s op held u) op ≡ Some r → Opens s u → Opens s w
   pub changes : (Brings op → Opens s u) → ChangesBy s op u w
 
 -- ---- in the end
 
--- after an operation on the settings: `config` has just its text, and nothing is at the new file's name
+-- after an operation on the settings: `config` has just its text, and nothing is at the new file's
+-- name
 pub record HasSettings (s : State) (u w : View) : Type 0 where
   pub text : HasNew config (config_text (settings_of s)) w
   pub config : HasConfig w
@@ -179,13 +186,17 @@ IsBroughtFor have (DropOverride name) u o = ⊥
 IsBroughtFor have Migrate u o = ⊥
 IsBroughtFor have (Rollback name commit) u o = ⊥
 
--- The state after, its objects, and what stands. Each new file that has bytes came to a lasting name, and just the objects were
--- made that were brought and that the store lacked.
+-- The state after, its objects, and what stands. Each new file that has bytes came to a lasting
+-- name, and just the objects were made that were brought and that the store lacked.
 pub record WasApplied (s : State) (op : Op) (holds : Option Holdings) (u w : View) : Type 0 where
-  pub opens : (held : Holdings) → IsHeldFor op holds held → Opens s u → Opens (after s (done_with (have_for s op held u) op)) w
-  pub objects : (held : Holdings) → IsHeldFor op holds held → (Brings op → Opens s u) → HasObjectsFor (have_for s op held u) op u w
-  pub shares : (held : Holdings) → IsHeldFor op holds held → (Brings op → Opens s u) → Shares IsLasting u w
-  pub creates : (held : Holdings) → IsHeldFor op holds held → (Brings op → Opens s u) → Creates repo (IsBroughtFor (have_for s op held u) op u) u w
+  pub opens : (held : Holdings) → IsHeldFor op holds held → Opens s u
+      → Opens (after s (done_with (have_for s op held u) op)) w
+  pub objects : (held : Holdings) → IsHeldFor op holds held → (Brings op → Opens s u)
+      → HasObjectsFor (have_for s op held u) op u w
+  pub shares : (held : Holdings) → IsHeldFor op holds held → (Brings op → Opens s u)
+      → Shares IsLasting u w
+  pub creates : (held : Holdings) → IsHeldFor op holds held → (Brings op → Opens s u)
+      → Creates repo (IsBroughtFor (have_for s op held u) op u) u w
   pub settled : IsSettled w
   pub settings : IsOnConfig op → HasSettings (after s (plain op)) u w
 

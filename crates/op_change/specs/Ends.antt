@@ -18,7 +18,8 @@ of_pull pulls.HostFault = ends.Fault
 of_pull pulls.RemoteFault = ends.RemoteFault
 of_pull pulls.NoMemory = ends.NoMemory
 
--- what was answered is this value or this refusal; nothing is said of faults and of running out of memory
+-- what was answered is this value or this refusal; nothing is said of faults and of running out of
+-- memory
 abbrev pub EndsAs : {A : Type 0} → Result A Refusal → Result A ApplyEnd → Type 0
 EndsAs answer (Ok a) = answer ≡ Ok a
 EndsAs answer (Err (ends.Refused refusal)) = answer ≡ Err refusal

@@ -16,7 +16,8 @@ use Rattle.op_change.specs.Applied.{MayChange, HasSettings}
 abbrev pub DoesPlainly : State → Op → View → View → Type 0
 DoesPlainly s op = Does s (after s (plain op)) (MayChange s op)
 
--- The state after, and what stands. Each new file that has bytes came to a lasting name, and no object was made.
+-- The state after, and what stands. Each new file that has bytes came to a lasting name, and no
+-- object was made.
 pub record WasDonePlainly (s : State) (op : Op) (u w : View) : Type 0 where
   pub opens : Opens s u → Opens (after s (plain op)) w
   pub settled : IsSettled w

@@ -22,11 +22,13 @@ use fp_small::Op;
 use std::alloc::Global;
 use std::thread::Threads;
 
-/// Does one operation on an opened installation: every stop leaves the state of before or the one after, and once it is done, the
-/// one after. A migration writes `config`, and leaves the files of layout 1 where they are. An install or an update pulls what
-/// the store lacks of the commit from the remote of the state that has this name; it is refused where an object of the commit
-/// has a fault, and where its head isn't one of the ref. What isn't deployed any more is left for a tidying. Whatever the end but
-/// Ok, the installation is opened again before anything else is done with it.
+/// Does one operation on an opened installation: every stop leaves the state of before or the one
+/// after, and once it is done, the one after. A migration writes `config`, and leaves the files of
+/// layout 1 where they are. An install or an update pulls what the store lacks of the commit from
+/// the remote of the state that has this name; it is refused where an object of the commit has a
+/// fault, and where its head isn't one of the ref. What isn't deployed any more is left for a
+/// tidying. Whatever the end but Ok, the installation is opened again before anything else is done
+/// with it.
 pub fn apply<H: Host, R: Remotes>(
     rt: &(impl Threads + Sync),
     alloc: Global,

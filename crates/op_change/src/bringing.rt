@@ -90,7 +90,8 @@ pub(crate) fn bring_from<H: Host, R: Remotes>(
     ensures remote_fault_unchanged { IsErrOf result ApplyEnd.RemoteFault
         → AtEnd (WasLeft opened (R.holds remotes.old)) (H.moments host.old) (H.moments host.new) }
     ensures starved_opens { IsErrOf result ApplyEnd.NoMemory
-        → AtEnd (WasGivenUp opened (R.holds remotes.old)) (H.moments host.old) (H.moments host.new) }
+        → AtEnd (WasGivenUp opened (R.holds remotes.old)) (H.moments host.old)
+        (H.moments host.new) }
     ensures fault_has_cause { IsCaused (AreTold (R.holds remotes.old) × IsErrOf result ApplyEnd.Fault)
         (H.moments host.old) (Opens opened) (H.faults host.old) (H.faults host.new) }
     ensures remote_fault_has_cause { IsRemotes (IsErrOf result ApplyEnd.RemoteFault)

@@ -16,8 +16,8 @@ use fp_small::Op;
 use op_deploy::{roll_back, uninstall};
 use std::alloc::Global;
 
-/// Does one operation that brings no commit: every stop leaves the state of before or the one after, and once it is done, the one
-/// after.
+/// Does one operation that brings no commit: every stop leaves the state of before or the one
+/// after, and once it is done, the one after.
 pub(crate) fn apply_plainly<H: Host>(
     alloc: Global,
     host: &mut H,

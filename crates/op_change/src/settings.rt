@@ -20,9 +20,10 @@ use fp_small::{
 };
 use std::alloc::{AllocError, Global};
 
-/// Does one operation on the pins, the remotes or the layout of an opened installation: every stop leaves the state of before
-/// or the one after, and once it is done, the one after. A migration writes `config`, and leaves the files of layout 1 where
-/// they are. Whatever the end but Ok, the installation is opened again before anything else is done with it.
+/// Does one operation on the pins, the remotes or the layout of an opened installation: every stop
+/// leaves the state of before or the one after, and once it is done, the one after. A migration
+/// writes `config`, and leaves the files of layout 1 where they are. Whatever the end but Ok, the
+/// installation is opened again before anything else is done with it.
 pub(crate) fn change_settings<H: Host>(
     alloc: Global,
     host: &mut H,

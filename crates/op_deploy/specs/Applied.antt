@@ -28,8 +28,8 @@ use Rattle.dep_switch.specs.Writing.{new_link, PreparesName}
 
 -- ---- from a state to another
 
--- At every moment the state of before or the one after. No name changes but these, each file that was there keeps its mode and its
--- bytes, and nothing is printed.
+-- At every moment the state of before or the one after. No name changes but these, each file that
+-- was there keeps its mode and its bytes, and nothing is printed.
 pub record Does (s t : State) (W : View → Elements → Slot → Type 0) (u w : View) : Type 0 where
   pub either : Opens s u → OpensEither s t w
   pub names : (q : Elements) → (w.names q ≡ u.names q) ⊎ W u q (w.names q)
@@ -38,10 +38,11 @@ pub record Does (s t : State) (W : View → Elements → Slot → Type 0) (u w :
 
 -- the store has the same objects
 abbrev pub SameObjects : View → View → Type 0
-SameObjects u w = (d : List ℕ) (kind : ObjKind) → is_digest d ≡ true → store repo (shows w) d kind ≡ store repo (shows u) d kind
+SameObjects u w = (d : List ℕ) (kind : ObjKind) → is_digest d ≡ true
+    → store repo (shows w) d kind ≡ store repo (shows u) d kind
 
--- In the end the one after, and every stop leaves what stands. Each new file that has bytes came to a lasting name, and no object
--- was made.
+-- In the end the one after, and every stop leaves what stands. Each new file that has bytes came to
+-- a lasting name, and no object was made.
 pub record WasDone (s t : State) (u w : View) : Type 0 where
   pub opens : Opens s u → Opens t w
   pub settled : IsSettled w
@@ -54,15 +55,18 @@ pub record WasDone (s t : State) (u w : View) : Type 0 where
 -- the names: the new link's, what is made before the switch, and `active`
 pub data DeploysName (name : Ref) (commit : List ℕ) (q : Elements) (e : Slot) : Type 0 where
   work_goes : IsWithin new_link q → e ≡ absent → DeploysName name commit q e
-  before_switch : PreparesName (deploy (commit_dir name commit)) (hex commit) q e → DeploysName name commit q e
+  before_switch : PreparesName (deploy (commit_dir name commit)) (hex commit) q e
+      → DeploysName name commit q e
   at_active : q ≡ active name → e ≡ link (hex commit) → DeploysName name commit q e
 
--- At every moment the state of before or the one with the row. No name changes but these, each file that was there keeps its mode
--- and its bytes, a new one that has bytes came to a lasting name, one that comes to a commit's folder is a record or was put below
--- the store's objects, no object is made, and nothing is printed.
+-- At every moment the state of before or the one with the row. No name changes but these, each file
+-- that was there keeps its mode and its bytes, a new one that has bytes came to a lasting name, one
+-- that comes to a commit's folder is a record or was put below the store's objects, no object is
+-- made, and nothing is printed.
 pub record Deploys (s : State) (row : RefRow) (u w : View) : Type 0 where
   pub either : CanStage s row u → OpensEither s (with_row s row) w
-  pub names : (q : Elements) → (w.names q ≡ u.names q) ⊎ DeploysName row.name row.commit q (w.names q)
+  pub names : (q : Elements) → (w.names q ≡ u.names q)
+      ⊎ DeploysName row.name row.commit q (w.names q)
   pub files : KeepsFiles u w
   pub shares : Shares IsLasting u w
   pub links : Links u w
@@ -73,7 +77,8 @@ pub record WasDeployed (s : State) (row : RefRow) (u w : View) : Type 0 where
   pub opens : CanStage s row u → Opens (with_row s row) w
   pub settled : IsSettled w
 
--- the row of a ref among these after it went back: its commit and the previous one in each other's places
+-- the row of a ref among these after it went back: its commit and the previous one in each other's
+-- places
 pub record IsRowBack (rows : List RefRow) (name : Ref) (new : RefRow) : Type 0 where
   pub row : RefRow
   pub previous : Previous

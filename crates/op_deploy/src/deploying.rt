@@ -14,8 +14,9 @@ use fp_host::{Host, HostEnd};
 use fp_small::RefRow;
 use std::alloc::Global;
 
-/// Deploys the row in the place of the one of its ref: its commit is recorded and linked, all is synced, and the link comes to
-/// `active`. It is for a commit that stands in its folder and isn't deployed.
+/// Deploys the row in the place of the one of its ref: its commit is recorded and linked, all is
+/// synced, and the link comes to `active`. It is for a commit that stands in its folder and isn't
+/// deployed.
 pub fn deploy_row<H: Host>(
     alloc: Global,
     host: &mut H,

@@ -47,7 +47,8 @@ fn row_back(state: &State, name: &RefName) -> Result<RefRow, AllocError>
     exchanged(row, previous)
 }
 
-/// Takes a ref back to its previous commit, which this is: the folder of that commit is there. No remote is asked.
+/// Takes a ref back to its previous commit, which this is: the folder of that commit is there. No
+/// remote is asked.
 pub fn roll_back<H: Host>(
     alloc: Global,
     host: &mut H,

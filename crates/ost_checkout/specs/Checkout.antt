@@ -19,7 +19,8 @@ pub record MayBeLeft (v : View) (p : Elements) (spot : Spot) : Type 0 where
   pub left : Leaves v disk
   pub is : spot ≡ disk p
 
--- What may come to stand where this is found: a folder, or what a stop leaves at the object's name in the store at root.
+-- What may come to stand where this is found: a folder, or what a stop leaves at the object's name
+-- in the store at root.
 abbrev pub SpotOf : Elements → View → Found → Spot → Type 0
 SpotOf root v nothing spot = ⊥
 SpotOf root v (directory row) spot = spot ≡ folder
@@ -32,12 +33,14 @@ SlotOf root v (directory row) e = e ≡ dir
 SlotOf root v (file_at d) e = e ≡ v.names (object_path root d kinds.File)
 
 -- the path is one of the commit's in this folder, and this may come to stand there
-pub record ChecksOutAt (root : Elements) (commit : List ℕ) (to : Elements) (v : View) (q : Elements) (spot : Spot) : Type 0 where
+pub record ChecksOutAt (root : Elements) (commit : List ℕ) (to : Elements) (v : View)
+    (q : Elements) (spot : Spot) : Type 0 where
   pub rest : Elements
   pub at : q ≡ rest ++ to
   pub may : SpotOf root v (look (store root (shows v)) commit rest) spot
 
-pub record ChecksOutName (root : Elements) (commit : List ℕ) (to : Elements) (v : View) (q : Elements) (e : Slot) : Type 0 where
+pub record ChecksOutName (root : Elements) (commit : List ℕ) (to : Elements) (v : View)
+    (q : Elements) (e : Slot) : Type 0 where
   pub rest : Elements
   pub at : q ≡ rest ++ to
   pub may : SlotOf root v (look (store root (shows v)) commit rest) e
@@ -46,24 +49,30 @@ pub record ChecksOutName (root : Elements) (commit : List ℕ) (to : Elements) (
 pub record IsApart (root to : Elements) : Type 0 where
   pub off : (d : List ℕ) (kind : ObjKind) → IsWithin to (object_path root d kind) → ⊥
 
--- Paths of the commit may come into the folder, each as it is found in the commit, and nothing else changes.
+-- Paths of the commit may come into the folder, each as it is found in the commit, and nothing else
+-- changes.
 pub record ChecksOut (root : Elements) (commit : List ℕ) (to : Elements) (u w : View) : Type 0 where
-  pub keeps : IsApart root to → Keeps (ChecksOutAt root commit to u) (ChecksOutName root commit to u) NoPath u w
+  pub keeps : IsApart root to
+      → Keeps (ChecksOutAt root commit to u) (ChecksOutName root commit to u) NoPath u w
 
--- Each path of the commit stands in the folder: a directory is a folder, a file is the very file of its object, a link has its
--- object's text. No other path is there.
-pub record IsCheckedOut (root : Elements) (commit : List ℕ) (to : Elements) (v : View) : Type 0 where
-  pub paths : (rest : Elements) → shows v (rest ++ to) ≡ expected root (shows v) (look (store root (shows v)) commit rest)
+-- Each path of the commit stands in the folder: a directory is a folder, a file is the very file of
+-- its object, a link has its object's text. No other path is there.
+pub record IsCheckedOut (root : Elements) (commit : List ℕ) (to : Elements) (v : View) : Type 0
+  where
+    pub paths : (rest : Elements) → shows v (rest ++ to)
+        ≡ expected root (shows v) (look (store root (shows v)) commit rest)
 
-pub record WasCheckedOut (root : Elements) (commit : List ℕ) (to : Elements) (u w : View) : Type 0 where
-  pub whole : IsApart root to → IsCheckedOut root commit to w
-  pub no_deploy : look (store root (shows u)) commit deploy_name ≡ nothing
+pub record WasCheckedOut (root : Elements) (commit : List ℕ) (to : Elements) (u w : View) : Type 0
+  where
+    pub whole : IsApart root to → IsCheckedOut root commit to w
+    pub no_deploy : look (store root (shows u)) commit deploy_name ≡ nothing
 
 -- the root of the commit has an entry `deploy`
 pub record HasReserved (root : Elements) (commit : List ℕ) (v : View) : Type 0 where
   pub there : look (store root (shows v)) commit deploy_name ≡ nothing → ⊥
 
--- where it may be laid out: the folder is absent, the one above it is there, and the commit's order has no fault
+-- where it may be laid out: the folder is absent, the one above it is there, and the commit's order
+-- has no fault
 pub record CanCheckOut (root : Elements) (commit : List ℕ) (to : Elements) (v : View) : Type 0 where
   pub apart : IsApart root to
   pub free : v.names to ≡ absent

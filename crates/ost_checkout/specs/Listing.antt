@@ -23,11 +23,14 @@ IsAt rows i row = slice_index_or rows i row ≡ row
 
 -- the directory at this index, with its path; none where a file or link is there
 abbrev pub IsDirAt : List Row → ℕ → Option (List ℕ × Elements) → Type 0
-IsDirAt rows i (Some found) = (meta : List ℕ) × IsAt rows i (record { path = found.1; entry = entries.Dir found.0 meta })
-IsDirAt rows i None = (path : Elements) × (d : List ℕ) × IsAt rows i (record { path = path; entry = entries.File d })
+IsDirAt rows i (Some found) =
+    (meta : List ℕ) × IsAt rows i (record { path = found.1; entry = entries.Dir found.0 meta })
+IsDirAt rows i None =
+    (path : Elements) × (d : List ℕ) × IsAt rows i (record { path = path; entry = entries.File d })
 
 -- what is in the directory of this dirtree comes to the end
-pub record ExpandsDir (root : Elements) (d : List ℕ) (path : Elements) (v : View) (rows rows' : List Row) : Type 0 where
+pub record ExpandsDir (root : Elements) (d : List ℕ) (path : Elements) (v : View)
+    (rows rows' : List Row) : Type 0 where
   pub view : TreeView
   pub read : tree_at (store root (shows v)) d ≡ Some view
   pub grown : rows' ≡ rows ++ rows_in path view
@@ -46,17 +49,21 @@ pub record Expands (root : Elements) (i : ℕ) (v : View) (rows rows' : List Row
 -- where a list of so many rows may have what is in the directory of this dirtree too
 pub record CanExpandDir (root : Elements) (d : List ℕ) (listed : ℕ) (v : View) : Type 0 where
   pub tree : HasTree root d v
-  pub room : (view : TreeView) → tree_at (store root (shows v)) d ≡ Some view → listed + (length view.files + length view.dirs) ≤ most_rows
+  pub room : (view : TreeView) → tree_at (store root (shows v)) d ≡ Some view
+      → listed + (length view.files + length view.dirs) ≤ most_rows
 
 pub record CanExpand (root : Elements) (i : ℕ) (rows : List Row) (v : View) : Type 0 where
-  pub dir : (path : Elements) (tree meta : List ℕ) → IsAt rows i (record { path = path; entry = entries.Dir tree meta }) → CanExpandDir root tree (length rows) v
+  pub dir : (path : Elements) (tree meta : List ℕ)
+      → IsAt rows i (record { path = path; entry = entries.Dir tree meta })
+      → CanExpandDir root tree (length rows) v
 
 -- the rows are the paths of the commit
 abbrev pub HasRows : Elements → List ℕ → Elements → View → List Row → Type 0
 HasRows root commit to v rows = AreRows (store root (shows v)) commit to rows
 
 -- the row of the folder itself
-pub record IsFirstRow (root : Elements) (commit : List ℕ) (to : Elements) (v : View) (row : Row) : Type 0 where
+pub record IsFirstRow (root : Elements) (commit : List ℕ) (to : Elements) (v : View)
+    (row : Row) : Type 0 where
   pub path : row.path ≡ to
   pub view : CommitView
   pub read : commit_at (store root (shows v)) commit ≡ Some view

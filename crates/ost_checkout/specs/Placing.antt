@@ -88,12 +88,14 @@ pub record CanPut (root : Elements) (row : Row) (v : View) : Type 0 where
 
 -- ---- rows, one after another
 
-pub record IsRowAt (root : Elements) (rows : List Row) (v : View) (q : Elements) (spot : Spot) : Type 0 where
+pub record IsRowAt (root : Elements) (rows : List Row) (v : View) (q : Elements)
+    (spot : Spot) : Type 0 where
   pub row : Row
   pub among : Contains rows row
   pub may : RowAt root row v q spot
 
-pub record IsRowName (root : Elements) (rows : List Row) (v : View) (q : Elements) (e : Slot) : Type 0 where
+pub record IsRowName (root : Elements) (rows : List Row) (v : View) (q : Elements)
+    (e : Slot) : Type 0 where
   pub row : Row
   pub among : Contains rows row
   pub may : RowName root row v q e

@@ -29,11 +29,12 @@ pub record IsTree (root : Elements) (d : List ℕ) (v : View) (view : TreeView) 
   pub read : tree_at (store root (shows v)) d ≡ Some view
 
 -- these are the digests of the root of the commit
-pub record IsRoot (root : Elements) (commit : List ℕ) (v : View) (found : List ℕ × List ℕ) : Type 0 where
-  pub view : CommitView
-  pub read : commit_at (store root (shows v)) commit ≡ Some view
-  pub tree : found.0 ≡ view.tree
-  pub meta : found.1 ≡ view.meta
+pub record IsRoot (root : Elements) (commit : List ℕ) (v : View) (found : List ℕ × List ℕ) : Type 0
+  where
+    pub view : CommitView
+    pub read : commit_at (store root (shows v)) commit ≡ Some view
+    pub tree : found.0 ≡ view.tree
+    pub meta : found.1 ≡ view.meta
 
 -- each name may be one of a path
 pub record HasGoodNames (view : TreeView) : Type 0 where

@@ -30,7 +30,8 @@ IsDir (entries.File d) = ⊥
 
 -- the entry is what is found
 abbrev pub IsFoundAs : Entry → Found → Type 0
-IsFoundAs (entries.Dir tree meta) found = (name : List ℕ) × (found ≡ directory (record { name = name; tree = tree; meta = meta }))
+IsFoundAs (entries.Dir tree meta) found =
+    (name : List ℕ) × (found ≡ directory (record { name = name; tree = tree; meta = meta }))
 IsFoundAs (entries.File d) found = found ≡ file_at d
 
 -- the row's path is one of the commit's in this folder, and its entry is what is found there
@@ -50,7 +51,8 @@ pub record HasParent (rows : List Row) (path : Elements) : Type 0 where
 -- each further row is in a directory that comes before it, and no path comes twice
 abbrev pub AreSteps : List Row → List Row → Type 0
 AreSteps before [] = Unit {0}
-AreSteps before (row ∷ rows) = HasParent before row.path × (Contains (paths_of before) row.path → ⊥) × AreSteps (before ++ row ∷ []) rows
+AreSteps before (row ∷ rows) = HasParent before row.path
+    × (Contains (paths_of before) row.path → ⊥) × AreSteps (before ++ row ∷ []) rows
 
 -- the first row is the folder itself
 abbrev pub IsLadder : Elements → List Row → Type 0
@@ -60,5 +62,6 @@ IsLadder to (row ∷ rows) = (row.path ≡ to) × AreSteps (row ∷ []) rows
 -- The rows are the paths of the commit, each once, and each after the directory that it is in.
 pub record AreRows (have : Have) (commit : List ℕ) (to : Elements) (rows : List Row) : Type 0 where
   pub each : (row : Row) → Contains rows row → IsRowOf have commit to row
-  pub all : (rest : Elements) → (look have commit rest ≡ nothing → ⊥) → Contains (paths_of rows) (rest ++ to)
+  pub all : (rest : Elements) → (look have commit rest ≡ nothing → ⊥)
+      → Contains (paths_of rows) (rest ++ to)
   pub ladder : IsLadder to rows

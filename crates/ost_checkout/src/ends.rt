@@ -5,7 +5,8 @@ use std::alloc::AllocError;
 /// Why a commit was not laid out.
 #[derive(Clone, Copy, Debug, PartialEq, Eq)]
 pub enum CheckoutEnd {
-    /// The root of the commit has an entry `deploy`, which is the name of a file beside the commit's own. Nothing changed.
+    /// The root of the commit has an entry `deploy`, which is the name of a file beside the
+    /// commit's own. Nothing changed.
     ReservedName,
     /// A call of the host failed, or the host was not as the condition asks.
     Fault,

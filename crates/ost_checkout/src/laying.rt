@@ -14,11 +14,12 @@ use fp_host::{Host, Path};
 use fp_name::Digest;
 use std::alloc::Global;
 
-/// Lays a commit of the store in this folder out in another one, which is absent: a directory becomes a folder, a file a hard
-/// link to the object's file, a link a link of the same text. All paths are known before the first is made. Nothing is synced,
-/// no link is followed, and the modes of directories play no part. `ReservedName` comes where the root of the commit has an
-/// entry `deploy`; nothing changed then. It is for a folder in which no object of the store has its name, and for a commit whose
-/// order has no fault in this store.
+/// Lays a commit of the store in this folder out in another one, which is absent: a directory
+/// becomes a folder, a file a hard link to the object's file, a link a link of the same text. All
+/// paths are known before the first is made. Nothing is synced, no link is followed, and the modes
+/// of directories play no part. `ReservedName` comes where the root of the commit has an entry
+/// `deploy`; nothing changed then. It is for a folder in which no object of the store has its name,
+/// and for a commit whose order has no fault in this store.
 pub fn checkout<H: Host>(
     alloc: Global,
     host: &mut H,
@@ -26,8 +27,8 @@ pub fn checkout<H: Host>(
     commit: &Digest,
     to: &Path,
 ) -> Result<(), CheckoutEnd>
-    // A stop at any moment leaves in the folder some of the commit's paths, each as it is found in the commit, and all else as
-    // it was.
+    // A stop at any moment leaves in the folder some of the commit's paths, each as it is found in
+    // the commit, and all else as it was.
     ensures any_moment { Always (ChecksOut root.now commit.now to.now)
         (H.moments host.old) (H.moments host.new) }
     ensures on_success { OnOk result (AtEnd (WasCheckedOut root.now commit.now to.now)

@@ -118,7 +118,8 @@ fn row_alone(alloc: Global, row: Row) -> Result<Vec<Row>, AllocError>
     Ok(rows)
 }
 
-/// The paths of the commit in this folder, each after the directory that it is in. It is for a commit whose order has no fault.
+/// The paths of the commit in this folder, each after the directory that it is in. It is for a
+/// commit whose order has no fault.
 pub(crate) fn list_rows<H: Host>(
     alloc: Global,
     host: &mut H,

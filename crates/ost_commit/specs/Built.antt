@@ -17,14 +17,18 @@ use Rattle.ost_commit.specs.Objects.{have_of, IsNamed, AreApart, Holds}
 use Rattle.ost_commit.specs.Commits.{commit_of_tree}
 use Rattle.ost_commit.specs.Shows.{found_said, meta_at, plain_meta}
 
-pub record BuiltCommit (rows : List TreeRow) (r : Ref) (subject : List ℕ) (timestamp : ℕ) (built : Built) : Type 0 where
+pub record BuiltCommit (rows : List TreeRow) (r : Ref) (subject : List ℕ) (timestamp : ℕ)
+    (built : Built) : Type 0 where
   -- the digests of the root's dirtree and dirmeta
   pub root : List ℕ
   pub meta : List ℕ
-  pub commit : commit_at (have_of built.objects) built.commit ≡ Some (commit_of_tree r subject timestamp root meta)
+  pub commit : commit_at (have_of built.objects) built.commit
+      ≡ Some (commit_of_tree r subject timestamp root meta)
   -- at each path stands just what the rows say
-  pub paths : (path : Elements) → found_said (look (have_of built.objects) built.commit path) ≡ says rows path
-  pub directories : (path : Elements) (e : DirRow) → look (have_of built.objects) built.commit path ≡ directory e
+  pub paths : (path : Elements) → found_said (look (have_of built.objects) built.commit path)
+      ≡ says rows path
+  pub directories : (path : Elements) (e : DirRow)
+      → look (have_of built.objects) built.commit path ≡ directory e
       → meta_at (have_of built.objects) e.meta ≡ Some plain_meta
   pub contents : AllByRecursion (Holds (have_of built.objects)) rows
   -- the objects are whole, and each is there once

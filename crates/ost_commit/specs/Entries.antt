@@ -5,8 +5,8 @@ use Rattle.ost_model.specs.Look.{Found, nothing, directory, file_at}
 use Rattle.ost_commit.specs.declared.tree.Child.{Child}
 use Rattle.ost_commit.specs.declared.tree.Child.TheVariants as child
 
--- What the entries name: `file` is the digest of a row's file or link, `tree` that of a directory's dirtree, and `meta` that of
--- each directory's dirmeta.
+-- What the entries name: `file` is the digest of a row's file or link, `tree` that of a directory's
+-- dirtree, and `meta` that of each directory's dirmeta.
 pub record Names : Type 0 where
   pub file : ℕ → List ℕ
   pub tree : ℕ → List ℕ
@@ -18,7 +18,8 @@ with_file names x (child.Folder j) fs = fs
 
 abbrev pub with_dir : Names → List ℕ → Child → List DirRow → List DirRow
 with_dir names x (child.Content k) ds = ds
-with_dir names x (child.Folder j) ds = record { name = x; tree = names.tree j; meta = names.meta } ∷ ds
+with_dir names x (child.Folder j) ds =
+    record { name = x; tree = names.tree j; meta = names.meta } ∷ ds
 
 -- the files and links among the entries, in their order
 abbrev pub file_rows : Names → List (List ℕ × Child) → List FileRow
@@ -37,4 +38,5 @@ tree_rows names es = record { files = file_rows names es; dirs = dir_rows names 
 abbrev pub child_found : Names → List ℕ → Option Child → Found
 child_found names x None = nothing
 child_found names x (Some (child.Content k)) = file_at (names.file k)
-child_found names x (Some (child.Folder j)) = directory (record { name = x; tree = names.tree j; meta = names.meta })
+child_found names x (Some (child.Folder j)) =
+    directory (record { name = x; tree = names.tree j; meta = names.meta })

@@ -48,26 +48,33 @@ with_entry said p entry q = first_said (said q) (if path_eq q p then entry else 
 
 -- the same, and a directory at the path and at each above it where nothing was said
 abbrev pub with_above : (Elements → Said) → Elements → Elements → Said
-with_above said p q = first_said (said q) (if path_eq q p || is_above q p then a_directory else no_entry)
+with_above said p q =
+    first_said (said q) (if path_eq q p || is_above q p then a_directory else no_entry)
 
 -- the same, and what a row says
 abbrev pub with_row : (Elements → Said) → TreeRow → Elements → Said
 with_row said r q = first_said (said q) (said_by r q)
 
--- A directory for each path that is said to be one by these entries: the root is the first, each comes before those in it, and
--- each name in one is what is said there. A file or link names its row.
-pub record Gathers (rows : List TreeRow) (said : Elements → Said) (folders : List Folder) : Type 0 where
-  pub tree : IsTree said
-  pub root : (f : Folder) × At folders 0 f × (f.path ≡ [])
-  pub path : (i : ℕ) (f : Folder) → At folders i f → said f.path ≡ a_directory
-  pub shallow : (i : ℕ) (f : Folder) → At folders i f → length f.path ≤ MOST_LEVELS
-  pub each : (i : ℕ) (f : Folder) (x : List ℕ) → At folders i f → child_said rows (child_in f.children.entries x) ≡ said (x ∷ f.path)
-  pub below : (i : ℕ) (f : Folder) (x : List ℕ) (j : ℕ) → At folders i f → child_in f.children.entries x ≡ Some (child.Folder j)
-      → (i < j) × ((g : Folder) × At folders j g × (g.path ≡ x ∷ f.path))
-  pub apart : (i j : ℕ) (f g : Folder) → At folders i f → At folders j g → f.path ≡ g.path → i ≡ j
-  pub inside : (i : ℕ) (f : Folder) (x : List ℕ) (k : ℕ) → At folders i f → child_in f.children.entries x ≡ Some (child.Content k)
-      → (k < length rows) × (is_content (put_at rows k) ≡ true)
-  pub named : (i : ℕ) (f : Folder) (x : List ℕ) (c : Child) → At folders i f → child_in f.children.entries x ≡ Some c → is_element x ≡ true
+-- A directory for each path that is said to be one by these entries: the root is the first, each
+-- comes before those in it, and each name in one is what is said there. A file or link names its
+-- row.
+pub record Gathers (rows : List TreeRow) (said : Elements → Said) (folders : List Folder) : Type 0
+  where
+    pub tree : IsTree said
+    pub root : (f : Folder) × At folders 0 f × (f.path ≡ [])
+    pub path : (i : ℕ) (f : Folder) → At folders i f → said f.path ≡ a_directory
+    pub shallow : (i : ℕ) (f : Folder) → At folders i f → length f.path ≤ MOST_LEVELS
+    pub each : (i : ℕ) (f : Folder) (x : List ℕ) → At folders i f
+        → child_said rows (child_in f.children.entries x) ≡ said (x ∷ f.path)
+    pub below : (i : ℕ) (f : Folder) (x : List ℕ) (j : ℕ) → At folders i f
+        → child_in f.children.entries x ≡ Some (child.Folder j)
+        → (i < j) × ((g : Folder) × At folders j g × (g.path ≡ x ∷ f.path))
+    pub apart : (i j : ℕ) (f g : Folder) → At folders i f → At folders j g → f.path ≡ g.path → i ≡ j
+    pub inside : (i : ℕ) (f : Folder) (x : List ℕ) (k : ℕ) → At folders i f
+        → child_in f.children.entries x ≡ Some (child.Content k)
+        → (k < length rows) × (is_content (put_at rows k) ≡ true)
+    pub named : (i : ℕ) (f : Folder) (x : List ℕ) (c : Child) → At folders i f
+        → child_in f.children.entries x ≡ Some c → is_element x ≡ true
 
 -- they are gathered by some rows
 pub record AreGathered (folders : List Folder) : Type 0 where
@@ -92,15 +99,18 @@ new_root_at said (x ∷ up) = new_at said (x ∷ up)
 -- the second has the name x besides, for this child
 pub record HasNew (f g : Folder) (x : List ℕ) (c : Child) : Type 0 where
   pub path : g.path ≡ f.path
-  pub children : (y : List ℕ) → child_in g.children.entries y ≡ (if bytes_eq x y then Some c else child_in f.children.entries y)
+  pub children : (y : List ℕ) → child_in g.children.entries y
+      ≡ (if bytes_eq x y then Some c else child_in f.children.entries y)
 
 -- so has the directory of this place
 pub record PutsChild (i : ℕ) (x : List ℕ) (c : Child) (old new : Tree) : Type 0 where
-  pub folders : (f : Folder) → At old.folders.items i f → (g : Folder) × HasNew f g x c × (new.folders.items ≡ slice_set old.folders.items i g)
+  pub folders : (f : Folder) → At old.folders.items i f
+      → (g : Folder) × HasNew f g x c × (new.folders.items ≡ slice_set old.folders.items i g)
   pub names : new.names ≡ old.names + 1
 
 -- the directory of the path is that of this place, and may be new
-pub record Entered (rows : List TreeRow) (said : Elements → Said) (path : Elements) (old new : Tree) (j : ℕ) : Type 0 where
+pub record Entered (rows : List TreeRow) (said : Elements → Said) (path : Elements)
+    (old new : Tree) (j : ℕ) : Type 0 where
   pub clear : is_content (said path) ≡ false
   pub gathers : Gathers rows (with_entry said path a_directory) new.folders.items
   pub at : FolderAt new.folders.items j path
@@ -112,7 +122,8 @@ Enters rows said path old new None = is_content (said path) ≡ true
 Enters rows said path old new (Some j) = Entered rows said path old new j
 
 -- the directory of the path is that of this place, and it and those above it may be new
-pub record Reached (rows : List TreeRow) (said : Elements → Said) (path : Elements) (old new : Tree) (j : ℕ) : Type 0 where
+pub record Reached (rows : List TreeRow) (said : Elements → Said) (path : Elements)
+    (old new : Tree) (j : ℕ) : Type 0 where
   pub clear : is_content (said path) ≡ false
   pub above : is_clear said path ≡ true
   pub gathers : Gathers rows (with_above said path) new.folders.items
@@ -125,25 +136,30 @@ Reaches rows said path old new None = is_clear said path ≡ false
 Reaches rows said path old new (Some j) = Reached rows said (drop 1 path) old new j
 
 -- a directory was taken, which may have been one before
-pub record TakesFolder (rows : List TreeRow) (said : Elements → Said) (path : Elements) (old new : Tree) (taken : Bool) : Type 0 where
+pub record TakesFolder (rows : List TreeRow) (said : Elements → Said) (path : Elements)
+    (old new : Tree) (taken : Bool) : Type 0 where
   pub is : taken ≡ not (is_content (said path))
   pub gathers : taken ≡ true → Gathers rows (with_entry said path a_directory) new.folders.items
   pub names : taken ≡ true → new.names ≡ old.names + new_root_at said path
 
 -- a file or link was taken, where nothing stood before
-pub record TakesContent (rows : List TreeRow) (said : Elements → Said) (path : Elements) (entry : Said) (old new : Tree) (taken : Bool) : Type 0 where
+pub record TakesContent (rows : List TreeRow) (said : Elements → Said) (path : Elements)
+    (entry : Said) (old new : Tree) (taken : Bool) : Type 0 where
   pub is : taken ≡ is_nothing (said path)
   pub gathers : taken ≡ true → Gathers rows (with_entry said path entry) new.folders.items
   pub names : taken ≡ true → new.names ≡ old.names + 1
 
 -- a row was put into the directory above its path, where it may stand
-pub record PutsRow (rows : List TreeRow) (said : Elements → Said) (r : TreeRow) (old new : Tree) (taken : Bool) : Type 0 where
+pub record PutsRow (rows : List TreeRow) (said : Elements → Said) (r : TreeRow) (old new : Tree)
+    (taken : Bool) : Type 0 where
   pub is : taken ≡ may_stand r (said (row_path r))
-  pub gathers : taken ≡ true → Gathers rows (with_entry said (row_path r) (put_by r)) new.folders.items
+  pub gathers : taken ≡ true
+      → Gathers rows (with_entry said (row_path r) (put_by r)) new.folders.items
   pub names : taken ≡ true → new.names ≡ old.names + new_root_at said (row_path r)
 
 -- the row is taken exactly where it may be
-pub record Takes (rows : List TreeRow) (said : Elements → Said) (r : TreeRow) (old new : Tree) (taken : Bool) : Type 0 where
+pub record Takes (rows : List TreeRow) (said : Elements → Said) (r : TreeRow) (old new : Tree)
+    (taken : Bool) : Type 0 where
   pub is : taken ≡ is_taken said old.names r
   pub gathers : taken ≡ true → Gathers rows (with_row said r) new.folders.items
   pub names : taken ≡ true → new.names ≡ old.names + new_names said (row_path r)

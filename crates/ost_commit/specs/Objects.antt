@@ -20,7 +20,8 @@ is_kind _ _ = false
 -- the object of this digest and this kind
 abbrev pub have_of : List BuiltObject → Have
 have_of [] d kind = None
-have_of (o ∷ os) d kind = if bytes_eq o.digest d && is_kind o.kind kind then Some o.object else have_of os d kind
+have_of (o ∷ os) d kind =
+    if bytes_eq o.digest d && is_kind o.kind kind then Some o.object else have_of os d kind
 
 -- it is the one that its digest names
 abbrev pub IsNamed : BuiltObject → Type 0
@@ -34,5 +35,7 @@ AreApart (o ∷ os) = (have_of os o.digest o.kind ≡ None) × AreApart os
 -- what a row puts into the store
 abbrev pub Holds : Have → TreeRow → Type 0
 Holds have (row.Dir path) = Unit {0}
-Holds have (row.File path mode bytes) = have (file_digest mode bytes) kinds.File ≡ Some (objects.File mode bytes)
-Holds have (row.Link path target) = have (link_digest target) kinds.File ≡ Some (objects.Link target)
+Holds have (row.File path mode bytes) =
+    have (file_digest mode bytes) kinds.File ≡ Some (objects.File mode bytes)
+Holds have (row.Link path target) =
+    have (link_digest target) kinds.File ≡ Some (objects.Link target)

@@ -11,11 +11,14 @@ use Rattle.ost_commit.specs.declared.built.BuildError.{BuildError}
 use Rattle.ost_commit.specs.declared.built.BuildError.TheVariants as error
 use Rattle.ost_commit.specs.Rows.{Said, no_entry, a_directory, content, row_path, says}
 
--- A row by itself: a directory has at most 64 elements, a file or a link at most 64 directories above it; a file's permission
--- bits are within 0775 (octal), and it has at most 1 GiB; a link's text is one.
+-- A row by itself: a directory has at most 64 elements, a file or a link at most 64 directories
+-- above it; a file's permission bits are within 0775 (octal), and it has at most 1 GiB; a link's
+-- text is one.
 abbrev pub is_good_row : TreeRow → Bool
 is_good_row (row.Dir path) = leb (length path) MOST_LEVELS
-is_good_row (row.File path mode bytes) = leb (length path) (suc MOST_LEVELS) && (is_permission mode && leb (length bytes) MOST_FILE_BYTES)
+is_good_row (row.File path mode bytes) =
+    leb (length path) (suc MOST_LEVELS)
+    && (is_permission mode && leb (length bytes) MOST_FILE_BYTES)
 is_good_row (row.Link path target) = leb (length path) (suc MOST_LEVELS) && is_link_text target
 
 abbrev pub AreGoodRows : List TreeRow → Type 0
@@ -42,16 +45,20 @@ abbrev pub is_clear : (Elements → Said) → Elements → Bool
 is_clear said [] = true
 is_clear said (x ∷ up) = not (is_content (said up)) && is_clear said up
 
--- how many names below the root come with the path: its own and those of the directories above it, where nothing is yet
+-- how many names below the root come with the path: its own and those of the directories above it,
+-- where nothing is yet
 abbrev pub new_names : (Elements → Said) → Elements → ℕ
 new_names said [] = 0
 new_names said (x ∷ up) = (if is_nothing (said (x ∷ up)) then 1 else 0) + new_names said up
 
 -- After rows that say this, and have so many names, the row is taken.
 abbrev pub is_taken : (Elements → Said) → ℕ → TreeRow → Bool
-is_taken said names r = is_good_row r && (is_clear said (row_path r) && (may_stand r (said (row_path r)) && leb (names + new_names said (row_path r)) MOST_NAMES))
+is_taken said names r = is_good_row r
+    && (is_clear said (row_path r)
+    && (may_stand r (said (row_path r)) && leb (names + new_names said (row_path r)) MOST_NAMES))
 
--- The place, counted from 1, of the first row that isn't taken, where these stand before, with so many names.
+-- The place, counted from 1, of the first row that isn't taken, where these stand before, with so
+-- many names.
 abbrev pub refused_remainder : List TreeRow → ℕ → List TreeRow → Option ℕ
 refused_remainder before names [] = None
 refused_remainder before names (r ∷ rs) =

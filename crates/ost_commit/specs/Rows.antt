@@ -29,7 +29,8 @@ is_above q (x ∷ up) = path_eq q up || is_above q up
 
 -- One row: what it puts at its path, a directory at each path above, and nothing elsewhere.
 abbrev pub said_by : TreeRow → Elements → Said
-said_by r q = if path_eq q (row_path r) then put_by r else (if is_above q (row_path r) then a_directory else no_entry)
+said_by r q = if path_eq q (row_path r) then put_by r
+    else (if is_above q (row_path r) then a_directory else no_entry)
 
 -- the first that is more than nothing
 abbrev pub first_said : Said → Said → Said

@@ -30,9 +30,10 @@ pub record IsThere (have : Have) (d : List ℕ) (kind : ObjKind) : Type 0 where
   pub object : Object
   pub is : have d kind ≡ Some object
 
--- Its dirtree reads, its dirmeta is plain, each name in it is what is said there, the objects of its files and links are there,
--- and D holds of its directories.
-pub record ShowsTree (have : Have) (D : Elements → DirRow → Type 0) (said : Elements → Said) (path : Elements) (e : DirRow) : Type 0 where
+-- Its dirtree reads, its dirmeta is plain, each name in it is what is said there, the objects of
+-- its files and links are there, and D holds of its directories.
+pub record ShowsTree (have : Have) (D : Elements → DirRow → Type 0) (said : Elements → Said)
+    (path : Elements) (e : DirRow) : Type 0 where
   pub view : TreeView
   pub tree : tree_at have e.tree ≡ Some view
   pub meta : meta_at have e.meta ≡ Some plain_meta
@@ -52,8 +53,10 @@ pub record IsTree (said : Elements → Said) : Type 0 where
 
 -- each object that is there is one that may be used
 pub record AreGood (have : Have) : Type 0 where
-  pub good : (d : List ℕ) (kind : ObjKind) (object : Object) → have d kind ≡ Some object → object_fault d kind (Some object) ≡ None
+  pub good : (d : List ℕ) (kind : ObjKind) (object : Object) → have d kind ≡ Some object
+      → object_fault d kind (Some object) ≡ None
 
 -- the second has all that the first has
 pub record Grows (i j : Have) : Type 0 where
-  pub kept : (d : List ℕ) (kind : ObjKind) (object : Object) → i d kind ≡ Some object → j d kind ≡ Some object
+  pub kept : (d : List ℕ) (kind : ObjKind) (object : Object) → i d kind ≡ Some object
+      → j d kind ≡ Some object

@@ -21,16 +21,19 @@ abbrev pub object_in : List (List ℕ × Object) → List ℕ → Option Object
 object_in table d = lookup (is_at (slice_cmp nat_cmp d)) table
 
 -- the object came to its digest, and all that was there stayed
-pub record PutsObject (old new : List (List ℕ × Object)) (d : List ℕ) (object : Object) : Type 0 where
-  pub there : object_in new d ≡ Some object
-  pub kept : (q : List ℕ) (o : Object) → object_in old q ≡ Some o → object_in new q ≡ Some o
-  pub only : (q : List ℕ) (o : Object) → object_in new q ≡ Some o → (object_in old q ≡ Some o) ⊎ ((q ≡ d) × (o ≡ object))
+pub record PutsObject (old new : List (List ℕ × Object)) (d : List ℕ) (object : Object) : Type 0
+  where
+    pub there : object_in new d ≡ Some object
+    pub kept : (q : List ℕ) (o : Object) → object_in old q ≡ Some o → object_in new q ≡ Some o
+    pub only : (q : List ℕ) (o : Object) → object_in new q ≡ Some o
+        → (object_in old q ≡ Some o) ⊎ ((q ≡ d) × (o ≡ object))
 
 -- another object has this digest
-pub record IsOtherThere (table : List (List ℕ × Object)) (d : List ℕ) (object : Object) : Type 0 where
-  pub other : Object
-  pub there : object_in table d ≡ Some other
-  pub apart : other ≢ object
+pub record IsOtherThere (table : List (List ℕ × Object)) (d : List ℕ) (object : Object) : Type 0
+  where
+    pub other : Object
+    pub there : object_in table d ≡ Some other
+    pub apart : other ≢ object
 
 -- why an object doesn't come to its digest: because memory ran out, or because another has it
 abbrev pub IsFaultOfPut : List (List ℕ × Object) → List ℕ → Object → BuildError → Type 0
@@ -42,23 +45,30 @@ IsFaultOfPut table d object error.NoMemory = Unit {0}
 -- the object of a row's file or link is in the table
 abbrev pub HasRow : List (List ℕ × Object) → TreeRow → Type 0
 HasRow table (row.Dir path) = Unit {0}
-HasRow table (row.File path mode bytes) = object_in table (file_digest mode bytes) ≡ Some (objects.File mode bytes)
-HasRow table (row.Link path target) = object_in table (link_digest target) ≡ Some (objects.Link target)
+HasRow table (row.File path mode bytes) =
+    object_in table (file_digest mode bytes) ≡ Some (objects.File mode bytes)
+HasRow table (row.Link path target) =
+    object_in table (link_digest target) ≡ Some (objects.Link target)
 
 -- each object of the table may be used
 pub record AreUsable (kind : ObjKind) (table : List (List ℕ × Object)) : Type 0 where
-  pub each : (d : List ℕ) (o : Object) → object_in table d ≡ Some o → object_fault d kind (Some o) ≡ None
+  pub each : (d : List ℕ) (o : Object) → object_in table d ≡ Some o
+      → object_fault d kind (Some o) ≡ None
 
 abbrev pub built_of : ObjKind → List ℕ × Object → BuiltObject
 built_of kind e = record { digest = e.0; kind = kind; object = e.1 }
 
 abbrev pub built_meta : ObjKind → List ℕ → BuiltObject
-built_meta kind bytes = record { digest = meta_digest bytes; kind = kind; object = objects.Meta bytes }
+built_meta kind bytes =
+    record { digest = meta_digest bytes; kind = kind; object = objects.Meta bytes }
 
 -- files and links, dirtrees, the dirmeta and the commit
-abbrev pub AreObjectsOf : List (List ℕ × Object) → List (List ℕ × Object) → List ℕ → List ℕ → List BuiltObject → Type 0
+abbrev pub AreObjectsOf : List (List ℕ × Object) → List (List ℕ × Object) → List ℕ → List ℕ
+    → List BuiltObject → Type 0
 AreObjectsOf contents trees meta commit os =
-    os ≡ map (built_of kinds.File) contents ++ (map (built_of kinds.DirTree) trees ++ (built_meta kinds.DirMeta meta ∷ built_meta kinds.Commit commit ∷ []))
+    os ≡ map (built_of kinds.File) contents
+    ++ (map (built_of kinds.DirTree) trees
+    ++ (built_meta kinds.DirMeta meta ∷ built_meta kinds.Commit commit ∷ []))
 
 -- two different objects with one digest
 pub record Collide : Type 0 where
@@ -67,7 +77,8 @@ pub record Collide : Type 0 where
   pub apart : first ≢ second
   pub same : digest_of first ≡ digest_of second
 
--- why no table is made: because memory ran out, because objects are too large, or because two have one digest
+-- why no table is made: because memory ran out, because objects are too large, or because two have
+-- one digest
 abbrev pub IsFaultOfTables : BuildError → Type 0
 IsFaultOfTables (error.Row n) = ⊥
 IsFaultOfTables error.Collision = Collide

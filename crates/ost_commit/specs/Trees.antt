@@ -30,7 +30,8 @@ abbrev pub done_at : List Done → ℕ → Done
 done_at ds j = get_or ds j (record { tree = []; places = 0 })
 
 abbrev pub names_of : List (List ℕ) → List ℕ → List Done → Names
-names_of contents meta ds = record { file = λ k. get_or contents k []; tree = λ j. (done_at ds j).tree; meta = meta }
+names_of contents meta ds =
+    record { file = λ k. get_or contents k []; tree = λ j. (done_at ds j).tree; meta = meta }
 
 -- how many objects come with a child, repeats counted
 abbrev pub child_places : List Done → Child → ℕ
@@ -56,7 +57,8 @@ pub record AddsEntry (names : Names) (x : List ℕ) (c : Child) (old new : DirTr
   pub dirs : map dir_row new.dirs ≡ map dir_row old.dirs ++ with_dir names x c []
 
 -- the dirtree of a directory of these entries came to its digest
-pub record AddsTree (contents : List (List ℕ)) (meta : List ℕ) (ds : List Done) (es : List (List ℕ × Child)) (old new : List (List ℕ × Object)) (done : Done) : Type 0 where
+pub record AddsTree (contents : List (List ℕ)) (meta : List ℕ) (ds : List Done)
+    (es : List (List ℕ × Child)) (old new : List (List ℕ × Object)) (done : Done) : Type 0 where
   pub bytes : List ℕ
   pub puts : PutsObject old new done.tree (objects.Meta bytes)
   pub good : object_fault done.tree kinds.DirTree (Some (objects.Meta bytes)) ≡ None
@@ -68,8 +70,10 @@ abbrev pub row_of : List ℕ → List ℕ → DirRow
 row_of tree meta = record { name = []; tree = tree; meta = meta }
 
 -- the objects of the rows' files and links are there, and the dirmeta is plain
-pub record Supports (rows : List TreeRow) (contents : List (List ℕ)) (meta : List ℕ) (have : Have) : Type 0 where
-  pub there : (k : ℕ) → k < length rows → is_content (put_at rows k) ≡ true → IsThere have (get_or contents k []) kinds.File
+pub record Supports (rows : List TreeRow) (contents : List (List ℕ)) (meta : List ℕ)
+    (have : Have) : Type 0 where
+  pub there : (k : ℕ) → k < length rows → is_content (put_at rows k) ≡ true
+      → IsThere have (get_or contents k []) kinds.File
   pub plain : meta_at have meta ≡ Some plain_meta
 
 -- so are these dirtrees
@@ -83,14 +87,19 @@ pub record AreGatheredFor (folders : List Folder) (contents : List (List ℕ)) :
   pub gathers : Gathers rows said folders
   pub digests : AreDigests rows contents
 
--- Wherever the dirtrees are, and what they name, the directory is shown as it is said, and has at most so many objects, fewer than 200,000.
-pub record IsWritten (rows : List TreeRow) (said : Elements → Said) (contents : List (List ℕ)) (meta : List ℕ) (trees : List (List ℕ × Object)) (path : Elements) (done : Done) : Type 0 where
-  pub shows : (have : Have) → HasTrees trees have → Supports rows contents meta have → Shows have said (suc MOST_LEVELS - length path) path (row_of done.tree meta)
-  pub few : (have : Have) → HasTrees trees have → (levels depth : ℕ) → length (dir_places have levels depth (row_of done.tree meta)) ≤ done.places
+-- Wherever the dirtrees are, and what they name, the directory is shown as it is said, and has at
+-- most so many objects, fewer than 200,000.
+pub record IsWritten (rows : List TreeRow) (said : Elements → Said) (contents : List (List ℕ))
+    (meta : List ℕ) (trees : List (List ℕ × Object)) (path : Elements) (done : Done) : Type 0 where
+  pub shows : (have : Have) → HasTrees trees have → Supports rows contents meta have
+      → Shows have said (suc MOST_LEVELS - length path) path (row_of done.tree meta)
+  pub few : (have : Have) → HasTrees trees have → (levels depth : ℕ)
+      → length (dir_places have levels depth (row_of done.tree meta)) ≤ done.places
   pub small : done.places < MOST_OBJECTS
 
 -- so is the root
-pub record IsRootWritten (rows : List TreeRow) (said : Elements → Said) (contents : List (List ℕ)) (meta : List ℕ) (made : Dirtrees) : Type 0 where
+pub record IsRootWritten (rows : List TreeRow) (said : Elements → Said) (contents : List (List ℕ))
+    (meta : List ℕ) (made : Dirtrees) : Type 0 where
   pub done : Done
   pub root : done.tree ≡ made.root
   pub written : IsWritten rows said contents meta made.trees.entries [] done

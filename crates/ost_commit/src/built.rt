@@ -32,7 +32,8 @@ pub enum BuildError {
     Row(u64),
     /// Two different objects have one digest.
     Collision,
-    /// An object would have more than 16 MiB, or the commit more than 200,000 objects, repeats counted.
+    /// An object would have more than 16 MiB, or the commit more than 200,000 objects, repeats
+    /// counted.
     TooLarge,
     /// Memory ran out.
     NoMemory,

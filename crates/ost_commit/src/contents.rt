@@ -18,7 +18,8 @@ use par_digest::{Item, digests};
 use std::alloc::{AllocError, Global};
 use std::thread::Threads;
 
-/// The digest of each row's file or link. A directory stands for no bytes, and its digest serves nothing.
+/// The digest of each row's file or link. A directory stands for no bytes, and its digest serves
+/// nothing.
 pub(crate) fn row_digests(
     rt: &(impl Threads + Sync),
     alloc: Global,

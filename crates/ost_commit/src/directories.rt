@@ -26,7 +26,8 @@ use ost_object::{DirEntry, DirTree, FileEntry};
 use std::alloc::{AllocError, Global};
 use std::collections::BTreeMap;
 
-/// A directory that is done: its dirtree, and how many objects it has with all below it, repeats counted.
+/// A directory that is done: its dirtree, and how many objects it has with all below it, repeats
+/// counted.
 #[derive(Clone, Copy)]
 pub(crate) struct Done {
     pub(crate) tree: Digest,
@@ -40,7 +41,8 @@ pub(crate) struct Dirtrees {
     pub(crate) root: Digest,
 }
 
-/// The dirtrees of the directories, the first of which is the root and each of which comes before those in it.
+/// The dirtrees of the directories, the first of which is the root and each of which comes before
+/// those in it.
 pub(crate) fn dirtrees_of(
     alloc: Global,
     mut folders: Vec<Folder>,
@@ -101,7 +103,8 @@ fn add_dirtree(
     }
 }
 
-/// The names in a directory with their digests, and how many objects it has with all below it, repeats counted.
+/// The names in a directory with their digests, and how many objects it has with all below it,
+/// repeats counted.
 #[derive(Drop)]
 struct Listing {
     tree: DirTree,

@@ -130,7 +130,8 @@ impl Tree {
         }
     }
 
-    /// The directory above the path. Those on the way are made where nothing stands; None where a file or link does.
+    /// The directory above the path. Those on the way are made where nothing stands; None where a
+    /// file or link does.
     fn folder_above(&mut self, alloc: Global, path: &Path) -> Result<Option<usize>, AllocError>
         requires gathered { AreGathered self.old.folders.items }
         requires short { length path.now ≤ MOST_LEVELS + 1 }
@@ -151,7 +152,8 @@ impl Tree {
         Ok(Some(folder))
     }
 
-    /// The directory of the path, in the directory above it. It is made where nothing stands; None where a file or link does.
+    /// The directory of the path, in the directory above it. It is made where nothing stands; None
+    /// where a file or link does.
     fn enter(
         &mut self,
         alloc: Global,
@@ -232,7 +234,8 @@ impl Tree {
         requires few { self.old.names < 2 ^ 32 }
         ensures { IfOk result (λ taken. (rows : List TreeRow) (said : Elements
             → Said) (r : TreeRow) → Gathers rows said self.old.folders.items
-            → At rows row r → is_content (put_by r) ≡ true → TakesContent rows said path.now (put_by r) self.old self.new taken) }
+            → At rows row r → is_content (put_by r) ≡ true
+            → TakesContent rows said path.now (put_by r) self.old self.new taken) }
     {
         let Some(name) = path.name() else {
             return Ok(false);

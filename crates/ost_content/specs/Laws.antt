@@ -5,17 +5,20 @@ use Rattle.gv_value.specs.Spelled.{Spelled}
 use Rattle.ost_model.specs.declared.limits.TheConstants.{REGULAR_MODE, LINK_MODE}
 use Rattle.ost_model.specs.Contents.{header_shape, header_value, with_length, is_permission, header, link_header}
 
--- After its length stands GVariant's one spelling of this mode and text, as a value of the type `(uuuusa(ayay))`.
+-- After its length stands GVariant's one spelling of this mode and text, as a value of the type
+-- `(uuuusa(ayay))`.
 pub record IsHeader (bytes : List ℕ) (mode : ℕ) (text : List ℕ) : Type 0 where
   pub tuple : List ℕ
   pub spelled : Spelled header_shape (header_value mode text) tuple
   pub remainder : bytes ≡ with_length tuple
 
 abbrev pub FilesHaveHeaders : Type 0
-FilesHaveHeaders = (bits : ℕ) → is_permission bits ≡ true → IsHeader (header bits) (REGULAR_MODE + bits) []
+FilesHaveHeaders =
+    (bits : ℕ) → is_permission bits ≡ true → IsHeader (header bits) (REGULAR_MODE + bits) []
 
 abbrev pub LinksHaveHeaders : Type 0
-LinksHaveHeaders = (text : List ℕ) → is_link_text text ≡ true → IsHeader (link_header text) LINK_MODE text
+LinksHaveHeaders =
+    (text : List ℕ) → is_link_text text ≡ true → IsHeader (link_header text) LINK_MODE text
 
 -- What SHA-256 is taken of tells the permission bits and the content of a file,
 abbrev pub TellsFiles : Type 0
@@ -24,9 +27,11 @@ TellsFiles = (a b : ℕ) (xs ys : List ℕ) → is_permission a ≡ true → is_
 
 -- the text of a link,
 abbrev pub TellsLinks : Type 0
-TellsLinks = (s t : List ℕ) → is_link_text s ≡ true → is_link_text t ≡ true → link_header s ≡ link_header t → s ≡ t
+TellsLinks = (s t : List ℕ) → is_link_text s ≡ true → is_link_text t ≡ true
+    → link_header s ≡ link_header t → s ≡ t
 
 -- and whether it is a file or a link.
 abbrev pub TellsKinds : Type 0
-TellsKinds = (bits : ℕ) (bytes text : List ℕ) → is_permission bits ≡ true → is_link_text text ≡ true →
+TellsKinds =
+    (bits : ℕ) (bytes text : List ℕ) → is_permission bits ≡ true → is_link_text text ≡ true →
     header bits ++ bytes ≢ link_header text

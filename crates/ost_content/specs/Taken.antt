@@ -4,6 +4,7 @@ use Rattle.sha2.specs.declared.Sha256.{Sha256}
 use Rattle.sha2.specs.Hashers.{Holds256}
 use Rattle.ost_model.specs.Contents.{header}
 
--- The hasher was made for a file with these permission bits and has taken in these bytes of its content.
+-- The hasher was made for a file with these permission bits and has taken in these bytes of its
+-- content.
 unfoldable pub HasTaken : Sha256 → ℕ → List ℕ → Type 0
 HasTaken state bits bytes = Holds256 state (header bits ++ bytes)

@@ -9,8 +9,8 @@ use fp_name::Digest;
 use sha2::{Digest as Hash, Sha256};
 use std::marker::Model;
 
-/// Takes in the content of a file piece by piece and then gives the file's digest. No call takes memory. Contracts see the
-/// state of SHA-256, and say of it what was taken in.
+/// Takes in the content of a file piece by piece and then gives the file's digest. No call takes
+/// memory. Contracts see the state of SHA-256, and say of it what was taken in.
 #[derive(Debug, Drop)]
 pub struct ContentHasher {
     hasher: Sha256,

@@ -1,4 +1,5 @@
-//! What the digest of a file or a link begins with: a GVariant of the type `(uuuusa(ayay))` after its length.
+//! What the digest of a file or a link begins with: a GVariant of the type `(uuuusa(ayay))` after
+//! its length.
 
 ghost use Rattle.std.specs.Prelude.{◌≡◌, ◌<◌, ◌^◌, ◌++◌, true, take, IfOk};
 ghost use Rattle.std.specs.Int.{w32, to_be_bytes};
@@ -16,7 +17,8 @@ use std::alloc::{AllocError, Global};
 /// How many bytes the four numbers of a header take.
 const NUMBERS: usize = 16;
 
-/// A header's length, four zero bytes, and the header's numbers, which but for the mode are 0. All are big endian.
+/// A header's length, four zero bytes, and the header's numbers, which but for the mode are 0. All
+/// are big endian.
 fn beginning(length: u32, mode: u32) -> [u8; 24]
     ensures { result ≡ to_be_bytes w32 length ++ (zeros 12 ++ (to_be_bytes w32 mode ++ zeros 4)) }
 {
@@ -26,7 +28,8 @@ fn beginning(length: u32, mode: u32) -> [u8; 24]
     bytes
 }
 
-/// The header of a file with these permission bits, after its length: what its digest is taken of, before its content.
+/// The header of a file with these permission bits, after its length: what its digest is taken of,
+/// before its content.
 pub fn header(mode: u32) -> [u8; 26]
     requires { is_permission mode ≡ true }
     ensures { result ≡ file_header mode }

@@ -12,7 +12,8 @@ pub fn headers_are_values()
     ensures links { LinksHaveHeaders }
 {}
 
-/// No two files or links have the same bytes that SHA-256 is taken of: these tell the mode, the content and the text.
+/// No two files or links have the same bytes that SHA-256 is taken of: these tell the mode, the
+/// content and the text.
 pub fn headers_tell_objects()
     ensures files { TellsFiles }
     ensures links { TellsLinks }

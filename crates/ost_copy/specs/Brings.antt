@@ -33,7 +33,8 @@ pub record Comes (t : Elements) (u w : View) : Type 0 where
   pub files : KeepsFiles u w
 
 -- the remote's file or link, which is the one that its digest names, came to the path
-pub record IsBrought (t : Elements) (url : List ℕ) (holds : Option Holdings) (d : List ℕ) (a b : Option Moments) : Type 0 where
+pub record IsBrought (t : Elements) (url : List ℕ) (holds : Option Holdings) (d : List ℕ)
+    (a b : Option Moments) : Type 0 where
   pub object : Object
   pub named : name_fault d kinds.File (Some object) ≡ None
   pub there : RemoteHas url holds d kinds.File object
@@ -41,12 +42,15 @@ pub record IsBrought (t : Elements) (url : List ℕ) (holds : Option Holdings) (
   pub staged : AtEnd (WasStaged t object) a b
 
 -- remotes that tell what they hold have a file with these permission bits and of this size
-pub record RemoteHasFile (url : List ℕ) (holds : Option Holdings) (d : List ℕ) (mode size : ℕ) : Type 0 where
-  pub is : (held : Holdings) → holds ≡ Some held → IsFileOf mode size (remote_at held url d kinds.File)
+pub record RemoteHasFile (url : List ℕ) (holds : Option Holdings) (d : List ℕ)
+    (mode size : ℕ) : Type 0 where
+  pub is : (held : Holdings) → holds ≡ Some held
+      → IsFileOf mode size (remote_at held url d kinds.File)
 
 -- the remote's file or link has no fault, or this one
 abbrev pub JudgesRemote : {A : Type 0} → Holdings → List ℕ → List ℕ → Result A WalkEnd → Type 0
-JudgesRemote held url d result = EndsBy (λ a. object_fault d kinds.File (remote_at held url d kinds.File) ≡ None)
+JudgesRemote held url d result =
+    EndsBy (λ a. object_fault d kinds.File (remote_at held url d kinds.File) ≡ None)
     (IsFaultOf d kinds.File (object_fault d kinds.File (remote_at held url d kinds.File))) result
 
 -- where it may come: nothing stands at the path, and what is above it is absent or a folder

@@ -36,7 +36,8 @@ IsContentOf there (content.File mode size) = IsFileOf mode size there
 
 -- the content of what is there, or its fault
 abbrev pub LooksAt : List ℕ → Option Object → Result Content WalkEnd → Type 0
-LooksAt d there result = EndsBy (IsContentOf there) (IsFaultOf d kinds.File (object_fault d kinds.File there)) result
+LooksAt d there result =
+    EndsBy (IsContentOf there) (IsFaultOf d kinds.File (object_fault d kinds.File there)) result
 
 -- an object is there, and it has no fault
 pub record IsGoodThere (d : List ℕ) (there : Option Object) : Type 0 where
@@ -52,4 +53,5 @@ ChecksIfThere d there (Err end) = RefusesBy (IsFaultThere d kinds.File there) en
 
 -- the check of what is there
 abbrev pub ChecksThere : {A : Type 0} → List ℕ → Option Object → Result A WalkEnd → Type 0
-ChecksThere d there result = EndsBy (λ a. IsGoodThere d there) (IsFaultThere d kinds.File there) result
+ChecksThere d there result =
+    EndsBy (λ a. IsGoodThere d there) (IsFaultThere d kinds.File there) result

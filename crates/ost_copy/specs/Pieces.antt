@@ -5,4 +5,5 @@ use Rattle.ost_content.specs.Taken.{HasTaken}
 
 -- these bytes were taken in after what was taken in before, whatever that is
 pub record TakesIn (bytes : List ℕ) (before after : Sha256) : Type 0 where
-  pub more : (mode : ℕ) (had : List ℕ) → HasTaken before mode had → HasTaken after mode (had ++ bytes)
+  pub more : (mode : ℕ) (had : List ℕ) → HasTaken before mode had
+      → HasTaken after mode (had ++ bytes)

@@ -24,8 +24,8 @@ use ost_store::{path_of, stage, stage_file};
 use ost_walk::{ObjectFault, WalkEnd};
 use std::alloc::Global;
 
-/// Makes the absent path a file with these permission bits, to which the remote's file of this size is copied, and gives the
-/// digest of what it then is.
+/// Makes the absent path a file with these permission bits, to which the remote's file of this size
+/// is copied, and gives the digest of what it then is.
 fn copy_anew<H: Host, R: Remotes>(
     alloc: Global,
     host: &mut H,
@@ -65,8 +65,8 @@ fn check_digest(digest: &Digest, got: &Digest) -> Result<(), WalkEnd>
     }
 }
 
-/// Makes the absent path hold the remote's file with these permission bits and of this size, which is copied piece by piece. It
-/// is refused where its digest is another.
+/// Makes the absent path hold the remote's file with these permission bits and of this size, which
+/// is copied piece by piece. It is refused where its digest is another.
 fn bring_file<H: Host, R: Remotes>(
     alloc: Global,
     host: &mut H,
@@ -108,7 +108,8 @@ fn bring_file<H: Host, R: Remotes>(
 
 /// Makes the absent path hold the link with this text.
 fn bring_link<H: Host>(alloc: Global, host: &mut H, to: &Path, text: Text) -> Result<(), WalkEnd>
-    ensures any_moment { Always (Stages to.now (objects.Link text)) (H.moments host.old) (H.moments host.new) }
+    ensures any_moment { Always (Stages to.now (objects.Link text)) (H.moments host.old)
+        (H.moments host.new) }
     ensures on_success { OnOk result (AtEnd (WasStaged to.now (objects.Link text))
         (H.moments host.old) (H.moments host.new)) }
     ensures refuses { (w : WalkFault) → IsErrOf result (WalkEnd.Refused w) → ⊥ }

@@ -27,7 +27,8 @@ use ost_store::{Got, get, read_piece};
 use ost_walk::{ObjectFault, WalkEnd};
 use std::alloc::Global;
 
-/// Takes in the bytes of the file from this place on, as many as there is room for or are left, and says how many.
+/// Takes in the bytes of the file from this place on, as many as there is room for or are left, and
+/// says how many.
 fn hash_piece<H: Host>(
     alloc: Global,
     host: &mut H,
@@ -40,7 +41,8 @@ fn hash_piece<H: Host>(
     ensures bound { IfOk result (λ n. n ≤ length room.old) }
     ensures unchanged { Unchanged (H.moments host.old) (H.moments host.new) }
     ensures tells { (m : Moments) → H.moments host.old ≡ Some m
-        → (mode : ℕ) (content : List ℕ) → store root.now (shows m.now) digest.now kinds.File ≡ Some (objects.File mode content)
+        → (mode : ℕ) (content : List ℕ) → store root.now (shows m.now) digest.now kinds.File
+        ≡ Some (objects.File mode content)
         → IfOk result (CameFrom content at room.new) }
     ensures hashes { IfOk result (λ n. TakesIn (take n room.new) hasher.old hasher.new) }
     ensures fault_has_cause { IsCaused (IsErrOf result HostEnd.Fault) (H.moments host.old)
@@ -64,7 +66,8 @@ fn hash_pieces<H: Host>(
     requires { 0 < length buffer.old }
     ensures unchanged { Unchanged (H.moments host.old) (H.moments host.new) }
     ensures tells { (m : Moments) → H.moments host.old ≡ Some m
-        → (mode : ℕ) (content : List ℕ) → store root.now (shows m.now) digest.now kinds.File ≡ Some (objects.File mode content)
+        → (mode : ℕ) (content : List ℕ) → store root.now (shows m.now) digest.now kinds.File
+        ≡ Some (objects.File mode content)
         → length content ≡ size → IfOk result (λ _. TakesIn content hasher.old hasher.new) }
     ensures fault_has_cause { IsCaused (IsErrOf result HostEnd.Fault) (H.moments host.old)
         (HasFile root.now digest.now) (H.faults host.old) (H.faults host.new) }
@@ -93,7 +96,8 @@ fn stored_digest<H: Host>(
     requires { is_permission mode ≡ true }
     ensures unchanged { Unchanged (H.moments host.old) (H.moments host.new) }
     ensures tells { (m : Moments) → H.moments host.old ≡ Some m
-        → (bits : ℕ) (content : List ℕ) → store root.now (shows m.now) digest.now kinds.File ≡ Some (objects.File bits content)
+        → (bits : ℕ) (content : List ℕ) → store root.now (shows m.now) digest.now kinds.File
+        ≡ Some (objects.File bits content)
         → length content ≡ size → IfOk result (λ got. got ≡ file_digest mode content) }
     ensures fault_has_cause { IsCaused (IsErrOf result HostEnd.Fault) (H.moments host.old)
         (HasFile root.now digest.now) (H.faults host.old) (H.faults host.new) }
@@ -104,7 +108,8 @@ fn stored_digest<H: Host>(
     Ok(hasher.finish())
 }
 
-/// Checks that the file with these permission bits and of this size is the one that its digest names.
+/// Checks that the file with these permission bits and of this size is the one that its digest
+/// names.
 #[tactic(auto, using(crate::proofs::Checked::stored_refused, crate::proofs::Checked::stored_good, crate::proofs::Checked::stored_corrupt))]
 fn check_file<H: Host>(
     alloc: Global,
@@ -144,8 +149,8 @@ fn check_text(alloc: Global, digest: &Digest, text: &Text) -> Result<bool, WalkE
     }
 }
 
-/// Whether the store in this folder has the file or link, which is checked as that of a remote is. A file is read piece by
-/// piece and never stands whole in memory.
+/// Whether the store in this folder has the file or link, which is checked as that of a remote is.
+/// A file is read piece by piece and never stands whole in memory.
 pub fn check_stored<H: Host>(
     alloc: Global,
     host: &mut H,

@@ -21,7 +21,8 @@ use std::alloc::Global;
 pub enum Content {
     /// A link with this text, checked.
     Link(Text),
-    /// A file with these permission bits and of this size, within the limits. Its digest isn't known yet.
+    /// A file with these permission bits and of this size, within the limits. Its digest isn't
+    /// known yet.
     File { mode: u32, size: u64 },
 }
 
@@ -69,8 +70,9 @@ fn content_in(alloc: Global, digest: &Digest, node: Node) -> Result<Content, Wal
     }
 }
 
-/// The file or link of the remote at the url, whose content isn't read. It is refused where it is missing, too long or of
-/// permission bits that aren't taken, and where a link's digest isn't its name.
+/// The file or link of the remote at the url, whose content isn't read. It is refused where it is
+/// missing, too long or of permission bits that aren't taken, and where a link's digest isn't its
+/// name.
 pub(crate) fn remote_content<R: Remotes>(
     alloc: Global,
     remotes: &mut R,

@@ -16,8 +16,8 @@ use ost_content::ContentHasher;
 use ost_store::stage_piece;
 use ost_walk::WalkEnd;
 
-/// Adds the bytes of the remote's file from this place on, as many as there is room for or are left, to the end of the new
-/// file, and takes them in. Says how many.
+/// Adds the bytes of the remote's file from this place on, as many as there is room for or are
+/// left, to the end of the new file, and takes them in. Says how many.
 fn copy_piece<H: Host, R: Remotes>(
     host: &mut H,
     remotes: &mut R,
@@ -33,7 +33,8 @@ fn copy_piece<H: Host, R: Remotes>(
     ensures bound { IfOk result (λ n. n ≤ length room.old) }
     ensures tells { (held : Holdings) → R.holds remotes.old ≡ Some held
         → IfOk result (CameFrom (bytes_of (held url.now from.now)) at room.new) }
-    ensures appends { IfOk result (λ n. AtEnd (Appends to.now (take n room.new)) (H.moments host.old) (H.moments host.new)) }
+    ensures appends { IfOk result
+        (λ n. AtEnd (Appends to.now (take n room.new)) (H.moments host.old) (H.moments host.new)) }
     ensures hashes { IfOk result (λ n. TakesIn (take n room.new) hasher.old hasher.new) }
     ensures long { IfOk result (λ n. length (take n room.new) ≡ n) }
     ensures refuses { (w : WalkFault) → IsErrOf result (WalkEnd.Refused w) → ⊥ }
@@ -49,8 +50,9 @@ fn copy_piece<H: Host, R: Remotes>(
     Ok(count)
 }
 
-/// Adds the remote's file of this size to the end of the new file, as many bytes at once as the buffer has room for, and takes
-/// them in. It ends where the remote has no more bytes, and takes no more than the size.
+/// Adds the remote's file of this size to the end of the new file, as many bytes at once as the
+/// buffer has room for, and takes them in. It ends where the remote has no more bytes, and takes no
+/// more than the size.
 fn copy_pieces<H: Host, R: Remotes>(
     host: &mut H,
     remotes: &mut R,
@@ -93,8 +95,8 @@ fn copy_pieces<H: Host, R: Remotes>(
     Ok(())
 }
 
-/// Adds the remote's file of this size to the end of the new file with these permission bits, which is empty, and gives the
-/// digest of what it then is.
+/// Adds the remote's file of this size to the end of the new file with these permission bits, which
+/// is empty, and gives the digest of what it then is.
 #[tactic(auto, using(crate::proofs::Copied::copied_digest))]
 pub(crate) fn copy_file<H: Host, R: Remotes>(
     host: &mut H,

@@ -1,4 +1,5 @@
-//! Files and links, checked piece by piece: those of a store, and those of a remote while they come to a folder.
+//! Files and links, checked piece by piece: those of a store, and those of a remote while they come
+//! to a folder.
 #![tactic(auto)]
 
 mod bringing;

@@ -34,7 +34,9 @@ pub(crate) fn refused(digest: &Digest, fault: ObjectFault) -> WalkEnd
 pub(crate) fn check_limits(digest: &Digest, mode: u32, size: u64) -> Result<(), WalkEnd>
     ensures fit { IfOk result (λ _. IsWithinLimits mode size) }
     ensures tells { (bytes : List ℕ) → length bytes ≡ size
-        → EndsBy (λ _. IsWithinLimits mode size) (IsFaultOf digest.now kinds.File (object_fault digest.now kinds.File (Some (objects.File mode bytes)))) result }
+        → EndsBy (λ _. IsWithinLimits mode size)
+        (IsFaultOf digest.now kinds.File
+        (object_fault digest.now kinds.File (Some (objects.File mode bytes)))) result }
     ensures faults { NoFault result }
 {
     if size > MOST_FILE_BYTES {

@@ -71,11 +71,13 @@ rows_in [] = []
 rows_in (last ∷ []) = []
 rows_in (line ∷ next ∷ more) = row_before (row_in line) (rows_in (next ∷ more))
 
--- the first line that isn't formed as a row, counted from a number; what stands after the last newline is one, unless nothing does
+-- the first line that isn't formed as a row, counted from a number; what stands after the last
+-- newline is one, unless nothing does
 abbrev pub unformed_in : ℕ → List (List ℕ) → Option ℕ
 unformed_in number [] = None
 unformed_in number (last ∷ []) = if length last == 0 then None else Some number
-unformed_in number (line ∷ next ∷ more) = if is_some (row_in line) then unformed_in (number + 1) (next ∷ more) else Some number
+unformed_in number (line ∷ next ∷ more) =
+    if is_some (row_in line) then unformed_in (number + 1) (next ∷ more) else Some number
 
 -- ---- the whole
 
@@ -87,22 +89,26 @@ judged d None None = Ok d
 
 abbrev pub with_rows : ℕ → List ℕ → List (List ℕ) → Result Description ℕ
 with_rows timestamp subject lines =
-    judged (record { timestamp = timestamp; subject = subject; rows = rows_in lines }) (unformed_in 3 lines) (first_refused (rows_in lines))
+    judged (record { timestamp = timestamp; subject = subject; rows = rows_in lines })
+    (unformed_in 3 lines) (first_refused (rows_in lines))
 
 abbrev pub or_bad : {A B : Type 0} → ℕ → Option A → (A → Result B ℕ) → Result B ℕ
 or_bad number None next = Err number
 or_bad number (Some x) next = next x
 
 -- what the first line says, by a reader of lines, and the lines after it
-abbrev pub first_by : {A : Type 0} → (List ℕ → Option A) → List (List ℕ) → Option (A × List (List ℕ))
+abbrev pub first_by : {A : Type 0} → (List ℕ → Option A) → List (List ℕ)
+    → Option (A × List (List ℕ))
 first_by read [] = None
 first_by read (last ∷ []) = None
 first_by read (line ∷ after ∷ more) = option_map (λ x. (x, after ∷ more)) (read line)
 
 abbrev pub described_by : List (List ℕ) → Result Description ℕ
-described_by lines = or_bad 1 (first_by timestamp_in lines) λ first. or_bad 2 (first_by subject_in first.1) λ second. with_rows first.0 second.0 second.1
+described_by lines = or_bad 1 (first_by timestamp_in lines) λ first. or_bad 2
+    (first_by subject_in first.1) λ second. with_rows first.0 second.0 second.1
 
--- What bytes describe, or the first line that is bad, counted from 1: one that isn't formed so, or the line of the first row that
--- is refused. A line that isn't there, and what no newline ends, is bad.
+-- What bytes describe, or the first line that is bad, counted from 1: one that isn't formed so, or
+-- the line of the first row that is refused. A line that isn't there, and what no newline ends, is
+-- bad.
 unfoldable pub described : List ℕ → Result Description ℕ
 described bytes = described_by (pieces bytes)

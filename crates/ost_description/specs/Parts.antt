@@ -12,18 +12,21 @@ use Rattle.ost_description.specs.Steps.{◌>>=◌, where_it}
 
 -- what stands before the first such byte, and after it
 unfoldable pub parts_at : ℕ → List ℕ → Option (List ℕ × List ℕ)
-parts_at byte bytes = option_map (λ at. (take at bytes, drop (at + 1) bytes)) (position (λ b. b == byte) bytes)
+parts_at byte bytes =
+    option_map (λ at. (take at bytes, drop (at + 1) bytes)) (position (λ b. b == byte) bytes)
 
 -- decimal digits, one or more, without a leading zero
 abbrev pub has_leading_zero : List ℕ → Bool
 has_leading_zero text = nat_lt 1 (length text) && slice_index text 0 == 48
 
 abbrev pub are_digits : List ℕ → Bool
-are_digits text = not (length text == 0) && not (has_leading_zero text) && list_all is_ascii_digit text
+are_digits text =
+    not (length text == 0) && not (has_leading_zero text) && list_all is_ascii_digit text
 
 -- a number below 2^64
 unfoldable pub number_in : List ℕ → Option ℕ
-number_in text = where_it (are_digits text && nat_lt (digits_value 10 text) (2 ^ 64)) (digits_value 10 text)
+number_in text =
+    where_it (are_digits text && nat_lt (digits_value 10 text) (2 ^ 64)) (digits_value 10 text)
 
 abbrev pub octal_in : ℕ → Option ℕ
 octal_in c = if nat_lt c 48 || nat_lt 55 c then None else Some (c - 48)
@@ -44,7 +47,8 @@ is_lower_digit c = (nat_le 48 c && nat_le c 57) || (nat_le 97 c && nat_le c 102)
 
 -- the bytes of lower-case hexadecimal, one or more
 unfoldable pub hex_in : List ℕ → Option (List ℕ)
-hex_in text = if not (length text == 0) && list_all is_lower_digit text then result_ok (decode_of text) else None
+hex_in text = if not (length text == 0) && list_all is_lower_digit text
+    then result_ok (decode_of text) else None
 
 -- the bytes of a file, for none of which a dash stands
 unfoldable pub content_in : List ℕ → Option (List ℕ)
@@ -52,7 +56,8 @@ content_in text = if bytes_eq text (codes "-") then Some [] else hex_in text
 
 -- a path without spaces
 unfoldable pub path_in : List ℕ → Option Elements
-path_in text = where_it (is_utf8 text && not (list_any (λ b. b == 32) text) && list_all is_element (cut text)) (cut text)
+path_in text = where_it (is_utf8 text && not (list_any (λ b. b == 32) text)
+    && list_all is_element (cut text)) (cut text)
 
 unfoldable pub text_in : List ℕ → Option (List ℕ)
 text_in text = where_it (is_utf8 text) text

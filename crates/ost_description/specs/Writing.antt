@@ -19,7 +19,8 @@ content_text (b ∷ bs) = encode_lower (b ∷ bs)
 
 abbrev pub row_text : TreeRow → List ℕ
 row_text (row.Dir path) = codes "dir " ++ path_text path
-row_text (row.File path mode bytes) = codes "file " ++ (path_text path ++ (32 ∷ (mode_text mode ++ (32 ∷ content_text bytes))))
+row_text (row.File path mode bytes) =
+    codes "file " ++ (path_text path ++ (32 ∷ (mode_text mode ++ (32 ∷ content_text bytes))))
 row_text (row.Link path target) = codes "link " ++ (path_text path ++ (32 ∷ target))
 
 abbrev pub with_newline : List ℕ → List ℕ
@@ -30,7 +31,8 @@ abbrev pub rows_text : List TreeRow → List ℕ
 rows_text rows = flat_map (λ r. with_newline (row_text r)) rows
 
 abbrev pub heading_text : ℕ → List ℕ → List ℕ
-heading_text timestamp subject = with_newline (codes "timestamp " ++ decimal timestamp) ++ with_newline (codes "subject " ++ subject)
+heading_text timestamp subject = with_newline (codes "timestamp " ++ decimal timestamp)
+    ++ with_newline (codes "subject " ++ subject)
 
 abbrev pub description_text : Description → List ℕ
 description_text d = heading_text d.timestamp d.subject ++ rows_text d.rows

@@ -17,11 +17,13 @@ use std::thread::Threads;
 
 /// The commit of the tree that the bytes describe, bound to the ref.
 ///
-/// A description is lines, each with a newline at its end: `timestamp T`, the time in seconds since the beginning of 1970, below
-/// 2^64; `subject TEXT`, at most 1,024 bytes of UTF-8 without control characters; then any of `dir PATH`, `file PATH MODE HEX`
-/// and `link PATH TARGET`. T has no leading zero. A PATH has no spaces, MODE is three octal digits, HEX is lower-case
-/// hexadecimal, or a dash for no bytes, and TARGET goes to the line's end. `Record` names the first line that isn't so, or
-/// whose row `commit_tree` refuses, whichever comes first. A line that isn't there is named by its number.
+/// A description is lines, each with a newline at its end: `timestamp T`, the time in seconds since
+/// the beginning of 1970, below 2^64; `subject TEXT`, at most 1,024 bytes of UTF-8 without control
+/// characters; then any of `dir PATH`, `file PATH MODE HEX` and `link PATH TARGET`. T has no
+/// leading zero. A PATH has no spaces, MODE is three octal digits, HEX is lower-case hexadecimal,
+/// or a dash for no bytes, and TARGET goes to the line's end. `Record` names the first line that
+/// isn't so, or whose row `commit_tree` refuses, whichever comes first. A line that isn't there is
+/// named by its number.
 pub fn commit_description(
     rt: &(impl Threads + Sync),
     alloc: Global,
@@ -45,8 +47,8 @@ pub fn commit_description(
     }
 }
 
-/// Why there is no commit where rows make none, for this reason, and a line that isn't formed as a row, if there is one, stands
-/// after them.
+/// Why there is no commit where rows make none, for this reason, and a line that isn't formed as a
+/// row, if there is one, stands after them.
 fn refusal(error: BuildError, unformed: Option<u64>) -> DescriptionError
     requires small { (number : ℕ) → error ≡ errors.Row number → number + 2 < 2 ^ 64 }
     ensures { (d : Description) → IsBuildFault d.rows error

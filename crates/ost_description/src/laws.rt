@@ -1,5 +1,5 @@
-//! Laws of the words that the contracts use, for crates that build on them. Each is the contract of a function that
-//! does nothing.
+//! Laws of the words that the contracts use, for crates that build on them. Each is the contract of
+//! a function that does nothing.
 
 ghost use Rattle.std.specs.Prelude.{◌≡◌, ◌∷◌, ◌++◌, ◌+◌, ℕ, List, None, Some, false, length};
 ghost use Rattle.std.specs.List.{list_any};
@@ -8,8 +8,9 @@ ghost use Rattle.ost_description.specs.declared.description.Description.{Descrip
 ghost use Rattle.ost_description.specs.Descriptions.{described, judged, row_in};
 ghost use Rattle.ost_description.specs.Writing.{IsWritable, description_text, is_newline};
 
-/// A written description reads back, or is refused at the first row that `commit_tree` refuses. Where a line stands after it that
-/// isn't formed as a row, that line is the bad one, unless such a row comes before; so there is a bad description for each line.
+/// A written description reads back, or is refused at the first row that `commit_tree` refuses.
+/// Where a line stands after it that isn't formed as a row, that line is the bad one, unless such a
+/// row comes before; so there is a bad description for each line.
 pub fn written_descriptions_read_back()
     ensures reads { (d : Description) → IsWritable d
         → described (description_text d) ≡ judged d None (first_refused d.rows) }

@@ -139,7 +139,8 @@ fn read_heading(bytes: &[u8]) -> Result<Heading, DescriptionError>
 
 /// The number of a first line `timestamp T`, and what stands after it.
 fn timestamp_line(bytes: &[u8]) -> Option<(u64, &[u8])>
-    ensures line { Gives (λ p. (p.0, pieces p.1.now)) result (first_by timestamp_in (pieces bytes.now)) }
+    ensures line { Gives (λ p. (p.0, pieces p.1.now)) result
+        (first_by timestamp_in (pieces bytes.now)) }
     ensures shorter { IfSome result (λ p. length p.1.now < length bytes.now) }
 {
     let (line, rest) = cut(b'\n', bytes)?;
@@ -148,7 +149,8 @@ fn timestamp_line(bytes: &[u8]) -> Option<(u64, &[u8])>
 
 /// The text of a first line `subject TEXT`, and what stands after it.
 fn subject_line(bytes: &[u8]) -> Option<(&str, &[u8])>
-    ensures line { Gives (λ p. (p.0.now, pieces p.1.now)) result (first_by subject_in (pieces bytes.now)) }
+    ensures line { Gives (λ p. (p.0.now, pieces p.1.now)) result
+        (first_by subject_in (pieces bytes.now)) }
     ensures shorter { IfSome result (λ p. length p.1.now < length bytes.now) }
 {
     let (line, rest) = cut(b'\n', bytes)?;
@@ -196,7 +198,8 @@ fn leftover(rest: &[u8], number: u64) -> Option<u64>
     if rest.is_empty() { None } else { Some(number) }
 }
 
-/// A description up to the first line that isn't formed as its place wants, and the number of that line.
+/// A description up to the first line that isn't formed as its place wants, and the number of that
+/// line.
 #[derive(Drop)]
 pub(crate) struct Draft {
     pub(crate) description: Description,

@@ -51,12 +51,18 @@ IsFolderAbove root r q = IsStoreFolder root q ⊎ IsAbove q (ref_path root r)
 abbrev pub IsExportFolder : Elements → Ref → Elements → Type 0
 IsExportFolder root r q = IsFolderAbove root r q ⊎ (q ≡ remotes root)
 
--- What may stand where before the ref is written: work at the first free name of repo/tmp, new objects, `config`, and folders.
+-- What may stand where before the ref is written: work at the first free name of repo/tmp, new
+-- objects, `config`, and folders.
 abbrev pub FurnishesAt : Have → Elements → Ref → View → Elements → Spot → Type 0
-FurnishesAt have root r u q spot = IsWorkAt u q spot ⊎ (IsNewObject have root u q spot ⊎ ((IsExportFolder root r q × (spot ≡ folder)) ⊎ ((q ≡ config_path root) × IsNew config_text spot)))
+FurnishesAt have root r u q spot = IsWorkAt u q spot
+    ⊎ (IsNewObject have root u q spot
+    ⊎ ((IsExportFolder root r q × (spot ≡ folder))
+    ⊎ ((q ≡ config_path root) × IsNew config_text spot)))
 
 abbrev pub FurnishesName : Have → Elements → Ref → View → Elements → Slot → Type 0
-FurnishesName have root r u q e = IsWork u q ⊎ (IsNewName have root u q ⊎ ((IsExportFolder root r q × (e ≡ dir)) ⊎ ((q ≡ config_path root) × IsFile e)))
+FurnishesName have root r u q e = IsWork u q
+    ⊎ (IsNewName have root u q
+    ⊎ ((IsExportFolder root r q × (e ≡ dir)) ⊎ ((q ≡ config_path root) × IsFile e)))
 
 -- Only new files get bytes.
 pub record Furnishes (have : Have) (root : Elements) (r : Ref) (u w : View) : Type 0 where
@@ -65,13 +71,15 @@ pub record Furnishes (have : Have) (root : Elements) (r : Ref) (u w : View) : Ty
 
 -- and the ref's file too
 abbrev pub ExportsAt : Have → Elements → Ref → List ℕ → View → Elements → Spot → Type 0
-ExportsAt have root r commit u q spot = FurnishesAt have root r u q spot ⊎ ((q ≡ ref_path root r) × IsNew (ref_bytes commit) spot)
+ExportsAt have root r commit u q spot =
+    FurnishesAt have root r u q spot ⊎ ((q ≡ ref_path root r) × IsNew (ref_bytes commit) spot)
 
 abbrev pub ExportsName : Have → Elements → Ref → View → Elements → Slot → Type 0
 ExportsName have root r u q e = FurnishesName have root r u q e ⊎ ((q ≡ ref_path root r) × IsFile e)
 
 -- So an export goes on into the store at root. Only new files get bytes.
-pub record Exports (have : Have) (root : Elements) (r : Ref) (commit : List ℕ) (u w : View) : Type 0 where
+pub record Exports (have : Have) (root : Elements) (r : Ref) (commit : List ℕ)
+    (u w : View) : Type 0 where
   pub keeps : Keeps (ExportsAt have root r commit u) (ExportsName have root r u) (IsWork u) u w
   pub files : KeepsFiles u w
 
@@ -85,23 +93,29 @@ FurnishesSynced have root r u w = (w ≡ u) ⊎ Furnishes have root r (done sync
 -- the name holds what it held, and at each stop what some stop before would have left there
 pub record IsSpared (q : Elements) (u w : View) : Type 0 where
   pub name : w.names q ≡ u.names q
-  pub outcomes : (disk : Disk) → Leaves w disk → (before : Disk) × Leaves u before × (disk q ≡ before q)
+  pub outcomes : (disk : Disk) → Leaves w disk
+      → (before : Disk) × Leaves u before × (disk q ≡ before q)
 
 -- ---- the end
 
--- the store has none of these objects under another's name: nothing stands at each name, or the object itself
+-- the store has none of these objects under another's name: nothing stands at each name, or the
+-- object itself
 pub record AreFit (have : Have) (root : Elements) (v : View) : Type 0 where
-  pub each : (d : List ℕ) (kind : ObjKind) (object : Object) → have d kind ≡ Some object → IsFitFor root d kind object v
+  pub each : (d : List ℕ) (kind : ObjKind) (object : Object) → have d kind ≡ Some object
+      → IsFitFor root d kind object v
 
--- The disk has a store of mode `bare-user-only` whose ref has the commit, which has no fault, and these objects.
-pub record IsOffered (have : Have) (root : Elements) (r : Ref) (commit : List ℕ) (disk : Disk) : Type 0 where
+-- The disk has a store of mode `bare-user-only` whose ref has the commit, which has no fault, and
+-- these objects.
+pub record IsOffered (have : Have) (root : Elements) (r : Ref) (commit : List ℕ)
+    (disk : Disk) : Type 0 where
   pub config : IsNew config_text (disk (config_path root))
   pub ref : IsNew (ref_bytes commit) (disk (ref_path root r))
-  pub stored : (d : List ℕ) (kind : ObjKind) (object : Object) → have d kind ≡ Some object → store root disk d kind ≡ Some object
+  pub stored : (d : List ℕ) (kind : ObjKind) (object : Object) → have d kind ≡ Some object
+      → store root disk d kind ≡ Some object
   pub clean : first_fault (store root disk) commit ≡ None
 
--- Where it may be done: nothing stands at `config` and at the ref's place, or a file; and the folders above what it writes are
--- absent or folders.
+-- Where it may be done: nothing stands at `config` and at the ref's place, or a file; and the
+-- folders above what it writes are absent or folders.
 pub record CanExport (root : Elements) (r : Ref) (v : View) : Type 0 where
   pub config : IsFreeFile (config_path root) v
   pub ref : IsFreeFile (ref_path root r) v
@@ -111,16 +125,19 @@ pub record CanExport (root : Elements) (r : Ref) (v : View) : Type 0 where
 abbrev pub IsExported : Elements → Ref → Elements → Type 0
 IsExported root r q = IsObjectName root q ⊎ ((q ≡ config_path root) ⊎ (q ≡ ref_path root r))
 
--- On Ok every stop leaves what stands, the ref is offered, and nothing is left of the work. Each new file that has bytes
--- came to such a name.
-pub record WasExported (have : Have) (root : Elements) (r : Ref) (commit : List ℕ) (u w : View) : Type 0 where
+-- On Ok every stop leaves what stands, the ref is offered, and nothing is left of the work. Each
+-- new file that has bytes came to such a name.
+pub record WasExported (have : Have) (root : Elements) (r : Ref) (commit : List ℕ)
+    (u w : View) : Type 0 where
   pub settled : IsSettled w
-  pub offered : AreFit have root u → (disk : Disk) → Leaves w disk → IsOffered have root r commit disk
+  pub offered : AreFit have root u → (disk : Disk) → Leaves w disk
+      → IsOffered have root r commit disk
   pub remotes : CanExport root r u → u.names (remotes root) ≡ absent → w.names (remotes root) ≡ dir
   pub work : (q : Elements) → IsWork u q → w.names q ≡ absent
   pub shares : Shares (IsExported root r) u w
 
 -- and a file's permission bits are within 0775, a link's text is one
-pub record CanExportAll (root : Elements) (r : Ref) (objects : List BuiltObject) (v : View) : Type 0 where
+pub record CanExportAll (root : Elements) (r : Ref) (objects : List BuiltObject)
+    (v : View) : Type 0 where
   pub keepable : AllByRecursion IsKeepableObject objects
   pub can : CanExport root r v

@@ -21,7 +21,8 @@ pub record IsTheObject (d : List ℕ) (kind : ObjKind) (object : Object) (spot :
   pub is : object_at kind spot ≡ Some object
 
 -- one of these objects at its name in the store
-pub record IsObjectOf (have : Have) (root : Elements) (objects : List Named) (q : Elements) (spot : Spot) : Type 0 where
+pub record IsObjectOf (have : Have) (root : Elements) (objects : List Named) (q : Elements)
+    (spot : Spot) : Type 0 where
   pub name : Named
   pub object : Object
   pub among : In objects name
@@ -36,12 +37,15 @@ pub record IsNameOf (root : Elements) (objects : List Named) (q : Elements) : Ty
   pub digits : is_digest name.0 ≡ true
   pub at : q ≡ object_path root name.0 name.1
 
--- What may stand where: these objects at their names, folders above them, and nothing in the work folder t.
+-- What may stand where: these objects at their names, folders above them, and nothing in the work
+-- folder t.
 abbrev pub PutsAt : Have → Elements → Elements → List Named → Elements → Spot → Type 0
-PutsAt have root t objects q spot = (IsWithin t q × (spot ≡ gone)) ⊎ (IsObjectOf have root objects q spot ⊎ (IsAboveObject root q × (spot ≡ folder)))
+PutsAt have root t objects q spot = (IsWithin t q × (spot ≡ gone))
+    ⊎ (IsObjectOf have root objects q spot ⊎ (IsAboveObject root q × (spot ≡ folder)))
 
 abbrev pub PutsName : Elements → Elements → List Named → Elements → Slot → Type 0
-PutsName root t objects q e = (IsWithin t q × (e ≡ absent)) ⊎ (IsNameOf root objects q ⊎ (IsAboveObject root q × (e ≡ dir)))
+PutsName root t objects q e =
+    (IsWithin t q × (e ≡ absent)) ⊎ (IsNameOf root objects q ⊎ (IsAboveObject root q × (e ≡ dir)))
 
 pub record Puts (have : Have) (root t : Elements) (objects : List Named) (u w : View) : Type 0 where
   pub keeps : Keeps (PutsAt have root t objects) (PutsName root t objects) NoPath u w
@@ -64,10 +68,11 @@ pub record AreLacking (root : Elements) (objects : List Named) (v : View) : Type
   pub free : (o : Named) → In objects o → v.names (object_path root o.0 o.1) ≡ absent
 
 -- where they may be placed
-pub record CanPlaceAll (have : Have) (root t : Elements) (objects : List Named) (v : View) : Type 0 where
-  pub ready : AreReady have t objects v
-  pub lacking : AreLacking root objects v
-  pub open_above : AreOpen root v
+pub record CanPlaceAll (have : Have) (root t : Elements) (objects : List Named) (v : View) : Type 0
+  where
+    pub ready : AreReady have t objects v
+    pub lacking : AreLacking root objects v
+    pub open_above : AreOpen root v
 
 -- What stood at the object's path in the folder t stands at its name, and was put there.
 pub record CameTo (root t : Elements) (u w : View) (o : Named) : Type 0 where
@@ -77,14 +82,17 @@ pub record CameTo (root t : Elements) (u w : View) (o : Named) : Type 0 where
 -- all of these came to their names, and the others are as before
 pub record PlacesAll (root t : Elements) (objects : List Named) (u w : View) : Type 0 where
   pub came : (o : Named) → In objects o → CameTo root t u w o
-  pub others : (d : List ℕ) (kind : ObjKind) → is_digest d ≡ true → (In objects (d, kind) → ⊥) → Stays (object_path root d kind) u w
+  pub others : (d : List ℕ) (kind : ObjKind) → is_digest d ≡ true → (In objects (d, kind) → ⊥)
+      → Stays (object_path root d kind) u w
 
 -- the same where these are still to come
 pub record PlacesSome (root t : Elements) (objects left : List Named) (u w : View) : Type 0 where
   pub among : (o : Named) → In left o → In objects o
   pub came : (o : Named) → In objects o → In left o ⊎ ((In left o → ⊥) × CameTo root t u w o)
-  pub still : (o : Named) → In left o → Stays (object_path t o.0 o.1) u w × Stays (object_path root o.0 o.1) u w
-  pub others : (d : List ℕ) (kind : ObjKind) → is_digest d ≡ true → (In objects (d, kind) → ⊥) → Stays (object_path root d kind) u w
+  pub still : (o : Named) → In left o → Stays (object_path t o.0 o.1) u w
+      × Stays (object_path root o.0 o.1) u w
+  pub others : (d : List ℕ) (kind : ObjKind) → is_digest d ≡ true → (In objects (d, kind) → ⊥)
+      → Stays (object_path root d kind) u w
 
 -- they came to their names, the folder t is gone, and every stop leaves what stands
 pub record WasStored (root t : Elements) (objects : List Named) (u w : View) : Type 0 where
@@ -99,8 +107,9 @@ abbrev pub PutsStaged : Have → Elements → Elements → List Named → View �
 PutsStaged have root t objects u w = AreStaged have t objects u → Puts have root t objects u w
 
 -- where they may be stored
-pub record CanStore (have : Have) (root t : Elements) (objects : List Named) (v : View) : Type 0 where
-  pub staged : AreStaged have t objects v
-  pub lacking : AreLacking root objects v
-  pub clears : CanClear t v
-  pub store_open : AreOpen root v
+pub record CanStore (have : Have) (root t : Elements) (objects : List Named) (v : View) : Type 0
+  where
+    pub staged : AreStaged have t objects v
+    pub lacking : AreLacking root objects v
+    pub clears : CanClear t v
+    pub store_open : AreOpen root v

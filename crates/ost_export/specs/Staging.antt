@@ -26,7 +26,8 @@ Named = List ℕ × ObjKind
 abbrev pub name_of : BuiltObject → Named
 name_of o = (o.digest, o.kind)
 
--- the place in repo/tmp is one of the names new0, new1 and so on, and the store at root is neither repo/tmp nor below it
+-- the place in repo/tmp is one of the names new0, new1 and so on, and the store at root is neither
+-- repo/tmp nor below it
 pub record IsApart (root t : Elements) : Type 0 where
   pub number : ℕ
   pub is : t ≡ new_name number ∷ tmp
@@ -61,7 +62,8 @@ pub record IsStagedObject (have : Have) (t : Elements) (o : Named) (v : View) : 
 pub record AreStaged (have : Have) (t : Elements) (staged : List Named) (v : View) : Type 0 where
   pub each : (o : Named) → In staged o → IsStagedObject have t o v
   pub once : IsOnce staged
-  pub only : (d : List ℕ) (kind : ObjKind) → is_digest d ≡ true → (v.names (object_path t d kind) ≡ absent) ⊎ In staged (d, kind)
+  pub only : (d : List ℕ) (kind : ObjKind) → is_digest d ≡ true
+      → (v.names (object_path t d kind) ≡ absent) ⊎ In staged (d, kind)
 
 -- whether nothing stands at the path
 abbrev pub IsAbsentSaid : Elements → View → Bool → Type 0
@@ -70,32 +72,40 @@ IsAbsentSaid p v false = v.names p ≡ absent → ⊥
 
 -- whether nothing stands at the object's name in the store, nor in the work folder
 abbrev pub IsLacking : Elements → Elements → Named → View → Bool → Type 0
-IsLacking root t o v true = (v.names (object_path root o.0 o.1) ≡ absent) × (v.names (object_path t o.0 o.1) ≡ absent)
-IsLacking root t o v false = v.names (object_path root o.0 o.1) ≡ absent → v.names (object_path t o.0 o.1) ≡ absent → ⊥
+IsLacking root t o v true =
+    (v.names (object_path root o.0 o.1) ≡ absent) × (v.names (object_path t o.0 o.1) ≡ absent)
+IsLacking root t o v false =
+    v.names (object_path root o.0 o.1) ≡ absent → v.names (object_path t o.0 o.1) ≡ absent → ⊥
 
--- An object that the store lacks was staged, if it wasn't before. Where new files that have bytes stood at the objects'
--- names, they do.
-pub record StagesOne (have : Have) (root t : Elements) (o : Named) (before after : List Named) (v w : View) : Type 0 where
+-- An object that the store lacks was staged, if it wasn't before. Where new files that have bytes
+-- stood at the objects' names, they do.
+pub record StagesOne (have : Have) (root t : Elements) (o : Named) (before after : List Named)
+    (v w : View) : Type 0 where
   pub on : AreStaged have t before v → AreStaged have t after w
   pub more : (p : Named) → In before p → In after p
-  pub new : (p : Named) → In after p → In before p ⊎ ((p ≡ o) × (v.names (object_path root o.0 o.1) ≡ absent))
+  pub new : (p : Named) → In after p → In before p
+      ⊎ ((p ≡ o) × (v.names (object_path root o.0 o.1) ≡ absent))
   pub waits : AreStaged have t before v → v.names (object_path root o.0 o.1) ≡ absent → In after o
   pub gathers : (u : View) → Gathers (IsObjectName t) u v → Gathers (IsObjectName t) u w
 
 -- the store lacked each that is staged, and new files that have bytes stand at the objects' names
-pub record HasStaged (have : Have) (root t : Elements) (staged : List Named) (u w : View) : Type 0 where
-  pub are : AreStaged have t staged w
-  pub new : (o : Named) → In staged o → u.names (object_path root o.0 o.1) ≡ absent
-  pub gathers : Gathers (IsObjectName t) u w
+pub record HasStaged (have : Have) (root t : Elements) (staged : List Named) (u w : View) : Type 0
+  where
+    pub are : AreStaged have t staged w
+    pub new : (o : Named) → In staged o → u.names (object_path root o.0 o.1) ≡ absent
+    pub gathers : Gathers (IsObjectName t) u w
 
 -- the object is staged where the store lacked it
-pub record IsCovered (root : Elements) (staged : List Named) (u : View) (o : BuiltObject) : Type 0 where
-  pub digits : is_digest o.digest ≡ true
-  pub waits : u.names (object_path root o.digest o.kind) ≡ absent → In staged (name_of o)
+pub record IsCovered (root : Elements) (staged : List Named) (u : View) (o : BuiltObject) : Type 0
+  where
+    pub digits : is_digest o.digest ≡ true
+    pub waits : u.names (object_path root o.digest o.kind) ≡ absent → In staged (name_of o)
 
 -- so far as these objects go
-abbrev pub StagesSome : Have → Elements → Elements → List BuiltObject → List Named → View → View → Type 0
-StagesSome have root t objects staged u w = IsCleared t u → HasStaged have root t staged u w × AllByRecursion (IsCovered root staged u) objects
+abbrev pub StagesSome : Have → Elements → Elements → List BuiltObject → List Named → View
+    → View → Type 0
+StagesSome have root t objects staged u w = IsCleared t u
+    → HasStaged have root t staged u w × AllByRecursion (IsCovered root staged u) objects
 
 -- the object is the first of its digest and kind, and the one that its digest names
 pub record IsIn (have : Have) (o : BuiltObject) : Type 0 where

@@ -35,7 +35,8 @@ abbrev pub IsWorkAt : View → Elements → Spot → Type 0
 IsWorkAt u q spot = IsWork u q × ((spot ≡ gone) ⊎ (length q ≤ 6))
 
 -- one of these objects comes to its name, at which nothing stood at the entry
-pub record IsNewObject (have : Have) (root : Elements) (u : View) (q : Elements) (spot : Spot) : Type 0 where
+pub record IsNewObject (have : Have) (root : Elements) (u : View) (q : Elements)
+    (spot : Spot) : Type 0 where
   pub digest : List ℕ
   pub kind : ObjKind
   pub object : Object
@@ -60,10 +61,12 @@ IsStoreFolder root q = IsAboveObject root q ⊎ ((q ≡ repo) ⊎ (q ≡ tmp))
 
 -- What may stand where: work at the first free name of repo/tmp, new objects, and folders.
 abbrev pub StoresAt : Have → Elements → View → Elements → Spot → Type 0
-StoresAt have root u q spot = IsWorkAt u q spot ⊎ (IsNewObject have root u q spot ⊎ (IsStoreFolder root q × (spot ≡ folder)))
+StoresAt have root u q spot =
+    IsWorkAt u q spot ⊎ (IsNewObject have root u q spot ⊎ (IsStoreFolder root q × (spot ≡ folder)))
 
 abbrev pub StoresName : Have → Elements → View → Elements → Slot → Type 0
-StoresName have root u q e = IsWork u q ⊎ (IsNewName have root u q ⊎ (IsStoreFolder root q × (e ≡ dir)))
+StoresName have root u q e =
+    IsWork u q ⊎ (IsNewName have root u q ⊎ (IsStoreFolder root q × (e ≡ dir)))
 
 -- Only new files get bytes.
 pub record StoresObjects (have : Have) (root : Elements) (u w : View) : Type 0 where
@@ -72,13 +75,16 @@ pub record StoresObjects (have : Have) (root : Elements) (u w : View) : Type 0 w
 
 -- nothing stands at the object's name, or this object
 abbrev pub IsFitFor : Elements → List ℕ → ObjKind → Object → View → Type 0
-IsFitFor root d kind object v = (v.names (object_path root d kind) ≡ absent) ⊎ (store root (shows v) d kind ≡ Some object)
+IsFitFor root d kind object v =
+    (v.names (object_path root d kind) ≡ absent) ⊎ (store root (shows v) d kind ≡ Some object)
 
--- Each object is there, where nothing else stood at its name; every stop leaves what stands, and nothing is left of the work.
--- Each new file that has bytes came to an object's name.
+-- Each object is there, where nothing else stood at its name; every stop leaves what stands, and
+-- nothing is left of the work. Each new file that has bytes came to an object's name.
 pub record HasStored (have : Have) (root : Elements) (u w : View) : Type 0 where
-  pub stored : (d : List ℕ) (kind : ObjKind) (object : Object) → have d kind ≡ Some object → IsFitFor root d kind object u → store root (shows w) d kind ≡ Some object
-  pub digits : (d : List ℕ) (kind : ObjKind) (object : Object) → have d kind ≡ Some object → is_digest d ≡ true
+  pub stored : (d : List ℕ) (kind : ObjKind) (object : Object) → have d kind ≡ Some object
+      → IsFitFor root d kind object u → store root (shows w) d kind ≡ Some object
+  pub digits : (d : List ℕ) (kind : ObjKind) (object : Object) → have d kind ≡ Some object
+      → is_digest d ≡ true
   pub settled : IsSettled w
   pub place : Elements
   pub staging : IsStaging u place

@@ -36,11 +36,14 @@ fn write_offer<H: Host>(
     requires no_work { IsNoWork root.now }
     requires whole { AreWhole built.now.objects }
     requires clean { first_fault (have_of built.now.objects) built.now.commit ≡ None }
-    ensures any_moment { Always (Exports (have_of built.now.objects) root.now name.now built.now.commit)
+    ensures any_moment { Always
+        (Exports (have_of built.now.objects) root.now name.now built.now.commit)
         (H.moments host.old) (H.moments host.new) }
-    ensures on_success { OnOk result (AtEnd (WasExported (have_of built.now.objects) root.now name.now built.now.commit)
+    ensures on_success { OnOk result
+        (AtEnd (WasExported (have_of built.now.objects) root.now name.now built.now.commit)
         (H.moments host.old) (H.moments host.new)) }
-    ensures starved { IsErrOf result HostEnd.NoMemory → AtEnd (Furnishes (have_of built.now.objects) root.now name.now)
+    ensures starved { IsErrOf result HostEnd.NoMemory
+        → AtEnd (Furnishes (have_of built.now.objects) root.now name.now)
         (H.moments host.old) (H.moments host.new) }
     ensures fault_has_cause { IsCaused (IsErrOf result HostEnd.Fault) (H.moments host.old)
         (CanExportAll root.now name.now built.now.objects) (H.faults host.old) (H.faults host.new) }
@@ -52,10 +55,12 @@ fn write_offer<H: Host>(
     write_ref(alloc, host, root, &place, &built.commit)
 }
 
-/// Writes the commit into the store below `root`, and offers it there under the ref. Objects whose names are there stay, and so do
-/// other refs; `config` and the ref's file are written anew. The folder `refs/remotes` is made where nothing stands at that name.
-/// The first change comes after a sync, the objects come first, and the ref's file last. It is for a store that is neither `repo/tmp` nor below it, and for a commit
-/// without a fault whose objects are those that their digests name, each once.
+/// Writes the commit into the store below `root`, and offers it there under the ref. Objects whose
+/// names are there stay, and so do other refs; `config` and the ref's file are written anew. The
+/// folder `refs/remotes` is made where nothing stands at that name. The first change comes after a
+/// sync, the objects come first, and the ref's file last. It is for a store that is neither
+/// `repo/tmp` nor below it, and for a commit without a fault whose objects are those that their
+/// digests name, each once.
 pub fn export<H: Host>(
     alloc: Global,
     host: &mut H,
@@ -66,15 +71,20 @@ pub fn export<H: Host>(
     requires no_work { IsNoWork root.now }
     requires whole { AreWhole built.now.objects }
     requires clean { first_fault (have_of built.now.objects) built.now.commit ≡ None }
-    // Nothing changed yet, or a stop leaves what stood at the entry, but for what an export writes: at the ref's place what
-    // stood there or the whole new file. Other refs, objects that were there and all else outside the store and the work stay.
-    ensures any_moment { Always (ExportsSynced (have_of built.now.objects) root.now name.now built.now.commit)
+    // Nothing changed yet, or a stop leaves what stood at the entry, but for what an export writes:
+    // at the ref's place what stood there or the whole new file. Other refs, objects that were
+    // there and all else outside the store and the work stay.
+    ensures any_moment { Always
+        (ExportsSynced (have_of built.now.objects) root.now name.now built.now.commit)
         (H.moments host.old) (H.moments host.new) }
-    // After it every stop leaves the store in which the ref is offered, where the store had nothing else under the objects' names.
-    ensures on_success { OnOk result (AtEnd (WasExported (have_of built.now.objects) root.now name.now built.now.commit)
+    // After it every stop leaves the store in which the ref is offered, where the store had nothing
+    // else under the objects' names.
+    ensures on_success { OnOk result
+        (AtEnd (WasExported (have_of built.now.objects) root.now name.now built.now.commit)
         (H.moments host.old) (H.moments host.new)) }
     // Where memory runs out the ref's place is as it was.
-    ensures starved { IsErrOf result HostEnd.NoMemory → AtEnd (FurnishesSynced (have_of built.now.objects) root.now name.now)
+    ensures starved { IsErrOf result HostEnd.NoMemory
+        → AtEnd (FurnishesSynced (have_of built.now.objects) root.now name.now)
         (H.moments host.old) (H.moments host.new) }
     ensures fault_has_cause { IsCaused (IsErrOf result HostEnd.Fault) (H.moments host.old)
         (CanExportAll root.now name.now built.now.objects) (H.faults host.old) (H.faults host.new) }

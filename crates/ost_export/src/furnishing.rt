@@ -51,9 +51,11 @@ pub(crate) fn write_config<H: Host>(alloc: Global, host: &mut H, root: &Path) ->
     replace(alloc, host, &path, &bytes)
 }
 
-/// Makes the folder `refs/remotes` and those above it where nothing stands there. OSTree's own tools need it.
+/// Makes the folder `refs/remotes` and those above it where nothing stands there. OSTree's own
+/// tools need it.
 pub(crate) fn make_remotes<H: Host>(alloc: Global, host: &mut H, root: &Path) -> Result<(), HostEnd>
-    ensures frame { Frame (FoldersAt (ancestors (a_remote root.now))) (DirsAt (ancestors (a_remote root.now))) NoPath
+    ensures frame { Frame (FoldersAt (ancestors (a_remote root.now)))
+        (DirsAt (ancestors (a_remote root.now))) NoPath
         (H.moments host.old) (H.moments host.new) }
     ensures on_success { OnOk result (AtEnd (λ u w. AreFree (ancestors (a_remote root.now)) u
         → u.names (remotes root.now) ≡ absent → w.names (remotes root.now) ≡ dir)

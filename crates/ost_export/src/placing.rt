@@ -24,20 +24,22 @@ fn place_one<H: Host>(
     digest: &Digest,
     kind: ObjKind,
 ) -> Result<(), HostEnd>
-    ensures any_moment { Always (Places (object_path work.now digest.now kind) (object_path root.now digest.now kind))
+    ensures any_moment { Always
+        (Places (object_path work.now digest.now kind) (object_path root.now digest.now kind))
         (H.moments host.old) (H.moments host.new) }
     ensures on_success { OnOk result (AtEnd (WasPlaced (object_path work.now digest.now kind)
         (object_path root.now digest.now kind)) (H.moments host.old) (H.moments host.new)) }
     ensures unsynced { AtEnd MakesNoFile (H.moments host.old) (H.moments host.new) }
     ensures fault_has_cause { IsCaused (IsErrOf result HostEnd.Fault) (H.moments host.old)
-        (CanPlace root.now (object_path work.now digest.now kind) digest.now kind) (H.faults host.old) (H.faults host.new) }
+        (CanPlace root.now (object_path work.now digest.now kind) digest.now kind)
+        (H.faults host.old) (H.faults host.new) }
 {
     let path = path_of(alloc, work, digest, kind)?;
     place(alloc, host, root, &path, digest, kind)
 }
 
-/// Gives these objects, which stand in the work folder, their names in the store. Nothing is synced. It is for different objects
-/// that the store lacks and that were synced.
+/// Gives these objects, which stand in the work folder, their names in the store. Nothing is
+/// synced. It is for different objects that the store lacks and that were synced.
 pub(crate) fn place_all<H: Host>(
     alloc: Global,
     host: &mut H,
@@ -49,10 +51,13 @@ pub(crate) fn place_all<H: Host>(
     ensures any_moment { (have : Have) → Always (PutsReady have root.now work.now objects.old.items)
         (H.moments host.old) (H.moments host.new) }
     ensures on_success { (have : Have) → OnOk result (AtEnd
-        (λ u w. AreReady have work.now objects.old.items u → PlacesAll root.now work.now objects.old.items u w)
+        (λ u w. AreReady have work.now objects.old.items u
+        → PlacesAll root.now work.now objects.old.items u w)
         (H.moments host.old) (H.moments host.new)) }
-    ensures fault_has_cause { (have : Have) → IsCaused (IsErrOf result HostEnd.Fault) (H.moments host.old)
-        (CanPlaceAll have root.now work.now objects.old.items) (H.faults host.old) (H.faults host.new) }
+    ensures fault_has_cause { (have : Have)
+        → IsCaused (IsErrOf result HostEnd.Fault) (H.moments host.old)
+        (CanPlaceAll have root.now work.now objects.old.items) (H.faults host.old)
+        (H.faults host.new) }
 {
     while let Some(object) = objects.pop() {
         place_one(alloc, host, root, work, &object.0, object.1)?;

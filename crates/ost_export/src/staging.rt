@@ -42,7 +42,8 @@ fn is_lacking<H: Host>(
     kind: ObjKind,
 ) -> Result<bool, HostEnd>
     ensures unchanged { Unchanged (H.moments host.old) (H.moments host.new) }
-    ensures tells { IfOk result (λ lacks. AtEnd (λ u w. IsLacking root.now work.now (digest.now, kind) u lacks)
+    ensures tells { IfOk result
+        (λ lacks. AtEnd (λ u w. IsLacking root.now work.now (digest.now, kind) u lacks)
         (H.moments host.old) (H.moments host.new)) }
     ensures fault_has_cause { IsCounted (IsErrOf result HostEnd.Fault)
         (H.moments host.old) (H.faults host.old) (H.faults host.new) }
@@ -68,7 +69,8 @@ fn stage_object<H: Host>(
     ensures any_moment { Always
         (Stages (object_path work.now object.now.digest object.now.kind) object.now.object)
         (H.moments host.old) (H.moments host.new) }
-    ensures on_success { OnOk result ((staged.new.items ≡ staged.old.items ++ name_of object.now ∷ []) × AtEnd
+    ensures on_success { OnOk result
+        ((staged.new.items ≡ staged.old.items ++ name_of object.now ∷ []) × AtEnd
         (WasStaged (object_path work.now object.now.digest object.now.kind) object.now.object)
         (H.moments host.old) (H.moments host.new)) }
     ensures digits { is_digest object.now.digest ≡ true }
@@ -96,7 +98,8 @@ fn stage_lacking<H: Host>(
 ) -> Result<(), HostEnd>
     ensures any_moment { Always (Works work.now) (H.moments host.old) (H.moments host.new) }
     ensures on_success { OnOk result ((have : Have) → IsIn have object.now
-        → AtEnd (StagesOne have root.now work.now (name_of object.now) staged.old.items staged.new.items)
+        → AtEnd (StagesOne have root.now work.now
+        (name_of object.now) staged.old.items staged.new.items)
         (H.moments host.old) (H.moments host.new)) }
     ensures digits { is_digest object.now.digest ≡ true }
     ensures fault_has_cause { IsCaused (IsErrOf result HostEnd.Fault) (H.moments host.old)
@@ -111,8 +114,9 @@ fn stage_lacking<H: Host>(
     }
 }
 
-/// Stages each of these objects at whose name in the store nothing stands, below the work folder as in a store, and answers which
-/// those are. Nothing is synced. It is for a work folder in `repo/tmp` in which nothing stands, and for a store elsewhere.
+/// Stages each of these objects at whose name in the store nothing stands, below the work folder as
+/// in a store, and answers which those are. Nothing is synced. It is for a work folder in
+/// `repo/tmp` in which nothing stands, and for a store elsewhere.
 pub(crate) fn stage_all<H: Host>(
     alloc: Global,
     host: &mut H,

@@ -18,8 +18,8 @@ use fp_small::{clear, staging_place};
 use ost_commit::BuiltObject;
 use std::alloc::Global;
 
-/// Stores the objects that stand in the work folder, and leaves nothing of it. They are made last before the first of them has
-/// its name, and again when all have.
+/// Stores the objects that stand in the work folder, and leaves nothing of it. They are made last
+/// before the first of them has its name, and again when all have.
 fn store_staged<H: Host>(
     alloc: Global,
     host: &mut H,
@@ -31,9 +31,11 @@ fn store_staged<H: Host>(
     ensures any_moment { (have : Have) → Always (PutsStaged have root.now work.now staged.old.items)
         (H.moments host.old) (H.moments host.new) }
     ensures on_success { (have : Have) → OnOk result (AtEnd
-        (λ u w. AreStaged have work.now staged.old.items u → WasStored root.now work.now staged.old.items u w)
+        (λ u w. AreStaged have work.now staged.old.items u
+        → WasStored root.now work.now staged.old.items u w)
         (H.moments host.old) (H.moments host.new)) }
-    ensures fault_has_cause { (have : Have) → IsCaused (IsErrOf result HostEnd.Fault) (H.moments host.old)
+    ensures fault_has_cause { (have : Have)
+        → IsCaused (IsErrOf result HostEnd.Fault) (H.moments host.old)
         (CanStore have root.now work.now staged.old.items) (H.faults host.old) (H.faults host.new) }
 {
     host.sync()?;
@@ -42,8 +44,8 @@ fn store_staged<H: Host>(
     Ok(host.sync()?)
 }
 
-/// Writes the objects into the store below `root`, each at whose name nothing stands. What is there stays. They are staged below
-/// the first free name of `repo/tmp`, and nothing is left there.
+/// Writes the objects into the store below `root`, each at whose name nothing stands. What is there
+/// stays. They are staged below the first free name of `repo/tmp`, and nothing is left there.
 pub(crate) fn store_objects<H: Host>(
     alloc: Global,
     host: &mut H,

@@ -29,7 +29,8 @@ head_of kinds.Commit mode = []
 head_of kinds.DirTree mode = []
 head_of kinds.DirMeta mode = []
 
--- The digest of the item decides it: what stands there is the object of this kind and this digest, and of no other.
+-- The digest of the item decides it: what stands there is the object of this kind and this digest,
+-- and of no other.
 pub record IsItemOf (kind : ObjKind) (spot : Spot) (item : Item) : Type 0 where
   pub decides : (d : List ℕ) → is_named d kind spot ≡ bytes_eq (item_digest item) d
 
@@ -48,7 +49,8 @@ IsFileItem kind mode bytes item = (id : ℕ) → IsItemIn kind (holds id mode by
 
 -- of the path, where a file with these permission bits stands there
 abbrev pub IsFileItemAt : ObjKind → ℕ → Elements → View → Option Item → Type 0
-IsFileItemAt kind mode path v item = (id : ℕ) (bytes : List ℕ) → shows v path ≡ holds id mode bytes → IsItemAt kind path v item
+IsFileItemAt kind mode path v item =
+    (id : ℕ) (bytes : List ℕ) → shows v path ≡ holds id mode bytes → IsItemAt kind path v item
 
 -- items came after the others
 pub record Grows (before after : List Item) : Type 0 where
@@ -56,7 +58,8 @@ pub record Grows (before after : List Item) : Type 0 where
   pub same : after ≡ before ++ more
 
 -- the item of this number decides whether what stands at the path is the object
-pub record IsAsked (path : Elements) (d : List ℕ) (kind : ObjKind) (v : View) (items : List Item) (number : ℕ) : Type 0 where
+pub record IsAsked (path : Elements) (d : List ℕ) (kind : ObjKind) (v : View) (items : List Item)
+    (number : ℕ) : Type 0 where
   pub item : Item
   pub there : slice_get items number ≡ Some item
   pub decides : is_named d kind (shows v path) ≡ bytes_eq (item_digest item) d
@@ -64,12 +67,14 @@ pub record IsAsked (path : Elements) (d : List ℕ) (kind : ObjKind) (v : View) 
 -- an object's name was read
 abbrev pub IsRowAt : Elements → List ℕ → ObjKind → View → List Item → Row → Type 0
 IsRowAt root d kind v items (rows.Answer seen) = LooksAt root d kind v seen.is_object seen.finding
-IsRowAt root d kind v items (rows.Question named of number) = (named ≡ d) × (of ≡ kind) × IsAsked (object_path root d kind) d kind v items number
+IsRowAt root d kind v items (rows.Question named of number) =
+    (named ≡ d) × (of ≡ kind) × IsAsked (object_path root d kind) d kind v items number
 
 -- a path was read
 abbrev pub IsRow : Elements → Elements → View → List Item → Row → Type 0
 IsRow root path v items (rows.Answer seen) = Looks root path v seen.is_object seen.finding
-IsRow root path v items (rows.Question d kind number) = IsNameOf root path (Some (d, kind)) × IsAsked path d kind v items number
+IsRow root path v items (rows.Question d kind number) =
+    IsNameOf root path (Some (d, kind)) × IsAsked path d kind v items number
 
 -- each of these paths was
 abbrev pub AreRows : Elements → List Elements → View → List Item → List Row → Type 0
@@ -88,7 +93,8 @@ is_at digests number d = is_same (slice_get digests number) d
 -- what is seen where these are the digests of the items
 abbrev pub seen_by : List (List ℕ) → Row → Seen
 seen_by digests (rows.Answer seen) = seen
-seen_by digests (rows.Question d kind number) = record { is_object = true; finding = bad_unless (is_at digests number d) d kind }
+seen_by digests (rows.Question d kind number) =
+    record { is_object = true; finding = bad_unless (is_at digests number d) d kind }
 
 abbrev pub listed : Option Finding → List Finding
 listed None = []
@@ -101,9 +107,11 @@ abbrev pub objects_by : List (List ℕ) → List Row → ℕ
 objects_by digests read = count_by (λ row. (seen_by digests row).is_object) read
 
 -- each of these paths was looked at, and what is found there comes after what was found before
-pub record ChecksMore (root : Elements) (paths : List Elements) (v : View) (found found' : List Finding) (objects : ℕ) : Type 0 where
+pub record ChecksMore (root : Elements) (paths : List Elements) (v : View)
+    (found found' : List Finding) (objects : ℕ) : Type 0 where
   pub digests : List (List ℕ)
   pub read : List Row
-  pub looks : AllZip (λ path row. Looks root path v (seen_by digests row).is_object (seen_by digests row).finding) paths read
+  pub looks : AllZip (λ path row. Looks root path v (seen_by digests row).is_object
+      (seen_by digests row).finding) paths read
   pub findings : found' ≡ found ++ findings_by digests read
   pub count : objects ≡ objects_by digests read

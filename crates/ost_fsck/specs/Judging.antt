@@ -39,22 +39,25 @@ abbrev pub is_named : List ℕ → ObjKind → Spot → Bool
 is_named d kind spot = has_good_bits spot && is_true d kind (object_at kind spot)
 
 -- whether the store's object is the one that the digest names was told
-pub record IsTrueAt (root : Elements) (d : List ℕ) (kind : ObjKind) (v : View) (is : Bool) : Type 0 where
-  pub same : is ≡ is_true d kind (store root (shows v) d kind)
+pub record IsTrueAt (root : Elements) (d : List ℕ) (kind : ObjKind) (v : View) (is : Bool) : Type 0
+  where
+    pub same : is ≡ is_true d kind (store root (shows v) d kind)
 
 -- and whether the permission bits of what stands there are good
 pub record AreBitsAt (path : Elements) (v : View) (are : Bool) : Type 0 where
   pub same : are ≡ has_good_bits (shows v path)
 
 -- and both
-pub record IsNamedAt (root : Elements) (d : List ℕ) (kind : ObjKind) (v : View) (is : Bool) : Type 0 where
+pub record IsNamedAt (root : Elements) (d : List ℕ) (kind : ObjKind) (v : View)
+    (is : Bool) : Type 0 where
   pub same : is ≡ is_named d kind (shows v (object_path root d kind))
 
 abbrev pub bad_unless : Bool → List ℕ → ObjKind → Option Finding
 bad_unless is d kind = if is then None else Some (findings.Bad d kind)
 
 -- an object's name was looked at, and what is wrong there
-pub record LooksAt (root : Elements) (d : List ℕ) (kind : ObjKind) (v : View) (is_object : Bool) (finding : Option Finding) : Type 0 where
+pub record LooksAt (root : Elements) (d : List ℕ) (kind : ObjKind) (v : View) (is_object : Bool)
+    (finding : Option Finding) : Type 0 where
   pub is : is_object ≡ true
   pub found : finding ≡ bad_unless (is_named d kind (shows v (object_path root d kind))) d kind
 
@@ -66,10 +69,12 @@ IsNameOf root path None = IsNameless root path
 -- what is found at the path of what has this name
 abbrev pub finding_at : Elements → Option (List ℕ × ObjKind) → Disk → Option Finding
 finding_at path None disk = Some (findings.Stray path)
-finding_at path (Some object) disk = bad_unless (is_named object.0 object.1 (disk path)) object.0 object.1
+finding_at path (Some object) disk =
+    bad_unless (is_named object.0 object.1 (disk path)) object.0 object.1
 
 -- a path was looked at: whether it is an object's name, and what is wrong there
-pub record Looks (root path : Elements) (v : View) (is_object : Bool) (finding : Option Finding) : Type 0 where
+pub record Looks (root path : Elements) (v : View) (is_object : Bool)
+    (finding : Option Finding) : Type 0 where
   pub object : Option (List ℕ × ObjKind)
   pub name : IsNameOf root path object
   pub is : is_object ≡ is_some object

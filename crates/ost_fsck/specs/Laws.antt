@@ -11,7 +11,8 @@ use Rattle.ost_fsck.specs.Report.{Reports}
 
 -- a disk has one report at most
 abbrev pub OneReport : Type 0
-OneReport = (root : Elements) (disk : Disk) (one two : Report) → Reports root disk one → Reports root disk two → one ≡ two
+OneReport = (root : Elements) (disk : Disk) (one two : Report) → Reports root disk one
+    → Reports root disk two → one ≡ two
 
 -- ---- a small store
 
@@ -20,12 +21,14 @@ abbrev pub meta_bytes : List ℕ
 meta_bytes = 0 ∷ 0 ∷ 0 ∷ 0 ∷ 0 ∷ 0 ∷ 0 ∷ 0 ∷ 0 ∷ 0 ∷ 65 ∷ 237 ∷ []
 
 abbrev pub meta : List ℕ
-meta = 68 ∷ 106 ∷ 14 ∷ 241 ∷ 27 ∷ 124 ∷ 193 ∷ 103 ∷ 243 ∷ 182 ∷ 3 ∷ 229 ∷ 133 ∷ 199 ∷ 238 ∷ 238 ∷ 182 ∷ 117 ∷ 250 ∷ 164 ∷ 18 ∷ 213 ∷ 236 ∷ 115 ∷ 246 ∷ 41 ∷ 136 ∷ 235 ∷ 11 ∷ 108 ∷ 84 ∷ 136 ∷ []
+meta = 68 ∷ 106 ∷ 14 ∷ 241 ∷ 27 ∷ 124 ∷ 193 ∷ 103 ∷ 243 ∷ 182 ∷ 3 ∷ 229 ∷ 133 ∷ 199 ∷ 238 ∷ 238 ∷
+    182 ∷ 117 ∷ 250 ∷ 164 ∷ 18 ∷ 213 ∷ 236 ∷ 115 ∷ 246 ∷ 41 ∷ 136 ∷ 235 ∷ 11 ∷ 108 ∷ 84 ∷ 136 ∷ []
 
 abbrev pub root : Elements
 root = codes "repo" ∷ []
 
--- the dirmeta at its name, a file without a byte at the name of a dirtree, and a file that has the name of no object
+-- the dirmeta at its name, a file without a byte at the name of a dirtree, and a file that has the
+-- name of no object
 abbrev pub good_name : Elements
 good_name = object_path root meta kinds.DirMeta
 
@@ -36,7 +39,8 @@ abbrev pub stray_name : Elements
 stray_name = codes "xx" ∷ objects_folder root
 
 abbrev pub is_folder : Elements → Bool
-is_folder path = path_eq path (codes "44" ∷ objects_folder root) || (path_eq path (objects_folder root) || (path_eq path root || path_eq path []))
+is_folder path = path_eq path (codes "44" ∷ objects_folder root)
+    || (path_eq path (objects_folder root) || (path_eq path root || path_eq path []))
 
 -- what stands where, by which name it is; all files have the permission bits 0644
 abbrev pub spot_by : Bool → Bool → Bool → Bool → Spot
@@ -47,10 +51,15 @@ spot_by good bad stray above =
     else (if above then folder else gone)))
 
 abbrev pub small_disk : Disk
-small_disk path = spot_by (path_eq path good_name) (path_eq path bad_name) (path_eq path stray_name) (is_folder path)
+small_disk path = spot_by (path_eq path good_name) (path_eq path bad_name)
+    (path_eq path stray_name) (is_folder path)
 
 abbrev pub small_report : Report
-small_report = record { findings = findings.Bad meta kinds.DirTree ∷ findings.Stray stray_name ∷ []; objects = 2 }
+small_report = record {
+  findings = findings.Bad meta kinds.DirTree ∷ findings.Stray stray_name
+      ∷ [];
+  objects = 2;
+}
 
 abbrev pub SmallReport : Type 0
 SmallReport = Reports root small_disk small_report

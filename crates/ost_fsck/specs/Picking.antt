@@ -18,21 +18,25 @@ with_found found None = found
 with_found found (Some a) = found ++ a ∷ []
 
 -- These are picked among the paths, each at its own path. Where the paths ascend, they do too.
-pub record Picks {A : Type 0} (Is : A → Type 0) (at : A → Elements) (paths : List Elements) (picked : List A) : Type 0 where
+pub record Picks {A : Type 0} (Is : A → Type 0) (at : A → Elements) (paths : List Elements)
+    (picked : List A) : Type 0 where
   pub each : (a : A) → Contains picked a ↔ (Is a × Contains paths (at a))
-  pub ascending : is_ascending (map path_text paths) ≡ true → is_ascending (map (λ a. path_text (at a)) picked) ≡ true
+  pub ascending : is_ascending (map path_text paths) ≡ true
+      → is_ascending (map (λ a. path_text (at a)) picked) ≡ true
 
 -- what is wrong at a path, whatever stands there
 abbrev pub IsOff : Elements → Disk → Finding → Type 0
-IsOff root disk (findings.Bad d kind) = (is_digest d ≡ true) × (Named d kind (disk (object_path root d kind)) → ⊥)
+IsOff root disk (findings.Bad d kind) =
+    (is_digest d ≡ true) × (Named d kind (disk (object_path root d kind)) → ⊥)
 IsOff root disk (findings.Stray path) = IsNameless root path
 
 abbrev pub IsObject : List ℕ × ObjKind → Type 0
 IsObject object = is_digest object.0 ≡ true
 
 -- so the paths were looked at
-pub record Checks (root : Elements) (paths : List Elements) (v : View) (report : Report) : Type 0 where
-  pub findings : Picks (IsOff root (shows v)) (path_in root) paths report.findings
-  pub objects : List (List ℕ × ObjKind)
-  pub entries : Picks IsObject (name_in root) paths objects
-  pub count : report.objects ≡ length objects
+pub record Checks (root : Elements) (paths : List Elements) (v : View) (report : Report) : Type 0
+  where
+    pub findings : Picks (IsOff root (shows v)) (path_in root) paths report.findings
+    pub objects : List (List ℕ × ObjKind)
+    pub entries : Picks IsObject (name_in root) paths objects
+    pub count : report.objects ≡ length objects

@@ -37,7 +37,8 @@ pub record IsBad (root : Elements) (disk : Disk) (object : List ℕ × ObjKind) 
 
 -- the path is the name of no object
 abbrev pub IsNameless : Elements → Elements → Type 0
-IsNameless root path = (object : List ℕ × ObjKind) → is_digest object.0 ≡ true → path ≢ name_in root object
+IsNameless root path =
+    (object : List ℕ × ObjKind) → is_digest object.0 ≡ true → path ≢ name_in root object
 
 -- a file or link below `objects` that has the name of no object
 pub record IsStray (root : Elements) (disk : Disk) (path : Elements) : Type 0 where
@@ -58,8 +59,8 @@ path_in root (findings.Stray path) = path
 abbrev pub text_in : Elements → Finding → List ℕ
 text_in root finding = path_text (path_in root finding)
 
--- The report of the store at root: each finding is so, and what is so is found; the findings ascend by the bytes of their paths.
--- The objects are counted, good and bad, each once.
+-- The report of the store at root: each finding is so, and what is so is found; the findings ascend
+-- by the bytes of their paths. The objects are counted, good and bad, each once.
 pub record Reports (root : Elements) (disk : Disk) (report : Report) : Type 0 where
   pub each : (finding : Finding) → Contains report.findings finding ↔ IsSo root disk finding
   pub ascending : is_ascending (map (text_in root) report.findings) ≡ true

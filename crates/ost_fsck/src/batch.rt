@@ -13,8 +13,9 @@ use par_digest::{Gate, Item, digests_gated};
 use std::alloc::{AllocError, Global};
 use std::thread::Threads;
 
-/// Looks at each of these paths in the store in this folder, adds what is found, and says how many are the name of an object. The
-/// digests of the small objects come from one call, which has the gate.
+/// Looks at each of these paths in the store in this folder, adds what is found, and says how many
+/// are the name of an object. The digests of the small objects come from one call, which has the
+/// gate.
 pub(crate) fn check_batch<T: Threads + Sync, H: Host, G: Gate + Sync>(
     rt: &T,
     alloc: Global,
@@ -37,7 +38,8 @@ pub(crate) fn check_batch<T: Threads + Sync, H: Host, G: Gate + Sync>(
     Ok(judge_all(rows, digests.as_slice(), findings)?)
 }
 
-/// Reads what stands at each of these paths in the store in this folder. The items of small objects come after the others.
+/// Reads what stands at each of these paths in the store in this folder. The items of small objects
+/// come after the others.
 fn read_all<H: Host>(
     alloc: Global,
     host: &mut H,
@@ -47,7 +49,8 @@ fn read_all<H: Host>(
 ) -> Result<Vec<Row>, HostEnd>
     ensures unchanged { Unchanged (H.moments host.old) (H.moments host.new) }
     ensures long { IfOk result (λ rows. length rows.items ≡ length paths.now) }
-    ensures tells { IfOk result (λ rows. AtEnd (λ u w. AreRows root.now paths.now u items.new.items rows.items)
+    ensures tells { IfOk result
+        (λ rows. AtEnd (λ u w. AreRows root.now paths.now u items.new.items rows.items)
         (H.moments host.old) (H.moments host.new)) }
     ensures fault_has_cause { IsCounted (IsErrOf result HostEnd.Fault)
         (H.moments host.old) (H.faults host.old) (H.faults host.new) }
@@ -68,14 +71,16 @@ fn add_row(row: Row, rows: &mut Vec<Row>) -> Result<(), AllocError>
     Ok(())
 }
 
-/// Adds what is found where these are the digests of the items, and says how many paths are the name of an object.
+/// Adds what is found where these are the digests of the items, and says how many paths are the
+/// name of an object.
 fn judge_all(
     rows: Vec<Row>,
     digests: &[Digest],
     findings: &mut Vec<Finding>,
 ) -> Result<u64, AllocError>
     ensures count { IfOk result (λ objects. objects ≡ objects_by digests.now rows.items) }
-    ensures found { OnOk result (findings.new.items ≡ findings.old.items ++ findings_by digests.now rows.items) }
+    ensures found { OnOk result
+        (findings.new.items ≡ findings.old.items ++ findings_by digests.now rows.items) }
 {
     let mut objects = 0u64;
     for row in rows {

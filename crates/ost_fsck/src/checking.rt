@@ -46,9 +46,10 @@ fn check_all<T: Threads + Sync, H: Host, G: Gate + Sync>(
     })
 }
 
-/// Checks the store in this folder: each file and link below `objects` is looked at, an object's content too, whatever commits
-/// use it. Two threads hash the objects of up to 256 KiB, 64 at most together, and the gate is told of each such batch. A larger
-/// file is read piece by piece. Nothing changes. It isn't for paths of more than 128 elements.
+/// Checks the store in this folder: each file and link below `objects` is looked at, an object's
+/// content too, whatever commits use it. Two threads hash the objects of up to 256 KiB, 64 at most
+/// together, and the gate is told of each such batch. A larger file is read piece by piece. Nothing
+/// changes. It isn't for paths of more than 128 elements.
 pub fn check_store<T: Threads + Sync, H: Host, G: Gate + Sync>(
     rt: &T,
     alloc: Global,

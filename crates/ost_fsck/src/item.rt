@@ -14,7 +14,8 @@ use ost_content::{header, is_permission, link_header};
 use par_digest::{Item, MOST_SMALL_BYTES};
 use std::alloc::{AllocError, Global};
 
-/// The small object at the path as an item, where nothing but its digest keeps it from being one of the kind.
+/// The small object at the path as an item, where nothing but its digest keeps it from being one of
+/// the kind.
 pub(crate) fn small_item<H: Host>(
     alloc: Global,
     host: &mut H,

@@ -48,7 +48,8 @@ fn are_bits_good<H: Host>(host: &mut H, path: &Path) -> Result<bool, HostEnd>
     Ok(has_bits(stat))
 }
 
-/// Whether the store in this folder has the file or link that the digest names. A file is read piece by piece.
+/// Whether the store in this folder has the file or link that the digest names. A file is read
+/// piece by piece.
 fn has_content<H: Host>(
     alloc: Global,
     host: &mut H,
@@ -91,7 +92,8 @@ fn has_object<H: Host>(
     }
 }
 
-/// Whether what stands at the object's name in the store in this folder is that object, with permission bits within 0775.
+/// Whether what stands at the object's name in the store in this folder is that object, with
+/// permission bits within 0775.
 fn is_named<H: Host>(
     alloc: Global,
     host: &mut H,

@@ -1,4 +1,5 @@
-//! A store is checked whole: which of its objects aren't what their names say, and what stands among them that is no object.
+//! A store is checked whole: which of its objects aren't what their names say, and what stands
+//! among them that is no object.
 #![tactic(auto)]
 
 mod batch;

@@ -27,7 +27,8 @@ pub(crate) enum Row {
     },
 }
 
-/// Reads what stands at a path below `objects` in the store in this folder. The item of a small object comes after the others.
+/// Reads what stands at a path below `objects` in the store in this folder. The item of a small
+/// object comes after the others.
 pub(crate) fn read<H: Host>(
     alloc: Global,
     host: &mut H,
@@ -59,7 +60,8 @@ fn read_object<H: Host>(
 ) -> Result<Row, HostEnd>
     ensures unchanged { Unchanged (H.moments host.old) (H.moments host.new) }
     ensures grows { OnOk result (Grows items.old.items items.new.items) }
-    ensures tells { IfOk result (λ row. AtEnd (λ u w. IsRowAt root.now digest.now kind u items.new.items row)
+    ensures tells { IfOk result
+        (λ row. AtEnd (λ u w. IsRowAt root.now digest.now kind u items.new.items row)
         (H.moments host.old) (H.moments host.new)) }
     ensures fault_has_cause { IsCounted (IsErrOf result HostEnd.Fault)
         (H.moments host.old) (H.faults host.old) (H.faults host.new) }

@@ -24,7 +24,8 @@ abbrev pub of_remote : RemoteError → PullEnd
 of_remote errors.Failed = ends.RemoteFault
 of_remote errors.NoMemory = ends.NoMemory
 
--- What is known of an end where this is said of a refusal. Nothing is said of a fault, and of running out of memory.
+-- What is known of an end where this is said of a refusal. Nothing is said of a fault, and of
+-- running out of memory.
 abbrev pub RefusesBy : (Refusal → Type 0) → PullEnd → Type 0
 RefusesBy refused (ends.Refused r) = refused r
 RefusesBy refused ends.HostFault = ⊤

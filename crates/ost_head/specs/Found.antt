@@ -17,19 +17,23 @@ found_object (found.Stored object) = object
 found_object (found.New object) = object
 
 -- a host that tells what it holds has this at the object's name
-pub record HostHas (root : Elements) (told : Option Moments) (d : List ℕ) (kind : ObjKind) (object : Option Object) : Type 0 where
+pub record HostHas (root : Elements) (told : Option Moments) (d : List ℕ) (kind : ObjKind)
+    (object : Option Object) : Type 0 where
   pub is : (m : Moments) → told ≡ Some m → store root (shows m.now) d kind ≡ object
 
 -- remotes that tell what they hold have this object
-pub record RemoteHas (url : List ℕ) (holds : Option Holdings) (d : List ℕ) (kind : ObjKind) (object : Object) : Type 0 where
+pub record RemoteHas (url : List ℕ) (holds : Option Holdings) (d : List ℕ) (kind : ObjKind)
+    (object : Object) : Type 0 where
   pub is : (held : Holdings) → holds ≡ Some held → remote_at held url d kind ≡ Some object
 
-pub record IsNew (root : Elements) (url : List ℕ) (told : Option Moments) (holds : Option Holdings) (d : List ℕ) (kind : ObjKind) (object : Object) : Type 0 where
+pub record IsNew (root : Elements) (url : List ℕ) (told : Option Moments) (holds : Option Holdings)
+    (d : List ℕ) (kind : ObjKind) (object : Object) : Type 0 where
   pub none : HostHas root told d kind None
   pub there : RemoteHas url holds d kind object
 
 -- it is the store's; or the store has none, and it is the remote's
-abbrev pub IsFound : Elements → List ℕ → Option Moments → Option Holdings → List ℕ → ObjKind → Found → Type 0
+abbrev pub IsFound : Elements → List ℕ → Option Moments → Option Holdings → List ℕ → ObjKind
+    → Found → Type 0
 IsFound root url told holds d kind (found.Stored object) = HostHas root told d kind (Some object)
 IsFound root url told holds d kind (found.New object) = IsNew root url told holds d kind object
 

@@ -38,15 +38,18 @@ lists names name = list_any (λ n. bytes_eq n name) names
 -- the commit has a ref-binding without the ref
 abbrev pub binding_refused : Ref → Option (List (List ℕ)) → Option Refusal
 binding_refused name None = None
-binding_refused name (Some names) = if lists names (ref_text name) then None else Some (refusals.RefBinding name)
+binding_refused name (Some names) =
+    if lists names (ref_text name) then None else Some (refusals.RefBinding name)
 
 -- it is older than what is deployed
 abbrev pub age_refused : Ref → Option ℕ → ℕ → Option Refusal
 age_refused name None offered = None
-age_refused name (Some have) offered = if leb have offered then None else Some (refusals.Older name have offered)
+age_refused name (Some have) offered =
+    if leb have offered then None else Some (refusals.Older name have offered)
 
 abbrev pub commit_refused : Ref → Option ℕ → CommitView → Option Refusal
-commit_refused name since c = or_else (binding_refused name (binding_in c.metadata)) (age_refused name since c.timestamp)
+commit_refused name since c =
+    or_else (binding_refused name (binding_in c.metadata)) (age_refused name since c.timestamp)
 
 -- ---- the root
 
@@ -56,7 +59,8 @@ is_nothing (directory e) = false
 is_nothing (file_at d) = false
 
 abbrev pub root_refused : List ℕ → TreeView → Option Refusal
-root_refused commit v = if is_nothing (entry_in (codes "deploy") (Some v)) then None else Some (refusals.ReservedName commit)
+root_refused commit v = if is_nothing (entry_in (codes "deploy") (Some v)) then None
+    else Some (refusals.ReservedName commit)
 
 -- the digest of a file
 abbrev pub file_in : Found → Option (List ℕ)
@@ -83,11 +87,15 @@ meta_refused name (Err rule) = Some (refusals.BadMetadata name 0 (metadata_rules
 
 abbrev pub lines_refused : Ref → Result (List Group) KeyFault → Option Refusal
 lines_refused name (Ok file) = meta_refused name (meta_of (meta_kind name.kind) file)
-lines_refused name (Err fault) = Some (refusals.BadMetadata name fault.line (metadata_rules.Key fault.rule))
+lines_refused name (Err fault) =
+    Some (refusals.BadMetadata name fault.line (metadata_rules.Key fault.rule))
 
--- at most 1 MiB, lines of a key file, and what the metadata of an application or a runtime has to say
+-- at most 1 MiB, lines of a key file, and what the metadata of an application or a runtime has to
+-- say
 abbrev pub metadata_refused : Ref → List ℕ → Option Refusal
-metadata_refused name bytes = if leb (length bytes) MOST_METADATA_FILE_BYTES then lines_refused name (file_of bytes) else Some (refusals.Limit whats.MetadataFile (length bytes))
+metadata_refused name bytes = if leb (length bytes) MOST_METADATA_FILE_BYTES
+    then lines_refused name (file_of bytes)
+    else Some (refusals.Limit whats.MetadataFile (length bytes))
 
 -- ---- the head
 
@@ -105,26 +113,36 @@ content_in (Some (objects.Meta bytes)) = None
 -- the head with the file `metadata` of this content
 abbrev pub with_content : Ref → List ℕ → ℕ → Option (List ℕ) → Result Head Refusal
 with_content name commit time None = Err (no_metadata name)
-with_content name commit time (Some bytes) = unless_refused (metadata_refused name bytes) (Ok (record { commit = commit; timestamp = time; metadata = bytes }))
+with_content name commit time (Some bytes) = unless_refused (metadata_refused name bytes)
+    (Ok (record { commit = commit; timestamp = time; metadata = bytes }))
 
 abbrev pub metadata_at : Have → Ref → List ℕ → ℕ → Found → Result Head Refusal
-metadata_at have name commit time (file_at d) = unless_refused (object_refused have d kinds.File) (with_content name commit time (content_in (have d kinds.File)))
+metadata_at have name commit time (file_at d) = unless_refused (object_refused have d kinds.File)
+    (with_content name commit time (content_in (have d kinds.File)))
 metadata_at have name commit time (directory e) = Err (no_metadata name)
 metadata_at have name commit time nothing = Err (no_metadata name)
 
 abbrev pub head_in : Have → Ref → List ℕ → Option ℕ → CommitView → TreeView → Result Head Refusal
-head_in have name commit since c v = unless_refused (or_else (commit_refused name since c) (root_refused commit v)) (metadata_at have name commit c.timestamp (entry_in (codes "metadata") (Some v)))
+head_in have name commit since c v = unless_refused
+    (or_else (commit_refused name since c) (root_refused commit v))
+    (metadata_at have name commit c.timestamp (entry_in (codes "metadata") (Some v)))
 
-abbrev pub with_tree : Have → Ref → List ℕ → Option ℕ → CommitView → Option TreeView → Result Head Refusal
+abbrev pub with_tree : Have → Ref → List ℕ → Option ℕ → CommitView → Option TreeView
+    → Result Head Refusal
 with_tree have name commit since c None = Err (refusals.MissingObject c.tree kinds.DirTree)
-with_tree have name commit since c (Some v) = unless_refused (object_refused have c.meta kinds.DirMeta) (head_in have name commit since c v)
+with_tree have name commit since c (Some v) =
+    unless_refused (object_refused have c.meta kinds.DirMeta) (head_in have name commit since c v)
 
 abbrev pub with_commit : Have → Ref → List ℕ → Option ℕ → Option CommitView → Result Head Refusal
 with_commit have name commit since None = Err (refusals.MissingObject commit kinds.Commit)
-with_commit have name commit since (Some c) = unless_refused (object_refused have c.tree kinds.DirTree) (with_tree have name commit since c (tree_at have c.tree))
+with_commit have name commit since (Some c) = unless_refused
+    (object_refused have c.tree kinds.DirTree)
+    (with_tree have name commit since c (tree_at have c.tree))
 
--- The head of a ref whose commit this is, where a commit of the time `since` is deployed, or none is. Its refusals in order: the
--- commit, its root's dirtree and dirmeta, as objects; the ref-binding; the time; the entry `deploy` of the root; the file
--- `metadata`, as an object and by what it says.
+-- The head of a ref whose commit this is, where a commit of the time `since` is deployed, or none
+-- is. Its refusals in order: the commit, its root's dirtree and dirmeta, as objects; the
+-- ref-binding; the time; the entry `deploy` of the root; the file `metadata`, as an object and by
+-- what it says.
 abbrev pub head_of : Have → Ref → List ℕ → Option ℕ → Result Head Refusal
-head_of have name commit since = unless_refused (object_refused have commit kinds.Commit) (with_commit have name commit since (commit_at have commit))
+head_of have name commit since = unless_refused (object_refused have commit kinds.Commit)
+    (with_commit have name commit since (commit_at have commit))

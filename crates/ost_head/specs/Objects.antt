@@ -16,33 +16,40 @@ pub record IsFit (kind : ObjKind) (object : Object) : Type 0 where
   pub keepable : IsKeepable object
 
 -- there is this object, and it has no fault
-pub record IsGood (d : List ℕ) (kind : ObjKind) (there : Option Object) (object : Object) : Type 0 where
-  pub is : there ≡ Some object
-  pub good : object_fault d kind (Some object) ≡ None
+pub record IsGood (d : List ℕ) (kind : ObjKind) (there : Option Object) (object : Object) : Type 0
+  where
+    pub is : there ≡ Some object
+    pub good : object_fault d kind (Some object) ≡ None
 
 abbrev pub as_is : Object → Object
 as_is object = object
 
 -- the object that there is without a fault, or its fault
-abbrev pub Judges : {A : Type 0} → (A → Object) → List ℕ → ObjKind → Option Object → Result A WalkEnd → Type 0
-Judges of d kind there result = EndsBy (λ a. IsGood d kind there (of a)) (IsFaultOf d kind (object_fault d kind there)) result
+abbrev pub Judges : {A : Type 0} → (A → Object) → List ℕ → ObjKind → Option Object
+    → Result A WalkEnd → Type 0
+Judges of d kind there result =
+    EndsBy (λ a. IsGood d kind there (of a)) (IsFaultOf d kind (object_fault d kind there)) result
 
 -- there is this object, or it isn't read for its fault
 abbrev pub Reads : List ℕ → ObjKind → Option Object → Result Object WalkEnd → Type 0
-Reads d kind there result = EndsBy (λ object. there ≡ Some object) (IsFaultOf d kind (object_fault d kind there)) result
+Reads d kind there result =
+    EndsBy (λ object. there ≡ Some object) (IsFaultOf d kind (object_fault d kind there)) result
 
 -- the fault of an object
 abbrev pub Checks : {A : Type 0} → List ℕ → ObjKind → Object → Result A WalkEnd → Type 0
-Checks d kind object result = EndsBy (λ a. object_fault d kind (Some object) ≡ None) (IsFaultOf d kind (object_fault d kind (Some object))) result
+Checks d kind object result = EndsBy (λ a. object_fault d kind (Some object) ≡ None)
+    (IsFaultOf d kind (object_fault d kind (Some object))) result
 
 -- an object is there, and this is its fault
-pub record IsFaultThere (d : List ℕ) (kind : ObjKind) (there : Option Object) (w : WalkFault) : Type 0 where
+pub record IsFaultThere (d : List ℕ) (kind : ObjKind) (there : Option Object)
+    (w : WalkFault) : Type 0 where
   pub object : Object
   pub is : there ≡ Some object
   pub fault : IsFaultOf d kind (object_fault d kind (Some object)) w
 
 -- nothing is there, or this object without a fault, or one with this fault
-abbrev pub JudgesIfThere : List ℕ → ObjKind → Option Object → Result (Option Object) WalkEnd → Type 0
+abbrev pub JudgesIfThere : List ℕ → ObjKind → Option Object
+    → Result (Option Object) WalkEnd → Type 0
 JudgesIfThere d kind there (Ok None) = there ≡ None
 JudgesIfThere d kind there (Ok (Some object)) = IsGood d kind there object
 JudgesIfThere d kind there (Err end) = RefusesBy (IsFaultThere d kind there) end
@@ -52,7 +59,8 @@ abbrev pub rules_fault : ObjKind → Object → Option Fault
 rules_fault kind object = or_else (rule_fault kind object) (dir_mode_fault kind (Some object))
 
 abbrev pub ChecksRules : {A : Type 0} → List ℕ → ObjKind → List ℕ → Result A WalkEnd → Type 0
-ChecksRules d kind bytes result = EndsBy (λ a. rules_fault kind (objects.Meta bytes) ≡ None) (IsFaultOf d kind (rules_fault kind (objects.Meta bytes))) result
+ChecksRules d kind bytes result = EndsBy (λ a. rules_fault kind (objects.Meta bytes) ≡ None)
+    (IsFaultOf d kind (rules_fault kind (objects.Meta bytes))) result
 
 -- nothing is there, or this object, or it isn't read for its fault
 abbrev pub ReadsIfThere : List ℕ → ObjKind → Option Object → Result (Option Object) WalkEnd → Type 0

@@ -48,14 +48,17 @@ is_core file key value = is_value value (value_at file (codes "core") key)
 
 -- a repository of version 1 and of the mode `bare-user-only`
 abbrev pub is_pullable : List Group → Bool
-is_pullable file = is_core file (codes "repo_version") (codes "1") && is_core file (codes "mode") (codes "bare-user-only")
+is_pullable file = is_core file (codes "repo_version") (codes "1")
+    && is_core file (codes "mode") (codes "bare-user-only")
 
 -- 1 to 32 lower-case letters, digits and `-`
 abbrev pub is_mode_byte : ℕ → Bool
 is_mode_byte b = (nat_le 97 b && nat_le b 122) || (nat_le 48 b && nat_le b 57) || b == 45
 
 abbrev pub is_mode_word : List ℕ → Bool
-is_mode_word text = if leb 1 (length text) then (if leb (length text) MOST_MODE_BYTES then list_all is_mode_byte text else false) else false
+is_mode_word text = if leb 1 (length text)
+    then (if leb (length text) MOST_MODE_BYTES then list_all is_mode_byte text else false)
+    else false
 
 -- the mode that is said, `-` where none is
 abbrev pub mode_word : Option (List ℕ) → List ℕ
@@ -64,7 +67,9 @@ mode_word (Some text) = if is_mode_word text then text else codes "-"
 
 -- the mode that is refused, where the file isn't of a repository that is pulled from
 abbrev pub mode_refused : List Group → Option (List ℕ)
-mode_refused file = if is_pullable file then None else Some (mode_word (value_at file (codes "core") (codes "mode")))
+mode_refused file =
+    if is_pullable file then None
+    else Some (mode_word (value_at file (codes "core") (codes "mode")))
 
 abbrev pub mode_read : Result (List Group) KeyFault → Option (List ℕ)
 mode_read (Ok file) = mode_refused file
@@ -101,11 +106,13 @@ commit_said remote name (files.Digest d) = Ok d
 commit_said remote name files.Absent = Err (refusals.NoSuchRef remote.name name)
 commit_said remote name files.Bad = Err (refusals.NoSuchRef remote.name name)
 
-abbrev pub after_mode : RemoteRow → Option (List ℕ) → Result (List ℕ) Refusal → Result (List ℕ) Refusal
+abbrev pub after_mode : RemoteRow → Option (List ℕ) → Result (List ℕ) Refusal
+    → Result (List ℕ) Refusal
 after_mode remote (Some mode) answer = Err (refusals.WrongMode remote.name mode)
 after_mode remote None answer = answer
 
--- The commit that the remote offers under the ref: its `config` is that of a repository of version 1 and of the mode
--- `bare-user-only`, and the ref's file has 64 digits and a newline.
+-- The commit that the remote offers under the ref: its `config` is that of a repository of version
+-- 1 and of the mode `bare-user-only`, and the ref's file has 64 digits and a newline.
 abbrev pub offered : Holdings → RemoteRow → Ref → Result (List ℕ) Refusal
-offered held remote name = after_mode remote (wrong_mode held remote.url) (commit_said remote name (ref_at held remote.url name))
+offered held remote name = after_mode remote (wrong_mode held remote.url)
+    (commit_said remote name (ref_at held remote.url name))

@@ -18,14 +18,19 @@ use Rattle.ost_head.specs.declared.head.Root.{Root}
 
 -- the head of a commit, with the dirtree that its root has
 abbrev pub of_tree : Have → Ref → List ℕ → Option ℕ → CommitView → Result Head Refusal
-of_tree have name commit since c = unless_refused (object_refused have c.tree kinds.DirTree) (with_tree have name commit since c (tree_at have c.tree))
+of_tree have name commit since c = unless_refused (object_refused have c.tree kinds.DirTree)
+    (with_tree have name commit since c (tree_at have c.tree))
 
 -- the root's dirtree was read, or the head is refused so
 abbrev pub ReadsTree : Have → CommitView → Result DirTree WalkEnd → Type 0
 ReadsTree have c result = (name : Ref) (commit : List ℕ) (since : Option ℕ)
-    → EndsBy (λ t. of_tree have name commit since c ≡ head_in have name commit since c (tree_view t)) (λ w. of_tree have name commit since c ≡ Err (walk_refusal w)) result
+    → EndsBy (λ t. of_tree have name commit since c
+    ≡ head_in have name commit since c (tree_view t))
+    (λ w. of_tree have name commit since c ≡ Err (walk_refusal w)) result
 
 -- the same of the commit and its root
 abbrev pub ReadsRoot : Have → List ℕ → Result Root WalkEnd → Type 0
 ReadsRoot have commit result = (name : Ref) (since : Option ℕ)
-    → EndsBy (λ r. head_of have name commit since ≡ head_in have name commit since (commit_view r.commit) (tree_view r.tree)) (λ w. head_of have name commit since ≡ Err (walk_refusal w)) result
+    → EndsBy (λ r. head_of have name commit since
+    ≡ head_in have name commit since (commit_view r.commit) (tree_view r.tree))
+    (λ w. head_of have name commit since ≡ Err (walk_refusal w)) result

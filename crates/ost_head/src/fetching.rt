@@ -162,7 +162,8 @@ fn read_meta<R: Remotes>(
     }
 }
 
-/// The object of the remote, of its kind and within its limits. Whether its name is true isn't looked at.
+/// The object of the remote, of its kind and within its limits. Whether its name is true isn't
+/// looked at.
 fn read_object<R: Remotes>(
     alloc: Global,
     remotes: &mut R,
@@ -187,8 +188,9 @@ fn read_object<R: Remotes>(
     }
 }
 
-/// The object of the remote at the url, checked: it is refused where it is missing, too long, of permission bits that aren't
-/// taken, where its digest isn't its name, and where it breaks a rule of its kind.
+/// The object of the remote at the url, checked: it is refused where it is missing, too long, of
+/// permission bits that aren't taken, where its digest isn't its name, and where it breaks a rule
+/// of its kind.
 pub(crate) fn fetch<R: Remotes>(
     alloc: Global,
     remotes: &mut R,

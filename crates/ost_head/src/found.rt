@@ -35,8 +35,10 @@ pub fn find<H: Host, R: Remotes>(
     kind: ObjKind,
 ) -> Result<Found, WalkEnd>
     ensures looks { Observes result
-        (outside (H.moments host.old) (H.faults host.old) (R.holds remotes.old) (R.faults remotes.old))
-        (outside (H.moments host.new) (H.faults host.new) (R.holds remotes.new) (R.faults remotes.new)) }
+        (outside (H.moments host.old) (H.faults host.old) (R.holds remotes.old)
+        (R.faults remotes.old))
+        (outside (H.moments host.new) (H.faults host.new) (R.holds remotes.new)
+        (R.faults remotes.new)) }
     ensures good { IfOk result (λ found. object_fault digest.now kind (Some (found_object found))
         ≡ None) }
     ensures keepable { IfOk result IsKeepableIfNew }

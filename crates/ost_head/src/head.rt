@@ -52,8 +52,10 @@ fn read_tree<H: Host, R: Remotes>(
     commit: &Commit,
 ) -> Result<DirTree, WalkEnd>
     ensures looks { Observes result
-        (outside (H.moments host.old) (H.faults host.old) (R.holds remotes.old) (R.faults remotes.old))
-        (outside (H.moments host.new) (H.faults host.new) (R.holds remotes.new) (R.faults remotes.new)) }
+        (outside (H.moments host.old) (H.faults host.old) (R.holds remotes.old)
+        (R.faults remotes.old))
+        (outside (H.moments host.new) (H.faults host.new) (R.holds remotes.new)
+        (R.faults remotes.new)) }
     ensures tells { (have : Have) → Supplies store.now (Some url.now) (H.moments host.old)
         (R.holds remotes.old) have
         → ReadsTree have (commit_view commit.now) result }
@@ -77,8 +79,10 @@ fn read_root<H: Host, R: Remotes>(
     commit: &Digest,
 ) -> Result<Root, WalkEnd>
     ensures looks { Observes result
-        (outside (H.moments host.old) (H.faults host.old) (R.holds remotes.old) (R.faults remotes.old))
-        (outside (H.moments host.new) (H.faults host.new) (R.holds remotes.new) (R.faults remotes.new)) }
+        (outside (H.moments host.old) (H.faults host.old) (R.holds remotes.old)
+        (R.faults remotes.old))
+        (outside (H.moments host.new) (H.faults host.new) (R.holds remotes.new)
+        (R.faults remotes.new)) }
     ensures tells { (have : Have) → Supplies store.now (Some url.now) (H.moments host.old)
         (R.holds remotes.old) have
         → ReadsRoot have commit.now result }
@@ -159,8 +163,10 @@ fn head_at<H: Host, R: Remotes>(
     digest: &Digest,
 ) -> Result<Head, PullEnd>
     ensures looks { Looks result
-        (outside (H.moments host.old) (H.faults host.old) (R.holds remotes.old) (R.faults remotes.old))
-        (outside (H.moments host.new) (H.faults host.new) (R.holds remotes.new) (R.faults remotes.new)) }
+        (outside (H.moments host.old) (H.faults host.old) (R.holds remotes.old)
+        (R.faults remotes.old))
+        (outside (H.moments host.new) (H.faults host.new) (R.holds remotes.new)
+        (R.faults remotes.new)) }
     ensures tells { (have : Have) → Supplies store.now (Some url.now) (H.moments host.old)
         (R.holds remotes.old) have
         → Answers result (metadata_at have name.now commit.now timestamp (file_at digest.now)) }
@@ -184,8 +190,10 @@ fn head_below<H: Host, R: Remotes>(
     tree: &DirTree,
 ) -> Result<Head, PullEnd>
     ensures looks { Looks result
-        (outside (H.moments host.old) (H.faults host.old) (R.holds remotes.old) (R.faults remotes.old))
-        (outside (H.moments host.new) (H.faults host.new) (R.holds remotes.new) (R.faults remotes.new)) }
+        (outside (H.moments host.old) (H.faults host.old) (R.holds remotes.old)
+        (R.faults remotes.old))
+        (outside (H.moments host.new) (H.faults host.new) (R.holds remotes.new)
+        (R.faults remotes.new)) }
     ensures tells { (have : Have) → Supplies store.now (Some url.now) (H.moments host.old)
         (R.holds remotes.old) have
         → Answers result (metadata_at have name.now commit.now timestamp
@@ -215,11 +223,14 @@ fn head_in<H: Host, R: Remotes>(
     root: &Root,
 ) -> Result<Head, PullEnd>
     ensures looks { Looks result
-        (outside (H.moments host.old) (H.faults host.old) (R.holds remotes.old) (R.faults remotes.old))
-        (outside (H.moments host.new) (H.faults host.new) (R.holds remotes.new) (R.faults remotes.new)) }
+        (outside (H.moments host.old) (H.faults host.old) (R.holds remotes.old)
+        (R.faults remotes.old))
+        (outside (H.moments host.new) (H.faults host.new) (R.holds remotes.new)
+        (R.faults remotes.new)) }
     ensures tells { (have : Have) → Supplies store.now (Some url.now) (H.moments host.old)
         (R.holds remotes.old) have
-        → Answers result (head_in have name.now commit.now since (commit_view root.now.commit) (tree_view root.now.tree)) }
+        → Answers result (head_in have name.now commit.now since (commit_view root.now.commit)
+        (tree_view root.now.tree)) }
 {
     let time = root.commit.timestamp;
     let early = refuse_early(alloc, name, commit, since, root)?;
@@ -231,10 +242,12 @@ fn head_in<H: Host, R: Remotes>(
     }
 }
 
-/// The head of the ref whose commit this is, from the store or else from the remote: its commit, its root's dirtree and dirmeta
-/// and its file `metadata` are checked, and nothing changes. It is refused where one of these objects has a fault; `RefBinding`
-/// where the commit is bound to other refs; `Older` where it is older than `since`, the time of the commit that is deployed;
-/// `ReservedName` where the root has an entry `deploy`; and where `metadata` is missing, a link, too long, or doesn't read.
+/// The head of the ref whose commit this is, from the store or else from the remote: its commit,
+/// its root's dirtree and dirmeta and its file `metadata` are checked, and nothing changes. It is
+/// refused where one of these objects has a fault; `RefBinding` where the commit is bound to other
+/// refs; `Older` where it is older than `since`, the time of the commit that is deployed;
+/// `ReservedName` where the root has an entry `deploy`; and where `metadata` is missing, a link,
+/// too long, or doesn't read.
 pub fn read_head<H: Host, R: Remotes>(
     alloc: Global,
     host: &mut H,
@@ -245,8 +258,10 @@ pub fn read_head<H: Host, R: Remotes>(
     since: Option<u64>,
 ) -> Result<Head, PullEnd>
     ensures looks { Looks result
-        (outside (H.moments host.old) (H.faults host.old) (R.holds remotes.old) (R.faults remotes.old))
-        (outside (H.moments host.new) (H.faults host.new) (R.holds remotes.new) (R.faults remotes.new)) }
+        (outside (H.moments host.old) (H.faults host.old) (R.holds remotes.old)
+        (R.faults remotes.old))
+        (outside (H.moments host.new) (H.faults host.new) (R.holds remotes.new)
+        (R.faults remotes.new)) }
     ensures tells { (have : Have)
         → Supplies repo (Some remote.now.url) (H.moments host.old) (R.holds remotes.old) have
         → Answers result (head_of have name.now commit.now since) }

@@ -128,8 +128,8 @@ fn check_rules(
     }
 }
 
-/// Checks that an object, of the kind and within its limits, is the one that its digest names: its digest, then the rules of
-/// its kind.
+/// Checks that an object, of the kind and within its limits, is the one that its digest names: its
+/// digest, then the rules of its kind.
 pub(crate) fn check(
     alloc: Global,
     digest: &Digest,

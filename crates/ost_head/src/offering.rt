@@ -118,9 +118,9 @@ fn commit_of<R: Remotes>(
     }
 }
 
-/// The commit that the remote offers under the ref. `WrongMode` where its `config` isn't that of a repository of version 1 and
-/// of the mode `bare-user-only`, and `NoSuchRef` where the ref's file isn't 64 digits and a newline. It never answers
-/// `HostFault`.
+/// The commit that the remote offers under the ref. `WrongMode` where its `config` isn't that of a
+/// repository of version 1 and of the mode `bare-user-only`, and `NoSuchRef` where the ref's file
+/// isn't 64 digits and a newline. It never answers `HostFault`.
 pub fn offer<R: Remotes>(
     alloc: Global,
     remotes: &mut R,

@@ -72,11 +72,14 @@ pub(crate) fn find_commit<H: Host, R: Remotes>(
     digest: &Digest,
 ) -> Result<Commit, WalkEnd>
     ensures looks { Observes result
-        (outside (H.moments host.old) (H.faults host.old) (R.holds remotes.old) (R.faults remotes.old))
-        (outside (H.moments host.new) (H.faults host.new) (R.holds remotes.new) (R.faults remotes.new)) }
+        (outside (H.moments host.old) (H.faults host.old) (R.holds remotes.old)
+        (R.faults remotes.old))
+        (outside (H.moments host.new) (H.faults host.new) (R.holds remotes.new)
+        (R.faults remotes.new)) }
     ensures tells { (have : Have) → Supplies root.now (Some url.now) (H.moments host.old)
         (R.holds remotes.old) have
-        → EndsBy (λ c. IsReadAs (own_fault have digest.now kinds.Commit) (commit_at have digest.now) (commit_view c))
+        → EndsBy (λ c. IsReadAs (own_fault have digest.now kinds.Commit)
+        (commit_at have digest.now) (commit_view c))
         (IsFaultOf digest.now kinds.Commit (own_fault have digest.now kinds.Commit)) result }
 {
     match find(alloc, host, remotes, root, url, digest, ObjKind::Commit) {
@@ -95,11 +98,14 @@ pub(crate) fn find_tree<H: Host, R: Remotes>(
     digest: &Digest,
 ) -> Result<DirTree, WalkEnd>
     ensures looks { Observes result
-        (outside (H.moments host.old) (H.faults host.old) (R.holds remotes.old) (R.faults remotes.old))
-        (outside (H.moments host.new) (H.faults host.new) (R.holds remotes.new) (R.faults remotes.new)) }
+        (outside (H.moments host.old) (H.faults host.old) (R.holds remotes.old)
+        (R.faults remotes.old))
+        (outside (H.moments host.new) (H.faults host.new) (R.holds remotes.new)
+        (R.faults remotes.new)) }
     ensures tells { (have : Have) → Supplies root.now (Some url.now) (H.moments host.old)
         (R.holds remotes.old) have
-        → EndsBy (λ t. IsReadAs (own_fault have digest.now kinds.DirTree) (tree_at have digest.now) (tree_view t))
+        → EndsBy (λ t. IsReadAs (own_fault have digest.now kinds.DirTree) (tree_at have digest.now)
+        (tree_view t))
         (IsFaultOf digest.now kinds.DirTree (own_fault have digest.now kinds.DirTree)) result }
 {
     match find(alloc, host, remotes, root, url, digest, ObjKind::DirTree) {
@@ -119,8 +125,10 @@ pub(crate) fn find_meta<H: Host, R: Remotes>(
     digest: &Digest,
 ) -> Result<(), WalkEnd>
     ensures looks { Observes result
-        (outside (H.moments host.old) (H.faults host.old) (R.holds remotes.old) (R.faults remotes.old))
-        (outside (H.moments host.new) (H.faults host.new) (R.holds remotes.new) (R.faults remotes.new)) }
+        (outside (H.moments host.old) (H.faults host.old) (R.holds remotes.old)
+        (R.faults remotes.old))
+        (outside (H.moments host.new) (H.faults host.new) (R.holds remotes.new)
+        (R.faults remotes.new)) }
     ensures tells { (have : Have) → Supplies root.now (Some url.now) (H.moments host.old)
         (R.holds remotes.old) have
         → EndsBy (λ _. own_fault have digest.now kinds.DirMeta ≡ None)

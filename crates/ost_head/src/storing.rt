@@ -35,7 +35,8 @@ fn read_bytes<H: Host>(
     ensures unchanged { Unchanged (H.moments host.old) (H.moments host.new) }
     ensures short { IfOk result (λ bytes. length bytes ≤ size) }
     ensures tells { (m : Moments) → H.moments host.old ≡ Some m
-        → (mode : ℕ) (content : List ℕ) → store root.now (shows m.now) digest.now kinds.File ≡ Some (objects.File mode content)
+        → (mode : ℕ) (content : List ℕ) → store root.now (shows m.now) digest.now kinds.File
+        ≡ Some (objects.File mode content)
         → length content ≡ size → IfOk result (λ bytes. bytes ≡ content) }
     ensures refuses { (w : WalkFault) → IsErrOf result (WalkEnd.Refused w) → ⊥ }
     ensures fault_has_cause { IsCaused (IsErrOf result WalkEnd.HostFault) (H.moments host.old)
@@ -65,7 +66,8 @@ fn read_file<H: Host>(
     ensures fit { IfOk result (IsFitIfThere kinds.File) }
     ensures tells { (m : Moments) → H.moments host.old ≡ Some m
         → IsFileOf mode size (store root.now (shows m.now) digest.now kinds.File)
-        → ReadsIfThere digest.now kinds.File (store root.now (shows m.now) digest.now kinds.File) result }
+        → ReadsIfThere digest.now kinds.File (store root.now (shows m.now) digest.now kinds.File)
+        result }
     ensures fault_has_cause { IsCaused (IsErrOf result WalkEnd.HostFault) (H.moments host.old)
         (HasFile root.now digest.now) (H.faults host.old) (H.faults host.new) }
     ensures remote { IsErrOf result WalkEnd.RemoteFault → ⊥ }
@@ -120,7 +122,8 @@ fn read_content<H: Host>(
     ensures unchanged { Unchanged (H.moments host.old) (H.moments host.new) }
     ensures fit { IfOk result (IsFitIfThere kinds.File) }
     ensures tells { (m : Moments) → H.moments host.old ≡ Some m
-        → ReadsIfThere digest.now kinds.File (store root.now (shows m.now) digest.now kinds.File) result }
+        → ReadsIfThere digest.now kinds.File (store root.now (shows m.now) digest.now kinds.File)
+        result }
     ensures fault_has_cause { IsCounted (IsErrOf result WalkEnd.HostFault) (H.moments host.old)
         (H.faults host.old) (H.faults host.new) }
     ensures remote { IsErrOf result WalkEnd.RemoteFault → ⊥ }
@@ -157,7 +160,8 @@ fn read_meta<H: Host>(
     }
 }
 
-/// The object that the store has, of its kind and within its limits. Whether its name is true isn't looked at.
+/// The object that the store has, of its kind and within its limits. Whether its name is true isn't
+/// looked at.
 fn read_object<H: Host>(
     alloc: Global,
     host: &mut H,
@@ -181,7 +185,8 @@ fn read_object<H: Host>(
     }
 }
 
-/// The object that the store in this folder has, checked as that of a remote is; None where it has none.
+/// The object that the store in this folder has, checked as that of a remote is; None where it has
+/// none.
 pub(crate) fn stored<H: Host>(
     alloc: Global,
     host: &mut H,

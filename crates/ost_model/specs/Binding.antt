@@ -39,13 +39,15 @@ are_texts _ = false
 
 -- the texts of a variant of type `as`
 abbrev pub texts_in : Tree → Option (List (List ℕ))
-texts_in (Tree.variant t v) = if are_texts t then option_and_then (each_of text_in) (items_in v) else None
+texts_in (Tree.variant t v) =
+    if are_texts t then option_and_then (each_of text_in) (items_in v) else None
 texts_in _ = None
 
 abbrev pub binding_name : List ℕ
 binding_name = codes "ostree.ref-binding"
 
--- The ref-binding: the value of the last entry `ostree.ref-binding` of the metadata where that has type `as`, else none.
+-- The ref-binding: the value of the last entry `ostree.ref-binding` of the metadata where that has
+-- type `as`, else none.
 abbrev pub binding_in : Tree → Option (List (List ℕ))
 binding_in (Tree.array vs) = option_and_then texts_in (last_named binding_name vs)
 binding_in _ = None

@@ -1,5 +1,5 @@
--- The digests of objects (OSTree, "Repository format"): SHA-256 (FIPS 180-4) of a metadata object's bytes, and, for a file
--- or a link, of its header and its content. A digest is 32 bytes.
+-- The digests of objects (OSTree, "Repository format"): SHA-256 (FIPS 180-4) of a metadata object's
+-- bytes, and, for a file or a link, of its header and its content. A digest is 32 bytes.
 use Rattle.std.specs.Prelude.{ℕ, ◌+◌, Bool, ◌==◌, bit_and, List, [], ◌++◌, length}
 use Rattle.std.specs.Int.{w32, to_be_bytes}
 use Rattle.sha2.specs.Sha256.{sha256}
@@ -10,7 +10,8 @@ use Rattle.gv_value.specs.Tree.{Content, Tree, no_trees, tree}
 use Rattle.gv_value.specs.Spelling.{spelling}
 use Rattle.ost_model.specs.declared.limits.TheConstants.{STORED_BITS, REGULAR_MODE, LINK_MODE}
 
--- `u`, and a number in it: OSTree keeps numbers big endian, so GVariant, whose numbers are little endian, sees the bytes turned
+-- `u`, and a number in it: OSTree keeps numbers big endian, so GVariant, whose numbers are little
+-- endian, sees the bytes turned
 abbrev pub number_shape : Shape
 number_shape = Shape.basic basics.Uint32
 
@@ -24,14 +25,18 @@ bytes_shape = Shape.array (Shape.basic basics.Byte)
 abbrev pub attributes_shape : Shape
 attributes_shape = Shape.array (Shape.tuple (shape bytes_shape (shape bytes_shape no_shapes)))
 
--- a file header, `(uuuusa(ayay))`: user, group, mode, device, the text of a link, extended attributes
+-- a file header, `(uuuusa(ayay))`: user, group, mode, device, the text of a link, extended
+-- attributes
 abbrev pub header_shape : Shape
-header_shape = Shape.tuple (shape number_shape (shape number_shape (shape number_shape (shape number_shape
+header_shape =
+    Shape.tuple (shape number_shape (shape number_shape (shape number_shape (shape number_shape
     (shape (Shape.basic basics.Str) (shape attributes_shape no_shapes))))))
 
 -- All but the mode and the text is 0 or empty.
 abbrev pub header_value : ℕ → List ℕ → Tree
-header_value mode text = Tree.tuple (tree (big_endian 0) (tree (big_endian 0) (tree (big_endian mode) (tree (big_endian 0)
+header_value mode text =
+    Tree.tuple (tree (big_endian 0)
+    (tree (big_endian 0) (tree (big_endian mode) (tree (big_endian 0)
     (tree (Tree.leaf basics.Str (Content.text text)) (tree (Tree.array no_trees) no_trees))))))
 
 -- In front of a header stand its length, big endian in four bytes, and four zero bytes.
@@ -45,7 +50,8 @@ header_bytes mode text = with_length (spelling (header_value mode text) header_s
 abbrev pub is_permission : ℕ → Bool
 is_permission bits = bit_and bits STORED_BITS == bits
 
--- the header of a file with these permission bits: its mode is 0100000 (octal) and the bits, and its text is empty
+-- the header of a file with these permission bits: its mode is 0100000 (octal) and the bits, and
+-- its text is empty
 unfoldable pub header : ℕ → List ℕ
 header bits = header_bytes (REGULAR_MODE + bits) []
 

@@ -45,7 +45,8 @@ byte_in _ = None
 -- each of the values
 abbrev pub each_of : {A : Type 0} → (Tree → Option A) → Trees → Option (List A)
 each_of one no_trees = Some []
-each_of one (tree v vs) = option_and_then (λ a. option_map (λ others. a ∷ others) (each_of one vs)) (one v)
+each_of one (tree v vs) =
+    option_and_then (λ a. option_map (λ others. a ∷ others) (each_of one vs)) (one v)
 
 abbrev pub items_in : Tree → Option Trees
 items_in (Tree.array vs) = Some vs
@@ -73,33 +74,51 @@ time_in _ = None
 -- ---- a commit
 
 -- The six fields that are texts and numbers, between the two that are kept as they are.
-abbrev pub commit_from : Tree → Tree → Option (List ℕ) → Option (List ℕ) → Option (List ℕ) → Option ℕ → Option (List ℕ) → Option (List ℕ) → Option CommitView
+abbrev pub commit_from : Tree → Tree → Option (List ℕ) → Option (List ℕ) → Option (List ℕ)
+    → Option ℕ → Option (List ℕ) → Option (List ℕ) → Option CommitView
 commit_from metadata related parent subject body time root meta =
-    option_and_then (λ p. option_and_then (λ s. option_and_then (λ b. option_and_then (λ t. option_and_then (λ d. option_map (λ m.
-    record { metadata = metadata; parent = p; related = related; subject = s; body = b; timestamp = t; tree = d; meta = m })
+    option_and_then (λ p. option_and_then
+    (λ s. option_and_then (λ b. option_and_then (λ t. option_and_then (λ d. option_map (λ m.
+    record {
+      metadata = metadata;
+      parent = p;
+      related = related;
+      subject = s;
+      body = b;
+      timestamp = t;
+      tree = d;
+      meta = m;
+    })
     meta) root) time) body) subject) parent
 
 abbrev pub commit_in : Tree → Option CommitView
-commit_in (Tree.tuple (tree metadata (tree parent (tree related (tree subject (tree body (tree time (tree root (tree meta no_trees))))))))) =
-    commit_from metadata related (bytes_in parent) (text_in subject) (text_in body) (time_in time) (bytes_in root) (bytes_in meta)
+commit_in (Tree.tuple (tree metadata
+    (tree parent (tree related
+    (tree subject (tree body (tree time (tree root (tree meta no_trees))))))))) =
+    commit_from metadata related (bytes_in parent) (text_in subject) (text_in body) (time_in time)
+    (bytes_in root) (bytes_in meta)
 commit_in _ = None
 
 -- ---- a dirtree
 
 abbrev pub file_in : Tree → Option FileRow
 file_in (Tree.tuple (tree name (tree digest no_trees))) =
-    option_and_then (λ n. option_map (λ d. record { name = n; digest = d }) (bytes_in digest)) (text_in name)
+    option_and_then (λ n. option_map (λ d. record { name = n; digest = d }) (bytes_in digest))
+    (text_in name)
 file_in _ = None
 
 abbrev pub dir_in : Tree → Option DirRow
 dir_in (Tree.tuple (tree name (tree root (tree meta no_trees)))) =
-    option_and_then (λ n. option_and_then (λ t. option_map (λ m. record { name = n; tree = t; meta = m }) (bytes_in meta)) (bytes_in root)) (text_in name)
+    option_and_then (λ n. option_and_then
+    (λ t. option_map (λ m. record { name = n; tree = t; meta = m }) (bytes_in meta))
+    (bytes_in root)) (text_in name)
 dir_in _ = None
 
 abbrev pub tree_in : Tree → Option TreeView
 tree_in (Tree.tuple (tree files (tree dirs no_trees))) =
     option_and_then (λ fs. option_map (λ ds. record { files = fs; dirs = ds })
-    (option_and_then (each_of dir_in) (items_in dirs))) (option_and_then (each_of file_in) (items_in files))
+    (option_and_then (each_of dir_in) (items_in dirs)))
+    (option_and_then (each_of file_in) (items_in files))
 tree_in _ = None
 
 -- ---- a dirmeta

@@ -19,15 +19,18 @@ use Rattle.ost_model.specs.Walk.{Open, open_places, pending, opened, heads, own_
 
 -- the order of a commit depends on the objects of the order alone
 abbrev pub OrderIsLocal : Type 0
-OrderIsLocal = (i j : Have) (commit : List ℕ) → Agree i j (order i commit) → order j commit ≡ order i commit
+OrderIsLocal =
+    (i j : Have) (commit : List ℕ) → Agree i j (order i commit) → order j commit ≡ order i commit
 
 -- and so does its first fault
 abbrev pub FaultIsLocal : Type 0
-FaultIsLocal = (i j : Have) (commit : List ℕ) → Agree i j (order i commit) → first_fault j commit ≡ first_fault i commit
+FaultIsLocal = (i j : Have) (commit : List ℕ) → Agree i j (order i commit)
+    → first_fault j commit ≡ first_fault i commit
 
 -- and so does what is found in it, where it has no fault
 abbrev pub LookIsLocal : Type 0
-LookIsLocal = (i j : Have) (commit : List ℕ) → first_fault i commit ≡ None → Agree i j (order i commit)
+LookIsLocal =
+    (i j : Have) (commit : List ℕ) → first_fault i commit ≡ None → Agree i j (order i commit)
     → (rest : Elements) → look j commit rest ≡ look i commit rest
 
 -- a directory that is found in a commit without a fault stands in its order, with all that is in it
@@ -38,16 +41,21 @@ DirsAreReached = (have : Have) (commit : List ℕ) → first_fault have commit �
 -- and so does a file
 abbrev pub FilesAreReached : Type 0
 FilesAreReached = (have : Have) (commit : List ℕ) → first_fault have commit ≡ None
-    → (rest : Elements) (digest : List ℕ) → look have commit rest ≡ file_at digest → FileReached have commit digest
+    → (rest : Elements) (digest : List ℕ) → look have commit rest ≡ file_at digest
+    → FileReached have commit digest
 
 -- and what is read on a path of a commit without a fault has none
 abbrev pub PathsHaveNoFault : Type 0
-PathsHaveNoFault = (have : Have) (commit : List ℕ) → first_fault have commit ≡ None → (path : Elements) → look_fault have commit path ≡ None
+PathsHaveNoFault = (have : Have) (commit : List ℕ) → first_fault have commit ≡ None
+    → (path : Elements) → look_fault have commit path ≡ None
 
--- a commit that stands in a folder goes on standing where its paths and the objects of its order stay
+-- a commit that stands in a folder goes on standing where its paths and the objects of its order
+-- stay
 abbrev pub StandingIsLocal : Type 0
-StandingIsLocal = (reads : List ℕ → Bool) (root : Elements) (i j : Disk) (commit : List ℕ) (dir : Elements)
-    → Stands reads root i commit dir → SameBelow dir i j → SameObjects root commit i j → Stands reads root j commit dir
+StandingIsLocal =
+    (reads : List ℕ → Bool) (root : Elements) (i j : Disk) (commit : List ℕ) (dir : Elements)
+    → Stands reads root i commit dir → SameBelow dir i j → SameObjects root commit i j
+    → Stands reads root j commit dir
 
 -- a store goes on being one where what is below `objects` stays
 abbrev pub StoreIsLocal : Type 0
@@ -59,31 +67,37 @@ StoreGoesOn = (root : Elements) (i j : Disk) → KeepsStore root i j → IsStore
 
 -- a store without a name below `objects` is one
 abbrev pub NothingIsAStore : Type 0
-NothingIsAStore = (root : Elements) (disk : Disk) → ((rest : Elements) (xx : List ℕ) → disk (rest ++ (xx ∷ objects_folder root)) ≡ gone)
+NothingIsAStore = (root : Elements) (disk : Disk)
+    → ((rest : Elements) (xx : List ℕ) → disk (rest ++ (xx ∷ objects_folder root)) ≡ gone)
     → IsStore root disk
 
 -- what a store has at an object's name is that object
 abbrev pub ObjectsAreNamed : Type 0
-ObjectsAreNamed = (root : Elements) (disk : Disk) → IsStore root disk → (d : List ℕ) (kind : ObjKind) → is_digest d ≡ true
+ObjectsAreNamed = (root : Elements) (disk : Disk) → IsStore root disk
+    → (d : List ℕ) (kind : ObjKind) → is_digest d ≡ true
     → (disk (object_path root d kind) ≡ gone) ⊎ Named d kind (disk (object_path root d kind))
 
 -- and below it there is nothing
 abbrev pub ObjectsAreNoFolders : Type 0
-ObjectsAreNoFolders = (root : Elements) (disk : Disk) → IsStore root disk → (x : List ℕ) (rest : Elements) (name xx : List ℕ)
+ObjectsAreNoFolders = (root : Elements) (disk : Disk) → IsStore root disk
+    → (x : List ℕ) (rest : Elements) (name xx : List ℕ)
     → disk (x ∷ (rest ++ (name ∷ (xx ∷ objects_folder root)))) ≡ gone
 
 -- an object's name says its digest and its kind
 abbrev pub NamesAreApart : Type 0
-NamesAreApart = (root : Elements) (d e : List ℕ) (k m : ObjKind) → is_digest d ≡ true → is_digest e ≡ true
+NamesAreApart =
+    (root : Elements) (d e : List ℕ) (k m : ObjKind) → is_digest d ≡ true → is_digest e ≡ true
     → object_path root d k ≡ object_path root e m → (d ≡ e) × (k ≡ m)
 
 -- a metadata object without a fault reads
 abbrev pub GoodTreesAreRead : Type 0
-GoodTreesAreRead = (have : Have) (d : List ℕ) → object_fault d kinds.DirTree (have d kinds.DirTree) ≡ None
+GoodTreesAreRead =
+    (have : Have) (d : List ℕ) → object_fault d kinds.DirTree (have d kinds.DirTree) ≡ None
     → (v : TreeView) × (tree_at have d ≡ Some v)
 
 abbrev pub GoodCommitsAreRead : Type 0
-GoodCommitsAreRead = (have : Have) (d : List ℕ) → object_fault d kinds.Commit (have d kinds.Commit) ≡ None
+GoodCommitsAreRead =
+    (have : Have) (d : List ℕ) → object_fault d kinds.Commit (have d kinds.Commit) ≡ None
     → (v : CommitView) × (commit_at have d ≡ Some v)
 
 -- the first fault of two lists, one after the other
@@ -93,35 +107,45 @@ FirstOfTwo = (test : ℕ → Place → Option Fault) (n : ℕ) (xs ys : List Pla
 
 -- all metadata objects of an order that has no fault are without one
 abbrev pub WalkFaultsAreFaults : Type 0
-WalkFaultsAreFaults = (have : Have) (commit : List ℕ) → first_fault have commit ≡ None → first_walk_fault have commit ≡ None
+WalkFaultsAreFaults = (have : Have) (commit : List ℕ) → first_fault have commit ≡ None
+    → first_walk_fault have commit ≡ None
 
 -- a directory begins with its dirtree and its dirmeta
 abbrev pub OpensWithHeads : Type 0
-OpensWithHeads = (have : Have) (o : Open) → (rest : List Place) × (open_places have o ≡ heads o ++ rest)
+OpensWithHeads =
+    (have : Have) (o : Open) → (rest : List Place) × (open_places have o ≡ heads o ++ rest)
 
 -- and goes on with its files and its directories
 abbrev pub OpensAsRead : Type 0
-OpensAsRead = (have : Have) (o : Open) (v : TreeView) (left : List Open) → o.depth ≤ MOST_LEVELS → tree_at have o.tree ≡ Some v
+OpensAsRead = (have : Have) (o : Open) (v : TreeView) (left : List Open) → o.depth ≤ MOST_LEVELS
+    → tree_at have o.tree ≡ Some v
     → pending have (o ∷ left) ≡ own_places o v ++ pending have (opened (suc o.depth) v.dirs ++ left)
 
 -- a walk goes on by one directory
 abbrev pub WalkGoesOn : Type 0
-WalkGoesOn = (have : Have) (test : ℕ → Place → Option Fault) (commit : List ℕ) (done : List Place) (o : Open) (left : List Open) (v : TreeView)
-    → Walked have test commit done (o ∷ left) → o.depth ≤ MOST_LEVELS → tree_at have o.tree ≡ Some v → first_of test (length done) (own_places o v) ≡ None
+WalkGoesOn = (have : Have) (test : ℕ → Place → Option Fault) (commit : List ℕ) (done : List Place)
+    (o : Open) (left : List Open) (v : TreeView)
+    → Walked have test commit done (o ∷ left) → o.depth ≤ MOST_LEVELS
+    → tree_at have o.tree ≡ Some v → first_of test (length done) (own_places o v) ≡ None
     → Walked have test commit (done ++ own_places o v) (opened (suc o.depth) v.dirs ++ left)
 
 -- at its end it has done the order, which has no fault
 abbrev pub WalkEnds : Type 0
 WalkEnds = (have : Have) (test : ℕ → Place → Option Fault) (commit : List ℕ) (done : List Place)
-    → Walked have test commit done [] → (done ≡ order have commit) × (first_of test 0 (order have commit) ≡ None)
+    → Walked have test commit done [] → (done ≡ order have commit)
+    × (first_of test 0 (order have commit) ≡ None)
 
 -- a fault among the places that come next is the first of the order
 abbrev pub WalkFindsTheFirst : Type 0
-WalkFindsTheFirst = (have : Have) (test : ℕ → Place → Option Fault) (commit : List ℕ) (done : List Place) (left : List Open)
-    (next more : List Place) (p : Place) (f : Fault) → Walked have test commit done left → pending have left ≡ next ++ more
-    → first_of test (length done) next ≡ Some (p, f) → first_of test 0 (order have commit) ≡ Some (p, f)
+WalkFindsTheFirst = (have : Have) (test : ℕ → Place → Option Fault) (commit : List ℕ)
+    (done : List Place) (left : List Open)
+    (next more : List Place) (p : Place) (f : Fault) → Walked have test commit done left
+    → pending have left ≡ next ++ more
+    → first_of test (length done) next ≡ Some (p, f)
+    → first_of test 0 (order have commit) ≡ Some (p, f)
 
--- a host that tells what it holds stores objects, and with remotes that tell what they hold it supplies some
+-- a host that tells what it holds stores objects, and with remotes that tell what they hold it
+-- supplies some
 abbrev pub HostsStore : Type 0
 HostsStore = (root : Elements) (m : Moments) → Stores root (Some m) (store root (shows m.now))
 
@@ -131,6 +155,8 @@ HostsSupply = (root : Elements) (url : Option (List ℕ)) (m : Moments) (held : 
 
 -- and there is a remote that supplies a commit without a fault to a store that has nothing
 abbrev pub ACommitIsSupplied : Type 0
-ACommitIsSupplied = (m : Moments) (url : List ℕ) → ((d : List ℕ) (kind : ObjKind) → store [] (shows m.now) d kind ≡ None)
-    → (held : Holdings) × (have : Have) × (commit : List ℕ) × Supplies [] (Some url) (Some m) (Some held) have
+ACommitIsSupplied = (m : Moments) (url : List ℕ)
+    → ((d : List ℕ) (kind : ObjKind) → store [] (shows m.now) d kind ≡ None)
+    → (held : Holdings) × (have : Have) × (commit : List ℕ)
+    × Supplies [] (Some url) (Some m) (Some held) have
     × (is_digest commit ≡ true) × (first_fault have commit ≡ None)

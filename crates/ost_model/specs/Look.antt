@@ -54,9 +54,11 @@ found_places depth (directory e) = tree_place depth e ∷ []
 -- what is read on a path: the commit, and the dirtree of each directory, the last one too
 abbrev pub look_places : Have → List ℕ → Elements → List Place
 look_places have commit [] = commit_place commit ∷ found_places 0 (look have commit [])
-look_places have commit (x ∷ up) = look_places have commit up ++ found_places (length (x ∷ up)) (look have commit (x ∷ up))
+look_places have commit (x ∷ up) =
+    look_places have commit up ++ found_places (length (x ∷ up)) (look have commit (x ∷ up))
 
--- The first fault among what is read. A path has no number in the order, so the depth is the only limit.
+-- The first fault among what is read. A path has no number in the order, so the depth is the only
+-- limit.
 abbrev pub look_fault : Have → List ℕ → Elements → Option (Place × Fault)
 look_fault have commit path = first_of (λ n. place_fault have 0) 0 (look_places have commit path)
 

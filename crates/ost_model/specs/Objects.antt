@@ -26,7 +26,8 @@ kind_text kinds.File = codes "file"
 
 -- `objects/XX/REST.KIND` below a store's folder, XX the first two digits of the digest
 abbrev pub object_path : Elements → List ℕ → ObjKind → Elements
-object_path root d kind = (drop 2 (hex d) ++ (codes "." ++ kind_text kind)) ∷ (take 2 (hex d) ∷ (codes "objects" ∷ root))
+object_path root d kind =
+    (drop 2 (hex d) ++ (codes "." ++ kind_text kind)) ∷ (take 2 (hex d) ∷ (codes "objects" ∷ root))
 
 -- a link may keep an object of this kind
 abbrev pub may_be_link : ObjKind → Bool
@@ -82,8 +83,10 @@ unless false f = Some f
 
 -- a metadata object has at most 16 MiB, a file at most 1 GiB
 abbrev pub length_fault : Object → Option Fault
-length_fault (objects.Meta bytes) = unless (leb (length bytes) MOST_METADATA_OBJECT_BYTES) (too_long (length bytes))
-length_fault (objects.File mode bytes) = unless (leb (length bytes) MOST_FILE_BYTES) (too_long (length bytes))
+length_fault (objects.Meta bytes) =
+    unless (leb (length bytes) MOST_METADATA_OBJECT_BYTES) (too_long (length bytes))
+length_fault (objects.File mode bytes) =
+    unless (leb (length bytes) MOST_FILE_BYTES) (too_long (length bytes))
 length_fault (objects.Link text) = None
 
 abbrev pub mode_fault : Object → Option Fault
@@ -114,9 +117,11 @@ kind_fault kind object = unless (is_of_kind kind object) missing
 
 -- what keeps an object of the kind from being the one that its digest names
 abbrev pub content_fault : List ℕ → ObjKind → Object → Option Fault
-content_fault d kind object = or_else (length_fault object) (or_else (mode_fault object) (or_else (digest_fault d object) (rule_fault kind object)))
+content_fault d kind object = or_else (length_fault object)
+    (or_else (mode_fault object) (or_else (digest_fault d object) (rule_fault kind object)))
 
--- what keeps an object from being the one that its digest names, in the order in which it is looked for
+-- what keeps an object from being the one that its digest names, in the order in which it is looked
+-- for
 abbrev pub name_fault : List ℕ → ObjKind → Option Object → Option Fault
 name_fault d kind None = Some missing
 name_fault d kind (Some object) = or_else (kind_fault kind object) (content_fault d kind object)

@@ -57,7 +57,8 @@ inside below depth (Some v) = file_places depth v.files ++ each_in below v.dirs
 -- a directory: its dirtree, its dirmeta, then what is inside, as many levels down as the fuel says
 abbrev pub dir_places : Have → ℕ → ℕ → DirRow → List Place
 dir_places have zero depth e = tree_place depth e ∷ (meta_place depth e ∷ [])
-dir_places have (suc fuel) depth e = tree_place depth e ∷ (meta_place depth e ∷ inside (dir_places have fuel (suc depth)) depth (tree_at have e.tree))
+dir_places have (suc fuel) depth e = tree_place depth e
+    ∷ (meta_place depth e ∷ inside (dir_places have fuel (suc depth)) depth (tree_at have e.tree))
 
 abbrev pub root_row : CommitView → DirRow
 root_row c = record { name = []; tree = c.tree; meta = c.meta }
@@ -69,14 +70,17 @@ abbrev pub below_commit : Have → Option CommitView → List Place
 below_commit have None = []
 below_commit have (Some c) = dir_places have (suc MOST_LEVELS) 0 (root_row c)
 
--- Order: the commit, the root's dirtree and dirmeta, then the files of a directory, then its directories, each with its
--- dirtree and its dirmeta first. Nothing is listed in a directory 65 below the root, whose place has a fault in any case.
+-- Order: the commit, the root's dirtree and dirmeta, then the files of a directory, then its
+-- directories, each with its dirtree and its dirmeta first. Nothing is listed in a directory 65
+-- below the root, whose place has a fault in any case.
 abbrev pub order : Have → List ℕ → List Place
 order have commit = commit_place commit ∷ below_commit have (commit_at have commit)
 
--- the first fault of the place that has n before it: at most 200,000 places, at most 64 directories below the root
+-- the first fault of the place that has n before it: at most 200,000 places, at most 64 directories
+-- below the root
 abbrev pub limited : ℕ → Place → Option Fault → Option Fault
-limited n p fault = if leb MOST_OBJECTS n then Some too_many else (if leb (suc MOST_LEVELS) p.depth then Some too_deep else fault)
+limited n p fault = if leb MOST_OBJECTS n then Some too_many
+    else (if leb (suc MOST_LEVELS) p.depth then Some too_deep else fault)
 
 abbrev pub place_fault : Have → ℕ → Place → Option Fault
 place_fault have n p = limited n p (object_fault p.digest p.kind (have p.digest p.kind))
@@ -102,7 +106,8 @@ of_metadata kinds.DirMeta fault = fault
 
 -- the same for a walk that reads metadata objects alone
 abbrev pub walk_fault : Have → ℕ → Place → Option Fault
-walk_fault have n p = limited n p (of_metadata p.kind (object_fault p.digest p.kind (have p.digest p.kind)))
+walk_fault have n p =
+    limited n p (of_metadata p.kind (object_fault p.digest p.kind (have p.digest p.kind)))
 
 abbrev pub first_walk_fault : Have → List ℕ → Option (Place × Fault)
 first_walk_fault have commit = first_of (walk_fault have) 0 (order have commit)

@@ -58,10 +58,11 @@ name_tests v =
 
 -- a dirtree: each digest has 32 bytes, and the names are good
 abbrev pub tree_breaks : TreeView → Option Rule
-tree_breaks v = first_broken ((list_all has_long v.files && list_all has_both_long v.dirs, rules.Digest) ∷ name_tests v)
+tree_breaks v = first_broken
+    ((list_all has_long v.files && list_all has_both_long v.dirs, rules.Digest) ∷ name_tests v)
 
--- a dirmeta: owner and group are 0, there are no attributes, and the mode is that of a directory, 040000 (octal) above the
--- lowest twelve bits
+-- a dirmeta: owner and group are 0, there are no attributes, and the mode is that of a directory,
+-- 040000 (octal) above the lowest twelve bits
 abbrev pub meta_breaks : MetaView → Option Rule
 meta_breaks m = first_broken (
     (m.uid == 0 && m.gid == 0, rules.Owner)

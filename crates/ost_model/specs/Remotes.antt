@@ -22,8 +22,10 @@ abbrev pub remote : Holdings → Option (List ℕ) → Have
 remote held None d kind = None
 remote held (Some url) d kind = remote_at held url d kind
 
--- A host and remotes that tell what they hold give these objects: those of the store at root, else those of the remote.
-pub record Supplies (root : Elements) (url : Option (List ℕ)) (told : Option Moments) (holdings : Option Holdings) (have : Have) : Type 0 where
+-- A host and remotes that tell what they hold give these objects: those of the store at root, else
+-- those of the remote.
+pub record Supplies (root : Elements) (url : Option (List ℕ)) (told : Option Moments)
+    (holdings : Option Holdings) (have : Have) : Type 0 where
   pub moments : Moments
   pub held : Holdings
   pub told_is : told ≡ Some moments

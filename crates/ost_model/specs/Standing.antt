@@ -27,12 +27,16 @@ deploy_name = codes "deploy" ∷ []
 abbrev pub metadata_name : Elements
 metadata_name = codes "metadata" ∷ []
 
--- The commit stands whole in the folder dir, from the store at root: each path but `deploy` is what Look says, its order has
--- no fault, its file `metadata` reads, and it has no entry `deploy`. What it means that `metadata` reads is given.
-pub record Stands (reads : List ℕ → Bool) (root : Elements) (disk : Disk) (commit : List ℕ) (dir : Elements) : Type 0 where
-  pub paths : (rest : Elements) → rest ≢ deploy_name → disk (rest ++ dir) ≡ expected root disk (look (store root disk) commit rest)
+-- The commit stands whole in the folder dir, from the store at root: each path but `deploy` is what
+-- Look says, its order has no fault, its file `metadata` reads, and it has no entry `deploy`. What
+-- it means that `metadata` reads is given.
+pub record Stands (reads : List ℕ → Bool) (root : Elements) (disk : Disk) (commit : List ℕ)
+    (dir : Elements) : Type 0 where
+  pub paths : (rest : Elements) → rest ≢ deploy_name
+      → disk (rest ++ dir) ≡ expected root disk (look (store root disk) commit rest)
   pub whole : first_fault (store root disk) commit ≡ None
-  pub described : is_metadata reads (expected root disk (look (store root disk) commit metadata_name)) ≡ true
+  pub described : is_metadata reads
+      (expected root disk (look (store root disk) commit metadata_name)) ≡ true
   pub no_deploy : look (store root disk) commit deploy_name ≡ nothing
 
 -- two disks have the same below dir, but at `deploy`
@@ -41,4 +45,5 @@ SameBelow dir i j = (rest : Elements) → rest ≢ deploy_name → j (rest ++ di
 
 -- and the same at the names of the objects of a commit
 abbrev pub SameObjects : Elements → List ℕ → Disk → Disk → Type 0
-SameObjects root commit i j = (p : Place) → In (order (store root i) commit) p → j (object_path root p.digest p.kind) ≡ i (object_path root p.digest p.kind)
+SameObjects root commit i j = (p : Place) → In (order (store root i) commit) p
+    → j (object_path root p.digest p.kind) ≡ i (object_path root p.digest p.kind)

@@ -31,20 +31,26 @@ MayBePrefix xx spot = (spot ≡ gone) ⊎ ((spot ≡ folder) × (is_prefix xx �
 abbrev pub MayBeObject : Elements → Elements → Spot → Type 0
 MayBeObject root path spot = (spot ≡ gone) ⊎ IsObject root path spot
 
--- Each name directly below `objects` is a folder named by two digits, or absent. Each path further below is absent, or that of
--- an object that is Named.
+-- Each name directly below `objects` is a folder named by two digits, or absent. Each path further
+-- below is absent, or that of an object that is Named.
 pub record IsStore (root : Elements) (disk : Disk) : Type 0 where
   pub prefixes : (xx : List ℕ) → MayBePrefix xx (disk (xx ∷ objects_folder root))
   pub objects : (rest : Elements) (name xx : List ℕ)
-      → MayBeObject root (rest ++ (name ∷ (xx ∷ objects_folder root))) (disk (rest ++ (name ∷ (xx ∷ objects_folder root))))
+      → MayBeObject root (rest ++ (name ∷ (xx ∷ objects_folder root)))
+      (disk (rest ++ (name ∷ (xx ∷ objects_folder root))))
 
 -- two disks have the same at each path below `objects`
 abbrev pub SameStore : Elements → Disk → Disk → Type 0
-SameStore root i j = (rest : Elements) (xx : List ℕ) → j (rest ++ (xx ∷ objects_folder root)) ≡ i (rest ++ (xx ∷ objects_folder root))
+SameStore root i j = (rest : Elements) (xx : List ℕ)
+    → j (rest ++ (xx ∷ objects_folder root)) ≡ i (rest ++ (xx ∷ objects_folder root))
 
--- The second disk has, at each path below `objects`, what the first has, or what a store may hold there.
+-- The second disk has, at each path below `objects`, what the first has, or what a store may hold
+-- there.
 pub record KeepsStore (root : Elements) (i j : Disk) : Type 0 where
-  pub prefixes : (xx : List ℕ) → (j (xx ∷ objects_folder root) ≡ i (xx ∷ objects_folder root)) ⊎ MayBePrefix xx (j (xx ∷ objects_folder root))
+  pub prefixes : (xx : List ℕ) → (j (xx ∷ objects_folder root) ≡ i (xx ∷ objects_folder root))
+      ⊎ MayBePrefix xx (j (xx ∷ objects_folder root))
   pub objects : (rest : Elements) (name xx : List ℕ)
-      → (j (rest ++ (name ∷ (xx ∷ objects_folder root))) ≡ i (rest ++ (name ∷ (xx ∷ objects_folder root))))
-      ⊎ MayBeObject root (rest ++ (name ∷ (xx ∷ objects_folder root))) (j (rest ++ (name ∷ (xx ∷ objects_folder root))))
+      → (j (rest ++ (name ∷ (xx ∷ objects_folder root)))
+      ≡ i (rest ++ (name ∷ (xx ∷ objects_folder root))))
+      ⊎ MayBeObject root (rest ++ (name ∷ (xx ∷ objects_folder root)))
+      (j (rest ++ (name ∷ (xx ∷ objects_folder root))))

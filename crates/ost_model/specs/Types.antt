@@ -18,9 +18,11 @@ related_shape = array (tuple (shape text_shape (shape bytes_shape no_shapes)))
 abbrev pub dirs_shape : Shape
 dirs_shape = array (tuple (shape text_shape (shape bytes_shape (shape bytes_shape no_shapes))))
 
--- `(a{sv}aya(say)sstayay)`: metadata, parent, related, subject, body, timestamp, root dirtree, root dirmeta
+-- `(a{sv}aya(say)sstayay)`: metadata, parent, related, subject, body, timestamp, root dirtree, root
+-- dirmeta
 abbrev pub commit_shape : Shape
-commit_shape = tuple (shape dictionary_shape (shape bytes_shape (shape related_shape (shape text_shape (shape text_shape
+commit_shape = tuple (shape dictionary_shape
+    (shape bytes_shape (shape related_shape (shape text_shape (shape text_shape
     (shape (basic basics.Uint64) (shape bytes_shape (shape bytes_shape no_shapes))))))))
 
 -- `(a(say)a(sayay))`: files, directories
@@ -29,4 +31,5 @@ tree_shape = tuple (shape related_shape (shape dirs_shape no_shapes))
 
 -- `(uuua(ayay))`: user, group, mode, extended attributes
 abbrev pub meta_shape : Shape
-meta_shape = tuple (shape number_shape (shape number_shape (shape number_shape (shape attributes_shape no_shapes))))
+meta_shape = tuple (shape number_shape
+    (shape number_shape (shape number_shape (shape attributes_shape no_shapes))))

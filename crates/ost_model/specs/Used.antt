@@ -19,11 +19,13 @@ abbrev pub object_text : List ℕ × ObjKind → List ℕ
 object_text object = path_text (object_path [] object.0 object.1)
 
 -- what the commits use, each object once, ascending by these texts
-pub record ListsUsed (have : Have) (commits : List (List ℕ)) (objects : List (List ℕ × ObjKind)) : Type 0 where
+pub record ListsUsed (have : Have) (commits : List (List ℕ))
+    (objects : List (List ℕ × ObjKind)) : Type 0 where
   pub each : (object : List ℕ × ObjKind) → Contains objects object ↔ IsUsed have commits object
   pub ascending : is_ascending (map object_text objects) ≡ true
 
 -- the first fault of the first commit that has one, among the metadata objects and the limits
 abbrev pub used_fault : Have → List (List ℕ) → Option (Place × Fault)
 used_fault have [] = None
-used_fault have (commit ∷ commits) = or_else (first_walk_fault have commit) (used_fault have commits)
+used_fault have (commit ∷ commits) =
+    or_else (first_walk_fault have commit) (used_fault have commits)

@@ -44,7 +44,9 @@ heads o = open_tree o ∷ (open_meta o ∷ [])
 abbrev pub own_places : Open → TreeView → List Place
 own_places o v = heads o ++ file_places o.depth v.files
 
--- The invariant of a walk of a commit by a test: what is done and what is left are the order, and what is done has no fault.
-pub record Walked (have : Have) (test : ℕ → Place → Option Fault) (commit : List ℕ) (done : List Place) (left : List Open) : Type 0 where
+-- The invariant of a walk of a commit by a test: what is done and what is left are the order, and
+-- what is done has no fault.
+pub record Walked (have : Have) (test : ℕ → Place → Option Fault) (commit : List ℕ)
+    (done : List Place) (left : List Open) : Type 0 where
   pub same : order have commit ≡ done ++ pending have left
   pub clean : first_of test 0 done ≡ None

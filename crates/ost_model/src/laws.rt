@@ -1,15 +1,16 @@
 //! Laws of stores and commits. Each is the contract of a function that does nothing.
 ghost use Rattle.ost_model.specs.Laws.{OrderIsLocal, FaultIsLocal, LookIsLocal, DirsAreReached, FilesAreReached, PathsHaveNoFault, StandingIsLocal, StoreIsLocal, StoreGoesOn, NothingIsAStore, ObjectsAreNamed, ObjectsAreNoFolders, NamesAreApart, GoodTreesAreRead, GoodCommitsAreRead, WalkFaultsAreFaults, FirstOfTwo, OpensWithHeads, OpensAsRead, WalkGoesOn, WalkEnds, WalkFindsTheFirst, HostsStore, HostsSupply, ACommitIsSupplied};
 
-/// The order of a commit and its first fault depend on the objects of that order alone, and so does what is found in the
-/// commit, where it has no fault.
+/// The order of a commit and its first fault depend on the objects of that order alone, and so does
+/// what is found in the commit, where it has no fault.
 pub fn orders_depend_on_their_objects()
     ensures order { OrderIsLocal }
     ensures fault { FaultIsLocal }
     ensures look { LookIsLocal }
 {}
 
-/// What is found in a commit without a fault stands in its order, and what is read on the way has no fault either.
+/// What is found in a commit without a fault stands in its order, and what is read on the way has
+/// no fault either.
 pub fn what_is_found_is_reached()
     ensures dirs { DirsAreReached }
     ensures files { FilesAreReached }
@@ -21,8 +22,9 @@ pub fn standing_depends_on_its_paths()
     ensures { StandingIsLocal }
 {}
 
-/// A store whose objects are what their names say goes on being one where what is below `objects` stays, and where only
-/// names go, or come as a store may have them. One without a name there is such a store.
+/// A store whose objects are what their names say goes on being one where what is below `objects`
+/// stays, and where only names go, or come as a store may have them. One without a name there is
+/// such a store.
 pub fn stores_depend_on_their_names()
     ensures same { StoreIsLocal }
     ensures goes_on { StoreGoesOn }
@@ -40,14 +42,16 @@ pub fn names_are_apart()
     ensures { NamesAreApart }
 {}
 
-/// A dirtree and a commit without a fault read, and where an order has no fault, a walk of its metadata objects finds none.
+/// A dirtree and a commit without a fault read, and where an order has no fault, a walk of its
+/// metadata objects finds none.
 pub fn good_objects_are_read()
     ensures trees { GoodTreesAreRead }
     ensures commits { GoodCommitsAreRead }
     ensures walks { WalkFaultsAreFaults }
 {}
 
-/// The first fault of two lists, one after the other, is that of the first, else that of the second.
+/// The first fault of two lists, one after the other, is that of the first, else that of the
+/// second.
 pub fn the_first_fault_of_two()
     ensures { FirstOfTwo }
 {}
@@ -65,8 +69,9 @@ pub fn walks_meet_the_order()
     ensures first { WalkFindsTheFirst }
 {}
 
-/// What is asked of a host and of remotes can be met: each host that tells what it holds stores objects, and with such remotes
-/// it supplies some. There is a remote from which an empty store is supplied with a commit without a fault.
+/// What is asked of a host and of remotes can be met: each host that tells what it holds stores
+/// objects, and with such remotes it supplies some. There is a remote from which an empty store is
+/// supplied with a commit without a fault.
 pub fn objects_are_supplied()
     ensures stores { HostsStore }
     ensures supplies { HostsSupply }

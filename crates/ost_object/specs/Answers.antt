@@ -1,4 +1,5 @@
--- What reading and writing answer, by what the definitions read. Nothing is said of running out of memory.
+-- What reading and writing answer, by what the definitions read. Nothing is said of running out of
+-- memory.
 use Rattle.std.specs.Prelude.{◌≡◌, ⊤, List, [], ◌∷◌, Bool, if◌then◌else◌, Option, Some, None, option_map, option_and_then, Result, Ok, Err}
 use Rattle.std.specs.Option.{IsSome}
 use Rattle.fp_base.specs.declared.rule.Rule.{Rule}
@@ -35,7 +36,8 @@ passing test a = if test a then Some a else None
 -- all of the items, where each passes the test
 abbrev pub only : {A : Type 0} → (A → Bool) → List A → Option (List A)
 only test [] = Some []
-only test (a ∷ others) = option_and_then (λ b. option_map (λ bs. b ∷ bs) (only test others)) (passing test a)
+only test (a ∷ others) =
+    option_and_then (λ b. option_map (λ bs. b ∷ bs) (only test others)) (passing test a)
 
 -- ---- an object, or the first rule that is broken
 

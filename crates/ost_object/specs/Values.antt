@@ -25,10 +25,13 @@ each_value one xs = trees_from (map one xs)
 
 -- without extended attributes
 abbrev pub meta_value : MetaView → Tree
-meta_value m = Tree.tuple (tree (number_value m.uid) (tree (number_value m.gid) (tree (number_value m.mode) (tree (Tree.array no_trees) no_trees))))
+meta_value m = Tree.tuple
+    (tree (number_value m.uid)
+    (tree (number_value m.gid) (tree (number_value m.mode) (tree (Tree.array no_trees) no_trees))))
 
 abbrev pub file_value : FileRow → Tree
 file_value f = Tree.tuple (tree (text_value f.name) (tree (bytes_value f.digest) no_trees))
 
 abbrev pub dir_value : DirRow → Tree
-dir_value d = Tree.tuple (tree (text_value d.name) (tree (bytes_value d.tree) (tree (bytes_value d.meta) no_trees)))
+dir_value d = Tree.tuple
+    (tree (text_value d.name) (tree (bytes_value d.tree) (tree (bytes_value d.meta) no_trees)))

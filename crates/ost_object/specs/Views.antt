@@ -83,7 +83,8 @@ parts_view p = record {
 }
 
 abbrev pub part_list : CommitParts → List (List ℕ)
-part_list p = p.metadata.now ∷ p.parent.now ∷ p.related.now ∷ p.subject.now ∷ p.body.now ∷ p.time.now ∷ p.tree.now ∷ p.meta.now ∷ []
+part_list p = p.metadata.now ∷ p.parent.now ∷ p.related.now ∷ p.subject.now ∷ p.body.now
+    ∷ p.time.now ∷ p.tree.now ∷ p.meta.now ∷ []
 
 -- lists of eight
 abbrev pub if_eight : List (List ℕ) → Option (List (List ℕ))

@@ -23,8 +23,8 @@ use gv_decode::{DecodeError, variant_parts};
 use gv_value::{Basic, GvType, GvValue, Kind, Parts};
 use std::alloc::{AllocError, Global};
 
-/// The refs that a commit says it was made for: the value of the last entry `ostree.ref-binding` of its metadata, where that
-/// has type `as`. Of the metadata no value is made but that one.
+/// The refs that a commit says it was made for: the value of the last entry `ostree.ref-binding` of
+/// its metadata, where that has type `as`. Of the metadata no value is made but that one.
 pub fn binding(alloc: Global, commit: &Commit) -> Result<Option<Items<Text>>, AllocError>
     ensures { IfOk result (λ found. found ≡ binding_in (tree_at dictionary_shape
         commit.now.metadata)) }

@@ -2,8 +2,9 @@
 use fp_base::{Blob, Text};
 use fp_name::Digest;
 
-/// A commit object: `(a{sv}aya(say)sstayay)`. What isn't looked at is kept as its bytes, which a reader has checked to be in
-/// GVariant's normal form: so the memory of a commit is little more than its bytes, however they were made.
+/// A commit object: `(a{sv}aya(say)sstayay)`. What isn't looked at is kept as its bytes, which a
+/// reader has checked to be in GVariant's normal form: so the memory of a commit is little more
+/// than its bytes, however they were made.
 #[derive(Drop)]
 pub struct Commit {
     /// The bytes of a value of type `a{sv}`.

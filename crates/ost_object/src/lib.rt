@@ -1,4 +1,5 @@
-//! The metadata objects of OSTree's repositories: commits, dirtrees and dirmetas, read and written exactly.
+//! The metadata objects of OSTree's repositories: commits, dirtrees and dirmetas, read and written
+//! exactly.
 #![tactic(auto)]
 
 mod bindings;

@@ -20,7 +20,8 @@ pub fn read_commit(alloc: Global, bytes: &[u8]) -> Result<Commit, ObjectError>
     Ok(whole_commit(alloc, &parts, digests)?)
 }
 
-/// The root of the commit that bytes are, or the first rule that they break: as `read_commit`, with nothing copied.
+/// The root of the commit that bytes are, or the first rule that they break: as `read_commit`, with
+/// nothing copied.
 pub fn commit_root(alloc: Global, bytes: &[u8]) -> Result<CommitRoot, ObjectError>
     ensures { Reads root_view result (mapped root_in (commit_read bytes.now)) }
 {

@@ -113,7 +113,8 @@ fn spelled_commit(
 ) -> Result<Blob, ObjectError>
     ensures spelled { Spells result commit_shape (tuple (first (plain metadata)
         (first (plain digests.parent) (first (plain related)
-        (first (text_value commit.now.subject) (first (text_value commit.now.body) (first (time_value commit.now.timestamp)
+        (first (text_value commit.now.subject)
+        (first (text_value commit.now.body) (first (time_value commit.now.timestamp)
         (first (plain digests.tree) (first (plain digests.meta) no_trees))))))))) }
     ensures small { commit.now.timestamp < 2 ^ 64 }
 {
@@ -193,7 +194,10 @@ fn commit_as_value(
 ) -> Result<GvValue, AllocError>
     ensures { IfOk result (λ value. plain value ≡ tuple (first (plain metadata)
         (first (plain digests.parent) (first (plain related)
-        (first (plain said.subject) (first (plain said.body) (first (plain said.time) (first (plain digests.tree) (first (plain digests.meta) no_trees))))))))) }
+        (first (plain said.subject)
+        (first (plain said.body)
+        (first (plain said.time)
+        (first (plain digests.tree) (first (plain digests.meta) no_trees))))))))) }
 {
     Ok(GvValue::Tuple(vec![in alloc;
         metadata,

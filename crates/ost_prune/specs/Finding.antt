@@ -7,9 +7,12 @@ use Rattle.fp_base.specs.declared.object.ObjKind.{ObjKind}
 use Rattle.ost_prune.specs.Prune.{path_in, text_in, IsUnused}
 
 -- the path is the name of this object, which no commit uses; or of none
-abbrev pub IsUnusedAt : Elements → List (List ℕ) → Elements → View → Option (List ℕ × ObjKind) → Type 0
-IsUnusedAt root keep path v (Some object) = IsUnused root keep v object × (path ≡ path_in root object)
-IsUnusedAt root keep path v None = (object : List ℕ × ObjKind) → path ≡ path_in root object → IsUnused root keep v object → ⊥
+abbrev pub IsUnusedAt : Elements → List (List ℕ) → Elements → View
+    → Option (List ℕ × ObjKind) → Type 0
+IsUnusedAt root keep path v (Some object) =
+    IsUnused root keep v object × (path ≡ path_in root object)
+IsUnusedAt root keep path v None =
+    (object : List ℕ × ObjKind) → path ≡ path_in root object → IsUnused root keep v object → ⊥
 
 -- the object more, where there is one
 abbrev pub with_found : {A : Type 0} → List A → Option A → List A
@@ -17,6 +20,9 @@ with_found found None = found
 with_found found (Some object) = found ++ object ∷ []
 
 -- These are the objects among the names that no commit uses. Where the names ascend, they do too.
-pub record PicksUnused (root : Elements) (keep : List (List ℕ)) (paths : List Elements) (v : View) (found : List (List ℕ × ObjKind)) : Type 0 where
-  pub each : (object : List ℕ × ObjKind) → Contains found object ↔ (IsUnused root keep v object × Contains paths (path_in root object))
-  pub ascending : is_ascending (map path_text paths) ≡ true → is_ascending (map (text_in root) found) ≡ true
+pub record PicksUnused (root : Elements) (keep : List (List ℕ)) (paths : List Elements) (v : View)
+    (found : List (List ℕ × ObjKind)) : Type 0 where
+  pub each : (object : List ℕ × ObjKind) → Contains found object
+      ↔ (IsUnused root keep v object × Contains paths (path_in root object))
+  pub ascending : is_ascending (map path_text paths) ≡ true
+      → is_ascending (map (text_in root) found) ≡ true

@@ -20,16 +20,18 @@ abbrev pub text_in : Elements → List ℕ × ObjKind → List ℕ
 text_in root object = path_text (path_in root object)
 
 -- the object is there, and no commit to keep uses it
-pub record IsUnused (root : Elements) (keep : List (List ℕ)) (v : View) (object : List ℕ × ObjKind) : Type 0 where
+pub record IsUnused (root : Elements) (keep : List (List ℕ)) (v : View)
+    (object : List ℕ × ObjKind) : Type 0 where
   pub digits : is_digest object.0 ≡ true
   pub there : is_some (store root (shows v) object.0 object.1) ≡ true
   pub unused : IsUsed (store root (shows v)) keep object → ⊥
 
 -- the path is the name of such an object
-pub record IsUnusedName (root : Elements) (keep : List (List ℕ)) (v : View) (q : Elements) : Type 0 where
-  pub object : List ℕ × ObjKind
-  pub unused : IsUnused root keep v object
-  pub name : q ≡ path_in root object
+pub record IsUnusedName (root : Elements) (keep : List (List ℕ)) (v : View) (q : Elements) : Type 0
+  where
+    pub object : List ℕ × ObjKind
+    pub unused : IsUnused root keep v object
+    pub name : q ≡ path_in root object
 
 -- a stop may leave nothing there
 abbrev pub PrunesAt : Elements → List (List ℕ) → View → Elements → Spot → Type 0
@@ -43,19 +45,25 @@ PrunesName root keep u q e = IsUnusedName root keep u q × (e ≡ absent)
 pub record Prunes (root : Elements) (keep : List (List ℕ)) (u w : View) : Type 0 where
   pub keeps : Keeps (PrunesAt root keep u) (PrunesName root keep u) NoPath u w
 
--- these are the objects that no commit to keep uses, each once, ascending by the texts of their paths
-pub record ListsUnused (root : Elements) (keep : List (List ℕ)) (v : View) (objects : List (List ℕ × ObjKind)) : Type 0 where
+-- these are the objects that no commit to keep uses, each once, ascending by the texts of their
+-- paths
+pub record ListsUnused (root : Elements) (keep : List (List ℕ)) (v : View)
+    (objects : List (List ℕ × ObjKind)) : Type 0 where
   pub each : (object : List ℕ × ObjKind) → Contains objects object ↔ IsUnused root keep v object
   pub ascending : is_ascending (map (text_in root) objects) ≡ true
 
 -- So many objects were there that no commit to keep uses, and they are gone.
-pub record WasPruned (root : Elements) (keep : List (List ℕ)) (number : ℕ) (u w : View) : Type 0 where
-  pub objects : List (List ℕ × ObjKind)
-  pub all : ListsUnused root keep u objects
-  pub count : number ≡ length objects
-  pub gone : (object : List ℕ × ObjKind) → IsUnused root keep u object → w.names (path_in root object) ≡ absent
+pub record WasPruned (root : Elements) (keep : List (List ℕ)) (number : ℕ) (u w : View) : Type 0
+  where
+    pub objects : List (List ℕ × ObjKind)
+    pub all : ListsUnused root keep u objects
+    pub count : number ≡ length objects
+    pub gone : (object : List ℕ × ObjKind) → IsUnused root keep u object
+        → w.names (path_in root object) ≡ absent
 
--- where it may be done: the orders of the commits have no fault in the store, and no path below `objects` is too long
+-- where it may be done: the orders of the commits have no fault in the store, and no path below
+-- `objects` is too long
 pub record CanPrune (root : Elements) (keep : List (List ℕ)) (v : View) : Type 0 where
-  pub whole : (commit : List ℕ) → Contains keep commit → first_fault (store root (shows v)) commit ≡ None
+  pub whole : (commit : List ℕ) → Contains keep commit
+      → first_fault (store root (shows v)) commit ≡ None
   pub short : CanList root v

@@ -23,19 +23,26 @@ pub record IsTextOf (root : Elements) (object : List ℕ × ObjKind) (text : Lis
   pub back : elements_of text ≡ path_in root object
 
 -- the set has the texts of these objects alone
-pub record AreTextsOf (root : Elements) (objects : List (List ℕ × ObjKind)) (has : List ℕ → Bool) : Type 0 where
+pub record AreTextsOf (root : Elements) (objects : List (List ℕ × ObjKind))
+    (has : List ℕ → Bool) : Type 0 where
   pub each : (q : List ℕ) → has q ≡ list_any (λ o. bytes_eq (text_in root o) q) objects
-  pub good : (object : List ℕ × ObjKind) → Contains objects object → IsTextOf root object (text_in root object)
+  pub good : (object : List ℕ × ObjKind) → Contains objects object
+      → IsTextOf root object (text_in root object)
 
--- The set tells which objects the commits use: it has the text of each of these, and of no other object.
-pub record AreUsedTexts (root : Elements) (keep : List (List ℕ)) (v : View) (has : List ℕ → Bool) : Type 0 where
-  pub used : (object : List ℕ × ObjKind) → IsUsed (store root (shows v)) keep object → has (text_in root object) ≡ true
-  pub alone : (object : List ℕ × ObjKind) → is_digest object.0 ≡ true → elements_of (text_in root object) ≡ path_in root object
+-- The set tells which objects the commits use: it has the text of each of these, and of no other
+-- object.
+pub record AreUsedTexts (root : Elements) (keep : List (List ℕ)) (v : View)
+    (has : List ℕ → Bool) : Type 0 where
+  pub used : (object : List ℕ × ObjKind) → IsUsed (store root (shows v)) keep object
+      → has (text_in root object) ≡ true
+  pub alone : (object : List ℕ × ObjKind) → is_digest object.0 ≡ true
+      → elements_of (text_in root object) ≡ path_in root object
       → has (text_in root object) ≡ true → IsUsed (store root (shows v)) keep object
 
 -- the orders of the commits have no fault in the store at root
 pub record AreWhole (root : Elements) (keep : List (List ℕ)) (v : View) : Type 0 where
-  pub whole : (commit : List ℕ) → Contains keep commit → first_fault (store root (shows v)) commit ≡ None
+  pub whole : (commit : List ℕ) → Contains keep commit
+      → first_fault (store root (shows v)) commit ≡ None
 
 -- how a function over a host ends where a walk does
 abbrev pub end_of : WalkEnd → HostEnd

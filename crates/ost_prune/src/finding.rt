@@ -80,7 +80,8 @@ fn pick_unused<H: Host>(
     Ok(found)
 }
 
-/// The objects of the store in this folder that no commit to keep uses, ascending by the texts of their paths.
+/// The objects of the store in this folder that no commit to keep uses, ascending by the texts of
+/// their paths.
 pub(crate) fn find_unused<H: Host>(
     alloc: Global,
     host: &mut H,

@@ -1,5 +1,5 @@
-//! Laws of the words that the contract uses, for crates that build on it. Each is the contract of a function that does
-//! nothing.
+//! Laws of the words that the contract uses, for crates that build on it. Each is the contract of a
+//! function that does nothing.
 ghost use Rattle.std.specs.Prelude.{◌≡◌, ◌↔◌, ℕ, List, true, is_some};
 ghost use Rattle.fp_host.specs.Paths.{Elements};
 ghost use Rattle.fp_host.specs.View.{View, IsTree};
@@ -10,18 +10,20 @@ ghost use Rattle.ost_model.specs.Objects.{store};
 ghost use Rattle.ost_model.specs.Used.{IsUsed};
 ghost use Rattle.ost_prune.specs.Prune.{path_in, IsUnused, Prunes, WasPruned};
 
-/// What a commit to keep uses is untouched: its name holds what it held, and each stop leaves there what some stop before
-/// would have left.
+/// What a commit to keep uses is untouched: its name holds what it held, and each stop leaves there
+/// what some stop before would have left.
 pub fn used_objects_stay()
     ensures name { (root : Elements) (keep : List (List ℕ)) (object : List ℕ × ObjKind)
         (u w : View) → is_digest object.0 ≡ true
         → Prunes root keep u w
-        → IsUsed (store root (shows u)) keep object → w.names (path_in root object) ≡ u.names (path_in root object) }
+        → IsUsed (store root (shows u)) keep object
+        → w.names (path_in root object) ≡ u.names (path_in root object) }
     ensures stop { (root : Elements) (keep : List (List ℕ)) (object : List ℕ × ObjKind)
         (u w : View) → is_digest object.0 ≡ true
         → Prunes root keep u w → IsUsed (store root (shows u)) keep object
         → (disk : Disk) → Leaves w disk
-        → (before : Disk) × Leaves u before × (disk (path_in root object) ≡ before (path_in root object)) }
+        → (before : Disk) × Leaves u before
+        × (disk (path_in root object) ≡ before (path_in root object)) }
 {}
 
 /// After it an object is there exactly if it was there and isn't one that no commit to keep uses.
@@ -30,5 +32,6 @@ pub fn used_objects_are_left()
         (u w : View) → IsTree u → IsTree w
         → is_digest object.0 ≡ true → Prunes root keep u w → WasPruned root keep number u w
         → (is_some (store root (shows w) object.0 object.1) ≡ true)
-        ↔ ((is_some (store root (shows u) object.0 object.1) ≡ true) × (IsUnused root keep u object → ⊥)) }
+        ↔ ((is_some (store root (shows u) object.0 object.1) ≡ true)
+        × (IsUnused root keep u object → ⊥)) }
 {}

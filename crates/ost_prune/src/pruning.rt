@@ -12,17 +12,18 @@ use fp_host::{Host, HostEnd, Path};
 use fp_name::Digest;
 use std::alloc::Global;
 
-/// Takes away each object of the store in this folder that no commit to keep uses, and answers how many there were. Other
-/// names stay, also those below `objects` that no object has. All that is to go is known before the first is taken away.
-/// Nothing is synced. It is for commits whose orders have no fault in this store, and for paths of at most 128 elements.
+/// Takes away each object of the store in this folder that no commit to keep uses, and answers how
+/// many there were. Other names stay, also those below `objects` that no object has. All that is to
+/// go is known before the first is taken away. Nothing is synced. It is for commits whose orders
+/// have no fault in this store, and for paths of at most 128 elements.
 pub fn prune<H: Host>(
     alloc: Global,
     host: &mut H,
     root: &Path,
     keep: &[Digest],
 ) -> Result<u64, HostEnd>
-    // A stop at any moment leaves at the name of an object that no commit uses what some stop before would have left, or
-    // nothing, and all else as it was.
+    // A stop at any moment leaves at the name of an object that no commit uses what some stop
+    // before would have left, or nothing, and all else as it was.
     ensures any_moment { Always (Prunes root.now keep.now)
         (H.moments host.old) (H.moments host.new) }
     ensures on_success { IfOk result (λ number. AtEnd (WasPruned root.now keep.now number)

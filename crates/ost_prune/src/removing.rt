@@ -11,7 +11,8 @@ use fp_name::Digest;
 use ost_store::remove;
 use std::alloc::Global;
 
-/// Takes these objects away, one after another. Nothing is synced. It is for different objects that are there.
+/// Takes these objects away, one after another. Nothing is synced. It is for different objects that
+/// are there.
 pub(crate) fn remove_all<H: Host>(
     alloc: Global,
     host: &mut H,

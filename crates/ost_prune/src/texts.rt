@@ -48,8 +48,8 @@ fn host_end(end: WalkEnd) -> HostEnd
     }
 }
 
-/// The texts of the paths of all objects that the commits use in the store in this folder. It is for commits whose orders have
-/// no fault.
+/// The texts of the paths of all objects that the commits use in the store in this folder. It is
+/// for commits whose orders have no fault.
 pub(crate) fn used_texts<H: Host>(
     alloc: Global,
     host: &mut H,

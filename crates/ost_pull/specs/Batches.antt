@@ -28,30 +28,40 @@ pub record IsParted (object : Object) (form : Form) (item : Item) : Type 0 where
   pub digest : item_digest item ≡ digest_of object
 
 -- the remote's object, which the store lacks, was read whole
-pub record IsBatched (root : Elements) (url : List ℕ) (told : Option Moments) (holds : Option Holdings) (o : List ℕ × ObjKind) (form : Form) (item : Item) : Type 0 where
+pub record IsBatched (root : Elements) (url : List ℕ) (told : Option Moments)
+    (holds : Option Holdings) (o : List ℕ × ObjKind) (form : Form) (item : Item) : Type 0 where
   pub fit : IsFit o.1 (object_in form item)
   pub new : IsNew root url told holds o.0 o.1 (object_in form item)
   pub digest : item_digest item ≡ digest_of (object_in form item)
 
 -- so was that of the item at this place
-pub record IsBatchedAt (root : Elements) (url : List ℕ) (told : Option Moments) (holds : Option Holdings) (o : List ℕ × ObjKind) (form : Form) (items : List Item) (place : ℕ) : Type 0 where
+pub record IsBatchedAt (root : Elements) (url : List ℕ) (told : Option Moments)
+    (holds : Option Holdings) (o : List ℕ × ObjKind) (form : Form) (items : List Item)
+    (place : ℕ) : Type 0 where
   pub item : Item
   pub low : place < length items
   pub at : item ≡ get_or items place item
   pub batched : IsBatched root url told holds o form item
 
 -- an object is ready for its turn; nothing is known of one that is taken by itself
-abbrev pub IsReady : Elements → List ℕ → Option Moments → Option Holdings → List ℕ × ObjKind → List Item → Turn → Type 0
+abbrev pub IsReady : Elements → List ℕ → Option Moments → Option Holdings → List ℕ × ObjKind
+    → List Item → Turn → Type 0
 IsReady root url told holds o items turns.Alone = Unit {0}
-IsReady root url told holds o items (turns.Batched form place) = IsBatchedAt root url told holds o form items place
+IsReady root url told holds o items (turns.Batched form place) =
+    IsBatchedAt root url told holds o form items place
 
 -- so are the first n of these, each for the turn at its place
-pub record AreReady (root : Elements) (url : List ℕ) (told : Option Moments) (holds : Option Holdings) (n : ℕ) (objects : List (List ℕ × ObjKind)) (turns : List Turn) (items : List Item) : Type 0 where
+pub record AreReady (root : Elements) (url : List ℕ) (told : Option Moments)
+    (holds : Option Holdings) (n : ℕ) (objects : List (List ℕ × ObjKind)) (turns : List Turn)
+    (items : List Item) : Type 0 where
   pub many : n ≤ length turns
-  pub each : (i : ℕ) (o : List ℕ × ObjKind) (turn : Turn) → i < n → o ≡ get_or objects i o → turn ≡ get_or turns i turn → IsReady root url told holds o items turn
+  pub each : (i : ℕ) (o : List ℕ × ObjKind) (turn : Turn) → i < n → o ≡ get_or objects i o
+      → turn ≡ get_or turns i turn → IsReady root url told holds o items turn
 
 -- one turn more, and at most one item
-pub record AddsTurn (root : Elements) (url : List ℕ) (told : Option Moments) (holds : Option Holdings) (o : List ℕ × ObjKind) (turns turns' : List Turn) (items items' : List Item) : Type 0 where
+pub record AddsTurn (root : Elements) (url : List ℕ) (told : Option Moments)
+    (holds : Option Holdings) (o : List ℕ × ObjKind) (turns turns' : List Turn)
+    (items items' : List Item) : Type 0 where
   pub turn : Turn
   pub more : List Item
   pub turns_are : turns' ≡ turns ++ turn ∷ []

@@ -32,14 +32,16 @@ pub record AreReady (t : Elements) (objects : List (List ℕ × ObjKind)) (v : V
   pub once : IsOnce objects
 
 -- nothing stands at their names in the store at root
-pub record AreLacking (root : Elements) (objects : List (List ℕ × ObjKind)) (v : View) : Type 0 where
-  pub free : (o : List ℕ × ObjKind) → In objects o → v.names (object_path root o.0 o.1) ≡ absent
+pub record AreLacking (root : Elements) (objects : List (List ℕ × ObjKind)) (v : View) : Type 0
+  where
+    pub free : (o : List ℕ × ObjKind) → In objects o → v.names (object_path root o.0 o.1) ≡ absent
 
 -- where they may be placed
-pub record CanPlaceAll (root t : Elements) (objects : List (List ℕ × ObjKind)) (v : View) : Type 0 where
-  pub ready : AreReady t objects v
-  pub lacking : AreLacking root objects v
-  pub open_above : AreOpen root v
+pub record CanPlaceAll (root t : Elements) (objects : List (List ℕ × ObjKind)) (v : View) : Type 0
+  where
+    pub ready : AreReady t objects v
+    pub lacking : AreLacking root objects v
+    pub open_above : AreOpen root v
 
 -- What stood at the object's path in the folder t stands at its name.
 abbrev pub CameTo : Elements → Elements → View → View → List ℕ × ObjKind → Type 0
@@ -49,47 +51,61 @@ CameTo root t u w o = shows w (object_path root o.0 o.1) ≡ shows u (object_pat
 abbrev pub WasPut : Elements → Elements → View → View → List ℕ × ObjKind → Type 0
 WasPut root t u w o = Contains w.stood (object_path root o.0 o.1, u.names (object_path t o.0 o.1))
 
--- Each file that was put below the store's objects was put at the name of one of these, and stood at its path in the folder t.
+-- Each file that was put below the store's objects was put at the name of one of these, and stood
+-- at its path in the folder t.
 abbrev pub PutsOnly : Elements → Elements → List (List ℕ × ObjKind) → View → View → Type 0
-PutsOnly root t objects u w = (q : Elements) (id : ℕ) → IsAbove (objects_folder root) q → Contains w.stood (q, file id)
-    → Contains u.stood (q, file id) ⊎ ((o : List ℕ × ObjKind) × In objects o × (q ≡ object_path root o.0 o.1) × (u.names (object_path t o.0 o.1) ≡ file id))
+PutsOnly root t objects u w =
+    (q : Elements) (id : ℕ) → IsAbove (objects_folder root) q → Contains w.stood (q, file id)
+    → Contains u.stood (q, file id)
+    ⊎ ((o : List ℕ × ObjKind) × In objects o × (q ≡ object_path root o.0 o.1)
+    × (u.names (object_path t o.0 o.1) ≡ file id))
 
 -- all of these came to their names, and the others are as before; no bytes were written
-pub record PlacesAll (root t : Elements) (objects : List (List ℕ × ObjKind)) (u w : View) : Type 0 where
-  pub came : (o : List ℕ × ObjKind) → In objects o → CameTo root t u w o
-  pub put : (o : List ℕ × ObjKind) → In objects o → WasPut root t u w o
-  pub only : PutsOnly root t objects u w
-  pub files : KeepsFiles u w
-  pub empty : Shares NoPath u w
-  pub others : (d : List ℕ) (kind : ObjKind) → is_digest d ≡ true → (In objects (d, kind) → ⊥) → Stays (object_path root d kind) u w
+pub record PlacesAll (root t : Elements) (objects : List (List ℕ × ObjKind)) (u w : View) : Type 0
+  where
+    pub came : (o : List ℕ × ObjKind) → In objects o → CameTo root t u w o
+    pub put : (o : List ℕ × ObjKind) → In objects o → WasPut root t u w o
+    pub only : PutsOnly root t objects u w
+    pub files : KeepsFiles u w
+    pub empty : Shares NoPath u w
+    pub others : (d : List ℕ) (kind : ObjKind) → is_digest d ≡ true → (In objects (d, kind) → ⊥)
+        → Stays (object_path root d kind) u w
 
 -- the same where these are still to come
-pub record PlacesSome (root t : Elements) (objects left : List (List ℕ × ObjKind)) (u w : View) : Type 0 where
+pub record PlacesSome (root t : Elements) (objects left : List (List ℕ × ObjKind))
+    (u w : View) : Type 0 where
   pub among : (o : List ℕ × ObjKind) → In left o → In objects o
-  pub came : (o : List ℕ × ObjKind) → In objects o → In left o ⊎ ((In left o → ⊥) × CameTo root t u w o)
+  pub came : (o : List ℕ × ObjKind) → In objects o
+      → In left o ⊎ ((In left o → ⊥) × CameTo root t u w o)
   pub put : (o : List ℕ × ObjKind) → In objects o → In left o ⊎ WasPut root t u w o
   pub only : PutsOnly root t objects u w
   pub files : KeepsFiles u w
   pub empty : Shares NoPath u w
-  pub still : (o : List ℕ × ObjKind) → In left o → Stays (object_path t o.0 o.1) u w × Stays (object_path root o.0 o.1) u w
-  pub others : (d : List ℕ) (kind : ObjKind) → is_digest d ≡ true → (In objects (d, kind) → ⊥) → Stays (object_path root d kind) u w
+  pub still : (o : List ℕ × ObjKind) → In left o
+      → Stays (object_path t o.0 o.1) u w × Stays (object_path root o.0 o.1) u w
+  pub others : (d : List ℕ) (kind : ObjKind) → is_digest d ≡ true → (In objects (d, kind) → ⊥)
+      → Stays (object_path root d kind) u w
 
 -- they came to their names, the folder t is gone, and every stop leaves what stands
-pub record WasStored (root t : Elements) (objects : List (List ℕ × ObjKind)) (u w : View) : Type 0 where
-  pub places : PlacesAll root t objects u w
-  pub cleared : IsCleared t w
-  pub settled : IsSettled w
+pub record WasStored (root t : Elements) (objects : List (List ℕ × ObjKind)) (u w : View) : Type 0
+  where
+    pub places : PlacesAll root t objects u w
+    pub cleared : IsCleared t w
+    pub settled : IsSettled w
 
 -- placing them is a part of a pull, where they are ready and nothing stands at their names
 abbrev pub PullsReady : Elements → Elements → List (List ℕ × ObjKind) → View → View → Type 0
 PullsReady root t objects u w = AreReady t objects u → AreLacking root objects u → Pulls root t u w
 
 -- so is storing them, where they are kept and every stop leaves a store whose names are true
-abbrev pub PullsKept : Elements → Elements → List ℕ → Option Holdings → List (List ℕ × ObjKind) → View → View → Type 0
-PullsKept root t url holds objects u w = AreTaken root t url holds objects u → LeavesStore root u → Pulls root t u w
+abbrev pub PullsKept : Elements → Elements → List ℕ → Option Holdings → List (List ℕ × ObjKind)
+    → View → View → Type 0
+PullsKept root t url holds objects u w =
+    AreTaken root t url holds objects u → LeavesStore root u → Pulls root t u w
 
 -- where they may be stored
-pub record CanStore (root t : Elements) (url : List ℕ) (holds : Option Holdings) (objects : List (List ℕ × ObjKind)) (v : View) : Type 0 where
+pub record CanStore (root t : Elements) (url : List ℕ) (holds : Option Holdings)
+    (objects : List (List ℕ × ObjKind)) (v : View) : Type 0 where
   pub taken : AreTaken root t url holds objects v
   pub true_names : LeavesStore root v
   pub low : length t + 3 ≤ MOST_ELEMENTS

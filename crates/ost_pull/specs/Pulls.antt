@@ -47,7 +47,8 @@ pub record IsNewName (root : Elements) (u : View) (q : Elements) : Type 0 where
 
 -- What may stand where: work in the folder t, new objects of the store, and folders above them.
 abbrev pub PullsAt : Elements → Elements → View → Elements → Spot → Type 0
-PullsAt root t u q spot = WorksAt t q spot ⊎ (IsNewObject root u q spot ⊎ (IsAboveObject root q × (spot ≡ folder)))
+PullsAt root t u q spot =
+    WorksAt t q spot ⊎ (IsNewObject root u q spot ⊎ (IsAboveObject root q × (spot ≡ folder)))
 
 abbrev pub PullsName : Elements → Elements → View → Elements → Slot → Type 0
 PullsName root t u q e = WorksName t q e ⊎ (IsNewName root u q ⊎ (IsAboveObject root q × (e ≡ dir)))
@@ -61,7 +62,8 @@ pub record Pulls (root t : Elements) (u w : View) : Type 0 where
 abbrev pub PullsSoundly : Elements → Elements → View → View → Type 0
 PullsSoundly root t u w = LeavesStore root u → Pulls root t u w
 
--- the commit has no fault, and every stop leaves all objects of its order in the store, as they were supplied
+-- the commit has no fault, and every stop leaves all objects of its order in the store, as they
+-- were supplied
 pub record HasPulled (root : Elements) (have : Have) (commit : List ℕ) (w : View) : Type 0 where
   pub clean : first_fault have commit ≡ None
   pub stored : (disk : Disk) → Leaves w disk → Agree have (store root disk) (order have commit)
@@ -71,7 +73,8 @@ abbrev pub IsNoneOf : Have → List ℕ → List ℕ × ObjKind → Type 0
 IsNoneOf have commit o = In (map place_name (order have commit)) o → ⊥
 
 -- the name of an object of the commit's order that the store lacked
-pub record IsLackedName (root : Elements) (have : Have) (commit : List ℕ) (u : View) (q : Elements) : Type 0 where
+pub record IsLackedName (root : Elements) (have : Have) (commit : List ℕ) (u : View)
+    (q : Elements) : Type 0 where
   pub digest : List ℕ
   pub kind : ObjKind
   pub digits : is_digest digest ≡ true
@@ -80,39 +83,48 @@ pub record IsLackedName (root : Elements) (have : Have) (commit : List ℕ) (u :
   pub lacked : store root (shows u) digest kind ≡ None
 
 -- the object is one of the commit's order that the store lacked
-pub record IsLacked (root : Elements) (have : Have) (commit : List ℕ) (u : View) (o : List ℕ × ObjKind) : Type 0 where
+pub record IsLacked (root : Elements) (have : Have) (commit : List ℕ) (u : View)
+    (o : List ℕ × ObjKind) : Type 0 where
   pub digits : is_digest o.0 ≡ true
   pub ordered : In (map place_name (order have commit)) o
   pub lacked : store root (shows u) o.0 o.1 ≡ None
 
--- On Ok: it has pulled, each object that stood in the store stands as before, so does what stands at the names of objects that aren't
--- the commit's, nothing is left of the work, and every stop leaves what stands. Each file that it made and that has a byte was put
--- at the name of an object of the commit that the store lacked, and just these objects were made.
+-- On Ok: it has pulled, each object that stood in the store stands as before, so does what stands
+-- at the names of objects that aren't the commit's, nothing is left of the work, and every stop
+-- leaves what stands. Each file that it made and that has a byte was put at the name of an object
+-- of the commit that the store lacked, and just these objects were made.
 pub record WasPulled (root t : Elements) (have : Have) (commit : List ℕ) (u w : View) : Type 0 where
   pub pulled : HasPulled root have commit w
-  pub stood : (d : List ℕ) (kind : ObjKind) → is_digest d ≡ true → store root (shows u) d kind ≢ None → store root (shows w) d kind ≡ store root (shows u) d kind
-  pub others : (d : List ℕ) (kind : ObjKind) → is_digest d ≡ true → IsNoneOf have commit (d, kind) → w.names (object_path root d kind) ≡ u.names (object_path root d kind)
+  pub stood : (d : List ℕ) (kind : ObjKind) → is_digest d ≡ true
+      → store root (shows u) d kind ≢ None → store root (shows w) d kind
+      ≡ store root (shows u) d kind
+  pub others : (d : List ℕ) (kind : ObjKind) → is_digest d ≡ true → IsNoneOf have commit (d, kind)
+      → w.names (object_path root d kind) ≡ u.names (object_path root d kind)
   pub gone : (q : Elements) → IsWithin t q → w.names q ≡ absent
   pub settled : IsSettled w
   pub shares : Shares (IsLackedName root have commit u) u w
   pub creates : Creates root (IsLacked root have commit u) u w
 
--- Where it is refused: nothing is left of the work, and names are as before, but for folders above it.
+-- Where it is refused: nothing is left of the work, and names are as before, but for folders above
+-- it.
 pub record WasRefused (t : Elements) (u w : View) : Type 0 where
   pub gone : (q : Elements) → IsWithin t q → w.names q ≡ absent
-  pub names : (q : Elements) → (w.names q ≡ u.names q) ⊎ (IsWithin t q ⊎ (IsAbove q t × (w.names q ≡ dir)))
+  pub names : (q : Elements) → (w.names q ≡ u.names q)
+      ⊎ (IsWithin t q ⊎ (IsAbove q t × (w.names q ≡ dir)))
 
 -- the refusal of the commit's first fault
 abbrev pub first_refusal : Have → List ℕ → Option Refusal
-first_refusal have commit = option_map (λ f. refusal_of f.0.digest f.0.kind f.1) (first_fault have commit)
+first_refusal have commit =
+    option_map (λ f. refusal_of f.0.digest f.0.kind f.1) (first_fault have commit)
 
 -- exactly this is refused
 abbrev pub Refuses : {A : Type 0} → Option Refusal → Result A PullEnd → Type 0
 Refuses first (Ok a) = first ≡ None
 Refuses first (Err end) = RefusesBy (λ r. first ≡ Some r) end
 
--- Where a pull may be done: every stop leaves a store whose names are true, the work folder isn't the root and not too deep, nor is
--- what stands below it, and what is above it and above the objects' names is absent or a folder.
+-- Where a pull may be done: every stop leaves a store whose names are true, the work folder isn't
+-- the root and not too deep, nor is what stands below it, and what is above it and above the
+-- objects' names is absent or a folder.
 pub record CanPull (root t : Elements) (v : View) : Type 0 where
   pub true_names : LeavesStore root v
   pub low : length t + 3 ≤ MOST_ELEMENTS

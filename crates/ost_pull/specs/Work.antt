@@ -1,4 +1,5 @@
--- Objects that are kept in a work folder, laid out as those of a store, until all of them are judged.
+-- Objects that are kept in a work folder, laid out as those of a store, until all of them are
+-- judged.
 use Rattle.std.specs.Prelude.{◌≡◌, ◌⊎◌, ℕ, List, [], ◌∷◌, ◌++◌, true, Option, Some, None}
 use Rattle.fp_host.specs.Paths.{Elements, Slot, absent, dir, file}
 use Rattle.fp_host.specs.View.{View}
@@ -18,7 +19,8 @@ use Rattle.ost_store.specs.ObjectNames.{IsObjectName, IsAboveObject}
 use Rattle.ost_store.specs.Stage.{IsHeld, IsKeepable}
 use Rattle.ost_head.specs.Found.{RemoteHas}
 
--- What may stand where: anything at the objects' names below the folder t, folders above these, and nothing at t and below.
+-- What may stand where: anything at the objects' names below the folder t, folders above these, and
+-- nothing at t and below.
 abbrev pub WorksAt : Elements → Elements → Spot → Type 0
 WorksAt t q spot = IsObjectName t q ⊎ ((IsAboveObject t q × (spot ≡ folder)) ⊎ GoneWithin t q spot)
 
@@ -30,18 +32,21 @@ pub record Works (t : Elements) (u w : View) : Type 0 where
   pub keeps : Keeps (WorksAt t) (WorksName t) (IsWithin t) u w
   pub files : KeepsFiles u w
 
--- Each file that is new since u and has a byte stands at an object's name in the folder, and what stood at one stays there.
+-- Each file that is new since u and has a byte stands at an object's name in the folder, and what
+-- stood at one stays there.
 pub record Gathered (t : Elements) (u w : View) : Type 0 where
   pub new : Gathers (IsObjectName t) u w
   pub stay : (q : Elements) (id : ℕ) → IsObjectName t q → u.names q ≡ file id → w.names q ≡ file id
 
--- Each file that is new since u and has a byte stands at an object's name in the folder, and each file in the folder is new.
+-- Each file that is new since u and has a byte stands at an object's name in the folder, and each
+-- file in the folder is new.
 pub record GathersAnew (t : Elements) (u w : View) : Type 0 where
   pub gathers : Gathers (IsObjectName t) u w
   pub new : (q : Elements) (id : ℕ) → IsWithin t q → w.names q ≡ file id → u.files id ≡ None
 
 -- the folder keeps the object, which is the one that its digest names and that the remote has
-pub record IsKept (t : Elements) (url : List ℕ) (holds : Option Holdings) (o : List ℕ × ObjKind) (v : View) : Type 0 where
+pub record IsKept (t : Elements) (url : List ℕ) (holds : Option Holdings) (o : List ℕ × ObjKind)
+    (v : View) : Type 0 where
   pub object : Object
   pub digits : is_digest o.0 ≡ true
   pub held : IsHeld (object_path t o.0 o.1) object v
@@ -54,13 +59,16 @@ IsOnce [] = Unit {0}
 IsOnce (o ∷ os) = (In os o → ⊥) × IsOnce os
 
 -- it keeps these objects, each once, and no other
-pub record AreKept (t : Elements) (url : List ℕ) (holds : Option Holdings) (kept : List (List ℕ × ObjKind)) (v : View) : Type 0 where
+pub record AreKept (t : Elements) (url : List ℕ) (holds : Option Holdings)
+    (kept : List (List ℕ × ObjKind)) (v : View) : Type 0 where
   pub each : (o : List ℕ × ObjKind) → In kept o → IsKept t url holds o v
   pub once : IsOnce kept
-  pub only : (d : List ℕ) (kind : ObjKind) → is_digest d ≡ true → (v.names (object_path t d kind) ≡ absent) ⊎ In kept (d, kind)
+  pub only : (d : List ℕ) (kind : ObjKind) → is_digest d ≡ true
+      → (v.names (object_path t d kind) ≡ absent) ⊎ In kept (d, kind)
 
 -- it goes on keeping what it keeps, and keeps this object; nothing else is written
-pub record KeepsOne (t : Elements) (url : List ℕ) (holds : Option Holdings) (o : List ℕ × ObjKind) (before after : List (List ℕ × ObjKind)) (u w : View) : Type 0 where
+pub record KeepsOne (t : Elements) (url : List ℕ) (holds : Option Holdings) (o : List ℕ × ObjKind)
+    (before after : List (List ℕ × ObjKind)) (u w : View) : Type 0 where
   pub on : AreKept t url holds before u → AreKept t url holds after w × In after o
   pub gathers : Gathered t u w
 
@@ -68,7 +76,9 @@ pub record KeepsOne (t : Elements) (url : List ℕ) (holds : Option Holdings) (o
 abbrev pub Adds : List ℕ × ObjKind → List (List ℕ × ObjKind) → List (List ℕ × ObjKind) → Type 0
 Adds o before after = (after ≡ before) ⊎ (after ≡ before ++ o ∷ [])
 
--- where the object may be kept: it may stand in a store, and the folders above its name are there or may be made
-pub record CanKeep (t : Elements) (d : List ℕ) (kind : ObjKind) (object : Object) (v : View) : Type 0 where
+-- where the object may be kept: it may stand in a store, and the folders above its name are there
+-- or may be made
+pub record CanKeep (t : Elements) (d : List ℕ) (kind : ObjKind) (object : Object)
+    (v : View) : Type 0 where
   pub keepable : IsKeepable object
   pub folders : AreFree (ancestors (object_path t d kind)) v

@@ -22,7 +22,8 @@ use std::alloc::Global;
 /// How an object of a batch is taken when its turn comes.
 #[derive(Drop)]
 pub(crate) enum Turn {
-    /// By itself: it is the store's or kept already, it comes twice, it is large, or it is none that a store may keep.
+    /// By itself: it is the store's or kept already, it comes twice, it is large, or it is none
+    /// that a store may keep.
     Alone,
     /// It is of this form, and its item is the one at this place.
     Batched(Form, usize),
@@ -37,8 +38,8 @@ pub(crate) struct Batch {
     pub(crate) items: Vec<Item>,
 }
 
-/// Whether the object is to be read with the others: the store has none, it isn't kept in the work folder, and it isn't among
-/// those before it.
+/// Whether the object is to be read with the others: the store has none, it isn't kept in the work
+/// folder, and it isn't among those before it.
 fn is_wanted<H: Host>(
     alloc: Global,
     host: &mut H,
@@ -49,7 +50,8 @@ fn is_wanted<H: Host>(
     before: &[(Digest, ObjKind)],
 ) -> Result<bool, HostEnd>
     ensures unchanged { Unchanged (H.moments host.old) (H.moments host.new) }
-    ensures lacks { IfOk result (λ wanted. IsTrue wanted → HostHas root.now (H.moments host.new) digest.now kind None) }
+    ensures lacks { IfOk result (λ wanted. IsTrue wanted
+        → HostHas root.now (H.moments host.new) digest.now kind None) }
     ensures fault_has_cause { IsCounted (IsErrOf result HostEnd.Fault) (H.moments host.old)
         (H.faults host.old) (H.faults host.new) }
 {
@@ -114,7 +116,8 @@ fn add<H: Host, R: Remotes>(
     ensures unchanged { Unchanged (H.moments host.old) (H.moments host.new) }
     ensures same { R.holds remotes.new ≡ R.holds remotes.old }
     ensures adds { OnOk result (AddsTurn root.now url.now (H.moments host.new) (R.holds remotes.old)
-        (digest.now, kind) batch.old.turns.items batch.new.turns.items batch.old.items.items batch.new.items.items) }
+        (digest.now, kind) batch.old.turns.items batch.new.turns.items batch.old.items.items
+        batch.new.items.items) }
     ensures refuses { (w : WalkFault) → IsErrOf result (WalkEnd.Refused w) → ⊥ }
     ensures fault_has_cause { IsCounted (IsErrOf result WalkEnd.HostFault) (H.moments host.old)
         (H.faults host.old) (H.faults host.new) }
@@ -137,8 +140,8 @@ fn add<H: Host, R: Remotes>(
     }
 }
 
-/// What is read of these objects before any is judged: of each that the store lacks and that isn't kept in the work folder, the
-/// remote's where it is small.
+/// What is read of these objects before any is judged: of each that the store lacks and that isn't
+/// kept in the work folder, the remote's where it is small.
 pub(crate) fn read_batch<H: Host, R: Remotes>(
     alloc: Global,
     host: &mut H,
@@ -151,7 +154,8 @@ pub(crate) fn read_batch<H: Host, R: Remotes>(
     ensures unchanged { Unchanged (H.moments host.old) (H.moments host.new) }
     ensures same { R.holds remotes.new ≡ R.holds remotes.old }
     ensures ready { IfOk result (λ batch. AreReady root.now url.now (H.moments host.new)
-        (R.holds remotes.old) (length objects.now) objects.now batch.turns.items batch.items.items) }
+        (R.holds remotes.old) (length objects.now) objects.now batch.turns.items
+        batch.items.items) }
     ensures refuses { (w : WalkFault) → IsErrOf result (WalkEnd.Refused w) → ⊥ }
     ensures fault_has_cause { IsCounted (IsErrOf result WalkEnd.HostFault) (H.moments host.old)
         (H.faults host.old) (H.faults host.new) }

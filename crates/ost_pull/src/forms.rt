@@ -26,7 +26,8 @@ pub(crate) enum Form {
     Link(Text),
 }
 
-/// The object's form, and the item that its digest is taken of. No bytes of a file or of a metadata object are copied.
+/// The object's form, and the item that its digest is taken of. No bytes of a file or of a metadata
+/// object are copied.
 #[tactic(auto, using(crate::proofs::Read::file_item, crate::proofs::Read::meta_item, crate::proofs::Read::link_item))]
 pub(crate) fn parted(alloc: Global, object: Object) -> Result<(Form, Item), AllocError>
     requires { IsKeepable object }
@@ -94,7 +95,8 @@ fn is_commit(alloc: Global, bytes: &[u8]) -> bool
     }
 }
 
-/// Whether the object was found to keep the rules of its kind. It is false too where memory ran out.
+/// Whether the object was found to keep the rules of its kind. It is false too where memory ran
+/// out.
 fn keeps_rules(alloc: Global, kind: ObjKind, object: &Object) -> bool
     ensures { IsTrue result → rules_fault kind object.now ≡ None }
 {
@@ -109,8 +111,8 @@ fn keeps_rules(alloc: Global, kind: ObjKind, object: &Object) -> bool
     }
 }
 
-/// Whether the object, whose digest was found to be this, is seen to be the one that its name says. It is false too where memory
-/// ran out.
+/// Whether the object, whose digest was found to be this, is seen to be the one that its name says.
+/// It is false too where memory ran out.
 #[tactic(auto, using(crate::proofs::Read::good_by_rules))]
 pub(crate) fn is_good(
     alloc: Global,

@@ -34,8 +34,8 @@ pub(crate) fn places_of(alloc: Global, root: &Path, url: &str) -> Result<Places,
     })
 }
 
-/// Takes the objects that a survey of the commit told. It is refused with the first that has a fault, or else with the fault that
-/// the survey told.
+/// Takes the objects that a survey of the commit told. It is refused with the first that has a
+/// fault, or else with the fault that the survey told.
 fn take_surveyed<H: Host, R: Remotes, G: Gate + Sync>(
     rt: &(impl Threads + Sync),
     alloc: Global,
@@ -54,12 +54,16 @@ fn take_surveyed<H: Host, R: Remotes, G: Gate + Sync>(
     ensures only { OnOk result (AddsAmong survey.now.objects kept.old.items kept.new.items
         × (survey.now.fault ≡ None)) }
     ensures on_success { OnOk result (AtEnd
-        (TakesAll root.now work.now url.now (R.holds remotes.old) survey.now.objects kept.old.items kept.new.items)
+        (TakesAll root.now work.now url.now (R.holds remotes.old) survey.now.objects kept.old.items
+        kept.new.items)
         (H.moments host.old) (H.moments host.new)) }
     ensures tells { (have : Have) → Supplies root.now (Some url.now) (H.moments host.old)
         (R.holds remotes.old) have
-        → AreTakenNow root.now work.now url.now (R.holds remotes.old) kept.old.items (H.moments host.old)
-        → EndsBy (λ _. (first_bad have survey.now.objects ≡ None) × (survey.now.fault ≡ None)) (λ w. or_else (first_bad have survey.now.objects) (option_map told_fault survey.now.fault) ≡ Some (told_fault w)) result }
+        → AreTakenNow root.now work.now url.now (R.holds remotes.old) kept.old.items
+        (H.moments host.old)
+        → EndsBy (λ _. (first_bad have survey.now.objects ≡ None) × (survey.now.fault ≡ None))
+        (λ w. or_else (first_bad have survey.now.objects) (option_map told_fault survey.now.fault)
+        ≡ Some (told_fault w)) result }
     ensures fault_has_cause { IsCaused (IsErrOf result WalkEnd.HostFault) (H.moments host.old)
         (AreOpen work.now) (H.faults host.old) (H.faults host.new) }
     ensures remote_fault_has_cause { IsRemotes (IsErrOf result WalkEnd.RemoteFault)
@@ -106,12 +110,15 @@ fn take_order<H: Host, R: Remotes, G: Gate + Sync>(
         (H.moments host.old) (H.moments host.new)) }
     ensures covers { (have : Have) → Supplies root.now (Some url.now) (H.moments host.old)
         (R.holds remotes.old) have → kept.old.items ≡ [] → OnOk result (AtEnd
-        (λ u w. AreTaken root.now work.now url.now (R.holds remotes.old) [] u → CoversOrder root.now have commit.now kept.new.items w)
+        (λ u w. AreTaken root.now work.now url.now (R.holds remotes.old) [] u
+        → CoversOrder root.now have commit.now kept.new.items w)
         (H.moments host.old) (H.moments host.new)) }
     ensures refuses { (have : Have) → Supplies root.now (Some url.now) (H.moments host.old)
         (R.holds remotes.old) have
-        → AreTakenNow root.now work.now url.now (R.holds remotes.old) kept.old.items (H.moments host.old)
-        → EndsBy (λ _. first_fault have commit.now ≡ None) (λ w. first_named have commit.now ≡ Some (told_fault w)) result }
+        → AreTakenNow root.now work.now url.now (R.holds remotes.old) kept.old.items
+        (H.moments host.old)
+        → EndsBy (λ _. first_fault have commit.now ≡ None)
+        (λ w. first_named have commit.now ≡ Some (told_fault w)) result }
     ensures fault_has_cause { IsCaused (IsErrOf result WalkEnd.HostFault) (H.moments host.old)
         (AreOpen work.now) (H.faults host.old) (H.faults host.new) }
     ensures remote_fault_has_cause { IsRemotes (IsErrOf result WalkEnd.RemoteFault)
@@ -126,8 +133,8 @@ fn take_order<H: Host, R: Remotes, G: Gate + Sync>(
     }
 }
 
-/// Takes the objects of the commit's order into the work folder, in which nothing is left of what stood there before, and into
-/// the list, which is empty.
+/// Takes the objects of the commit's order into the work folder, in which nothing is left of what
+/// stood there before, and into the list, which is empty.
 pub(crate) fn gather<H: Host, R: Remotes, G: Gate + Sync>(
     rt: &(impl Threads + Sync),
     alloc: Global,
@@ -155,7 +162,8 @@ pub(crate) fn gather<H: Host, R: Remotes, G: Gate + Sync>(
         (H.moments host.old) (H.moments host.new)) }
     ensures refuses { (have : Have) → Supplies root.now (Some url.now) (H.moments host.old)
         (R.holds remotes.old) have
-        → EndsBy (λ _. first_fault have commit.now ≡ None) (λ w. first_named have commit.now ≡ Some (told_fault w)) result }
+        → EndsBy (λ _. first_fault have commit.now ≡ None)
+        (λ w. first_named have commit.now ≡ Some (told_fault w)) result }
     ensures fault_has_cause { IsCaused (IsErrOf result WalkEnd.HostFault) (H.moments host.old)
         (CanPull root.now work.now) (H.faults host.old) (H.faults host.new) }
     ensures remote_fault_has_cause { IsRemotes (IsErrOf result WalkEnd.RemoteFault)

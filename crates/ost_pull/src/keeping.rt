@@ -22,8 +22,8 @@ use ost_store::{path_of, stage};
 use ost_walk::WalkEnd;
 use std::alloc::Global;
 
-/// Keeps an object that was checked in the work folder, as a store would, and notes it, unless it is kept there already.
-/// Nothing is synced.
+/// Keeps an object that was checked in the work folder, as a store would, and notes it, unless it
+/// is kept there already. Nothing is synced.
 pub(crate) fn keep<H: Host>(
     alloc: Global,
     host: &mut H,
@@ -95,8 +95,8 @@ fn keep_new<H: Host, R: Remotes>(
     Ok(())
 }
 
-/// Keeps the remote's file or link in the work folder, checked, and notes it, unless it is kept there already. It is refused for
-/// its fault. Nothing is synced.
+/// Keeps the remote's file or link in the work folder, checked, and notes it, unless it is kept
+/// there already. It is refused for its fault. Nothing is synced.
 pub(crate) fn keep_content<H: Host, R: Remotes>(
     alloc: Global,
     host: &mut H,
@@ -109,7 +109,8 @@ pub(crate) fn keep_content<H: Host, R: Remotes>(
     ensures any_moment { Always (Works work.now) (H.moments host.old) (H.moments host.new) }
     ensures same { R.holds remotes.new ≡ R.holds remotes.old }
     ensures on_success { OnOk result (AtEnd
-        (KeepsOne work.now url.now (R.holds remotes.old) (digest.now, kinds.File) kept.old.items kept.new.items)
+        (KeepsOne work.now url.now (R.holds remotes.old)
+        (digest.now, kinds.File) kept.old.items kept.new.items)
         (H.moments host.old) (H.moments host.new)) }
     ensures adds { OnOk result (Adds (digest.now, kinds.File) kept.old.items kept.new.items) }
     // What is kept already was checked, so it isn't read again.

@@ -1,5 +1,5 @@
-//! Laws of the words that the contracts use, for crates that build on them. Each is the contract of a function that
-//! does nothing.
+//! Laws of the words that the contracts use, for crates that build on them. Each is the contract of
+//! a function that does nothing.
 ghost use Rattle.std.specs.Prelude.{◌≡◌, ◌≢◌, ℕ, List, ◌∷◌, None};
 ghost use Rattle.fp_host.specs.Paths.{Elements, absent};
 ghost use Rattle.fp_host.specs.Outcome.{IsSettled, shows};
@@ -12,8 +12,8 @@ ghost use Rattle.ost_store.specs.Place.{LeavesStore};
 ghost use Rattle.ost_pull.specs.Work.{Works};
 ghost use Rattle.ost_pull.specs.Pulls.{CanPull, HasPulled, IsApart, Pulls};
 
-/// Where a pull goes on, a store whose names are true stays one at every stop, and each object's name that was there at the
-/// entry holds what it held.
+/// Where a pull goes on, a store whose names are true stays one at every stop, and each object's
+/// name that was there at the entry holds what it held.
 pub fn pulls_keep_stores()
     ensures store { (root t : Elements) (u w : View) → IsApart root t → Pulls root t u w
         → LeavesStore root u → LeavesStore root w }
@@ -31,15 +31,16 @@ pub fn pulls_go_on()
         → Pulls root t u w }
 {}
 
-/// What is asked of a pull can be met: a folder in `repo/tmp` has nothing to do with the objects of `repo`; and where nothing
-/// stands but the root, and all is settled, a pull may be done there.
+/// What is asked of a pull can be met: a folder in `repo/tmp` has nothing to do with the objects of
+/// `repo`; and where nothing stands but the root, and all is settled, a pull may be done there.
 pub fn pulls_can_be_done()
     ensures apart { (name : List ℕ) → IsApart repo (name ∷ tmp) }
     ensures bare { (name : List ℕ) (v : View) → IsBare v → IsTree v → IsSettled v
         → CanPull repo (name ∷ tmp) v }
 {}
 
-/// What a pull promises holds where all is settled and the store has the whole commit without a fault.
+/// What a pull promises holds where all is settled and the store has the whole commit without a
+/// fault.
 pub fn commits_can_be_there()
     ensures { (root : Elements) (commit : List ℕ) (v : View) → IsTree v → IsSettled v
         → first_fault (store root (shows v)) commit ≡ None

@@ -27,20 +27,22 @@ fn place_one<H: Host>(
     digest: &Digest,
     kind: ObjKind,
 ) -> Result<(), HostEnd>
-    ensures any_moment { Always (Places (object_path work.now digest.now kind) (object_path root.now digest.now kind))
+    ensures any_moment { Always
+        (Places (object_path work.now digest.now kind) (object_path root.now digest.now kind))
         (H.moments host.old) (H.moments host.new) }
     ensures on_success { OnOk result (AtEnd (WasPlaced (object_path work.now digest.now kind)
         (object_path root.now digest.now kind)) (H.moments host.old) (H.moments host.new)) }
     ensures unsynced { AtEnd MakesNoFile (H.moments host.old) (H.moments host.new) }
     ensures fault_has_cause { IsCaused (IsErrOf result HostEnd.Fault) (H.moments host.old)
-        (CanPlace root.now (object_path work.now digest.now kind) digest.now kind) (H.faults host.old) (H.faults host.new) }
+        (CanPlace root.now (object_path work.now digest.now kind) digest.now kind)
+        (H.faults host.old) (H.faults host.new) }
 {
     let path = path_of(alloc, work, digest, kind)?;
     place(alloc, host, root, &path, digest, kind)
 }
 
-/// Gives these objects, which stand in the work folder, their names in the store. Nothing is synced. It is for different objects
-/// that the store lacks and that were synced.
+/// Gives these objects, which stand in the work folder, their names in the store. Nothing is
+/// synced. It is for different objects that the store lacks and that were synced.
 fn place_all<H: Host>(
     alloc: Global,
     host: &mut H,
@@ -52,7 +54,8 @@ fn place_all<H: Host>(
     ensures any_moment { Always (PullsReady root.now work.now objects.old.items)
         (H.moments host.old) (H.moments host.new) }
     ensures on_success { OnOk result (AtEnd
-        (λ u w. AreReady work.now objects.old.items u → PlacesAll root.now work.now objects.old.items u w)
+        (λ u w. AreReady work.now objects.old.items u
+        → PlacesAll root.now work.now objects.old.items u w)
         (H.moments host.old) (H.moments host.new)) }
     ensures fault_has_cause { IsCaused (IsErrOf result HostEnd.Fault) (H.moments host.old)
         (CanPlaceAll root.now work.now objects.old.items) (H.faults host.old) (H.faults host.new) }
@@ -63,8 +66,8 @@ fn place_all<H: Host>(
     Ok(())
 }
 
-/// Stores the objects that are kept in the work folder, and leaves nothing of it. They are made last before the first of them has
-/// its name, and again when all have.
+/// Stores the objects that are kept in the work folder, and leaves nothing of it. They are made
+/// last before the first of them has its name, and again when all have.
 pub(crate) fn store_kept<H: Host>(
     alloc: Global,
     host: &mut H,
@@ -77,11 +80,13 @@ pub(crate) fn store_kept<H: Host>(
         → Always (PullsKept root.now work.now url holds kept.old.items)
         (H.moments host.old) (H.moments host.new) }
     ensures on_success { (url : List ℕ) (holds : Option Holdings) → OnOk result (AtEnd
-        (λ u w. AreTaken root.now work.now url holds kept.old.items u → WasStored root.now work.now kept.old.items u w)
+        (λ u w. AreTaken root.now work.now url holds kept.old.items u
+        → WasStored root.now work.now kept.old.items u w)
         (H.moments host.old) (H.moments host.new)) }
     ensures fault_has_cause { (url : List ℕ) (holds : Option Holdings)
         → IsCaused (IsErrOf result HostEnd.Fault) (H.moments host.old)
-        (CanStore root.now work.now url holds kept.old.items) (H.faults host.old) (H.faults host.new) }
+        (CanStore root.now work.now url holds kept.old.items) (H.faults host.old)
+        (H.faults host.new) }
 {
     host.sync()?;
     place_all(alloc, host, root, work, kept)?;

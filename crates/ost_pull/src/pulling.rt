@@ -21,10 +21,11 @@ use par_digest::{Gate, NoGate};
 use std::alloc::Global;
 use std::thread::Threads;
 
-/// Pulls the commit: takes each object of its order that the store in the folder `root` lacks from the remote at the url. All are
-/// checked before the first is stored, those that the store has too, and it is refused with the first that has a fault. They
-/// are kept below the path `work` until then, as in a store; what stands there at the entry goes. There are two syncs,
-/// however many objects. It is for a work folder that has nothing to do with the objects of the store.
+/// Pulls the commit: takes each object of its order that the store in the folder `root` lacks from
+/// the remote at the url. All are checked before the first is stored, those that the store has too,
+/// and it is refused with the first that has a fault. They are kept below the path `work` until
+/// then, as in a store; what stands there at the entry goes. There are two syncs, however many
+/// objects. It is for a work folder that has nothing to do with the objects of the store.
 pub fn pull<H: Host, R: Remotes>(
     rt: &(impl Threads + Sync),
     alloc: Global,
@@ -37,13 +38,14 @@ pub fn pull<H: Host, R: Remotes>(
 ) -> Result<(), PullEnd>
     requires { IsApart root.now work.now }
     ensures same { R.holds remotes.new ≡ R.holds remotes.old }
-    // Where the names of the store are true at every stop before, a stop at any moment leaves a store whose names are true, with
-    // each object that was there.
+    // Where the names of the store are true at every stop before, a stop at any moment leaves a
+    // store whose names are true, with each object that was there.
     ensures any_moment { Always (PullsSoundly root.now work.now)
         (H.moments host.old) (H.moments host.new) }
     ensures on_success { (have : Have) → Supplies root.now (Some url.now) (H.moments host.old)
         (R.holds remotes.old) have
-        → OnOk result (AtEnd (WasPulled root.now work.now have commit.now) (H.moments host.old) (H.moments host.new)) }
+        → OnOk result (AtEnd (WasPulled root.now work.now have commit.now) (H.moments host.old)
+        (H.moments host.new)) }
     ensures refuses { (have : Have) → Supplies root.now (Some url.now) (H.moments host.old)
         (R.holds remotes.old) have → Refuses (first_refusal have commit.now) result }
     ensures refused_unchanged { (r : Refusal) → IsErrOf result (PullEnd.Refused r)
@@ -58,9 +60,10 @@ pub fn pull<H: Host, R: Remotes>(
     pull_gated(rt, alloc, host, remotes, root, url, commit, work, &NoGate)
 }
 
-/// Pulls the commit as `pull` does, whatever the gate does. The digests of a batch, which is at most 64 objects in order, are
-/// taken by several threads: of each object of the remote that has at most 256 KiB. The gate is told as in `digests_gated`, once
-/// for each batch. What is larger is taken by itself, a file in pieces of 64 KiB. A batch is judged before any later refusal is
+/// Pulls the commit as `pull` does, whatever the gate does. The digests of a batch, which is at
+/// most 64 objects in order, are taken by several threads: of each object of the remote that has at
+/// most 256 KiB. The gate is told as in `digests_gated`, once for each batch. What is larger is
+/// taken by itself, a file in pieces of 64 KiB. A batch is judged before any later refusal is
 /// answered. A fault of the remote may come before a refusal that the batch at hand would give.
 pub fn pull_gated<H: Host, R: Remotes, G: Gate + Sync>(
     rt: &(impl Threads + Sync),
@@ -75,13 +78,14 @@ pub fn pull_gated<H: Host, R: Remotes, G: Gate + Sync>(
 ) -> Result<(), PullEnd>
     requires { IsApart root.now work.now }
     ensures same { R.holds remotes.new ≡ R.holds remotes.old }
-    // Where the names of the store are true at every stop before, a stop at any moment leaves a store whose names are true, with
-    // each object that was there.
+    // Where the names of the store are true at every stop before, a stop at any moment leaves a
+    // store whose names are true, with each object that was there.
     ensures any_moment { Always (PullsSoundly root.now work.now)
         (H.moments host.old) (H.moments host.new) }
     ensures on_success { (have : Have) → Supplies root.now (Some url.now) (H.moments host.old)
         (R.holds remotes.old) have
-        → OnOk result (AtEnd (WasPulled root.now work.now have commit.now) (H.moments host.old) (H.moments host.new)) }
+        → OnOk result (AtEnd (WasPulled root.now work.now have commit.now) (H.moments host.old)
+        (H.moments host.new)) }
     ensures refuses { (have : Have) → Supplies root.now (Some url.now) (H.moments host.old)
         (R.holds remotes.old) have → Refuses (first_refusal have commit.now) result }
     ensures refused_unchanged { (r : Refusal) → IsErrOf result (PullEnd.Refused r)

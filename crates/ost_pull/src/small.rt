@@ -59,7 +59,8 @@ fn small_file<R: Remotes>(
     ensures fit { IfOk result (λ found. IfSome found (IsFit kinds.File)) }
     ensures there { (held : Holdings) → R.holds remotes.old ≡ Some held
         → IsNode (held url.now path.now) (nodes.File mode size)
-        → IfOk result (λ found. IfSome found (λ object. object_at kinds.File (as_spot (held url.now path.now)) ≡ Some object)) }
+        → IfOk result (λ found. IfSome found
+        (λ object. object_at kinds.File (as_spot (held url.now path.now)) ≡ Some object)) }
     ensures refuses { (w : WalkFault) → IsErrOf result (WalkEnd.Refused w) → ⊥ }
     ensures host { IsErrOf result WalkEnd.HostFault → ⊥ }
     ensures fault_has_cause { IsRemotes (IsErrOf result WalkEnd.RemoteFault)
@@ -96,7 +97,8 @@ fn small_content<R: Remotes>(
     ensures same { R.holds remotes.new ≡ R.holds remotes.old }
     ensures fit { IfOk result (λ found. IfSome found (IsFit kinds.File)) }
     ensures there { (held : Holdings) → R.holds remotes.old ≡ Some held
-        → IfOk result (λ found. IfSome found (λ object. object_at kinds.File (as_spot (held url.now path.now)) ≡ Some object)) }
+        → IfOk result (λ found. IfSome found
+        (λ object. object_at kinds.File (as_spot (held url.now path.now)) ≡ Some object)) }
     ensures refuses { (w : WalkFault) → IsErrOf result (WalkEnd.Refused w) → ⊥ }
     ensures host { IsErrOf result WalkEnd.HostFault → ⊥ }
     ensures fault_has_cause { IsRemotes (IsErrOf result WalkEnd.RemoteFault)
@@ -125,7 +127,8 @@ fn small_bytes<R: Remotes>(
     ensures fit { IfOk result (λ found. IfSome found (IsFit kind)) }
     ensures there { (held : Holdings) → R.holds remotes.old ≡ Some held → (mode : ℕ)
         → IsNode (held url.now path.now) (nodes.File mode size)
-        → IfOk result (λ found. IfSome found (λ object. object_at kind (as_spot (held url.now path.now)) ≡ Some object)) }
+        → IfOk result (λ found. IfSome found
+        (λ object. object_at kind (as_spot (held url.now path.now)) ≡ Some object)) }
     ensures refuses { (w : WalkFault) → IsErrOf result (WalkEnd.Refused w) → ⊥ }
     ensures host { IsErrOf result WalkEnd.HostFault → ⊥ }
     ensures fault_has_cause { IsRemotes (IsErrOf result WalkEnd.RemoteFault)
@@ -150,7 +153,8 @@ fn small_meta<R: Remotes>(
     ensures same { R.holds remotes.new ≡ R.holds remotes.old }
     ensures fit { IfOk result (λ found. IfSome found (IsFit kind)) }
     ensures there { (held : Holdings) → R.holds remotes.old ≡ Some held
-        → IfOk result (λ found. IfSome found (λ object. object_at kind (as_spot (held url.now path.now)) ≡ Some object)) }
+        → IfOk result (λ found. IfSome found
+        (λ object. object_at kind (as_spot (held url.now path.now)) ≡ Some object)) }
     ensures refuses { (w : WalkFault) → IsErrOf result (WalkEnd.Refused w) → ⊥ }
     ensures host { IsErrOf result WalkEnd.HostFault → ⊥ }
     ensures fault_has_cause { IsRemotes (IsErrOf result WalkEnd.RemoteFault)
@@ -162,7 +166,8 @@ fn small_meta<R: Remotes>(
     }
 }
 
-/// The object of the remote at the url, where it has at most 256 KiB and is one that a store may keep. Nothing is refused here.
+/// The object of the remote at the url, where it has at most 256 KiB and is one that a store may
+/// keep. Nothing is refused here.
 pub(crate) fn small_object<R: Remotes>(
     alloc: Global,
     remotes: &mut R,
@@ -173,7 +178,8 @@ pub(crate) fn small_object<R: Remotes>(
     ensures same { R.holds remotes.new ≡ R.holds remotes.old }
     ensures fit { IfOk result (λ found. IfSome found (IsFit kind)) }
     ensures there { (held : Holdings) → R.holds remotes.old ≡ Some held
-        → IfOk result (λ found. IfSome found (λ object. remote_at held url.now digest.now kind ≡ Some object)) }
+        → IfOk result (λ found. IfSome found
+        (λ object. remote_at held url.now digest.now kind ≡ Some object)) }
     ensures refuses { (w : WalkFault) → IsErrOf result (WalkEnd.Refused w) → ⊥ }
     ensures host { IsErrOf result WalkEnd.HostFault → ⊥ }
     ensures fault_has_cause { IsRemotes (IsErrOf result WalkEnd.RemoteFault)

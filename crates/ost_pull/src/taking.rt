@@ -33,8 +33,9 @@ pub(crate) fn walk_end(end: HostEnd) -> WalkEnd
     }
 }
 
-/// Takes one object, which stands whole in memory: the store's where it has one, else the remote's, which is kept in the work
-/// folder and noted. It is refused for its fault. It is for a work folder that has nothing to do with the objects of the store.
+/// Takes one object, which stands whole in memory: the store's where it has one, else the remote's,
+/// which is kept in the work folder and noted. It is refused for its fault. It is for a work folder
+/// that has nothing to do with the objects of the store.
 fn take_whole<H: Host, R: Remotes>(
     alloc: Global,
     host: &mut H,
@@ -51,11 +52,13 @@ fn take_whole<H: Host, R: Remotes>(
     ensures same { R.holds remotes.new ≡ R.holds remotes.old }
     ensures adds { OnOk result (Adds (digest.now, kind) kept.old.items kept.new.items) }
     ensures on_success { OnOk result (AtEnd
-        (TakesOne root.now work.now url.now (R.holds remotes.old) (digest.now, kind) kept.old.items kept.new.items)
+        (TakesOne root.now work.now url.now (R.holds remotes.old)
+        (digest.now, kind) kept.old.items kept.new.items)
         (H.moments host.old) (H.moments host.new)) }
     ensures tells { (have : Have) → Supplies root.now (Some url.now) (H.moments host.old)
         (R.holds remotes.old) have
-        → EndsBy (λ _. IsGood have digest.now kind) (IsFaultOf digest.now kind (own_fault have digest.now kind)) result }
+        → EndsBy (λ _. IsGood have digest.now kind)
+        (IsFaultOf digest.now kind (own_fault have digest.now kind)) result }
     ensures fault_has_cause { IsCaused (IsErrOf result WalkEnd.HostFault) (H.moments host.old)
         (AreOpen work.now) (H.faults host.old) (H.faults host.new) }
     ensures remote_fault_has_cause { IsRemotes (IsErrOf result WalkEnd.RemoteFault)
@@ -72,8 +75,9 @@ fn take_whole<H: Host, R: Remotes>(
     }
 }
 
-/// Takes a file or link: the store's where it has one, else the remote's, which is kept in the work folder and noted. A file is
-/// read piece by piece. It is refused for its fault. It is for a work folder that has nothing to do with the objects of the store.
+/// Takes a file or link: the store's where it has one, else the remote's, which is kept in the work
+/// folder and noted. A file is read piece by piece. It is refused for its fault. It is for a work
+/// folder that has nothing to do with the objects of the store.
 fn take_content<H: Host, R: Remotes>(
     alloc: Global,
     host: &mut H,
@@ -89,12 +93,15 @@ fn take_content<H: Host, R: Remotes>(
     ensures same { R.holds remotes.new ≡ R.holds remotes.old }
     ensures adds { OnOk result (Adds (digest.now, kinds.File) kept.old.items kept.new.items) }
     ensures on_success { OnOk result (AtEnd
-        (TakesOne root.now work.now url.now (R.holds remotes.old) (digest.now, kinds.File) kept.old.items kept.new.items)
+        (TakesOne root.now work.now url.now (R.holds remotes.old)
+        (digest.now, kinds.File) kept.old.items kept.new.items)
         (H.moments host.old) (H.moments host.new)) }
     ensures tells { (have : Have) → Supplies root.now (Some url.now) (H.moments host.old)
         (R.holds remotes.old) have
-        → AreTakenNow root.now work.now url.now (R.holds remotes.old) kept.old.items (H.moments host.old)
-        → EndsBy (λ _. IsGood have digest.now kinds.File) (IsFaultOf digest.now kinds.File (own_fault have digest.now kinds.File)) result }
+        → AreTakenNow root.now work.now url.now (R.holds remotes.old) kept.old.items
+        (H.moments host.old)
+        → EndsBy (λ _. IsGood have digest.now kinds.File)
+        (IsFaultOf digest.now kinds.File (own_fault have digest.now kinds.File)) result }
     ensures fault_has_cause { IsCaused (IsErrOf result WalkEnd.HostFault) (H.moments host.old)
         (AreOpen work.now) (H.faults host.old) (H.faults host.new) }
     ensures remote_fault_has_cause { IsRemotes (IsErrOf result WalkEnd.RemoteFault)
@@ -108,8 +115,9 @@ fn take_content<H: Host, R: Remotes>(
     }
 }
 
-/// Takes one object: the store's where it has one, else the remote's, which is kept in the work folder and noted. It is refused
-/// for its fault, where what was noted before is kept. It is for a work folder that has nothing to do with the objects of the store.
+/// Takes one object: the store's where it has one, else the remote's, which is kept in the work
+/// folder and noted. It is refused for its fault, where what was noted before is kept. It is for a
+/// work folder that has nothing to do with the objects of the store.
 pub(crate) fn take<H: Host, R: Remotes>(
     alloc: Global,
     host: &mut H,
@@ -126,12 +134,15 @@ pub(crate) fn take<H: Host, R: Remotes>(
     ensures same { R.holds remotes.new ≡ R.holds remotes.old }
     ensures adds { OnOk result (Adds (digest.now, kind) kept.old.items kept.new.items) }
     ensures on_success { OnOk result (AtEnd
-        (TakesOne root.now work.now url.now (R.holds remotes.old) (digest.now, kind) kept.old.items kept.new.items)
+        (TakesOne root.now work.now url.now (R.holds remotes.old)
+        (digest.now, kind) kept.old.items kept.new.items)
         (H.moments host.old) (H.moments host.new)) }
     ensures tells { (have : Have) → Supplies root.now (Some url.now) (H.moments host.old)
         (R.holds remotes.old) have
-        → AreTakenNow root.now work.now url.now (R.holds remotes.old) kept.old.items (H.moments host.old)
-        → EndsBy (λ _. IsGood have digest.now kind) (IsFaultOf digest.now kind (own_fault have digest.now kind)) result }
+        → AreTakenNow root.now work.now url.now (R.holds remotes.old) kept.old.items
+        (H.moments host.old)
+        → EndsBy (λ _. IsGood have digest.now kind)
+        (IsFaultOf digest.now kind (own_fault have digest.now kind)) result }
     ensures fault_has_cause { IsCaused (IsErrOf result WalkEnd.HostFault) (H.moments host.old)
         (AreOpen work.now) (H.faults host.old) (H.faults host.new) }
     ensures remote_fault_has_cause { IsRemotes (IsErrOf result WalkEnd.RemoteFault)

@@ -1,4 +1,5 @@
-//! Objects of an order that are taken a batch at a time: read whole where they are small, hashed together, then judged in order.
+//! Objects of an order that are taken a batch at a time: read whole where they are small, hashed
+//! together, then judged in order.
 ghost use Rattle.std.specs.Prelude.{◌≡◌, ◌+◌, ◌<◌, ◌≤◌, length, None, Some, OnOk, IsErrOf};
 ghost use Rattle.fp_host.specs.Causes.{IsCaused};
 ghost use Rattle.fp_host.specs.Frame.{AtEnd};
@@ -27,8 +28,8 @@ use par_digest::{Gate, Item, MOST_IN_BATCH, digests_gated};
 use std::alloc::Global;
 use std::thread::Threads;
 
-/// Takes an object of the remote that was read whole and whose digest was taken. One that isn't seen to be good is taken by
-/// itself, which refuses it for its fault.
+/// Takes an object of the remote that was read whole and whose digest was taken. One that isn't
+/// seen to be good is taken by itself, which refuses it for its fault.
 fn take_read<H: Host, R: Remotes>(
     alloc: Global,
     host: &mut H,
@@ -51,12 +52,15 @@ fn take_read<H: Host, R: Remotes>(
     ensures same { R.holds remotes.new ≡ R.holds remotes.old }
     ensures adds { OnOk result (Adds (digest.now, kind) kept.old.items kept.new.items) }
     ensures on_success { OnOk result (AtEnd
-        (TakesOne root.now work.now url.now (R.holds remotes.old) (digest.now, kind) kept.old.items kept.new.items)
+        (TakesOne root.now work.now url.now (R.holds remotes.old)
+        (digest.now, kind) kept.old.items kept.new.items)
         (H.moments host.old) (H.moments host.new)) }
     ensures tells { (have : Have) → Supplies root.now (Some url.now) (H.moments host.old)
         (R.holds remotes.old) have
-        → AreTakenNow root.now work.now url.now (R.holds remotes.old) kept.old.items (H.moments host.old)
-        → EndsBy (λ _. IsGood have digest.now kind) (IsFaultOf digest.now kind (own_fault have digest.now kind)) result }
+        → AreTakenNow root.now work.now url.now (R.holds remotes.old) kept.old.items
+        (H.moments host.old)
+        → EndsBy (λ _. IsGood have digest.now kind)
+        (IsFaultOf digest.now kind (own_fault have digest.now kind)) result }
     ensures fault_has_cause { IsCaused (IsErrOf result WalkEnd.HostFault) (H.moments host.old)
         (AreOpen work.now) (H.faults host.old) (H.faults host.new) }
     ensures remote_fault_has_cause { IsRemotes (IsErrOf result WalkEnd.RemoteFault)
@@ -97,12 +101,15 @@ fn take_turn<H: Host, R: Remotes>(
     ensures same { R.holds remotes.new ≡ R.holds remotes.old }
     ensures adds { OnOk result (Adds (digest.now, kind) kept.old.items kept.new.items) }
     ensures on_success { OnOk result (AtEnd
-        (TakesOne root.now work.now url.now (R.holds remotes.old) (digest.now, kind) kept.old.items kept.new.items)
+        (TakesOne root.now work.now url.now (R.holds remotes.old)
+        (digest.now, kind) kept.old.items kept.new.items)
         (H.moments host.old) (H.moments host.new)) }
     ensures tells { (have : Have) → Supplies root.now (Some url.now) (H.moments host.old)
         (R.holds remotes.old) have
-        → AreTakenNow root.now work.now url.now (R.holds remotes.old) kept.old.items (H.moments host.old)
-        → EndsBy (λ _. IsGood have digest.now kind) (IsFaultOf digest.now kind (own_fault have digest.now kind)) result }
+        → AreTakenNow root.now work.now url.now (R.holds remotes.old) kept.old.items
+        (H.moments host.old)
+        → EndsBy (λ _. IsGood have digest.now kind)
+        (IsFaultOf digest.now kind (own_fault have digest.now kind)) result }
     ensures fault_has_cause { IsCaused (IsErrOf result WalkEnd.HostFault) (H.moments host.old)
         (AreOpen work.now) (H.faults host.old) (H.faults host.new) }
     ensures remote_fault_has_cause { IsRemotes (IsErrOf result WalkEnd.RemoteFault)
@@ -127,8 +134,8 @@ fn take_turn<H: Host, R: Remotes>(
     }
 }
 
-/// Takes these objects one after another, each in its turn. It is refused with the first that has a fault, where what was noted
-/// before is kept.
+/// Takes these objects one after another, each in its turn. It is refused with the first that has a
+/// fault, where what was noted before is kept.
 fn take_turns<H: Host, R: Remotes>(
     alloc: Global,
     host: &mut H,
@@ -151,12 +158,15 @@ fn take_turns<H: Host, R: Remotes>(
     ensures only { OnOk result (AddsAmong objects.now kept.old.items kept.new.items) }
     ensures noted { OnOk result (StaysNoted kept.old.items kept.new.items) }
     ensures on_success { OnOk result (AtEnd
-        (TakesAll root.now work.now url.now (R.holds remotes.old) objects.now kept.old.items kept.new.items)
+        (TakesAll root.now work.now url.now (R.holds remotes.old) objects.now kept.old.items
+        kept.new.items)
         (H.moments host.old) (H.moments host.new)) }
     ensures tells { (have : Have) → Supplies root.now (Some url.now) (H.moments host.old)
         (R.holds remotes.old) have
-        → AreTakenNow root.now work.now url.now (R.holds remotes.old) kept.old.items (H.moments host.old)
-        → EndsBy (λ _. first_bad have objects.now ≡ None) (λ w. first_bad have objects.now ≡ Some (told_fault w)) result }
+        → AreTakenNow root.now work.now url.now (R.holds remotes.old) kept.old.items
+        (H.moments host.old)
+        → EndsBy (λ _. first_bad have objects.now ≡ None)
+        (λ w. first_bad have objects.now ≡ Some (told_fault w)) result }
     ensures fault_has_cause { IsCaused (IsErrOf result WalkEnd.HostFault) (H.moments host.old)
         (AreOpen work.now) (H.faults host.old) (H.faults host.new) }
     ensures remote_fault_has_cause { IsRemotes (IsErrOf result WalkEnd.RemoteFault)
@@ -174,8 +184,9 @@ fn take_turns<H: Host, R: Remotes>(
     Ok(())
 }
 
-/// Takes the objects of a batch: reads those of the remote that are small, takes the digests of these, then takes each object in
-/// order. It is refused with the first that has a fault, where what was noted before is kept.
+/// Takes the objects of a batch: reads those of the remote that are small, takes the digests of
+/// these, then takes each object in order. It is refused with the first that has a fault, where
+/// what was noted before is kept.
 fn take_batch<H: Host, R: Remotes, G: Gate + Sync>(
     rt: &(impl Threads + Sync),
     alloc: Global,
@@ -194,12 +205,15 @@ fn take_batch<H: Host, R: Remotes, G: Gate + Sync>(
     ensures only { OnOk result (AddsAmong objects.now kept.old.items kept.new.items) }
     ensures noted { OnOk result (StaysNoted kept.old.items kept.new.items) }
     ensures on_success { OnOk result (AtEnd
-        (TakesAll root.now work.now url.now (R.holds remotes.old) objects.now kept.old.items kept.new.items)
+        (TakesAll root.now work.now url.now (R.holds remotes.old) objects.now kept.old.items
+        kept.new.items)
         (H.moments host.old) (H.moments host.new)) }
     ensures tells { (have : Have) → Supplies root.now (Some url.now) (H.moments host.old)
         (R.holds remotes.old) have
-        → AreTakenNow root.now work.now url.now (R.holds remotes.old) kept.old.items (H.moments host.old)
-        → EndsBy (λ _. first_bad have objects.now ≡ None) (λ w. first_bad have objects.now ≡ Some (told_fault w)) result }
+        → AreTakenNow root.now work.now url.now (R.holds remotes.old) kept.old.items
+        (H.moments host.old)
+        → EndsBy (λ _. first_bad have objects.now ≡ None)
+        (λ w. first_bad have objects.now ≡ Some (told_fault w)) result }
     ensures fault_has_cause { IsCaused (IsErrOf result WalkEnd.HostFault) (H.moments host.old)
         (AreOpen work.now) (H.faults host.old) (H.faults host.new) }
     ensures remote_fault_has_cause { IsRemotes (IsErrOf result WalkEnd.RemoteFault)
@@ -236,8 +250,8 @@ fn batch_end(at: usize, count: usize) -> usize
     at + (count - at).min(MOST_IN_BATCH)
 }
 
-/// Takes these objects in order, a batch at a time. It is refused with the first that has a fault, where what was noted before
-/// is kept.
+/// Takes these objects in order, a batch at a time. It is refused with the first that has a fault,
+/// where what was noted before is kept.
 pub(crate) fn take_all<H: Host, R: Remotes, G: Gate + Sync>(
     rt: &(impl Threads + Sync),
     alloc: Global,
@@ -255,12 +269,15 @@ pub(crate) fn take_all<H: Host, R: Remotes, G: Gate + Sync>(
     ensures same { R.holds remotes.new ≡ R.holds remotes.old }
     ensures only { OnOk result (AddsAmong objects.now kept.old.items kept.new.items) }
     ensures on_success { OnOk result (AtEnd
-        (TakesAll root.now work.now url.now (R.holds remotes.old) objects.now kept.old.items kept.new.items)
+        (TakesAll root.now work.now url.now (R.holds remotes.old) objects.now kept.old.items
+        kept.new.items)
         (H.moments host.old) (H.moments host.new)) }
     ensures tells { (have : Have) → Supplies root.now (Some url.now) (H.moments host.old)
         (R.holds remotes.old) have
-        → AreTakenNow root.now work.now url.now (R.holds remotes.old) kept.old.items (H.moments host.old)
-        → EndsBy (λ _. first_bad have objects.now ≡ None) (λ w. first_bad have objects.now ≡ Some (told_fault w)) result }
+        → AreTakenNow root.now work.now url.now (R.holds remotes.old) kept.old.items
+        (H.moments host.old)
+        → EndsBy (λ _. first_bad have objects.now ≡ None)
+        (λ w. first_bad have objects.now ≡ Some (told_fault w)) result }
     ensures fault_has_cause { IsCaused (IsErrOf result WalkEnd.HostFault) (H.moments host.old)
         (AreOpen work.now) (H.faults host.old) (H.faults host.new) }
     ensures remote_fault_has_cause { IsRemotes (IsErrOf result WalkEnd.RemoteFault)

@@ -10,8 +10,8 @@ use Rattle.fp_small.specs.Clear.{IsWithin}
 use Rattle.ost_refs.specs.Places.{place_path}
 use Rattle.ost_refs.specs.declared.place.RefPlace.{RefPlace}
 
--- where a ref may be written: nothing stands at its place, or a file; the folders above it, repo and repo/tmp are absent
--- or folders; and the store is neither repo/tmp nor below it
+-- where a ref may be written: nothing stands at its place, or a file; the folders above it, repo
+-- and repo/tmp are absent or folders; and the store is neither repo/tmp nor below it
 pub record CanWrite (root : Elements) (place : RefPlace) (v : View) : Type 0 where
   pub entry : IsFreeFile (place_path root place) v
   pub folders : AreFree (folders_of (place_path root place)) v

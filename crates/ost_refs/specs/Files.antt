@@ -19,7 +19,8 @@ said (Some digest) = Digest digest
 
 -- what a file of these bytes says
 abbrev pub ref_file : List ℕ → RefFile
-ref_file bytes = if bytes_eq (drop DIGEST_DIGITS bytes) (10 ∷ []) then said (unhex (take DIGEST_DIGITS bytes)) else Bad
+ref_file bytes = if bytes_eq (drop DIGEST_DIGITS bytes) (10 ∷ [])
+    then said (unhex (take DIGEST_DIGITS bytes)) else Bad
 
 -- what stands at a ref's place says
 abbrev pub ref_in : Spot → RefFile

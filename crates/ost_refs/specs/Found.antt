@@ -25,27 +25,38 @@ remote_named origin r = if is_remote_name origin then option_map (Remote origin)
 
 -- the place that has this path in some store, as far as its last six names say
 abbrev pub place_named : Elements → Option RefPlace
-place_named (branch ∷ arch ∷ id ∷ kind ∷ origin ∷ folder ∷ up) = if bytes_eq folder (codes "remotes") then remote_named origin (ref_named kind id arch branch) else option_map Head (ref_named kind id arch branch)
+place_named (branch ∷ arch ∷ id ∷ kind ∷ origin ∷ folder ∷ up) = if bytes_eq folder
+    (codes "remotes") then remote_named origin (ref_named kind id arch branch)
+    else option_map Head (ref_named kind id arch branch)
 place_named _ = None
 
 -- the paths at which refs may stand: four names below refs/heads, or five below refs/remotes
 pub record ArePaths (root : Elements) (v : View) (paths : List Elements) : Type 0 where
-  pub each : (q : Elements) → Contains paths q ↔ (IsLevel 4 (heads root) v q ⊎ IsLevel 5 (remotes root) v q)
+  pub each : (q : Elements) → Contains paths q
+      ↔ (IsLevel 4 (heads root) v q ⊎ IsLevel 5 (remotes root) v q)
 
 -- the place is put among the others, by the text of its path
-abbrev pub Puts : {Z : Type 0} → Elements → Option RefPlace → List (String Z × RefPlace) → List (String Z × RefPlace) → Type 0
+abbrev pub Puts : {Z : Type 0} → Elements → Option RefPlace → List (String Z × RefPlace)
+    → List (String Z × RefPlace) → Type 0
 Puts q None es fs = fs ≡ es
-Puts {Z} q (Some place) es fs = (key : String Z) × IsTextOf (string_bytes key) q × (fs ≡ insert_entry string_cmp es key place)
+Puts {Z} q (Some place) es fs =
+    (key : String Z) × IsTextOf (string_bytes key) q × (fs ≡ insert_entry string_cmp es key place)
 
 -- where a file stands at the path
-abbrev pub Adds : {Z : Type 0} → Elements → View → List (String Z × RefPlace) → List (String Z × RefPlace) → Type 0
-Adds q v es fs = (IsFile (v.names q) × Puts q (place_named q) es fs) ⊎ ((IsFile (v.names q) → ⊥) × (fs ≡ es))
+abbrev pub Adds : {Z : Type 0} → Elements → View → List (String Z × RefPlace)
+    → List (String Z × RefPlace) → Type 0
+Adds q v es fs =
+    (IsFile (v.names q) × Puts q (place_named q) es fs) ⊎ ((IsFile (v.names q) → ⊥) × (fs ≡ es))
 
 -- the texts of the paths, with the places at which files stand among these paths
-pub record AreFound {Z : Type 0} (root : Elements) (v : View) (paths : List Elements) (es : List (String Z × RefPlace)) : Type 0 where
+pub record AreFound {Z : Type 0} (root : Elements) (v : View) (paths : List Elements)
+    (es : List (String Z × RefPlace)) : Type 0 where
   pub keyed : AllByRecursion (λ e. IsTextOf (string_bytes e.0) (place_path root e.1)) es
-  pub each : (place : RefPlace) → Contains (values_of es) place ↔ ((is_place place ≡ true) × IsFile (v.names (place_path root place)) × Contains paths (place_path root place))
+  pub each : (place : RefPlace) → Contains (values_of es) place
+      ↔ ((is_place place ≡ true) × IsFile (v.names (place_path root place))
+      × Contains paths (place_path root place))
 
 -- of all paths at which refs may stand
-pub record Finds {Z : Type 0} (paths : List Elements) (v : View) (es : List (String Z × RefPlace)) : Type 0 where
+pub record Finds {Z : Type 0} (paths : List Elements) (v : View)
+    (es : List (String Z × RefPlace)) : Type 0 where
   pub found : (root : Elements) → ArePaths root v paths → AreFound root v paths es

@@ -13,5 +13,6 @@ texts_of root places = map (λ place. path_text (place_path root place)) places
 
 -- the places at which a file stands, ascending by the bytes of their paths
 pub record ListsRefs (root : Elements) (v : View) (places : List RefPlace) : Type 0 where
-  pub each : (place : RefPlace) → Contains places place ↔ ((is_place place ≡ true) × IsFile (v.names (place_path root place)))
+  pub each : (place : RefPlace) → Contains places place
+      ↔ ((is_place place ≡ true) × IsFile (v.names (place_path root place)))
   pub ascending : is_ascending (texts_of root places) ≡ true

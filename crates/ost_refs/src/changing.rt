@@ -15,9 +15,10 @@ use fp_name::Digest;
 use fp_small::{replace, take_away};
 use std::alloc::{AllocError, Global};
 
-/// Gives the ref this commit: its file is written anew, and synced. The folders above it, `repo` and `repo/tmp` are made
-/// where they are absent. All memory is taken before the first change. It is for a place at which nothing stands, or a
-/// file, where none of those folders is something else, and for a store that is neither `repo/tmp` nor below it.
+/// Gives the ref this commit: its file is written anew, and synced. The folders above it, `repo`
+/// and `repo/tmp` are made where they are absent. All memory is taken before the first change. It
+/// is for a place at which nothing stands, or a file, where none of those folders is something
+/// else, and for a store that is neither `repo/tmp` nor below it.
 pub fn write_ref<H: Host>(
     alloc: Global,
     host: &mut H,
@@ -25,7 +26,8 @@ pub fn write_ref<H: Host>(
     place: &RefPlace,
     digest: &Digest,
 ) -> Result<(), HostEnd>
-    // A stop at any moment leaves at the place what some stop before would have left, or the whole new file.
+    // A stop at any moment leaves at the place what some stop before would have left, or the whole
+    // new file.
     ensures any_moment { Always (Replaces (place_path root.now place.now) (ref_bytes digest.now))
         (H.moments host.old) (H.moments host.new) }
     // After it every stop leaves the new file.
@@ -50,15 +52,16 @@ fn ref_bytes(alloc: Global, digest: &Digest) -> Result<Vec<u8>, AllocError>
     Ok(bytes)
 }
 
-/// Takes the ref away, and syncs. Where it is absent, no name changes. It is for a place at which nothing stands, or a
-/// file.
+/// Takes the ref away, and syncs. Where it is absent, no name changes. It is for a place at which
+/// nothing stands, or a file.
 pub fn drop_ref<H: Host>(
     alloc: Global,
     host: &mut H,
     root: &Path,
     place: &RefPlace,
 ) -> Result<(), HostEnd>
-    // A stop at any moment leaves at the place what some stop before would have left, or nothing, and all else as it was.
+    // A stop at any moment leaves at the place what some stop before would have left, or nothing,
+    // and all else as it was.
     ensures frame { Frame (GoneAt (place_path root.now place.now))
         (AbsentAt (place_path root.now place.now)) NoPath
         (H.moments host.old) (H.moments host.new) }

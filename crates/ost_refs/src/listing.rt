@@ -20,8 +20,8 @@ const HEAD_DEPTH: usize = 4;
 /// How many elements a ref's path has below `refs/remotes`.
 const REMOTE_DEPTH: usize = 5;
 
-/// The places at which a file stands in the store in this folder, ascending by the bytes of their paths. What the file
-/// says isn't read, and what stands elsewhere below `refs` is passed over.
+/// The places at which a file stands in the store in this folder, ascending by the bytes of their
+/// paths. What the file says isn't read, and what stands elsewhere below `refs` is passed over.
 pub fn list_refs<H: Host>(
     alloc: Global,
     host: &mut H,

@@ -26,7 +26,8 @@ pub enum RefFile {
     Bad,
 }
 
-/// The path of the place's file in the store in this folder: `refs/heads/REF`, or `refs/remotes/ORIGIN/REF`.
+/// The path of the place's file in the store in this folder: `refs/heads/REF`, or
+/// `refs/remotes/ORIGIN/REF`.
 #[tactic(auto, using(crate::proofs::Elements::element_remote))]
 pub fn path_of(root: &Path, place: &RefPlace) -> Result<Path, AllocError>
     ensures { IfOk result (λ path. path ≡ place_path root.now place.now) }

@@ -14,8 +14,9 @@ use std::alloc::Global;
 /// How many bytes the file of a ref has: its digits and a newline.
 pub const REF_FILE_BYTES: u64 = DIGEST_DIGITS as u64 + 1;
 
-/// Reads the ref of the store in this folder. `Absent` comes exactly where nothing stands at its place, and `Bad` exactly
-/// where something stands there that is no file of 64 digits and a newline.
+/// Reads the ref of the store in this folder. `Absent` comes exactly where nothing stands at its
+/// place, and `Bad` exactly where something stands there that is no file of 64 digits and a
+/// newline.
 pub fn read_ref<H: Host>(
     alloc: Global,
     host: &mut H,

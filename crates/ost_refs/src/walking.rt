@@ -24,7 +24,8 @@ fn children<H: Host>(alloc: Global, host: &mut H, folders: &[Path]) -> Result<Ve
     Ok(paths)
 }
 
-/// The paths that are so many elements longer than that of the folder: what stands there, whatever it is.
+/// The paths that are so many elements longer than that of the folder: what stands there, whatever
+/// it is.
 pub fn paths_below<H: Host>(
     alloc: Global,
     host: &mut H,

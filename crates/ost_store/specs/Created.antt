@@ -19,19 +19,22 @@ pub record MadeFile (root : Elements) (o : List ℕ × ObjKind) (u w : View) : T
 
 -- so it was, or a link was put there
 abbrev pub WasMade : Elements → List ℕ × ObjKind → View → View → Type 0
-WasMade root o u w = MadeFile root o u w ⊎ ((text : List ℕ) × Contains w.stood (object_path root o.0 o.1, link text))
+WasMade root o u w =
+    MadeFile root o u w ⊎ ((text : List ℕ) × Contains w.stood (object_path root o.0 o.1, link text))
 
 -- the file was put at the name since u
 pub record WasPutSince (q : Elements) (id : ℕ) (u w : View) : Type 0 where
   pub since : Contains u.stood (q, file id) → ⊥
   pub put : Contains w.stood (q, file id)
 
--- The objects of L were made, each as one file at most. Each file that was put below the store's objects since u is new, at the
--- name of one of them.
+-- The objects of L were made, each as one file at most. Each file that was put below the store's
+-- objects since u is new, at the name of one of them.
 pub record Creates (root : Elements) (L : List ℕ × ObjKind → Type 0) (u w : View) : Type 0 where
   pub each : (o : List ℕ × ObjKind) → L o → WasMade root o u w
-  pub only : (q : Elements) (id : ℕ) → IsAbove (objects_folder root) q → Contains w.stood (q, file id)
-      → Contains u.stood (q, file id) ⊎ ((u.files id ≡ None) × ((o : List ℕ × ObjKind) × L o × (q ≡ object_path root o.0 o.1)))
+  pub only : (q : Elements) (id : ℕ) → IsAbove (objects_folder root) q
+      → Contains w.stood (q, file id)
+      → Contains u.stood (q, file id)
+      ⊎ ((u.files id ≡ None) × ((o : List ℕ × ObjKind) × L o × (q ≡ object_path root o.0 o.1)))
   pub one : (o : List ℕ × ObjKind) → L o → (i j : ℕ) → WasPutSince (object_path root o.0 o.1) i u w
       → WasPutSince (object_path root o.0 o.1) j u w → i ≡ j
 

@@ -5,4 +5,5 @@ use Rattle.fp_host.specs.View.{View, Inode}
 
 -- each file that is new since u and has a byte in w stands at a name of T
 pub record Gathers (T : Elements → Type 0) (u w : View) : Type 0 where
-  pub each : (id : ℕ) (f : Inode) → u.files id ≡ None → w.files id ≡ Some f → (f.bytes ≡ []) ⊎ ((q : Elements) × T q × (w.names q ≡ file id))
+  pub each : (id : ℕ) (f : Inode) → u.files id ≡ None → w.files id ≡ Some f
+      → (f.bytes ≡ []) ⊎ ((q : Elements) × T q × (w.names q ≡ file id))

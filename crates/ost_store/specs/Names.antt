@@ -20,7 +20,8 @@ pub record ListsNames (root : Elements) (v : View) (paths : List Elements) : Typ
 
 -- no path below `objects` has more than 128 elements
 pub record CanList (root : Elements) (v : View) : Type 0 where
-  pub short : (q : Elements) → IsAbove (objects_folder root) q → (v.names q ≡ absent) ⊎ (length q ≤ MOST_ELEMENTS)
+  pub short : (q : Elements) → IsAbove (objects_folder root) q
+      → (v.names q ≡ absent) ⊎ (length q ≤ MOST_ELEMENTS)
 
 -- the kind whose objects' names end so
 abbrev pub kind_said : List ℕ → Option ObjKind
@@ -37,9 +38,12 @@ both_said None kind = None
 
 -- the object that the names of its folder and of its file say
 abbrev pub object_said : List ℕ → List ℕ → Option (List ℕ × ObjKind)
-object_said folder name = both_said (unhex (folder ++ take REST_DIGITS name)) (kind_said (drop REST_DIGITS name))
+object_said folder name =
+    both_said (unhex (folder ++ take REST_DIGITS name)) (kind_said (drop REST_DIGITS name))
 
 -- the path is that of this object in the store at root; or it is that of none
 abbrev pub IsNamed : Elements → Elements → Option (List ℕ × ObjKind) → Type 0
-IsNamed root path (Some object) = (is_digest object.0 ≡ true) × (path ≡ object_path root object.0 object.1)
-IsNamed root path None = (d : List ℕ) (kind : ObjKind) → is_digest d ≡ true → path ≢ object_path root d kind
+IsNamed root path (Some object) =
+    (is_digest object.0 ≡ true) × (path ≡ object_path root object.0 object.1)
+IsNamed root path None =
+    (d : List ℕ) (kind : ObjKind) → is_digest d ≡ true → path ≢ object_path root d kind

@@ -12,9 +12,11 @@ use Rattle.ost_model.specs.Objects.{object_path, Named}
 use Rattle.ost_model.specs.Stores.{IsStore}
 use Rattle.ost_store.specs.Reads.{object_of}
 
--- What may stand where, against an outcome of the view at the entry: at p what t held then, nothing at t, and folders above p.
+-- What may stand where, against an outcome of the view at the entry: at p what t held then, nothing
+-- at t, and folders above p.
 abbrev pub PlacesAt : Elements → Elements → View → Elements → Spot → Type 0
-PlacesAt t p u q spot = Gives u p (u.names t) q spot ⊎ (GoneAt t q spot ⊎ FoldersAt (ancestors p) q spot)
+PlacesAt t p u q spot =
+    Gives u p (u.names t) q spot ⊎ (GoneAt t q spot ⊎ FoldersAt (ancestors p) q spot)
 
 -- what a name may come to hold in the present view
 abbrev pub PlacesName : Elements → Elements → View → Elements → Slot → Type 0
@@ -36,13 +38,15 @@ pub record WasRemoved (p : Elements) (u w : View) : Type 0 where
   pub leaf : IsLeaf (u.names p)
   pub left : w.names p ≡ absent
 
--- t is a link, or a file that isn't created since the last sync, and it is the object that the digest names
+-- t is a link, or a file that isn't created since the last sync, and it is the object that the
+-- digest names
 pub record IsReadyAs (d : List ℕ) (kind : ObjKind) (t : Elements) (v : View) : Type 0 where
   pub leaf : IsLeaf (v.names t)
   pub clean : IsDirty v (v.names t) → ⊥
   pub named : Named d kind (shows v t)
 
--- where it may be placed: nothing stands at the object's name, and what is above it is absent or a folder
+-- where it may be placed: nothing stands at the object's name, and what is above it is absent or a
+-- folder
 pub record CanPlace (root t : Elements) (d : List ℕ) (kind : ObjKind) (v : View) : Type 0 where
   pub ready : IsReadyAs d kind t v
   pub free : v.names (object_path root d kind) ≡ absent
@@ -54,7 +58,8 @@ pub record HasObject (root : Elements) (d : List ℕ) (kind : ObjKind) (v : View
 
 -- at the object's name every stop leaves that object, or nothing
 pub record LeavesObject (root : Elements) (d : List ℕ) (kind : ObjKind) (v : View) : Type 0 where
-  pub each : (disk : Disk) → Leaves v disk → (disk (object_path root d kind) ≡ gone) ⊎ Named d kind (disk (object_path root d kind))
+  pub each : (disk : Disk) → Leaves v disk → (disk (object_path root d kind) ≡ gone)
+      ⊎ Named d kind (disk (object_path root d kind))
 
 -- every stop leaves a store whose names are true
 pub record LeavesStore (root : Elements) (v : View) : Type 0 where

@@ -17,14 +17,17 @@ abbrev pub object_of : ObjKind → Elements → View → Option Object
 object_of kind p v = object_at kind (shows v p)
 
 -- whether the object is there was told
-pub record IsThere (root : Elements) (d : List ℕ) (kind : ObjKind) (v : View) (there : Bool) : Type 0 where
+pub record IsThere (root : Elements) (d : List ℕ) (kind : ObjKind) (v : View)
+    (there : Bool) : Type 0 where
   pub is : there ≡ is_some (object_of kind (object_path root d kind) v)
 
 -- what is told of an object of at most so many bytes
 abbrev pub got_of : ℕ → Option Object → Got
 got_of most None = got.Absent
-got_of most (Some (objects.Meta bytes)) = if leb (length bytes) most then got.Meta bytes else got.TooLong (length bytes)
-got_of most (Some (objects.File mode bytes)) = if leb (length bytes) most then got.File mode (length bytes) else got.TooLong (length bytes)
+got_of most (Some (objects.Meta bytes)) =
+    if leb (length bytes) most then got.Meta bytes else got.TooLong (length bytes)
+got_of most (Some (objects.File mode bytes)) =
+    if leb (length bytes) most then got.File mode (length bytes) else got.TooLong (length bytes)
 got_of most (Some (objects.Link text)) = got.Link text
 
 -- what may be told of an object of this kind, on any host
@@ -47,9 +50,11 @@ Gets root d kind most v told = GetsAt kind (object_path root d kind) most v told
 pub record HasFile (root : Elements) (d : List ℕ) (v : View) : Type 0 where
   pub mode : ℕ
   pub bytes : List ℕ
-  pub there : object_of kinds.File (object_path root d kinds.File) v ≡ Some (objects.File mode bytes)
+  pub there : object_of kinds.File (object_path root d kinds.File) v
+      ≡ Some (objects.File mode bytes)
 
 -- n bytes of the file's content, from a place on, came into the buffer
-pub record ReadsPiece (root : Elements) (d : List ℕ) (at : ℕ) (into : List ℕ) (v : View) (n : ℕ) : Type 0 where
+pub record ReadsPiece (root : Elements) (d : List ℕ) (at : ℕ) (into : List ℕ) (v : View)
+    (n : ℕ) : Type 0 where
   pub file : HasFile root d v
   pub came : CameFrom file.bytes at into n

@@ -40,8 +40,8 @@ StagesAt t object q spot = ((q ≡ t) × MayBeStaged object spot) ⊎ FoldersAt 
 abbrev pub StagesName : Elements → Object → Elements → Slot → Type 0
 StagesName t object q e = ((q ≡ t) × MayBeHeld object e) ⊎ DirsAt (ancestors t) q e
 
--- The object may come to t. Only a new file gets bytes: each file that was there keeps its mode and its bytes, also one that
--- stood at t.
+-- The object may come to t. Only a new file gets bytes: each file that was there keeps its mode and
+-- its bytes, also one that stood at t.
 pub record Stages (t : Elements) (object : Object) (u w : View) : Type 0 where
   pub keeps : Keeps (StagesAt t object) (StagesName t object) (Only t) u w
   pub files : KeepsFiles u w
@@ -88,7 +88,8 @@ IsKeepable (objects.Meta bytes) = Unit {0}
 IsKeepable (objects.File mode bytes) = is_permission mode ≡ true
 IsKeepable (objects.Link text) = is_link_text text ≡ true
 
--- where the object may be staged: nothing stands at the path, and what is above it is absent or a folder
+-- where the object may be staged: nothing stands at the path, and what is above it is absent or a
+-- folder
 pub record CanStage (t : Elements) (object : Object) (v : View) : Type 0 where
   pub keepable : IsKeepable object
   pub free : v.names t ≡ absent

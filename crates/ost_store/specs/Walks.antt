@@ -10,12 +10,15 @@ use Rattle.fp_small.specs.Walks.{IsBelow, IsTextOf}
 
 -- One path was looked at: a file or link is found, and what is in a folder comes next.
 pub record Visits (p : Elements) (v : View) (found next found' next' : List Elements) : Type 0 where
-  pub leaves : (q : Elements) → Contains found' q ↔ (Contains found q ⊎ ((q ≡ p) × IsLeaf (v.names q)))
+  pub leaves : (q : Elements) → Contains found' q
+      ↔ (Contains found q ⊎ ((q ≡ p) × IsLeaf (v.names q)))
   pub below : (q : Elements) → Contains next' q ↔ (Contains next q ⊎ IsBelow (p ∷ []) v q)
 
 -- so were all of these
-pub record VisitsAll (paths : List Elements) (v : View) (found found' next : List Elements) : Type 0 where
-  pub leaves : (q : Elements) → Contains found' q ↔ (Contains found q ⊎ (Contains paths q × IsLeaf (v.names q)))
+pub record VisitsAll (paths : List Elements) (v : View)
+    (found found' next : List Elements) : Type 0 where
+  pub leaves : (q : Elements) → Contains found' q
+      ↔ (Contains found q ⊎ (Contains paths q × IsLeaf (v.names q)))
   pub below : (q : Elements) → Contains next q ↔ IsBelow paths v q
 
 -- the files and links at the folder's path and below
@@ -27,6 +30,7 @@ pub record AreLeavesBelow (folder : Elements) (v : View) (found : List Elements)
   pub each : (q : Elements) → Contains found q ↔ (IsAbove folder q × IsLeaf (v.names q))
 
 -- the paths, by their texts
-pub record AreKeyed {Z : Type 0} (paths : List Elements) (es : List (String Z × Elements)) : Type 0 where
-  pub keyed : AllByRecursion (λ e. IsTextOf (string_bytes e.0) e.1) es
-  pub each : (q : Elements) → Contains (values_of es) q ↔ Contains paths q
+pub record AreKeyed {Z : Type 0} (paths : List Elements) (es : List (String Z × Elements)) : Type 0
+  where
+    pub keyed : AllByRecursion (λ e. IsTextOf (string_bytes e.0) e.1) es
+    pub each : (q : Elements) → Contains (values_of es) q ↔ Contains paths q

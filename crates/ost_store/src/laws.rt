@@ -1,5 +1,5 @@
-//! Laws of the words that the contracts use, for crates that build on them. Each is the contract of a function that
-//! does nothing.
+//! Laws of the words that the contracts use, for crates that build on them. Each is the contract of
+//! a function that does nothing.
 
 ghost use Rattle.std.specs.Prelude.{◌≡◌, ◌≢◌, ℕ, List, [], ◌∷◌, ◌++◌, true, Some, None, Contains};
 ghost use Rattle.fp_host.specs.Paths.{Elements, absent, file, link, IsAbove};
@@ -34,8 +34,9 @@ pub fn staged_objects_are_ready()
         object v }
 {}
 
-/// A name stays as it is where an object is staged neither there nor below, where another file grows, where an object is
-/// placed neither there nor below and from elsewhere, and where another name is taken away.
+/// A name stays as it is where an object is staged neither there nor below, where another file
+/// grows, where an object is placed neither there nor below and from elsewhere, and where another
+/// name is taken away.
 pub fn names_elsewhere_stay()
     ensures staged { (q t : Elements) (object : Object) (u w : View) → Stages t object u w →
         (IsWithin q t → ⊥) → Stays q u w }
@@ -47,7 +48,8 @@ pub fn names_elsewhere_stay()
         ≢ p → Stays q u w }
 {}
 
-/// What a name that stays holds and shows stays too; and where nothing is synced, what is staged there, and what is ready.
+/// What a name that stays holds and shows stays too; and where nothing is synced, what is staged
+/// there, and what is ready.
 pub fn what_stays_is_kept()
     ensures held { (q : Elements) (object : Object) (u w : View) → Stays q u w → IsHeld q object u
         → IsHeld q object w }
@@ -60,8 +62,9 @@ pub fn what_stays_is_kept()
         shows u q }
 {}
 
-/// The one file that is made stands at its path, and where nothing stands only if it is empty. Where new files that have bytes
-/// stand at one name alone, and what stands there is placed, they came to the object's name.
+/// The one file that is made stands at its path, and where nothing stands only if it is empty.
+/// Where new files that have bytes stand at one name alone, and what stands there is placed, they
+/// came to the object's name.
 pub fn gathered_files()
     ensures made { (p : Elements) (bytes : List ℕ) (u w : View) → MakesFile p bytes u w
         → Gathers (Only p) u w }
@@ -71,22 +74,27 @@ pub fn gathered_files()
         → WasPlaced t p v w → Shares (Only p) u w }
 {}
 
-/// An object that was placed is there, and the other objects of the store are as before; so they are where one is taken away.
+/// An object that was placed is there, and the other objects of the store are as before; so they
+/// are where one is taken away.
 pub fn placed_objects_are_there()
     ensures there { (root t : Elements) (d : List ℕ) (kind : ObjKind) (u w : View) → Places t
         (object_path root d kind) u w
-        → WasPlaced t (object_path root d kind) u w → IsTree u → IsTree w → IsReadyAs d kind t u → Named d kind (shows w (object_path root d kind)) }
+        → WasPlaced t (object_path root d kind) u w → IsTree u → IsTree w → IsReadyAs d kind t u
+        → Named d kind (shows w (object_path root d kind)) }
     ensures others { (root t : Elements) (d e : List ℕ) (k m : ObjKind) (u w : View) → Places t
         (object_path root d k) u w → is_digest d ≡ true → is_digest e ≡ true
-        → ((e ≡ d) × (m ≡ k) → ⊥) → object_path root e m ≢ t → IsTree u → IsTree w → store root (shows w) e m ≡ store root (shows u) e m }
+        → ((e ≡ d) × (m ≡ k) → ⊥) → object_path root e m ≢ t → IsTree u → IsTree w
+        → store root (shows w) e m ≡ store root (shows u) e m }
     ensures removed { (root : Elements) (d e : List ℕ) (k m : ObjKind) (u w : View) → Keeps
         (GoneAt (object_path root d k)) (AbsentAt (object_path root d k)) NoPath u w
-        → is_digest d ≡ true → is_digest e ≡ true → ((e ≡ d) × (m ≡ k) → ⊥) → IsTree u → IsTree w → store root (shows w) e m ≡ store root (shows u) e m }
+        → is_digest d ≡ true → is_digest e ≡ true → ((e ≡ d) × (m ≡ k) → ⊥) → IsTree u → IsTree w
+        → store root (shows w) e m ≡ store root (shows u) e m }
 {}
 
-/// Where an object is staged at a path that isn't below `objects`, an object's name goes on to be true or absent at every stop,
-/// and a store whose names are true stays one: the folders that are made above the path aren't below `objects` either. A piece
-/// changes no store, wherever its file is.
+/// Where an object is staged at a path that isn't below `objects`, an object's name goes on to be
+/// true or absent at every stop, and a store whose names are true stays one: the folders that are
+/// made above the path aren't below `objects` either. A piece changes no store, wherever its file
+/// is.
 pub fn staged_names_are_true()
     ensures name { (root t : Elements) (object : Object) (d : List ℕ) (kind : ObjKind) (u w : View)
         → Stages t object u w → (IsAbove (objects_folder root) t → ⊥)
@@ -97,8 +105,8 @@ pub fn staged_names_are_true()
         LeavesStore root u → LeavesStore root w }
 {}
 
-/// Where an object that its digest names is placed, every stop goes on to leave at its name that object or nothing, if every
-/// stop did before; and a store whose names are true stays one.
+/// Where an object that its digest names is placed, every stop goes on to leave at its name that
+/// object or nothing, if every stop did before; and a store whose names are true stays one.
 pub fn placed_names_are_true()
     ensures name { (root t : Elements) (d : List ℕ) (kind : ObjKind) (u w : View) → Places t
         (object_path root d kind) u w → IsReadyAs d kind t u
@@ -117,9 +125,10 @@ pub fn names_left_are_true()
         LeavesStore root u → LeavesStore root w }
 {}
 
-/// What is asked of views can be met. Where nothing stands below `objects` and all is settled, every stop leaves a store whose
-/// names are true; and where every stop does, each object's name leaves that object or nothing. There is a dirmeta that is
-/// ready to be placed once it is created, written and synced.
+/// What is asked of views can be met. Where nothing stands below `objects` and all is settled,
+/// every stop leaves a store whose names are true; and where every stop does, each object's name
+/// leaves that object or nothing. There is a dirmeta that is ready to be placed once it is created,
+/// written and synced.
 pub fn views_can_have_stores()
     ensures empty { (root : Elements) (v : View) → IsTree v → IsSettled v
         → ((rest : Elements) (xx : List ℕ) → v.names (rest ++ (xx ∷ objects_folder root)) ≡ absent)

@@ -1,4 +1,5 @@
-//! The objects of a store: each at the name that its digest and its kind give it, below the store's folder.
+//! The objects of a store: each at the name that its digest and its kind give it, below the store's
+//! folder.
 #![tactic(auto)]
 
 pub mod laws;

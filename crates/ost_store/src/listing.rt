@@ -15,8 +15,9 @@ use fp_small::values_in_order;
 use std::alloc::{AllocError, Global};
 use std::collections::BTreeMap;
 
-/// The files and links below `objects` in the store in this folder, at any depth, ascending by the bytes of their paths,
-/// whether or not they are objects. It isn't for paths of more than 128 elements.
+/// The files and links below `objects` in the store in this folder, at any depth, ascending by the
+/// bytes of their paths, whether or not they are objects. It isn't for paths of more than 128
+/// elements.
 pub fn names<H: Host>(alloc: Global, host: &mut H, root: &Path) -> Result<Items<Path>, HostEnd>
     ensures unchanged { Unchanged (H.moments host.old) (H.moments host.new) }
     ensures tells { IfOk result (λ paths. AtEnd (λ u w. ListsNames root.now u paths)

@@ -44,7 +44,8 @@ fn file_name(alloc: Global, digest: &Digest, kind: ObjKind) -> Result<String, Al
     format!(in alloc; "{digits}.{word}")
 }
 
-/// The path of the object in the store in this folder: `objects/XX/REST.KIND`, XX the first two digits of the digest.
+/// The path of the object in the store in this folder: `objects/XX/REST.KIND`, XX the first two
+/// digits of the digest.
 pub fn path_of(
     alloc: Global,
     root: &Path,

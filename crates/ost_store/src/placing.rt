@@ -15,10 +15,11 @@ use fp_name::Digest;
 use fp_small::make_above;
 use std::alloc::Global;
 
-/// Gives what stands at the path the object's name in the store in this folder. The folders above the name are made where
-/// they are absent. Nothing is synced. It is for a path that holds the object that the digest names, and was synced if it is
-/// a file, and for a name at which nothing stands and above which each name is absent or a folder. All memory is taken before
-/// the first change.
+/// Gives what stands at the path the object's name in the store in this folder. The folders above
+/// the name are made where they are absent. Nothing is synced. It is for a path that holds the
+/// object that the digest names, and was synced if it is a file, and for a name at which nothing
+/// stands and above which each name is absent or a folder. All memory is taken before the first
+/// change.
 pub fn place<H: Host>(
     alloc: Global,
     host: &mut H,
@@ -27,8 +28,9 @@ pub fn place<H: Host>(
     digest: &Digest,
     kind: ObjKind,
 ) -> Result<(), HostEnd>
-    // A stop at any moment leaves at the name what some stop before would have left, or what the path held; and all else as
-    // it was, but that the path may be gone and folders above the name made.
+    // A stop at any moment leaves at the name what some stop before would have left, or what the
+    // path held; and all else as it was, but that the path may be gone and folders above the name
+    // made.
     ensures any_moment { Always (Places tmp.now (object_path root.now digest.now kind))
         (H.moments host.old) (H.moments host.new) }
     ensures on_success { OnOk result (AtEnd (WasPlaced tmp.now
@@ -45,7 +47,8 @@ pub fn place<H: Host>(
     Ok(host.rename(tmp, &path)?)
 }
 
-/// Takes the object's name in the store in this folder away. Nothing is synced. It is for an object that is there.
+/// Takes the object's name in the store in this folder away. Nothing is synced. It is for an object
+/// that is there.
 pub fn remove<H: Host>(
     alloc: Global,
     host: &mut H,
@@ -53,7 +56,8 @@ pub fn remove<H: Host>(
     digest: &Digest,
     kind: ObjKind,
 ) -> Result<(), HostEnd>
-    // A stop at any moment leaves at the name what some stop before would have left, or nothing, and all else as it was.
+    // A stop at any moment leaves at the name what some stop before would have left, or nothing,
+    // and all else as it was.
     ensures frame { Frame (GoneAt (object_path root.now digest.now kind))
         (AbsentAt (object_path root.now digest.now kind)) NoPath
         (H.moments host.old) (H.moments host.new) }

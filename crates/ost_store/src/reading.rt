@@ -38,8 +38,8 @@ fn may_be_link(kind: ObjKind) -> bool
     }
 }
 
-/// Whether the store in this folder has the object: whether a file has its name, or a link for the kind `File`. Whether the
-/// name is true isn't looked at.
+/// Whether the store in this folder has the object: whether a file has its name, or a link for the
+/// kind `File`. Whether the name is true isn't looked at.
 pub fn has<H: Host>(
     alloc: Global,
     host: &mut H,
@@ -61,9 +61,9 @@ pub fn has<H: Host>(
     }
 }
 
-/// The object as the store in this folder has it, where it has at most so many bytes: a metadata object's bytes, a file's
-/// permission bits and size, a link's text. Whether its name is true isn't looked at. `Absent` comes exactly where `has` is
-/// false.
+/// The object as the store in this folder has it, where it has at most so many bytes: a metadata
+/// object's bytes, a file's permission bits and size, a link's text. Whether its name is true isn't
+/// looked at. `Absent` comes exactly where `has` is false.
 pub fn get<H: Host>(
     alloc: Global,
     host: &mut H,
@@ -119,8 +119,8 @@ fn get_meta<H: Host>(alloc: Global, host: &mut H, path: &Path, max: u64) -> Resu
     }
 }
 
-/// Bytes of a `file` object that is there as a file, from a place on: as many as the buffer has room for, or as are left. It
-/// is for an object that is there so.
+/// Bytes of a `file` object that is there as a file, from a place on: as many as the buffer has
+/// room for, or as are left. It is for an object that is there so.
 pub fn read_piece<H: Host>(
     alloc: Global,
     host: &mut H,

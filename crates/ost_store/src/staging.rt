@@ -13,18 +13,20 @@ use fp_small::{FILE_MODE, make_above};
 use ost_model::Object;
 use std::alloc::Global;
 
-/// Makes the absent path hold the object, and the folders above it where they are absent. A metadata object's file has the
-/// permission bits 0644. Nothing is synced: that is done before the object is placed. It is for a path above which each name is
-/// absent or a folder, and for a file whose permission bits are within 0775, or a link whose text may be a link's. All memory is
-/// taken before the first change.
+/// Makes the absent path hold the object, and the folders above it where they are absent. A
+/// metadata object's file has the permission bits 0644. Nothing is synced: that is done before the
+/// object is placed. It is for a path above which each name is absent or a folder, and for a file
+/// whose permission bits are within 0775, or a link whose text may be a link's. All memory is taken
+/// before the first change.
 pub fn stage<H: Host>(
     alloc: Global,
     host: &mut H,
     tmp: &Path,
     object: &Object,
 ) -> Result<(), HostEnd>
-    // A stop at any moment leaves at the path what some stop before would have left, or such a file or link, and all else
-    // as it was, but for folders above. Each file that was there keeps its bytes.
+    // A stop at any moment leaves at the path what some stop before would have left, or such a file
+    // or link, and all else as it was, but for folders above. Each file that was there keeps its
+    // bytes.
     ensures any_moment { Always (Stages tmp.now object.now)
         (H.moments host.old) (H.moments host.new) }
     ensures on_success { OnOk result (AtEnd (WasStaged tmp.now object.now)
@@ -81,9 +83,10 @@ fn stage_link<H: Host>(alloc: Global, host: &mut H, tmp: &Path, text: &str) -> R
     Ok(host.symlink(text, tmp)?)
 }
 
-/// Makes the absent path an empty file with these permission bits, and the folders above it where they are absent, for a
-/// content that comes in pieces. It is for a path above which each name is absent or a folder, and for permission bits within
-/// 0775. All memory is taken before the first change.
+/// Makes the absent path an empty file with these permission bits, and the folders above it where
+/// they are absent, for a content that comes in pieces. It is for a path above which each name is
+/// absent or a folder, and for permission bits within 0775. All memory is taken before the first
+/// change.
 pub fn stage_file<H: Host>(
     alloc: Global,
     host: &mut H,

@@ -17,8 +17,8 @@ fn add_path(path: &Path, paths: &mut Vec<Path>) -> Result<(), AllocError>
     Ok(())
 }
 
-/// Adds the path to those that were found, where a file or link stands there, and what is in it to the next ones, where it is
-/// a folder.
+/// Adds the path to those that were found, where a file or link stands there, and what is in it to
+/// the next ones, where it is a folder.
 fn visit<H: Host>(
     alloc: Global,
     host: &mut H,

@@ -45,7 +45,8 @@ abbrev pub unread_end : List ℕ → ObjKind → ObjectError → WalkEnd
 unread_end d kind (unread.Malformed rule) = refusal d kind (faults.Malformed rule)
 unread_end d kind unread.NoMemory = ends.NoMemory
 
--- What is known of a refusal. Nothing is said of a fault of the host or the remotes, and of running out of memory.
+-- What is known of a refusal. Nothing is said of a fault of the host or the remotes, and of running
+-- out of memory.
 abbrev pub RefusesBy : (WalkFault → Type 0) → WalkEnd → Type 0
 RefusesBy refused (ends.Refused w) = refused w
 RefusesBy refused ends.HostFault = ⊤
@@ -58,13 +59,15 @@ EndsBy good refused (Ok a) = good a
 EndsBy good refused (Err end) = RefusesBy refused end
 
 -- the refusal is of this object, and this is its fault
-pub record IsFaultOf (d : List ℕ) (kind : ObjKind) (fault : Option Fault) (w : WalkFault) : Type 0 where
-  pub digest : w.digest ≡ d
-  pub kind_is : w.kind ≡ kind
-  pub fault_is : fault ≡ Some (fault_of w.fault)
+pub record IsFaultOf (d : List ℕ) (kind : ObjKind) (fault : Option Fault) (w : WalkFault) : Type 0
+  where
+    pub digest : w.digest ≡ d
+    pub kind_is : w.kind ≡ kind
+    pub fault_is : fault ≡ Some (fault_of w.fault)
 
 -- the refusal is of this object, and it is a limit that its place passes
-pub record IsLimit (d : List ℕ) (kind : ObjKind) (limit : Option ObjectFault) (w : WalkFault) : Type 0 where
+pub record IsLimit (d : List ℕ) (kind : ObjKind) (limit : Option ObjectFault)
+    (w : WalkFault) : Type 0 where
   pub digest : w.digest ≡ d
   pub kind_is : w.kind ≡ kind
   pub limit_is : limit ≡ Some w.fault
@@ -72,7 +75,10 @@ pub record IsLimit (d : List ℕ) (kind : ObjKind) (limit : Option ObjectFault) 
 -- the refusal is of the first place that has a fault
 pub record IsFirst (found : Option (Place × Fault)) (w : WalkFault) : Type 0 where
   pub depth : ℕ
-  pub is : found ≡ Some (record { digest = w.digest; kind = w.kind; depth = depth }, fault_of w.fault)
+  pub is : found ≡ Some (
+    record { digest = w.digest; kind = w.kind; depth = depth },
+    fault_of w.fault,
+  )
 
 -- a fault comes only where the count of the remotes' faults rose
 pub record IsRemotes (faulted : Type 0) (before now : ℕ) : Type 0 where
@@ -92,11 +98,18 @@ pub record Outside : Type 0 where
   pub remote_faults : ℕ
 
 abbrev pub outside : Option Moments → ℕ → Option Holdings → ℕ → Outside
-outside told host_faults holdings remote_faults = record { told = told; host_faults = host_faults; holdings = holdings; remote_faults = remote_faults }
+outside told host_faults holdings remote_faults =
+    record {
+      told = told;
+      host_faults = host_faults;
+      holdings = holdings;
+      remote_faults = remote_faults;
+    }
 
 -- Nothing changes outside, and each fault is that outside's own.
 pub record Observes {A : Type 0} (result : Result A WalkEnd) (u w : Outside) : Type 0 where
   pub still : Unchanged u.told w.told
   pub same : w.holdings ≡ u.holdings
-  pub host : IsCaused (IsErrOf result ends.HostFault) u.told (λ v. Unit {0}) u.host_faults w.host_faults
+  pub host : IsCaused (IsErrOf result ends.HostFault) u.told
+      (λ v. Unit {0}) u.host_faults w.host_faults
   pub remote : IsRemotes (IsErrOf result ends.RemoteFault) u.remote_faults w.remote_faults

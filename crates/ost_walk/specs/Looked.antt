@@ -28,7 +28,8 @@ pub record IsFound (have : Have) (commit : List ℕ) (path : Elements) (f : Foun
   pub clean : look_fault have commit path ≡ None
 
 -- a directory stands at the path, so far below the root, and this is in it
-pub record IsDirAt (have : Have) (commit : List ℕ) (path : Elements) (tree : TreeView) (depth : ℕ) : Type 0 where
+pub record IsDirAt (have : Have) (commit : List ℕ) (path : Elements) (tree : TreeView)
+    (depth : ℕ) : Type 0 where
   pub row : DirRow
   pub is : look have commit path ≡ directory row
   pub read : tree_at have row.tree ≡ Some tree
@@ -36,9 +37,10 @@ pub record IsDirAt (have : Have) (commit : List ℕ) (path : Elements) (tree : T
   pub clean : look_fault have commit path ≡ None
 
 -- this stands there, and it is no directory
-pub record IsLeafAt (have : Have) (commit : List ℕ) (path : Elements) (f : ModelFound) : Type 0 where
-  pub is : look have commit path ≡ f
-  pub clean : look_fault have commit path ≡ None
+pub record IsLeafAt (have : Have) (commit : List ℕ) (path : Elements) (f : ModelFound) : Type 0
+  where
+    pub is : look have commit path ≡ f
+    pub clean : look_fault have commit path ≡ None
 
 abbrev pub IsHere : Have → List ℕ → Elements → Here → Type 0
 IsHere have commit path (here.Dir tree depth) = IsDirAt have commit path (tree_view tree) depth

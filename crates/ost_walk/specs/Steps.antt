@@ -25,7 +25,8 @@ pub record IsNamed (d : List ℕ) (object : Option Object) (bytes : List ℕ) : 
 
 -- the bytes of a metadata object, or the fault that it has
 abbrev pub Fetches : List ℕ → ObjKind → Option Object → Result (List ℕ) WalkEnd → Type 0
-Fetches d kind object result = EndsBy (IsNamed d object) (IsFaultOf d kind (object_fault d kind object)) result
+Fetches d kind object result =
+    EndsBy (IsNamed d object) (IsFaultOf d kind (object_fault d kind object)) result
 
 -- the object has no fault
 pub record IsGood (have : Have) (d : List ℕ) (kind : ObjKind) : Type 0 where
@@ -44,7 +45,8 @@ place_name p = (p.digest, p.kind)
 
 -- the limit that the place passes which has n before it and is so far below the root
 abbrev pub limit_of : ℕ → ℕ → Option ObjectFault
-limit_of n depth = if leb MOST_OBJECTS n then Some faults.TooMany else (if leb (suc MOST_LEVELS) depth then Some faults.TooDeep else None)
+limit_of n depth = if leb MOST_OBJECTS n then Some faults.TooMany
+    else (if leb (suc MOST_LEVELS) depth then Some faults.TooDeep else None)
 
 -- ---- the commit
 
@@ -109,12 +111,14 @@ pub record IsOpened (have : Have) (n : ℕ) (dir : Dir) (view : TreeView) : Type
   pub read : tree_at have dir.tree ≡ Some view
 
 -- the files of a directory, of which none passes a limit
-pub record AreListed (have : Have) (depth : ℕ) (files : List FileRow) (done done' : List (List ℕ × ObjKind)) : Type 0 where
+pub record AreListed (have : Have) (depth : ℕ) (files : List FileRow)
+    (done done' : List (List ℕ × ObjKind)) : Type 0 where
   pub good : first_of (walk_fault have) (length done) (file_places depth files) ≡ None
   pub names : done' ≡ done ++ map place_name (file_places depth files)
 
 -- a directory was walked, without those in it, which come next
-pub record IsWalked (have : Have) (dir : Dir) (done done' : List (List ℕ × ObjKind)) (left left' : List Dir) : Type 0 where
+pub record IsWalked (have : Have) (dir : Dir) (done done' : List (List ℕ × ObjKind))
+    (left left' : List Dir) : Type 0 where
   pub view : TreeView
   pub low : dir.depth ≤ MOST_LEVELS
   pub read : tree_at have dir.tree ≡ Some view
@@ -123,7 +127,8 @@ pub record IsWalked (have : Have) (dir : Dir) (done done' : List (List ℕ × Ob
   pub next : opens left' ≡ opened (suc dir.depth) view.dirs ++ opens left
 
 -- what is done and what is left are the order, and what is done has no fault
-pub record IsOnTheWay (have : Have) (commit : List ℕ) (done : List (List ℕ × ObjKind)) (left : List Dir) : Type 0 where
+pub record IsOnTheWay (have : Have) (commit : List ℕ) (done : List (List ℕ × ObjKind))
+    (left : List Dir) : Type 0 where
   pub places : List Place
   pub names : done ≡ map place_name places
   pub walked : Walked have (walk_fault have) commit places (opens left)

@@ -25,7 +25,8 @@ found_in o (Some f) = Some (o, f)
 -- the first of these objects that has a fault of its own
 abbrev pub first_bad : Have → List (List ℕ × ObjKind) → Option ((List ℕ × ObjKind) × Fault)
 first_bad have [] = None
-first_bad have (o ∷ os) = or_else (found_in o (object_fault o.0 o.1 (have o.0 o.1))) (first_bad have os)
+first_bad have (o ∷ os) =
+    or_else (found_in o (object_fault o.0 o.1 (have o.0 o.1))) (first_bad have os)
 
 -- the fault that a walk tells
 abbrev pub told_fault : WalkFault → (List ℕ × ObjKind) × Fault
@@ -36,29 +37,34 @@ abbrev pub IsFirstIfAny : Option (Place × Fault) → Option WalkFault → Type 
 IsFirstIfAny found None = found ≡ None
 IsFirstIfAny found (Some w) = IsFirst found w
 
--- The objects are those of the order up to the first metadata object that has a fault or object that passes a limit, and that
--- is the fault. So the first fault of the commit is that of the first of these objects that has one, or else that fault.
+-- The objects are those of the order up to the first metadata object that has a fault or object
+-- that passes a limit, and that is the fault. So the first fault of the commit is that of the first
+-- of these objects that has one, or else that fault.
 pub record IsSurvey (have : Have) (commit : List ℕ) (s : Survey) : Type 0 where
   pub walk : IsFirstIfAny (first_walk_fault have commit) s.fault
   pub rest : List (List ℕ × ObjKind)
   pub front : map place_name (order have commit) ≡ s.objects ++ rest
   pub whole : s.fault ≡ None → s.objects ≡ map place_name (order have commit)
-  pub first : first_named have commit ≡ or_else (first_bad have s.objects) (option_map told_fault s.fault)
+  pub first : first_named have commit ≡ or_else (first_bad have s.objects)
+      (option_map told_fault s.fault)
 
 -- ---- where a walk stops
 
--- The walk of these places, which has n before it, stops at their first fault. Among what was put in order are the objects before
--- it, up to a metadata object.
-pub record StopsAmong (have : Have) (n : ℕ) (places : List Place) (done done' : List (List ℕ × ObjKind)) (w : WalkFault) : Type 0 where
+-- The walk of these places, which has n before it, stops at their first fault. Among what was put
+-- in order are the objects before it, up to a metadata object.
+pub record StopsAmong (have : Have) (n : ℕ) (places : List Place)
+    (done done' : List (List ℕ × ObjKind)) (w : WalkFault) : Type 0 where
   pub is_first : IsFirst (first_of (walk_fault have) n places) w
   pub new : List (List ℕ × ObjKind)
   pub rest : List (List ℕ × ObjKind)
   pub names : done' ≡ done ++ new
   pub front : map place_name places ≡ new ++ rest
-  pub named : option_map named_fault (first_of (place_fault have) n places) ≡ or_else (first_bad have new) (Some (told_fault w))
+  pub named : option_map named_fault (first_of (place_fault have) n places)
+      ≡ or_else (first_bad have new) (Some (told_fault w))
 
 -- the walk of the commit stops so, with these objects in order
-pub record StopsIn (have : Have) (commit : List ℕ) (done : List (List ℕ × ObjKind)) (w : WalkFault) : Type 0 where
+pub record StopsIn (have : Have) (commit : List ℕ) (done : List (List ℕ × ObjKind))
+    (w : WalkFault) : Type 0 where
   pub is_first : IsFirst (first_walk_fault have commit) w
   pub rest : List (List ℕ × ObjKind)
   pub front : map place_name (order have commit) ≡ done ++ rest
@@ -72,6 +78,7 @@ stopped_at done ends.RemoteFault = Err ends.RemoteFault
 stopped_at done ends.NoMemory = Err ends.NoMemory
 
 -- the objects, where nothing has a fault
-abbrev pub unless_faulty : List (List ℕ × ObjKind) → Option WalkFault → Result (List (List ℕ × ObjKind)) WalkEnd
+abbrev pub unless_faulty : List (List ℕ × ObjKind) → Option WalkFault
+    → Result (List (List ℕ × ObjKind)) WalkEnd
 unless_faulty objects None = Ok objects
 unless_faulty objects (Some w) = Err (ends.Refused w)

@@ -22,29 +22,35 @@ abbrev pub AreKeyed : {Z : Type 0} → List (String Z × (List ℕ × ObjKind)) 
 AreKeyed es = AllByRecursion (λ e. IsKeyOf (string_bytes e.0) e.1) es
 
 -- the object is put among the others
-pub record Puts {Z : Type 0} (object : List ℕ × ObjKind) (es fs : List (String Z × (List ℕ × ObjKind))) : Type 0 where
+pub record Puts {Z : Type 0} (object : List ℕ × ObjKind)
+    (es fs : List (String Z × (List ℕ × ObjKind))) : Type 0 where
   pub key : String Z
   pub text : IsKeyOf (string_bytes key) object
   pub put : fs ≡ insert_entry string_cmp es key object
 
 -- so are all of these
-pub record PutsAll {Z : Type 0} (objects : List (List ℕ × ObjKind)) (es fs : List (String Z × (List ℕ × ObjKind))) : Type 0 where
+pub record PutsAll {Z : Type 0} (objects : List (List ℕ × ObjKind))
+    (es fs : List (String Z × (List ℕ × ObjKind))) : Type 0 where
   pub keyed : AreKeyed es → AreKeyed fs
-  pub each : AreKeyed es → (o : List ℕ × ObjKind) → Contains (values_of fs) o ↔ (Contains objects o ⊎ Contains (values_of es) o)
+  pub each : AreKeyed es → (o : List ℕ × ObjKind)
+      → Contains (values_of fs) o ↔ (Contains objects o ⊎ Contains (values_of es) o)
 
 -- so is all that the commit uses, which has no fault
-pub record PutsOrder {Z : Type 0} (have : Have) (commit : List ℕ) (es fs : List (String Z × (List ℕ × ObjKind))) : Type 0 where
+pub record PutsOrder {Z : Type 0} (have : Have) (commit : List ℕ)
+    (es fs : List (String Z × (List ℕ × ObjKind))) : Type 0 where
   pub objects : List (List ℕ × ObjKind)
   pub order : IsOrder have commit objects
   pub all : PutsAll objects es fs
 
 -- what these commits use, none of which has a fault
-pub record AreUsed {Z : Type 0} (have : Have) (commits : List (List ℕ)) (es : List (String Z × (List ℕ × ObjKind))) : Type 0 where
+pub record AreUsed {Z : Type 0} (have : Have) (commits : List (List ℕ))
+    (es : List (String Z × (List ℕ × ObjKind))) : Type 0 where
   pub keyed : AreKeyed es
   pub each : (o : List ℕ × ObjKind) → Contains (values_of es) o ↔ IsUsed have commits o
   pub clean : used_fault have commits ≡ None
 
 -- what the commits use, none of which has a fault
-pub record IsUsedList (have : Have) (commits : List (List ℕ)) (objects : List (List ℕ × ObjKind)) : Type 0 where
+pub record IsUsedList (have : Have) (commits : List (List ℕ))
+    (objects : List (List ℕ × ObjKind)) : Type 0 where
   pub lists : ListsUsed have commits objects
   pub clean : used_fault have commits ≡ None

@@ -30,10 +30,12 @@ fn fetch_tree<H: Host, R: Remotes>(
 ) -> Result<DirTree, WalkEnd>
     ensures looks { Observes result (outside (H.moments host.old) (H.faults host.old)
         (R.holds remotes.old) (R.faults remotes.old))
-        (outside (H.moments host.new) (H.faults host.new) (R.holds remotes.new) (R.faults remotes.new)) }
+        (outside (H.moments host.new) (H.faults host.new) (R.holds remotes.new)
+        (R.faults remotes.new)) }
     ensures tells { (have : Have) → Supplies places.now.root places.now.url (H.moments host.old)
         (R.holds remotes.old) have
-        → EndsBy (λ t. IsTreeOf have digest.now (tree_view t)) (IsFaultOf digest.now kinds.DirTree (own_fault have digest.now kinds.DirTree)) result }
+        → EndsBy (λ t. IsTreeOf have digest.now (tree_view t))
+        (IsFaultOf digest.now kinds.DirTree (own_fault have digest.now kinds.DirTree)) result }
 {
     match fetch(alloc, host, remotes, places, digest, ObjKind::DirTree) {
         Ok(bytes) => tree_in(alloc, &bytes, digest),
@@ -51,10 +53,12 @@ pub(crate) fn fetch_root<H: Host, R: Remotes>(
 ) -> Result<Dir, WalkEnd>
     ensures looks { Observes result (outside (H.moments host.old) (H.faults host.old)
         (R.holds remotes.old) (R.faults remotes.old))
-        (outside (H.moments host.new) (H.faults host.new) (R.holds remotes.new) (R.faults remotes.new)) }
+        (outside (H.moments host.new) (H.faults host.new) (R.holds remotes.new)
+        (R.faults remotes.new)) }
     ensures tells { (have : Have) → Supplies places.now.root places.now.url (H.moments host.old)
         (R.holds remotes.old) have
-        → EndsBy (IsRoot have commit.now) (IsFaultOf commit.now kinds.Commit (own_fault have commit.now kinds.Commit)) result }
+        → EndsBy (IsRoot have commit.now)
+        (IsFaultOf commit.now kinds.Commit (own_fault have commit.now kinds.Commit)) result }
 {
     match fetch(alloc, host, remotes, places, commit, ObjKind::Commit) {
         Ok(bytes) => root_in(alloc, &bytes, commit),
@@ -72,10 +76,12 @@ fn fetch_meta<H: Host, R: Remotes>(
 ) -> Result<(), WalkEnd>
     ensures looks { Observes result (outside (H.moments host.old) (H.faults host.old)
         (R.holds remotes.old) (R.faults remotes.old))
-        (outside (H.moments host.new) (H.faults host.new) (R.holds remotes.new) (R.faults remotes.new)) }
+        (outside (H.moments host.new) (H.faults host.new) (R.holds remotes.new)
+        (R.faults remotes.new)) }
     ensures tells { (have : Have) → Supplies places.now.root places.now.url (H.moments host.old)
         (R.holds remotes.old) have
-        → EndsBy (λ _. IsGood have digest.now kinds.DirMeta) (IsFaultOf digest.now kinds.DirMeta (own_fault have digest.now kinds.DirMeta)) result }
+        → EndsBy (λ _. IsGood have digest.now kinds.DirMeta)
+        (IsFaultOf digest.now kinds.DirMeta (own_fault have digest.now kinds.DirMeta)) result }
 {
     match fetch(alloc, host, remotes, places, digest, ObjKind::DirMeta) {
         Ok(bytes) => check_meta(alloc, &bytes, digest),
@@ -94,11 +100,13 @@ pub(crate) fn open_tree<H: Host, R: Remotes>(
 ) -> Result<DirTree, WalkEnd>
     ensures looks { Observes result (outside (H.moments host.old) (H.faults host.old)
         (R.holds remotes.old) (R.faults remotes.old))
-        (outside (H.moments host.new) (H.faults host.new) (R.holds remotes.new) (R.faults remotes.new)) }
+        (outside (H.moments host.new) (H.faults host.new) (R.holds remotes.new)
+        (R.faults remotes.new)) }
     ensures limits { OnOk result (limit_of count dir.now.depth ≡ None) }
     ensures tells { (have : Have) → Supplies places.now.root places.now.url (H.moments host.old)
         (R.holds remotes.old) have
-        → EndsBy (λ t. IsTree have count dir.now (tree_view t)) (IsFaultOf dir.now.tree kinds.DirTree (walk_fault have count (tree_of dir.now))) result }
+        → EndsBy (λ t. IsTree have count dir.now (tree_view t))
+        (IsFaultOf dir.now.tree kinds.DirTree (walk_fault have count (tree_of dir.now))) result }
 {
     match limit_of(count, dir.depth) {
         Some(fault) => Err(refused(&dir.tree, ObjKind::DirTree, fault)),
@@ -117,11 +125,13 @@ fn open_meta<H: Host, R: Remotes>(
 ) -> Result<(), WalkEnd>
     ensures looks { Observes result (outside (H.moments host.old) (H.faults host.old)
         (R.holds remotes.old) (R.faults remotes.old))
-        (outside (H.moments host.new) (H.faults host.new) (R.holds remotes.new) (R.faults remotes.new)) }
+        (outside (H.moments host.new) (H.faults host.new) (R.holds remotes.new)
+        (R.faults remotes.new)) }
     ensures limits { OnOk result (limit_of count dir.now.depth ≡ None) }
     ensures tells { (have : Have) → Supplies places.now.root places.now.url (H.moments host.old)
         (R.holds remotes.old) have
-        → EndsBy (λ _. IsChecked have count (meta_of dir.now)) (IsFaultOf dir.now.meta kinds.DirMeta (walk_fault have count (meta_of dir.now))) result }
+        → EndsBy (λ _. IsChecked have count (meta_of dir.now))
+        (IsFaultOf dir.now.meta kinds.DirMeta (walk_fault have count (meta_of dir.now))) result }
 {
     match limit_of(count, dir.depth) {
         Some(fault) => Err(refused(&dir.meta, ObjKind::DirMeta, fault)),
@@ -129,7 +139,8 @@ fn open_meta<H: Host, R: Remotes>(
     }
 }
 
-/// The dirtree of a directory whose dirtree and dirmeta come next, with so many objects before them.
+/// The dirtree of a directory whose dirtree and dirmeta come next, with so many objects before
+/// them.
 pub(crate) fn open_dir<H: Host, R: Remotes>(
     alloc: Global,
     host: &mut H,
@@ -140,11 +151,13 @@ pub(crate) fn open_dir<H: Host, R: Remotes>(
 ) -> Result<DirTree, WalkEnd>
     ensures looks { Observes result (outside (H.moments host.old) (H.faults host.old)
         (R.holds remotes.old) (R.faults remotes.old))
-        (outside (H.moments host.new) (H.faults host.new) (R.holds remotes.new) (R.faults remotes.new)) }
+        (outside (H.moments host.new) (H.faults host.new) (R.holds remotes.new)
+        (R.faults remotes.new)) }
     ensures limits { OnOk result (limit_of (count + 1) dir.now.depth ≡ None) }
     ensures tells { (have : Have) → Supplies places.now.root places.now.url (H.moments host.old)
         (R.holds remotes.old) have
-        → EndsBy (λ t. IsOpened have count dir.now (tree_view t)) (IsFirst (heads_fault have count dir.now)) result }
+        → EndsBy (λ t. IsOpened have count dir.now (tree_view t))
+        (IsFirst (heads_fault have count dir.now)) result }
 {
     match open_tree(alloc, host, remotes, places, dir, count) {
         Ok(tree) => match open_meta(alloc, host, remotes, places, dir, count + 1) {

@@ -17,8 +17,9 @@ use ost_model::MOST_METADATA_OBJECT_BYTES;
 use ost_store::{Got, get};
 use std::alloc::Global;
 
-/// The bytes of a metadata object that its digest names: the store's where the store has it, else the remote's. It is refused
-/// where there is none, where it is too long, and where its digest isn't its name.
+/// The bytes of a metadata object that its digest names: the store's where the store has it, else
+/// the remote's. It is refused where there is none, where it is too long, and where its digest
+/// isn't its name.
 pub fn fetch<H: Host, R: Remotes>(
     alloc: Global,
     host: &mut H,
@@ -30,7 +31,8 @@ pub fn fetch<H: Host, R: Remotes>(
     requires { may_be_link kind ≡ false }
     ensures looks { Observes result (outside (H.moments host.old) (H.faults host.old)
         (R.holds remotes.old) (R.faults remotes.old))
-        (outside (H.moments host.new) (H.faults host.new) (R.holds remotes.new) (R.faults remotes.new)) }
+        (outside (H.moments host.new) (H.faults host.new) (R.holds remotes.new)
+        (R.faults remotes.new)) }
     ensures tells { (have : Have) → Supplies places.now.root places.now.url (H.moments host.old)
         (R.holds remotes.old) have
         → Fetches digest.now kind (have digest.now kind) result }

@@ -62,7 +62,8 @@ fn put_order<H: Host>(
     requires { places.now.url ≡ None }
     ensures unchanged { Unchanged (H.moments host.old) (H.moments host.new) }
     ensures tells { (have : Have) → Stores places.now.root (H.moments host.old) have
-        → EndsBy (λ _. PutsOrder have commit.now found.old.entries found.new.entries) (IsFirst (first_walk_fault have commit.now)) result }
+        → EndsBy (λ _. PutsOrder have commit.now found.old.entries found.new.entries)
+        (IsFirst (first_walk_fault have commit.now)) result }
     ensures fault_has_cause { IsCounted (IsErrOf result WalkEnd.HostFault)
         (H.moments host.old) (H.faults host.old) (H.faults host.new) }
     ensures remote { IsErrOf result WalkEnd.RemoteFault → ⊥ }
@@ -102,7 +103,8 @@ fn gather<H: Host>(
     requires { places.now.url ≡ None }
     ensures unchanged { Unchanged (H.moments host.old) (H.moments host.new) }
     ensures tells { (have : Have) → Stores places.now.root (H.moments host.old) have
-        → EndsBy (λ found. AreUsed have commits.now found.entries) (IsFirst (used_fault have commits.now)) result }
+        → EndsBy (λ found. AreUsed have commits.now found.entries)
+        (IsFirst (used_fault have commits.now)) result }
     ensures fault_has_cause { IsCounted (IsErrOf result WalkEnd.HostFault)
         (H.moments host.old) (H.faults host.old) (H.faults host.new) }
     ensures remote { IsErrOf result WalkEnd.RemoteFault → ⊥ }
@@ -127,9 +129,9 @@ fn store_alone(root: &Path) -> Result<Places, AllocError>
     })
 }
 
-/// The objects that the commits use in the store in this folder, each once, ascending by the text of its path, which is the
-/// order of the names of a store. Each metadata object is checked. It is refused with the first fault of the first commit that
-/// has one.
+/// The objects that the commits use in the store in this folder, each once, ascending by the text
+/// of its path, which is the order of the names of a store. Each metadata object is checked. It is
+/// refused with the first fault of the first commit that has one.
 pub fn used<H: Host>(
     alloc: Global,
     host: &mut H,

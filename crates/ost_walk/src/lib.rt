@@ -1,4 +1,5 @@
-//! Walks over the objects of a commit, in a store and at a remote: one path, the whole order, and what several commits use.
+//! Walks over the objects of a commit, in a store and at a remote: one path, the whole order, and
+//! what several commits use.
 #![tactic(auto)]
 
 mod checking;

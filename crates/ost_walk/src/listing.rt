@@ -46,7 +46,8 @@ fn add_files(
 ) -> Result<(), WalkEnd>
     ensures tells { (have : Have) → EndsBy (λ _. AreListed have depth (map file_row files.now)
         done.old.items done.new.items)
-        (StopsAmong have (length done.old.items) (file_places depth (map file_row files.now)) done.old.items done.new.items) result }
+        (StopsAmong have (length done.old.items) (file_places depth (map file_row files.now))
+        done.old.items done.new.items) result }
     ensures more { OnOk result (length done.old.items ≤ length done.new.items) }
     ensures most { length done.old.items ≤ MOST_OBJECTS
         → OnOk result (length done.new.items ≤ MOST_OBJECTS) }
@@ -70,8 +71,8 @@ fn add_heads(dir: &Dir, done: &mut Vec<(Digest, ObjKind)>) -> Result<(), AllocEr
     Ok(())
 }
 
-/// Adds what is in the directory of this dirtree, once its dirtree and its dirmeta were checked: these two, its files, and to
-/// the work list its directories.
+/// Adds what is in the directory of this dirtree, once its dirtree and its dirmeta were checked:
+/// these two, its files, and to the work list its directories.
 pub(crate) fn list_dir(
     tree: &DirTree,
     dir: &Dir,
@@ -81,7 +82,9 @@ pub(crate) fn list_dir(
     requires { limit_of (length done.old.items + 1) dir.now.depth ≡ None }
     ensures tells { (have : Have) → IsOpened have (length done.old.items) dir.now
         (tree_view tree.now)
-        → EndsBy (λ _. IsWalked have dir.now done.old.items done.new.items left.old.items left.new.items) (StopsAmong have (length done.old.items) (open_places have (open_of dir.now)) done.old.items done.new.items) result }
+        → EndsBy (λ _. IsWalked have dir.now done.old.items done.new.items left.old.items
+        left.new.items) (StopsAmong have (length done.old.items)
+        (open_places have (open_of dir.now)) done.old.items done.new.items) result }
     ensures more { OnOk result (length done.old.items + 2 ≤ length done.new.items) }
     ensures most { OnOk result (length done.new.items ≤ MOST_OBJECTS) }
     ensures faults { NoFault result }

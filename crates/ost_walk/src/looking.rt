@@ -29,7 +29,8 @@ fn start<H: Host, R: Remotes>(
 ) -> Result<Here, WalkEnd>
     ensures looks { Observes result (outside (H.moments host.old) (H.faults host.old)
         (R.holds remotes.old) (R.faults remotes.old))
-        (outside (H.moments host.new) (H.faults host.new) (R.holds remotes.new) (R.faults remotes.new)) }
+        (outside (H.moments host.new) (H.faults host.new) (R.holds remotes.new)
+        (R.faults remotes.new)) }
     ensures low { IfOk result IsLow }
     ensures tells { (have : Have) → Supplies places.now.root places.now.url (H.moments host.old)
         (R.holds remotes.old) have
@@ -57,11 +58,14 @@ fn enter<H: Host, R: Remotes>(
     requires { depth ≤ MOST_LEVELS }
     ensures looks { Observes result (outside (H.moments host.old) (H.faults host.old)
         (R.holds remotes.old) (R.faults remotes.old))
-        (outside (H.moments host.new) (H.faults host.new) (R.holds remotes.new) (R.faults remotes.new)) }
+        (outside (H.moments host.new) (H.faults host.new) (R.holds remotes.new)
+        (R.faults remotes.new)) }
     ensures low { IfOk result IsLow }
     ensures tells { (have : Have) (commit : List ℕ) (up : Elements) → Supplies places.now.root
         places.now.url (H.moments host.old) (R.holds remotes.old) have
-        → IsDirAt have commit up (tree_view tree.now) depth → EndsBy (IsHere have commit (name.now ∷ up)) (IsFirst (look_fault have commit (name.now ∷ up))) result }
+        → IsDirAt have commit up (tree_view tree.now) depth
+        → EndsBy (IsHere have commit (name.now ∷ up))
+        (IsFirst (look_fault have commit (name.now ∷ up))) result }
 {
     match find_dir(tree.dirs.as_slice(), name, depth + 1) {
         Some(dir) => match open_tree(alloc, host, remotes, places, &dir, 0) {
@@ -87,11 +91,14 @@ fn advance<H: Host, R: Remotes>(
     requires { IsLow here.now }
     ensures looks { Observes result (outside (H.moments host.old) (H.faults host.old)
         (R.holds remotes.old) (R.faults remotes.old))
-        (outside (H.moments host.new) (H.faults host.new) (R.holds remotes.new) (R.faults remotes.new)) }
+        (outside (H.moments host.new) (H.faults host.new) (R.holds remotes.new)
+        (R.faults remotes.new)) }
     ensures low { IfOk result IsLow }
     ensures tells { (have : Have) (commit : List ℕ) (up : Elements) → Supplies places.now.root
         places.now.url (H.moments host.old) (R.holds remotes.old) have
-        → IsHere have commit up here.now → EndsBy (IsHere have commit (name.now ∷ up)) (IsFirst (look_fault have commit (name.now ∷ up))) result }
+        → IsHere have commit up here.now
+        → EndsBy (IsHere have commit (name.now ∷ up))
+        (IsFirst (look_fault have commit (name.now ∷ up))) result }
 {
     match here {
         Here::Dir(tree, depth) => enter(alloc, host, remotes, places, tree, *depth, name),
@@ -112,11 +119,13 @@ fn follow_one<H: Host, R: Remotes>(
     requires low { IsLow here.now }
     ensures looks { Observes result (outside (H.moments host.old) (H.faults host.old)
         (R.holds remotes.old) (R.faults remotes.old))
-        (outside (H.moments host.new) (H.faults host.new) (R.holds remotes.new) (R.faults remotes.new)) }
+        (outside (H.moments host.new) (H.faults host.new) (R.holds remotes.new)
+        (R.faults remotes.new)) }
     ensures low { IfOk result IsLow }
     ensures tells { (have : Have) (commit : List ℕ) → Supplies places.now.root places.now.url
         (H.moments host.old) (R.holds remotes.old) have
-        → IsHere have commit (drop 1 path.now) here.now → EndsBy (IsHere have commit path.now) (IsFirst (look_fault have commit path.now)) result }
+        → IsHere have commit (drop 1 path.now) here.now
+        → EndsBy (IsHere have commit path.now) (IsFirst (look_fault have commit path.now)) result }
 {
     match path.name() {
         Some(name) => advance(alloc, host, remotes, places, here, name),
@@ -136,10 +145,12 @@ fn follow<H: Host, R: Remotes>(
     requires { IsLow root }
     ensures looks { Observes result (outside (H.moments host.old) (H.faults host.old)
         (R.holds remotes.old) (R.faults remotes.old))
-        (outside (H.moments host.new) (H.faults host.new) (R.holds remotes.new) (R.faults remotes.new)) }
+        (outside (H.moments host.new) (H.faults host.new) (R.holds remotes.new)
+        (R.faults remotes.new)) }
     ensures tells { (have : Have) (commit : List ℕ) → Supplies places.now.root places.now.url
         (H.moments host.old) (R.holds remotes.old) have
-        → IsHere have commit [] root → EndsBy (IsHere have commit path.now) (IsFirst (look_fault have commit path.now)) result }
+        → IsHere have commit [] root
+        → EndsBy (IsHere have commit path.now) (IsFirst (look_fault have commit path.now)) result }
 {
     let mut here = root;
     let mut left = path.len();
@@ -166,8 +177,9 @@ fn found_of(here: &Here) -> Found
     }
 }
 
-/// What stands at a path of a commit. The commit is read, and the dirtree of each directory on the path, the last one too;
-/// each is checked. It is refused with the first of them that has a fault, or that is more than 64 below the root.
+/// What stands at a path of a commit. The commit is read, and the dirtree of each directory on the
+/// path, the last one too; each is checked. It is refused with the first of them that has a fault,
+/// or that is more than 64 below the root.
 pub fn look<H: Host, R: Remotes>(
     alloc: Global,
     host: &mut H,
@@ -179,10 +191,12 @@ pub fn look<H: Host, R: Remotes>(
     // Nothing changes, and a fault comes only where the count of that outside rose.
     ensures looks { Observes result (outside (H.moments host.old) (H.faults host.old)
         (R.holds remotes.old) (R.faults remotes.old))
-        (outside (H.moments host.new) (H.faults host.new) (R.holds remotes.new) (R.faults remotes.new)) }
+        (outside (H.moments host.new) (H.faults host.new) (R.holds remotes.new)
+        (R.faults remotes.new)) }
     ensures tells { (have : Have) → Supplies places.now.root places.now.url (H.moments host.old)
         (R.holds remotes.old) have
-        → EndsBy (IsFound have commit.now path.now) (IsFirst (look_fault have commit.now path.now)) result }
+        → EndsBy (IsFound have commit.now path.now)
+        (IsFirst (look_fault have commit.now path.now)) result }
 {
     match start(alloc, host, remotes, places, commit) {
         Ok(root) => match follow(alloc, host, remotes, places, root, path) {

@@ -29,7 +29,9 @@ fn unread(digest: &Digest, kind: ObjKind, error: ObjectError) -> WalkEnd
 /// The dirtree of these bytes.
 pub(crate) fn tree_in(alloc: Global, bytes: &Blob, digest: &Digest) -> Result<DirTree, WalkEnd>
     ensures tells { (have : Have) → IsNamed digest.now (have digest.now kinds.DirTree) bytes.now
-        → EndsBy (λ t. IsTreeOf have digest.now (tree_view t)) (IsFaultOf digest.now kinds.DirTree (object_fault digest.now kinds.DirTree (have digest.now kinds.DirTree))) result }
+        → EndsBy (λ t. IsTreeOf have digest.now (tree_view t))
+        (IsFaultOf digest.now kinds.DirTree
+        (object_fault digest.now kinds.DirTree (have digest.now kinds.DirTree))) result }
     ensures faults { NoFault result }
 {
     match read_dirtree(alloc, bytes.as_slice()) {
@@ -53,7 +55,9 @@ fn root_of(root: CommitRoot) -> Dir
 #[tactic(auto, using(crate::proofs::Read::root_unread))]
 pub(crate) fn root_in(alloc: Global, bytes: &Blob, digest: &Digest) -> Result<Dir, WalkEnd>
     ensures tells { (have : Have) → IsNamed digest.now (have digest.now kinds.Commit) bytes.now
-        → EndsBy (IsRoot have digest.now) (IsFaultOf digest.now kinds.Commit (object_fault digest.now kinds.Commit (have digest.now kinds.Commit))) result }
+        → EndsBy (IsRoot have digest.now)
+        (IsFaultOf digest.now kinds.Commit
+        (object_fault digest.now kinds.Commit (have digest.now kinds.Commit))) result }
     ensures faults { NoFault result }
 {
     match commit_root(alloc, bytes.as_slice()) {
@@ -65,7 +69,9 @@ pub(crate) fn root_in(alloc: Global, bytes: &Blob, digest: &Digest) -> Result<Di
 /// Checks the dirmeta of these bytes.
 pub(crate) fn check_meta(alloc: Global, bytes: &Blob, digest: &Digest) -> Result<(), WalkEnd>
     ensures tells { (have : Have) → IsNamed digest.now (have digest.now kinds.DirMeta) bytes.now
-        → EndsBy (λ _. IsGood have digest.now kinds.DirMeta) (IsFaultOf digest.now kinds.DirMeta (object_fault digest.now kinds.DirMeta (have digest.now kinds.DirMeta))) result }
+        → EndsBy (λ _. IsGood have digest.now kinds.DirMeta)
+        (IsFaultOf digest.now kinds.DirMeta
+        (object_fault digest.now kinds.DirMeta (have digest.now kinds.DirMeta))) result }
     ensures faults { NoFault result }
 {
     match read_dirmeta(alloc, bytes.as_slice()) {

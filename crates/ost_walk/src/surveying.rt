@@ -63,7 +63,8 @@ fn survey_from<H: Host, R: Remotes>(
 ) -> Result<Survey, WalkEnd>
     ensures looks { Observes result (outside (H.moments host.old) (H.faults host.old)
         (R.holds remotes.old) (R.faults remotes.old))
-        (outside (H.moments host.new) (H.faults host.new) (R.holds remotes.new) (R.faults remotes.new)) }
+        (outside (H.moments host.new) (H.faults host.new) (R.holds remotes.new)
+        (R.faults remotes.new)) }
     ensures tells { (have : Have) → Supplies places.now.root places.now.url (H.moments host.old)
         (R.holds remotes.old) have → IsRoot have commit.now root
         → EndsBy (IsSurvey have commit.now) (λ w. ⊥) result }
@@ -79,8 +80,9 @@ fn survey_from<H: Host, R: Remotes>(
     }
 }
 
-/// What can be told of a commit's order where its content objects aren't read: the objects up to the first metadata object that
-/// has a fault, or object that passes a limit, and that fault. The dirtree of a directory whose dirmeta has the fault is left out.
+/// What can be told of a commit's order where its content objects aren't read: the objects up to
+/// the first metadata object that has a fault, or object that passes a limit, and that fault. The
+/// dirtree of a directory whose dirmeta has the fault is left out.
 pub fn survey<H: Host, R: Remotes>(
     alloc: Global,
     host: &mut H,
@@ -90,7 +92,8 @@ pub fn survey<H: Host, R: Remotes>(
 ) -> Result<Survey, WalkEnd>
     ensures looks { Observes result (outside (H.moments host.old) (H.faults host.old)
         (R.holds remotes.old) (R.faults remotes.old))
-        (outside (H.moments host.new) (H.faults host.new) (R.holds remotes.new) (R.faults remotes.new)) }
+        (outside (H.moments host.new) (H.faults host.new) (R.holds remotes.new)
+        (R.faults remotes.new)) }
     ensures tells { (have : Have) → Supplies places.now.root places.now.url (H.moments host.old)
         (R.holds remotes.old) have
         → EndsBy (IsSurvey have commit.now) (λ w. ⊥) result }
@@ -112,9 +115,10 @@ fn whole(survey: Survey) -> Result<Items<(Digest, ObjKind)>, WalkEnd>
     }
 }
 
-/// The objects of a commit in order, with repeats: the commit, its root's dirtree and dirmeta, then the files of a directory,
-/// then its directories, each with its dirtree and its dirmeta first. Each metadata object is checked, and a content object
-/// isn't read. It is refused with the first metadata object that has a fault, or object that passes a limit.
+/// The objects of a commit in order, with repeats: the commit, its root's dirtree and dirmeta, then
+/// the files of a directory, then its directories, each with its dirtree and its dirmeta first.
+/// Each metadata object is checked, and a content object isn't read. It is refused with the first
+/// metadata object that has a fault, or object that passes a limit.
 pub fn order<H: Host, R: Remotes>(
     alloc: Global,
     host: &mut H,
@@ -124,7 +128,8 @@ pub fn order<H: Host, R: Remotes>(
 ) -> Result<Items<(Digest, ObjKind)>, WalkEnd>
     ensures looks { Observes result (outside (H.moments host.old) (H.faults host.old)
         (R.holds remotes.old) (R.faults remotes.old))
-        (outside (H.moments host.new) (H.faults host.new) (R.holds remotes.new) (R.faults remotes.new)) }
+        (outside (H.moments host.new) (H.faults host.new) (R.holds remotes.new)
+        (R.faults remotes.new)) }
     ensures tells { (have : Have) → Supplies places.now.root places.now.url (H.moments host.old)
         (R.holds remotes.old) have
         → EndsBy (IsOrder have commit.now) (IsFirst (first_walk_fault have commit.now)) result }

@@ -3,8 +3,8 @@ use crate::ends::WalkFault;
 use fp_base::{Items, ObjKind};
 use fp_name::Digest;
 
-/// The objects of an order up to the first metadata object that has a fault, or object that passes a limit, and that fault.
-/// Where there is none, it is the whole order.
+/// The objects of an order up to the first metadata object that has a fault, or object that passes
+/// a limit, and that fault. Where there is none, it is the whole order.
 #[derive(Drop)]
 pub struct Survey {
     pub objects: Items<(Digest, ObjKind)>,

@@ -30,12 +30,15 @@ fn visit<H: Host, R: Remotes>(
 ) -> Result<(), WalkEnd>
     ensures looks { Observes result (outside (H.moments host.old) (H.faults host.old)
         (R.holds remotes.old) (R.faults remotes.old))
-        (outside (H.moments host.new) (H.faults host.new) (R.holds remotes.new) (R.faults remotes.new)) }
+        (outside (H.moments host.new) (H.faults host.new) (R.holds remotes.new)
+        (R.faults remotes.new)) }
     ensures more { OnOk result (length done.old.items + 2 ≤ length done.new.items) }
     ensures most { OnOk result (length done.new.items ≤ MOST_OBJECTS) }
     ensures tells { (have : Have) → Supplies places.now.root places.now.url (H.moments host.old)
         (R.holds remotes.old) have
-        → EndsBy (λ _. IsWalked have dir.now done.old.items done.new.items left.old.items left.new.items) (StopsAmong have (length done.old.items) (open_places have (open_of dir.now)) done.old.items done.new.items) result }
+        → EndsBy (λ _. IsWalked have dir.now done.old.items done.new.items left.old.items
+        left.new.items) (StopsAmong have (length done.old.items)
+        (open_places have (open_of dir.now)) done.old.items done.new.items) result }
 {
     match open_dir(alloc, host, remotes, places, dir, done.len()) {
         Ok(tree) => list_dir(&tree, dir, done, left),
@@ -54,11 +57,13 @@ pub(crate) fn walk<H: Host, R: Remotes>(
 ) -> Result<(), WalkEnd>
     ensures looks { Observes result (outside (H.moments host.old) (H.faults host.old)
         (R.holds remotes.old) (R.faults remotes.old))
-        (outside (H.moments host.new) (H.faults host.new) (R.holds remotes.new) (R.faults remotes.new)) }
+        (outside (H.moments host.new) (H.faults host.new) (R.holds remotes.new)
+        (R.faults remotes.new)) }
     ensures tells { (have : Have) (commit : List ℕ) → Supplies places.now.root places.now.url
         (H.moments host.old) (R.holds remotes.old) have
         → IsOnTheWay have commit done.old.items left.old.items
-        → EndsBy (λ _. IsOnTheWay have commit done.new.items []) (StopsIn have commit done.new.items) result }
+        → EndsBy (λ _. IsOnTheWay have commit done.new.items [])
+        (StopsIn have commit done.new.items) result }
 {
     while let Some(dir) = left.pop() {
         match visit(alloc, host, remotes, places, &dir, done, left) {

@@ -25,8 +25,9 @@ pub fn digests(
     digests_gated(rt, alloc, items, &NoGate)
 }
 
-/// The digest of each item, in order, as one thread would give it, whatever the gate does. Where there are more than 16 items
-/// the gate is told by each half as its work begins, and when it is done.
+/// The digest of each item, in order, as one thread would give it, whatever the gate does. Where
+/// there are more than 16 items the gate is told by each half as its work begins, and when it is
+/// done.
 pub fn digests_gated<G: Gate + Sync>(
     rt: &(impl Threads + Sync),
     alloc: Global,
@@ -40,7 +41,8 @@ pub fn digests_gated<G: Gate + Sync>(
     Ok(Items::from_vec(all))
 }
 
-/// Puts the digest of each item at its place, and tells the gate of each half where the items are cut.
+/// Puts the digest of each item at its place, and tells the gate of each half where the items are
+/// cut.
 fn hash_gated<R: Threads + Sync, G: Gate + Sync>(
     rt: &R,
     items: &[Item],
@@ -69,7 +71,8 @@ fn hash_gated<R: Threads + Sync, G: Gate + Sync>(
     );
 }
 
-/// Puts the digest of each item of this half at its place. The gate is told as the work begins, and when it is done.
+/// Puts the digest of each item of this half at its place. The gate is told as the work begins, and
+/// when it is done.
 fn hash_half<R: Threads + Sync, G: Gate + Sync>(
     rt: &R,
     half: u32,
