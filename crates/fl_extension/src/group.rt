@@ -2,11 +2,10 @@
 
 ghost use Rattle.std.specs.Prelude.{◌≡◌};
 ghost use Rattle.std.specs.List.{list_all};
-ghost use Rattle.fp_host.specs.Paths.{cut, is_element as is_path_element};
 ghost use Rattle.fp_keyfile.specs.Grammar.{is_key_byte};
 ghost use Rattle.fl_extension.specs.Points as spec;
 
-use fp_host::is_element;
+use fp_host::are_elements;
 use fp_keyfile::Group;
 
 /// Whether the key has the value `true`.
@@ -17,13 +16,6 @@ pub(crate) fn is_on(group: &Group, key: &str) -> bool
         Some(value) => value == "true",
         None => false,
     }
-}
-
-/// Whether the text is that of a path that isn't the root.
-fn is_path(text: &str) -> bool
-    ensures { result ≡ list_all is_path_element (cut text.now) }
-{
-    text.split('/').all(|element| is_element(element))
 }
 
 /// Whether a byte is neither `=` nor a control character.
@@ -45,5 +37,5 @@ fn are_plain(text: &str) -> bool
 pub(crate) fn is_directory(text: &str) -> bool
     ensures { result ≡ spec.is_directory text.now }
 {
-    is_path(text) && are_plain(text)
+    are_elements(text) && are_plain(text)
 }

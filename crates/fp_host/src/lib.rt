@@ -12,7 +12,7 @@ mod text;
 
 pub use host::{Entry, Host, HostEnd, HostError, Stat};
 pub use limits::{MOST_ELEMENT_BYTES, MOST_LINK_BYTES, PERMISSION_BITS};
-pub use path::{Path, PathError, is_element};
+pub use path::{Path, PathError, are_elements, is_element};
 pub use remotes::{NoRemotes, Node, RemoteError, Remotes};
 pub use source::{Source, Taken};
 pub use text::is_link_text;

@@ -90,8 +90,8 @@ fn around_last(text: &str) -> Option<(&str, &str)>
     Some((&text[..at], &text[at + 1..]))
 }
 
-/// Whether the text is elements and slashes between them.
-fn are_elements(text: &str) -> bool
+/// Whether the text is elements and slashes between them: that of a path that isn't the root.
+pub fn are_elements(text: &str) -> bool
     ensures { result ≡ list_all is_element (cut text.now) }
 {
     let mut left = text;
