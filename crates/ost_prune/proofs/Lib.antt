@@ -1,4 +1,5 @@
 mod Used
 mod Found
 mod Removed
+mod Parted
 mod Pruned

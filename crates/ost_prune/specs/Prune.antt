@@ -1,5 +1,5 @@
 -- Objects that no commit uses, and a store from which they are taken away.
-use Rattle.std.specs.Prelude.{◌≡◌, ◌↔◌, ℕ, List, length, map, true, is_some, None, Contains}
+use Rattle.std.specs.Prelude.{◌≡◌, ◌⊎◌, ◌↔◌, ℕ, List, Bool, length, map, true, false, is_some, None, Contains}
 use Rattle.fp_host.specs.Paths.{Elements, Slot, absent, path_text}
 use Rattle.fp_host.specs.View.{View}
 use Rattle.fp_host.specs.Outcome.{Spot, gone, shows}
@@ -7,6 +7,7 @@ use Rattle.fp_host.specs.Frame.{Keeps, NoPath}
 use Rattle.fp_host.specs.Reads.{is_ascending}
 use Rattle.fp_name.specs.Hex.{is_digest}
 use Rattle.fp_base.specs.declared.object.ObjKind.{ObjKind}
+use Rattle.fp_base.specs.declared.object.ObjKind.TheVariants as kinds
 use Rattle.ost_model.specs.Objects.{object_path, store}
 use Rattle.ost_model.specs.Order.{first_fault}
 use Rattle.ost_model.specs.Used.{IsUsed}
@@ -44,6 +45,24 @@ PrunesName root keep u q e = IsUnusedName root keep u q × (e ≡ absent)
 -- The names of objects that no commit to keep uses may go, and nothing else changes.
 pub record Prunes (root : Elements) (keep : List (List ℕ)) (u w : View) : Type 0 where
   pub keeps : Keeps (PrunesAt root keep u) (PrunesName root keep u) NoPath u w
+
+-- whether the object is a commit
+abbrev pub is_commit_kind : ObjKind → Bool
+is_commit_kind kinds.Commit = true
+is_commit_kind kinds.DirTree = false
+is_commit_kind kinds.DirMeta = false
+is_commit_kind kinds.File = false
+
+abbrev pub is_commit : List ℕ × ObjKind → Bool
+is_commit object = is_commit_kind object.1
+
+-- Of the objects that no commit to keep uses, each that is no commit has its name as it was, or
+-- each that is one is gone.
+pub record CommitsFirst (root : Elements) (keep : List (List ℕ)) (u w : View) : Type 0 where
+  pub first : ((object : List ℕ × ObjKind) → IsUnused root keep u object → is_commit object ≡ false
+      → w.names (path_in root object) ≡ u.names (path_in root object))
+      ⊎ ((object : List ℕ × ObjKind) → IsUnused root keep u object → is_commit object ≡ true
+      → w.names (path_in root object) ≡ absent)
 
 -- these are the objects that no commit to keep uses, each once, ascending by the texts of their
 -- paths

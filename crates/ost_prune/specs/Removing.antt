@@ -1,5 +1,6 @@
 -- Objects that are taken away.
-use Rattle.std.specs.Prelude.{◌≡◌, ℕ, List, map, true, Contains}
+use Rattle.std.specs.Prelude.{◌≡◌, ◌⊎◌, ℕ, List, Bool, map, true, false, not, Contains}
+use Rattle.std.specs.List.{filter}
 use Rattle.fp_host.specs.Paths.{Elements, Slot, absent}
 use Rattle.fp_host.specs.Reads.{is_ascending}
 use Rattle.fp_host.specs.View.{View}
@@ -7,7 +8,7 @@ use Rattle.fp_host.specs.Outcome.{Spot, gone}
 use Rattle.fp_name.specs.Hex.{is_digest}
 use Rattle.fp_base.specs.declared.object.ObjKind.{ObjKind}
 use Rattle.ost_store.specs.Place.{HasObject}
-use Rattle.ost_prune.specs.Prune.{path_in, text_in}
+use Rattle.ost_prune.specs.Prune.{path_in, text_in, is_commit}
 
 -- the path is the name of one of the objects
 pub record IsAmong (root : Elements) (objects : List (List ℕ × ObjKind)) (q : Elements) : Type 0
@@ -27,6 +28,26 @@ AbsentAmong root objects q e = IsAmong root objects q × (e ≡ absent)
 pub record AreGone (root : Elements) (objects : List (List ℕ × ObjKind)) (v : View) : Type 0 where
   pub gone : (object : List ℕ × ObjKind) → Contains objects object
       → v.names (path_in root object) ≡ absent
+
+-- the commits among the objects, and the others
+abbrev pub is_other : List ℕ × ObjKind → Bool
+is_other object = not (is_commit object)
+
+abbrev pub commits_of : List (List ℕ × ObjKind) → List (List ℕ × ObjKind)
+commits_of objects = filter is_commit objects
+
+abbrev pub others_of : List (List ℕ × ObjKind) → List (List ℕ × ObjKind)
+others_of objects = filter is_other objects
+
+-- Where all are objects, each that is no commit has its name as it was, or each that is one is
+-- gone.
+pub record GoInOrder (root : Elements) (objects : List (List ℕ × ObjKind)) (u w : View) : Type 0
+  where
+    pub first : ((object : List ℕ × ObjKind) → Contains objects object → is_digest object.0 ≡ true)
+        → ((object : List ℕ × ObjKind) → Contains objects object → is_commit object ≡ false
+        → w.names (path_in root object) ≡ u.names (path_in root object))
+        ⊎ ((object : List ℕ × ObjKind) → Contains objects object → is_commit object ≡ true
+        → w.names (path_in root object) ≡ absent)
 
 -- where they may be taken away: they are there, and each is named once
 pub record CanRemoveAll (root : Elements) (objects : List (List ℕ × ObjKind)) (v : View) : Type 0

@@ -3,6 +3,7 @@
 
 mod finding;
 pub mod laws;
+mod parting;
 mod pruning;
 mod removing;
 mod texts;

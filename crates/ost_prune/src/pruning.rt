@@ -4,7 +4,7 @@ ghost use Rattle.fp_host.specs.Causes.{IsCaused};
 ghost use Rattle.fp_host.specs.Frame.{AtEnd};
 ghost use Rattle.fp_host.specs.Moments.{Always};
 ghost use Rattle.fp_small.specs.Unsynced.{MakesNoFile};
-ghost use Rattle.ost_prune.specs.Prune.{Prunes, WasPruned, CanPrune};
+ghost use Rattle.ost_prune.specs.Prune.{Prunes, CommitsFirst, WasPruned, CanPrune};
 
 use crate::finding::find_unused;
 use crate::removing::remove_all;
@@ -14,8 +14,9 @@ use std::alloc::Global;
 
 /// Takes away each object of the store in this folder that no commit to keep uses, and answers how
 /// many there were. Other names stay, also those below `objects` that no object has. All that is to
-/// go is known before the first is taken away. Nothing is synced. It is for commits whose orders
-/// have no fault in this store, and for paths of at most 128 elements.
+/// go is known before the first is taken away, and commits go first: a process that is killed
+/// within it leaves no commit of which something went. Nothing is synced. It is for commits whose
+/// orders have no fault in this store, and for paths of at most 128 elements.
 pub fn prune<H: Host>(
     alloc: Global,
     host: &mut H,
@@ -25,6 +26,9 @@ pub fn prune<H: Host>(
     // A stop at any moment leaves at the name of an object that no commit uses what some stop
     // before would have left, or nothing, and all else as it was.
     ensures any_moment { Always (Prunes root.now keep.now)
+        (H.moments host.old) (H.moments host.new) }
+    // Of those objects no other goes before each commit is gone.
+    ensures order { Always (CommitsFirst root.now keep.now)
         (H.moments host.old) (H.moments host.new) }
     ensures on_success { IfOk result (λ number. AtEnd (WasPruned root.now keep.now number)
         (H.moments host.old) (H.moments host.new)) }

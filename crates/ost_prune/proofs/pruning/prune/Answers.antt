@@ -8,10 +8,14 @@ use Rattle.fp_base.specs.declared.object.ObjKind.{ObjKind}
 use Rattle.ost_prune.specs.Prune.{CanPrune, ListsUnused}
 use Rattle.ost_prune.specs.Removing.{CanRemoveAll}
 use Rattle.ost_prune.proofs.Pruned.{looked, pruning, can_remove_all, was_pruned}
+use Rattle.ost_prune.proofs.Parted.{looked_order, pruned_order}
 use Rattle.ost_prune.proofs.pruning.prune.Goals as goal
 
 pub returns-in_err-unused-clause-any_moment : goal.returns-in_err-unused-clause-any_moment
 returns-in_err-unused-clause-any_moment g c = looked (g.met.H.Host.is_tree c.args.host.now) c.find_unused.ensures.unchanged
+
+pub returns-in_err-unused-clause-order : goal.returns-in_err-unused-clause-order
+returns-in_err-unused-clause-order g c = looked_order (g.met.H.Host.is_tree c.args.host.now) c.find_unused.ensures.unchanged
 
 pub returns-in_err-unused-clause-unsynced : goal.returns-in_err-unused-clause-unsynced
 returns-in_err-unused-clause-unsynced g c = ends_to (ends_looks (g.met.H.Host.is_tree c.args.host.now) c.find_unused.ensures.unchanged) (λ u w q. none_same q.0)
@@ -26,6 +30,11 @@ pub returns-in_err-remove_all-clause-any_moment : goal.returns-in_err-remove_all
 returns-in_err-remove_all-clause-any_moment g c =
     let t = g.met.H.Host.is_tree in
     pruning (t c.args.host.now) (t c.find_unused.new.host) c.find_unused.ensures.unchanged (ends_to c.in_ok-unused.ensures.tells (λ u w l. subst (λ (o : List (List ℕ × ObjKind)). ListsUnused c.args.root.now c.args.keep.now u o) (sym c.deref.ensures.value) l)) c.remove_all.ensures.frame
+
+pub returns-in_err-remove_all-clause-order : goal.returns-in_err-remove_all-clause-order
+returns-in_err-remove_all-clause-order g c =
+    let t = g.met.H.Host.is_tree in
+    pruned_order (t c.args.host.now) (t c.find_unused.new.host) c.find_unused.ensures.unchanged (ends_to c.in_ok-unused.ensures.tells (λ u w l. subst (λ (o : List (List ℕ × ObjKind)). ListsUnused c.args.root.now c.args.keep.now u o) (sym c.deref.ensures.value) l)) c.remove_all.ensures.order
 
 pub returns-in_err-remove_all-clause-unsynced : goal.returns-in_err-remove_all-clause-unsynced
 returns-in_err-remove_all-clause-unsynced g c =
@@ -43,6 +52,11 @@ pub returns-clause-any_moment : goal.returns-clause-any_moment
 returns-clause-any_moment g c =
     let t = g.met.H.Host.is_tree in
     pruning (t c.args.host.now) (t c.find_unused.new.host) c.find_unused.ensures.unchanged (ends_to c.in_ok-unused.ensures.tells (λ u w l. subst (λ (o : List (List ℕ × ObjKind)). ListsUnused c.args.root.now c.args.keep.now u o) (sym c.deref.ensures.value) l)) c.remove_all.ensures.frame
+
+pub returns-clause-order : goal.returns-clause-order
+returns-clause-order g c =
+    let t = g.met.H.Host.is_tree in
+    pruned_order (t c.args.host.now) (t c.find_unused.new.host) c.find_unused.ensures.unchanged (ends_to c.in_ok-unused.ensures.tells (λ u w l. subst (λ (o : List (List ℕ × ObjKind)). ListsUnused c.args.root.now c.args.keep.now u o) (sym c.deref.ensures.value) l)) c.remove_all.ensures.order
 
 pub returns-clause-on_success : goal.returns-clause-on_success
 returns-clause-on_success g c =

@@ -2,7 +2,7 @@ use Rattle.std.proofs.Common.{◌≤◌, take}
 use Rattle.fp_host.specs.Frame.{Frame, AtEnd, Keeps, NoPath}
 use Rattle.fp_small.specs.Unsynced.{MakesNoFile}
 use Rattle.ost_prune.specs.Removing.{GoneAmong, AbsentAmong, AreGone}
-use Rattle.ost_prune.proofs.removing.remove_all.Given as goal
+use Rattle.ost_prune.proofs.removing.remove_each.Given as goal
 
 abbrev pub invariant-loop-object : goal.invariant-loop-object
 invariant-loop-object g l = record {
