@@ -9,8 +9,8 @@ commands that all can be done (pins, remotes, installs, updates, rollbacks, unin
 and then asks for all three lists. They must read, and show the installation as it is after the commands whose lines were printed, or
 after one more. Then the folder is read without fpk: each path of each shown commit, and of the one before it, is as `ostree checkout`
 lays it out; each of its files is a hard link of its object; all that stands below `repo/objects` has the digest of its name. Once in
-ten rounds a pin is set and taken away, which tidies up what a kill left, and `ostree fsck` has to pass then. One round in eight begins anew with an installation of layout 1, which the batch migrates. At
-the end it prints what it counted; the status is 0 where nothing was amiss. A killed process loses nothing that it wrote: what a power
+ten rounds `ostree fsck` looks at what the kill left, and has to pass. One round in eight begins anew with an installation of layout 1,
+which the batch migrates. At the end it prints what it counted; the status is 0 where nothing was amiss. A killed process loses nothing that it wrote: what a power
 cut leaves isn't tried here.
 """
 
@@ -30,8 +30,6 @@ URLS = ["file:///", "file:///lab", "file:///l?%20"]
 RUNTIME = "runtime/org.x.Platform/x86_64/1"
 APPS = ["app/org.x.Ape/x86_64/stable", "app/org.x.Bee/x86_64/stable"]
 PINS = ["app/*/*/*", "runtime/*/*/*", RUNTIME, APPS[0]]
-# A pin that no batch sets.
-TIDYING = "app/org.x.Tidy/x86_64/stable"
 # What stands where an installation of the present layout has a store that was made to its end.
 STORE = ["config", "repo/config", "repo/refs/heads", "repo/refs/remotes"]
 COMMITS = 3
@@ -352,25 +350,23 @@ def one_round(program, folder, rng, model, remote, counts):
     for place in (len(whole), len(whole) + 1):
         if text is not None and place < len(models) and models[place].shown() == text:
             counts["with one more"] += place - len(whole)
-            return checked(program, folder, models[place], remote, counts, printed, words)
+            return checked(folder, models[place], remote, counts, printed, words)
     print(f"shown {text!r} after {printed!r} for {words!r}")
     return None
 
 
-def tidied(program, folder):
-    """What ostree has against the store once a command has tidied up: a kill may leave objects of which others are gone already."""
-    for word in ("pin", "unpin"):
-        tool(program, word, TIDYING)
+def complaint(folder):
+    """What ostree has against the store: nothing, for commits come after all their objects and go before them."""
     done = subprocess.run(["ostree", "fsck", "--repo", os.path.join(folder, "repo")], capture_output=True, text=True, check=False)
     return done.stdout + done.stderr if done.returncode else None
 
 
-def checked(program, folder, model, remote, counts, printed, words):
+def checked(folder, model, remote, counts, printed, words):
     """The model, where the folder is whole."""
     counts["rounds"] += 1
     text = amiss(folder, model, remote)
     if text is None and counts["rounds"] % 10 == 0 and all(os.path.exists(os.path.join(folder, name)) for name in STORE):
-        text = tidied(program, folder)
+        text = complaint(folder)
         counts["looked at by ostree fsck"] += 1
     if text is None:
         counts["refs looked at"] += len(model.refs)

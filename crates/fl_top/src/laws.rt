@@ -51,7 +51,7 @@ pub fn runs_join()
 /// That runs join is said of something: where every stop leaves what stands, what a stop leaves is
 /// opened again as what stood.
 pub fn settled_views_reopen()
-    ensures as_it_stands { (v : View) → IsTree v → IsSettled v → Reopens v v }
+    ensures { (v : View) → IsTree v → IsSettled v → Reopens v v }
 {}
 
 /// What is promised of exported files can be met: where the root stands alone nothing is exported,

@@ -3,8 +3,8 @@ use Rattle.fp_host.specs.Outcome.{shows}
 use Rattle.fl_change.proofs.Same.{now_left}
 use Rattle.fl_top.proofs.laws.settled_views_reopen.Goals as goal
 
-pub returns-clause-as_it_stands : goal.returns-clause-as_it_stands
-returns-clause-as_it_stands c v tree settled =
+pub returns : goal.returns
+returns c v tree settled =
     record {
       disk = shows v;
       left = now_left v;
