@@ -20,12 +20,12 @@ LIMIT = 2048
 
 
 def tuples(depth):
-    """The type of an empty tuple, in tuples up to so many in all."""
+    """The type of an empty tuple that is nested to this depth."""
     return "(" * depth + ")" * depth
 
 
 def peak(program, folder, of, size):
-    """The peak of memory in KiB of a look at so many zero bytes as a type. GNU time is asked, which is small itself: what a child of
+    """The peak of memory in KiB of a look at zero bytes of this number as a type. GNU time is asked, which is small itself: what a child of
     Python is charged with is never below the peak of Python."""
     told = os.path.join(folder, "told")
     words = ["time", "--format=%M", f"--output={told}", program, "show", "value", of]
