@@ -40,7 +40,7 @@ abbrev pub seen_of : {A : Type 0} → Option A → Seen A
 seen_of None = away
 seen_of (Some a) = there a
 
--- a file of at most so many bytes, read
+-- a file of at most this number of bytes, read
 abbrev pub read_file : {A : Type 0} → ℕ → (List ℕ → Option A) → Spot → Seen A
 read_file most read gone = away
 read_file most read folder = bad

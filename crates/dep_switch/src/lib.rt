@@ -12,6 +12,6 @@ mod switched;
 
 pub use paths::new_link_path;
 pub use retiring::{RetireError, RetirePlan};
-pub use rows::{find_ref, put_override, remove_override};
+pub use rows::{find_override, find_ref, find_remote, put_override, remove_override};
 pub use staged::Staged;
 pub use switched::{Faulted, Switched};

@@ -4,12 +4,13 @@ ghost use Rattle.std.specs.List.{insert, find};
 ghost use Rattle.std.specs.Str.{bytes_eq};
 ghost use Rattle.std.specs.Option.{option_copied};
 ghost use Rattle.fp_name.specs.Refs.{ref_text, is_ref};
+ghost use Rattle.fp_small.specs.Config.{name_of};
 ghost use Rattle.fp_small.specs.Order.{inserted, removed, replaced};
 ghost use Rattle.dep_states.specs.Shown.{at_name, ref_key, override_key};
 
 use fp_base::Text;
-use fp_name::RefName;
-use fp_small::{OverrideRow, RefRow};
+use fp_name::{RefName, RemoteName};
+use fp_small::{OverrideRow, RefRow, RemoteRow};
 use std::alloc::AllocError;
 
 /// What rows are ordered by.
@@ -26,6 +27,14 @@ impl Named for RefRow {
     ghost use Rattle.dep_states.specs.Shown.{ref_key};
 
     ghost name_of = { λ row. ref_key row };
+
+    fn key(&self) -> &str {
+        self.name.as_str()
+    }
+}
+
+impl Named for RemoteRow {
+    ghost name_of = { λ row. row.name };
 
     fn key(&self) -> &str {
         self.name.as_str()
@@ -63,17 +72,31 @@ fn insert_row<T: Named + Drop>(rows: &mut Vec<T>, row: T) -> Result<(), AllocErr
     Ok(())
 }
 
-/// The first row whose ref has this text.
-fn find_text<'a>(rows: &'a [RefRow], text: &str) -> Option<&'a RefRow>
-    ensures { option_copied result ≡ find (λ row. bytes_eq (ref_key row) text.now) rows.now }
+/// The first row whose name has this text.
+fn find_text<'a, T: Named>(rows: &'a [T], text: &str) -> Option<&'a T>
+    ensures { option_copied result ≡ find (λ row. bytes_eq (T.name_of row) text.now) rows.now }
 {
-    rows.iter().find(|row| row.name.as_str() == text)
+    rows.iter().find(|row| row.key() == text)
 }
 
 /// The row of a ref.
 pub fn find_ref<'a>(rows: &'a [RefRow], name: &RefName) -> Option<&'a RefRow>
     ensures row { option_copied result ≡ at_name ref_key rows.now (ref_text name.now) }
     ensures good { is_ref name.now ≡ true }
+{
+    find_text(rows, name.as_str())
+}
+
+/// The remote of this name.
+pub fn find_remote<'a>(rows: &'a [RemoteRow], name: &RemoteName) -> Option<&'a RemoteRow>
+    ensures { option_copied result ≡ at_name name_of rows.now name.now }
+{
+    find_text(rows, name.as_str())
+}
+
+/// The override of this name.
+pub fn find_override<'a>(rows: &'a [OverrideRow], name: &Text) -> Option<&'a OverrideRow>
+    ensures { option_copied result ≡ at_name override_key rows.now name.now }
 {
     find_text(rows, name.as_str())
 }

@@ -138,7 +138,7 @@ module _ {A : Type 0} (item : A → Holdings → World → Answer) (all : List A
   pub record StagesOver (holds : Option Holdings) (left : List A) (t : State) (x y : View) : Type 0 where
     pub stage : (held : Holdings) → holds ≡ Some held → Rests s x → StageOver item held all left s t x y
 
-  -- so many are done
+  -- all but these are done
   abbrev pub Turned : List A → State → Outside → Outside → Type 0
   Turned left t u w = Works May s (PerformsOver (Rests s) u.holdings (each_over item all) s) (StagesOver u.holdings left t) (Ok t) u w
 

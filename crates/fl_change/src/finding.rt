@@ -1,10 +1,6 @@
 //! What the state has.
 ghost use Rattle.std.specs.Prelude.{◌≡◌, option_map, IfOk};
-ghost use Rattle.std.specs.List.{find};
-ghost use Rattle.std.specs.Option.{option_copied};
-ghost use Rattle.std.specs.Str.{bytes_eq};
 ghost use Rattle.fp_small.specs.Config.{name_of};
-ghost use Rattle.fl_extension.specs.Found.{has_ref as has_row};
 ghost use Rattle.fp_small.specs.declared.refusal.Refusal.TheVariants as refusals;
 ghost use Rattle.dep_states.specs.After.{row_at};
 ghost use Rattle.dep_states.specs.Shown.{at_name};
@@ -12,37 +8,17 @@ ghost use Rattle.fl_change.specs.Ends.{IsTried, IsSaid, or_refuse};
 ghost use Rattle.fl_change.specs.Refs.{previous_in, missing_refusal, installed_refusal};
 
 use crate::end::RunEnd;
-use dep_switch::find_ref;
+use dep_switch::{find_ref, find_remote};
+use fl_extension::has_ref;
 use fp_name::{Digest, RefName, RemoteName};
 use fp_small::{Refusal, RemoteRow, State};
 use std::alloc::AllocError;
 
-/// The first remote whose name has this text.
-fn find_text<'a>(rows: &'a [RemoteRow], text: &str) -> Option<&'a RemoteRow>
-    ensures { option_copied result ≡ find (λ row. bytes_eq (name_of row) text.now) rows.now }
-{
-    rows.iter().find(|row| row.name.as_str() == text)
-}
-
-/// The remote of this name among others.
-fn remote_among<'a>(rows: &'a [RemoteRow], name: &RemoteName) -> Option<&'a RemoteRow>
-    ensures { option_copied result ≡ at_name name_of rows.now name.now }
-{
-    find_text(rows, name.as_str())
-}
-
-/// Whether the ref is deployed.
-fn has_ref(state: &State, name: &RefName) -> bool
-    ensures { result ≡ has_row state.now name.now }
-{
-    state.refs.as_slice().iter().any(|row| row.name == *name)
-}
-
 /// The remote of this name, where there is one.
-pub(crate) fn find_remote(state: &State, name: &RemoteName) -> Result<Option<RemoteRow>, AllocError>
+pub(crate) fn copy_remote(state: &State, name: &RemoteName) -> Result<Option<RemoteRow>, AllocError>
     ensures { IfOk result (λ row. row ≡ at_name name_of state.now.remotes name.now) }
 {
-    match remote_among(state.remotes.as_slice(), name) {
+    match find_remote(state.remotes.as_slice(), name) {
         Some(row) => Ok(Some(row.copy()?)),
         None => Ok(None),
     }
@@ -53,7 +29,7 @@ pub(crate) fn known_remote(state: &State, name: &RemoteName) -> Result<RemoteRow
     ensures { IsSaid (or_refuse (refusals.NoSuchRemote name.now)
         (at_name name_of state.now.remotes name.now)) result }
 {
-    match find_remote(state, name)? {
+    match copy_remote(state, name)? {
         Some(row) => Ok(row),
         None => Err(RunEnd::Refused(Refusal::NoSuchRemote {
             remote: name.copy()?,

@@ -4,10 +4,6 @@ ghost use Rattle.fp_small.specs.declared.state.Layout.TheVariants.{Two};
 ghost use Rattle.ost_walk.specs.Ends.{outside};
 ghost use Rattle.dep_states.specs.After.{IsGood};
 ghost use Rattle.fp_small.specs.declared.op.Op.TheVariants as ops;
-ghost use Rattle.dep_states.specs.Shown.{at_name, override_key};
-ghost use Rattle.std.specs.List.{find};
-ghost use Rattle.std.specs.Str.{bytes_eq};
-ghost use Rattle.std.specs.Option.{option_copied};
 ghost use Rattle.fl_change.specs.Performs.{Acts, Rests, Just};
 ghost use Rattle.fp_keyfile.specs.KeyFile.{is_good, text_of};
 ghost use Rattle.fl_meta.specs.declared.mentions.Source.TheVariants as sources;
@@ -21,6 +17,7 @@ ghost use Rattle.fl_change.specs.Refs.{reset_over};
 use crate::end::RunEnd;
 use crate::operation::do_op;
 use dep_states::Opened;
+use dep_switch::find_override;
 use fl_options::layer_of;
 use fl_override::OverrideSet;
 use fl_words::OverrideName;
@@ -33,20 +30,6 @@ use std::thread::Threads;
 
 /// The most bytes of the text of an override.
 const OVERRIDE_MOST: usize = MOST_TEXT_BYTES as usize;
-
-/// The first override whose name has this text.
-fn find_text<'a>(rows: &'a [OverrideRow], text: &str) -> Option<&'a OverrideRow>
-    ensures { option_copied result ≡ find (λ row. bytes_eq (override_key row) text.now) rows.now }
-{
-    rows.iter().find(|row| row.name.as_str() == text)
-}
-
-/// The override of this name.
-fn find_override<'a>(rows: &'a [OverrideRow], name: &Text) -> Option<&'a OverrideRow>
-    ensures { option_copied result ≡ at_name override_key rows.now name.now }
-{
-    find_text(rows, name.as_str())
-}
 
 /// What an override mentions, of each permission the last: nothing, where there is none.
 fn mentioned_in(alloc: Global, rows: &[OverrideRow], name: &Text) -> Result<OverrideSet, AllocError>

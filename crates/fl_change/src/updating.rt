@@ -11,7 +11,7 @@ ghost use Rattle.fl_change.specs.Performs.{Acts, Rests};
 ghost use Rattle.fl_change.specs.Refs.{update_over, update_all_over, target_over, updated_from, skipped, is_no_offer as no_offer};
 
 use crate::end::RunEnd;
-use crate::finding::{find_remote, known_remote, origin_of};
+use crate::finding::{copy_remote, known_remote, origin_of};
 use crate::installing::{bring_target, do_ops};
 use dep_states::Opened;
 use dep_switch::find_ref;
@@ -119,7 +119,7 @@ fn update_target<H: Host, R: Remotes>(
         Some(row) => row.origin.copy()?,
         None => return Ok(opened),
     };
-    match find_remote(opened.state(), &origin)? {
+    match copy_remote(opened.state(), &origin)? {
         Some(remote) => update_from(rt, alloc, host, remotes, opened, &remote, name),
         None => skip(alloc, host, remotes, opened, name),
     }

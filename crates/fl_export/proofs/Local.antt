@@ -40,7 +40,7 @@ file_in depth (g ∷ fs) f (inl is) = inl (ap (file_place depth) is)
 file_in depth (g ∷ fs) f (inr more) = inr (file_in depth fs f more)
 
 module _ (i j : Have) where
-  -- the two have the same objects in the directory, so many levels down
+  -- the two have the same objects in the directory, this number of levels down
   record IsHeld (fuel : ℕ) (e : DirRow) : Type 0 where
     depth : ℕ
     agree : Agree i j (dir_places i fuel depth e)

@@ -52,7 +52,7 @@ fn sweep_path<H: Host>(host: &mut H, places: &[Path], path: &Path) -> Result<(),
     take_away(host, path)
 }
 
-/// Takes away what is stale at the path, and at most so many folders below it.
+/// Takes away what is stale at the path, and at most `depth` folders below it.
 #[cycle(sweep)]
 fn sweep_within<H: Host>(
     alloc: Global,
@@ -75,7 +75,7 @@ fn sweep_within<H: Host>(
     }
 }
 
-/// Takes away what is stale in the folder, at most so many folders below it.
+/// Takes away what is stale in the folder, at most `depth` folders below it.
 #[cycle(sweep)]
 fn sweep_names<H: Host>(
     alloc: Global,

@@ -8,7 +8,7 @@ use fp_name::RefName;
 use fp_small::State;
 
 /// Whether the state has the ref.
-fn has_ref(state: &State, name: &RefName) -> bool
+pub fn has_ref(state: &State, name: &RefName) -> bool
     ensures { result ≡ spec.has_ref state.now name.now }
 {
     state.refs.as_slice().iter().any(|row| row.name == *name)

@@ -10,7 +10,7 @@ ghost use Rattle.fl_plan.specs.Runtimes as spec;
 use crate::asking::first_offer;
 use crate::choosing::choose;
 use crate::offer::{Chosen, Offer};
-use crate::state::has_ref;
+use fl_extension::has_ref;
 use fp_host::{Host, Remotes};
 use fp_name::{RefName, RemoteName};
 use fp_small::{Op, Refusal, State};

@@ -1,18 +1,10 @@
 //! What a state says of a ref.
 ghost use Rattle.std.specs.Prelude.{◌≡◌};
 ghost use Rattle.std.specs.Option.{option_copied};
-ghost use Rattle.fl_extension.specs.Found.{has_ref};
 ghost use Rattle.fl_plan.specs.Plans.{deployed, is_at, time_of};
 
 use fp_name::{Digest, RefName};
 use fp_small::{RefRow, State};
-
-/// Whether the ref is deployed.
-pub(crate) fn has_ref(state: &State, name: &RefName) -> bool
-    ensures { result ≡ has_ref state.now name.now }
-{
-    state.refs.as_slice().iter().any(|row| row.name == *name)
-}
 
 /// The row of the ref, where it is deployed.
 fn deployed<'a>(state: &'a State, name: &RefName) -> Option<&'a RefRow>

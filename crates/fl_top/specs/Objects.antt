@@ -44,6 +44,6 @@ tree_lines t = files_text t.files ++ dirs_text t.dirs
 abbrev pub meta_lines : MetaView → List ℕ
 meta_lines m = line (codes "mode " ++ octal m.mode)
 
--- of a value whose normal form has so many bytes
+-- of a value whose normal form has this number of bytes
 abbrev pub normal_line : ℕ → List ℕ
 normal_line size = line (codes "normal " ++ decimal size)

@@ -92,7 +92,8 @@ pub(crate) fn exercise<T: Threads + Sync, H: Host, R: Remotes>(
         (AreToldFor (MayDo (exercise_changes apps.now)) (R.holds remotes.old)
         → AtEnd (λ u w. IsSound u → IsInStep (R.holds remotes.old) w)
         (H.moments host.old) (H.moments host.new)) }
-    ensures fault_has_cause { IsCaused (AreToldFor (MayDo (exercise_changes apps.now)) (R.holds remotes.old)
+    ensures fault_has_cause { IsCaused
+        (AreToldFor (MayDo (exercise_changes apps.now)) (R.holds remotes.old)
         × IsErrOf result RunEnd.Fault) (H.moments host.old) IsReady
         (H.faults host.old) (H.faults host.new) }
     ensures remotes { AsksRemotes (MayDo (exercise_changes apps.now))

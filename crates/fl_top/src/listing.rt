@@ -1,8 +1,5 @@
 //! What is listed of an installation.
 ghost use Rattle.std.specs.Prelude.{◌≡◌, ◌++◌, Option, Some, IfOk, OnOk, IsErrOf, string_bytes};
-ghost use Rattle.std.specs.List.{find};
-ghost use Rattle.std.specs.Option.{option_copied};
-ghost use Rattle.std.specs.Str.{bytes_eq};
 ghost use Rattle.fp_host.specs.Causes.{IsCounted};
 ghost use Rattle.fp_host.specs.Frame.{Unchanged};
 ghost use Rattle.fp_host.specs.Moments.{Goes};
@@ -10,7 +7,6 @@ ghost use Rattle.fp_small.specs.Places.{repo};
 ghost use Rattle.ost_model.specs.Objects.{Have};
 ghost use Rattle.ost_model.specs.Remotes.{Stores};
 ghost use Rattle.dep_states.specs.After.{row_at};
-ghost use Rattle.dep_states.specs.Shown.{at_name, override_key};
 ghost use Rattle.fl_export.specs.Exported.{exported};
 ghost use Rattle.fl_installed.specs.Described.{info_in as info_of};
 ghost use Rattle.fl_sandbox.specs.Launching.{launch_in as launch_over};
@@ -20,7 +16,7 @@ ghost use Rattle.fl_top.specs.Exports.{exports_text as text_of_exports, row_line
 ghost use Rattle.fl_top.specs.RunsOver.{LooksOver, LookedOver};
 
 use dep_open::read_state;
-use dep_switch::find_ref;
+use dep_switch::{find_override, find_ref};
 use fl_change::RunEnd;
 use fl_export::{ExportRow, wanted};
 use fl_installed::{Info, info_in};
@@ -31,7 +27,7 @@ use fl_words::Listing;
 use fp_base::Text;
 use fp_host::{Host, HostEnd};
 use fp_name::RefName;
-use fp_small::{OverrideRow, RefRow, Refusal, State};
+use fp_small::{RefRow, Refusal, State};
 use std::alloc::{AllocError, Global};
 
 /// Prints what is listed.
@@ -198,18 +194,4 @@ fn override_text(alloc: Global, state: &State, name: &Text) -> Result<Text, Allo
         Some(row) => row.file.write(),
         None => Text::from_str(alloc, ""),
     }
-}
-
-/// The override of this name.
-fn find_override<'a>(rows: &'a [OverrideRow], name: &Text) -> Option<&'a OverrideRow>
-    ensures { option_copied result ≡ at_name override_key rows.now name.now }
-{
-    find_text(rows, name.as_str())
-}
-
-/// The first override whose name has this text.
-fn find_text<'a>(rows: &'a [OverrideRow], text: &str) -> Option<&'a OverrideRow>
-    ensures { option_copied result ≡ find (λ row. bytes_eq (override_key row) text.now) rows.now }
-{
-    rows.iter().find(|row| row.name.as_str() == text)
 }

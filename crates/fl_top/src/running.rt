@@ -61,8 +61,9 @@ pub fn run<H: Host, R: Remotes, I: Source>(
     ensures runs { IsRun (map string_bytes words.now) (I.left input.old)
         (R.holds remotes.old) result
         (H.moments host.old) (H.moments host.new) }
-    ensures fault_has_cause { IsCaused (AreToldFor (AsksFor (command_of (map string_bytes words.now))
-        (I.left input.old)) (R.holds remotes.old) × (result ≡ 3)) (H.moments host.old)
+    ensures fault_has_cause { IsCaused
+        (AreToldFor (AsksFor (command_of (map string_bytes words.now)) (I.left input.old))
+        (R.holds remotes.old) × (result ≡ 3)) (H.moments host.old)
         (HasCauses (command_of (map string_bytes words.now))) (H.faults host.old)
         (H.faults host.new) }
     // Where a command that looks at each object of the store gave its whole answer, the store has a
@@ -108,8 +109,9 @@ pub fn run_gated<H: Host, R: Remotes, I: Source, G: Gate + Sync>(
     ensures runs { IsRun (map string_bytes words.now) (I.left input.old)
         (R.holds remotes.old) result
         (H.moments host.old) (H.moments host.new) }
-    ensures fault_has_cause { IsCaused (AreToldFor (AsksFor (command_of (map string_bytes words.now))
-        (I.left input.old)) (R.holds remotes.old) × (result ≡ 3)) (H.moments host.old)
+    ensures fault_has_cause { IsCaused
+        (AreToldFor (AsksFor (command_of (map string_bytes words.now)) (I.left input.old))
+        (R.holds remotes.old) × (result ≡ 3)) (H.moments host.old)
         (HasCauses (command_of (map string_bytes words.now))) (H.faults host.old)
         (H.faults host.new) }
     ensures found { Checks (command_of (map string_bytes words.now)) → IsAnswered result → AtEnd

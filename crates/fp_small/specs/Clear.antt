@@ -48,7 +48,7 @@ pub record CanClear (p : Elements) (v : View) : Type 0 where
   pub no_root : p ≢ []
   pub below : CanEmpty p v
 
--- all that is below the path is at most so many folders below it
+-- all that is below the path is at most `depth` folders below it
 pub record Reaches (p : Elements) (depth : ℕ) (v : View) : Type 0 where
   pub far : (q : Elements) → IsAbove p q → (v.names q ≡ absent) ⊎ (length q ≤ length p + depth)
 

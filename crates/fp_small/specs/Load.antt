@@ -6,7 +6,7 @@ use Rattle.fp_host.specs.Outcome.{Spot, gone, folder, holds, points, shows}
 use Rattle.fp_small.specs.declared.loading.Loaded.{Loaded}
 use Rattle.fp_small.specs.declared.loading.Loaded.TheVariants.{Bytes, Absent, TooLong, NotFile}
 
--- what stands there, as a file of at most so many bytes
+-- what stands there, as a file of at most this number of bytes
 abbrev pub loaded_of : ℕ → Spot → Loaded
 loaded_of most gone = Absent
 loaded_of most folder = NotFile

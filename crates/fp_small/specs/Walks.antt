@@ -8,8 +8,8 @@ abbrev pub IsBelow : List Elements → View → Elements → Type 0
 IsBelow folders v [] = ⊥
 IsBelow folders v (x ∷ up) = Contains folders up × (v.names (x ∷ up) ≢ absent)
 
--- the path is so many elements longer than that of the folder, and something stands at it and at
--- those between
+-- the path is longer than that of the folder by this number of elements, and something stands at it
+-- and at those between
 abbrev pub IsLevel : ℕ → Elements → View → Elements → Type 0
 IsLevel zero folder v q = q ≡ folder
 IsLevel (suc n) folder v [] = ⊥

@@ -51,7 +51,7 @@ pub fn clear_below<H: Host>(alloc: Global, host: &mut H, path: &Path) -> Result<
     }
 }
 
-/// Takes away the path, and what is at most so many folders below it.
+/// Takes away the path, and what is at most `depth` folders below it.
 #[cycle(clear)]
 fn clear_within<H: Host>(
     alloc: Global,
@@ -78,7 +78,7 @@ fn clear_within<H: Host>(
     }
 }
 
-/// Takes away what is in the folder, at most so many folders below it.
+/// Takes away what is in the folder, at most `depth` folders below it.
 #[cycle(clear)]
 fn clear_names<H: Host>(
     alloc: Global,

@@ -15,13 +15,13 @@ pub enum Loaded {
     Bytes(Blob),
     /// Nothing stands at the path.
     Absent,
-    /// The file has so many bytes, more than were allowed.
+    /// The file has this number of bytes, more than were allowed.
     TooLong(u64),
     /// A folder or a symlink stands at the path.
     NotFile,
 }
 
-/// Reads the file of at most so many bytes.
+/// Reads the file of at most `max` bytes.
 pub fn load<H: Host>(alloc: Global, host: &mut H, path: &Path, max: u64) -> Result<Loaded, HostEnd>
     ensures unchanged { Unchanged (H.moments host.old) (H.moments host.new) }
     ensures tells { IfOk result (λ loaded. AtEnd (λ u w. Loads path.now max u loaded)

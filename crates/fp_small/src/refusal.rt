@@ -109,7 +109,7 @@ pub enum Refusal {
     NoSuchPin {
         pin: PinPattern,
     },
-    /// There would be so many of something, beyond its limit.
+    /// There would be this number of something, beyond its limit.
     Limit {
         what: What,
         number: u64,

@@ -1,8 +1,5 @@
 //! An operation that brings a commit.
 ghost use Rattle.std.specs.Prelude.{ℕ, ◌≡◌, Some, true, IfOk, OnOk, IsErrOf};
-ghost use Rattle.std.specs.Option.{option_copied};
-ghost use Rattle.std.specs.List.{find};
-ghost use Rattle.std.specs.Str.{bytes_eq};
 ghost use Rattle.fp_host.specs.Causes.{IsCaused};
 ghost use Rattle.fp_host.specs.Frame.{AtEnd};
 ghost use Rattle.fp_host.specs.Moments.{Always};
@@ -24,26 +21,13 @@ ghost use Rattle.op_change.specs.Ends.{EndsAs};
 
 use crate::ending::ApplyEnd;
 use dep_states::Opened;
+use dep_switch::find_remote;
 use fp_host::{Host, Remotes};
 use fp_name::{Digest, RefName, RemoteName};
 use fp_small::RemoteRow;
 use op_bring::bring;
 use std::alloc::{AllocError, Global};
 use std::thread::Threads;
-
-/// The first remote whose name is this text.
-fn find_text<'a>(remotes: &'a [RemoteRow], text: &str) -> Option<&'a RemoteRow>
-    ensures { option_copied result ≡ find (λ row. bytes_eq (name_of row) text.now) remotes.now }
-{
-    remotes.iter().find(|row| row.name.as_str() == text)
-}
-
-/// The remote of this name.
-fn find_remote<'a>(remotes: &'a [RemoteRow], name: &RemoteName) -> Option<&'a RemoteRow>
-    ensures { option_copied result ≡ at_name name_of remotes.now name.now }
-{
-    find_text(remotes, name.as_str())
-}
 
 /// The row of the remote of this name, which is there.
 fn copy_remote(remotes: &[RemoteRow], name: &RemoteName) -> Result<RemoteRow, AllocError>
@@ -92,7 +76,8 @@ pub(crate) fn bring_from<H: Host, R: Remotes>(
     ensures starved_opens { IsErrOf result ApplyEnd.NoMemory
         → AtEnd (WasGivenUp opened (R.holds remotes.old)) (H.moments host.old)
         (H.moments host.new) }
-    ensures fault_has_cause { IsCaused (AreTold (R.holds remotes.old) × IsErrOf result ApplyEnd.Fault)
+    ensures fault_has_cause { IsCaused
+        (AreTold (R.holds remotes.old) × IsErrOf result ApplyEnd.Fault)
         (H.moments host.old) (Opens opened) (H.faults host.old) (H.faults host.new) }
     ensures remote_fault_has_cause { IsRemotes (IsErrOf result ApplyEnd.RemoteFault)
         (R.faults remotes.old) (R.faults remotes.new) }
