@@ -1,4 +1,5 @@
--- An object name that may be absent is fixed in no outcome: names are chosen independently, and each choice is Sound.
+-- An object name that may be absent is fixed in no outcome: names are chosen independently, and
+-- each choice is Sound.
 use Rattle.std.proofs.Common.{◌≡◌, ◌≢◌, inl, inr, ℕ, List, ◌∷◌, Option, Some, None, refl, sym, ◌∙◌, ap, subst}
 use Rattle.fp_base.specs.declared.object.ObjKind.{ObjKind}
 use Rattle.fp_base.specs.declared.object.ObjKind.TheVariants as kinds

@@ -1,4 +1,5 @@
--- Lists with one row more, one less, or another, by what they have at each name; and what operations on refs make of a state.
+-- Lists with one row more, one less, or another, by what they have at each name; and what
+-- operations on refs make of a state.
 use Rattle.std.proofs.Common.{◌≡◌, ◌≢◌, inl, inr, ℕ, List, [], ◌∷◌, map, Bool, true, false, Some, None, refl, sym, ◌∙◌, ap, subst}
 use Rattle.std.specs.Prelude.{if◌then◌else◌}
 use Rattle.std.specs.List.{list_any}

@@ -1,4 +1,5 @@
--- Of two refs that don't read the one whose path comes first by its bytes, which isn't the one whose ID comes first.
+-- Of two refs that don't read the one whose path comes first by its bytes, which isn't the one
+-- whose ID comes first.
 use Rattle.std.proofs.Common.{◌≡◌, ◌≢◌, ◌⊎◌, inl, inr, ℕ, List, Bool, true, false, not, ◌||◌, Err, refl, sym, ◌∙◌, ap, subst}
 use Rattle.std.specs.Prelude.{codes, if◌then◌else◌}
 use Rattle.std.specs.Str.{bytes_eq}

@@ -44,7 +44,8 @@ module _ (i j : Disk) where
   pub ref_same : (name : Ref) → (is_ref name ≡ true → (j (active name) ≡ i (active name)) × ((text : List ℕ) → i (active name) ≡ points text → j (deploy (text_dir name text)) ≡ i (deploy (text_dir name text)))) → ref_seen j name ≡ ref_seen i name
   ref_same name same = if_same (is_ref name) _ _ away (λ good. ap (by_active j name) (same good).0 ∙ active_same name (i (active name)) refl (same good).1)
 
--- Sound, where the rows that are shown stay, and so do the paths and objects of the commits that are kept
+-- Sound, where the rows that are shown stay, and so do the paths and objects of the commits that
+-- are kept
 pub sound_still : (i j : Disk) → ((name : Ref) → ref_seen j name ≡ ref_seen i name)
     → ((name : Ref) (commit : List ℕ) (rest : Elements) → Keeps i name commit → rest ≢ deploy_name → j (rest ++ commit_dir name commit) ≡ i (rest ++ commit_dir name commit))
     → ((name : Ref) (commit : List ℕ) (place : Place) → Keeps i name commit → In (order (store repo i) commit) place → j (object_path repo place.digest place.kind) ≡ i (object_path repo place.digest place.kind))
@@ -93,8 +94,8 @@ module _ {G : Elements → Spot → Type 0} {u w : View} (spares : Spares u G) (
   still_sound disk left was = let b = follows.from disk left in
       sound_same b.0 disk (still disk left) (λ p. elim (b.2 p) [ inl same ↦ inl same | inr given ↦ inr (spares.permits b.0 b.1 p (disk p) given) ]) was
 
-  -- The frame law: where what is given spares the fixed paths and is permitted where it is given, every outcome goes on
-  -- showing the state, and is Sound.
+  -- The frame law: where what is given spares the fixed paths and is permitted where it is given,
+  -- every outcome goes on showing the state, and is Sound.
   pub frame_law : {s : State} → Opens s u → Opens s w
   frame_law opens = record {
     shown = λ disk left. let b = follows.from disk left in shows_same b.0 disk (still disk left) (opens.shown b.0 b.1);

@@ -1,5 +1,5 @@
--- A list of rows is what an image has, where each row is there, and away is what the list hasn't. (What a walk of the folders
--- finds comes to this.)
+-- A list of rows is what an image has, where each row is there, and away is what the list hasn't.
+-- (What a walk of the folders finds comes to this.)
 use Rattle.std.proofs.Common.{◌≡◌, inl, inr, ℕ, List, [], ◌∷◌, true, Option, Some, None, refl, sym, ◌∙◌, ap, subst}
 use Rattle.std.specs.Str.{bytes_eq}
 use Rattle.std.specs.List.{AllByRecursion}

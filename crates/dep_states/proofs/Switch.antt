@@ -155,8 +155,8 @@ recorded_file name t folder e = absurd (cc e)
 recorded_file name t (points text) e = absurd (cc e)
 
 module _ {i j : Disk} {name : Ref} where
-  -- The switch: from an image where the commit stands beside the state, to one that differs in `active`, where what
-  -- Sound reads stays.
+  -- The switch: from an image where the commit stands beside the state, to one that differs in
+  -- `active`, where what Sound reads stays.
   pub switched : {row : RefRow} → Prepared i name row → Sound i → j (active name) ≡ points (hex row.commit)
       → ((p : Elements) → Wanted i name row p → j p ≡ i p) → ((p : Elements) → (j p ≡ i p) ⊎ Permits i p (j p)) → Changed i j name (Some row)
   switched {row = row} p sound now stays elsewhere = record {

@@ -147,7 +147,8 @@ worked_state = record {
   overrides = layer ∷ [];
 }
 
--- ---- two refs that don't read: a folder stands at one `active`, the other leads to the `deploy` of another commit
+-- ---- two refs that don't read: a folder stands at one `active`, the other leads to the `deploy`
+-- of another commit
 
 abbrev pub short_ref : Ref
 short_ref = record { kind = App; id = codes "org.x.A"; arch = codes "x86_64"; branch = codes "b" }

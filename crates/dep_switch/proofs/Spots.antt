@@ -74,7 +74,8 @@ pub leaf_no_dir : (e : Slot) → (e ≡ absent) ⊎ ((text : List ℕ) × (e ≡
 leaf_no_dir e (inl is) = subst IsNoDir (sym is) tt
 leaf_no_dir e (inr is) = subst IsNoDir (sym is.1) tt
 
--- a name that holds what it held shows what it showed, where the files that were there are as they were
+-- a name that holds what it held shows what it showed, where the files that were there are as they
+-- were
 module _ {u w : View} (before : IsTree u) (after : IsTree w) (files : KeepsFiles u w) (q : Elements) where
   spot_by : (e : Slot) → u.names q ≡ e → spot_of w.files e ≡ spot_of u.files e
   spot_by absent is = refl

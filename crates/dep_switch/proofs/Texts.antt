@@ -1,4 +1,5 @@
--- The parts of a ref and the digits of a digest as elements of a path, and the digits as the text of a link.
+-- The parts of a ref and the digits of a digest as elements of a path, and the digits as the text
+-- of a link.
 use Rattle.std.proofs.Common.{◌≡◌, ℕ, zero, suc, ◌<◌, ◌≤◌, ◌/◌, ◌%◌, ◌==◌, List, [], ◌∷◌, length, Bool, true, not, refl, sym, ◌∙◌, ltb, eqb, arith}
 use Rattle.std.specs.Prelude.{slice_index}
 use Rattle.std.specs.List.{list_all}

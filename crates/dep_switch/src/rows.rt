@@ -4,7 +4,7 @@ ghost use Rattle.std.specs.List.{insert, find};
 ghost use Rattle.std.specs.Str.{bytes_eq};
 ghost use Rattle.std.specs.Option.{option_copied};
 ghost use Rattle.fp_name.specs.Refs.{ref_text, is_ref};
-ghost use Rattle.fp_small.specs.Config.{name_of};
+ghost use Rattle.fp_small.specs.Config.{name_of as remote_key};
 ghost use Rattle.fp_small.specs.Order.{inserted, removed, replaced};
 ghost use Rattle.dep_states.specs.Shown.{at_name, ref_key, override_key};
 
@@ -89,7 +89,7 @@ pub fn find_ref<'a>(rows: &'a [RefRow], name: &RefName) -> Option<&'a RefRow>
 
 /// The remote of this name.
 pub fn find_remote<'a>(rows: &'a [RemoteRow], name: &RemoteName) -> Option<&'a RemoteRow>
-    ensures { option_copied result ≡ at_name name_of rows.now name.now }
+    ensures { option_copied result ≡ at_name remote_key rows.now name.now }
 {
     find_text(rows, name.as_str())
 }

@@ -103,7 +103,8 @@ held_same : (a b : Option Inode) (id : ℕ) → a ≢ None → ((f : Inode) → 
 held_same None b id some same = absurd (some refl)
 held_same (Some f) b id some same = ap (holding id) (same f refl)
 
--- where the names along a path are the same and files stay, the same shows, also before it is known that all is a tree
+-- where the names along a path are the same and files stay, the same shows, also before it is known
+-- that all is a tree
 pub shows_along : {u w : View} → IsTree u → KeepsFiles u w → (p : Elements) → SameTo u.names w.names p → shows w p ≡ shows u p
 shows_along {u = u} {w = w} tree files p same = ap (spot_of w.files) (at_same u.names w.names p same) ∙ spots (at u.names p) (at_tree u tree p)
   where

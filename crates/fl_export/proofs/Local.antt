@@ -1,4 +1,5 @@
--- What is exported depends on the objects of the orders of the commits, also where they have faults.
+-- What is exported depends on the objects of the orders of the commits, also where they have
+-- faults.
 use Rattle.std.proofs.Common.{◌≡◌, ◌⊎◌, inl, inr, ℕ, zero, suc, List, [], ◌∷◌, ◌++◌, Bool, true, false, Option, Some, None, refl, sym, ◌∙◌, ap, subst}
 use Rattle.std.specs.Prelude.{if◌then◌else◌, option_and_then, option_map, option_to_list, ◌&&◌, codes}
 use Rattle.std.specs.List.{flat_map}

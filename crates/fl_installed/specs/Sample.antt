@@ -74,7 +74,8 @@ second_commit = 111 ∷ 149 ∷ 28 ∷ 125 ∷ 194 ∷ 30 ∷ 118 ∷ 59 ∷ 20 
     14 ∷
     []
 
--- ---- the objects: of each commit the commit, the root's dirtree and the file, whose permission bits are 0644
+-- ---- the objects: of each commit the commit, the root's dirtree and the file, whose permission
+-- bits are 0644
 
 abbrev pub have : Have
 have d kinds.Commit = if bytes_eq d first_commit then Some (objects.Meta first_commit_bytes)

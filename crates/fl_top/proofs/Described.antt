@@ -1,5 +1,6 @@
--- What is told of a commit depends on the objects of its order, also where it has faults. So what is known of a deployed ref is
--- the same over the installation's store and over the world's objects.
+-- What is told of a commit depends on the objects of its order, also where it has faults. So what
+-- is known of a deployed ref is the same over the installation's store and over the world's
+-- objects.
 use Rattle.std.proofs.Common.{◌≡◌, ◌⊎◌, inl, inr, ℕ, suc, List, [], ◌∷◌, ◌++◌, Bool, true, false, Option, Some, None, if◌then◌else◌, refl, sym, ◌∙◌, ap, subst}
 use Rattle.std.specs.Prelude.{option_and_then}
 use Rattle.std.specs.Option.{option_map_or}

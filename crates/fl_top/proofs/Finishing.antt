@@ -120,7 +120,8 @@ IsAnswer command t f = (given : Given) → IsGivenTo command t given → (shown 
 counts_for : (command : Command) (f : World → Answer) (given : Given) (u : View) (shown : Result World Elements) → ((r : Result World Elements) → over f r ≡ answer_over command given r) → IsOver (answer_over command given) (shows u) shown → IsOver (over f) (shows u) shown
 counts_for command f given u shown is counts = over_same (over f) (answer_over command given) (shows u) shown is counts
 
--- a command that changes something, whose refusals are none of the words or of the input, answers where the installation is ready
+-- a command that changes something, whose refusals are none of the words or of the input, answers
+-- where the installation is ready
 ready_for : (command : Command) (f : World → Answer) (given : Given) (u : View) (shown : Result World Elements) → changes_state command ≡ true → ((x : World) → IsAtOnce (f x).refusal → ⊥) → over f shown ≡ answer_over command given shown → MayAnswer (Some command) u (answer_over command given shown) → IsReady u
 ready_for command f given u shown changes late is may = elim may [
   | inl serves ↦ elim serves [

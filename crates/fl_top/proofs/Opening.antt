@@ -118,8 +118,9 @@ goes_failed {a = a} May f s e r {u = u} {w = w} late known known_b frame unread 
 
 -- ---- what the changes left
 
--- The changes were made: over an image that showed one state another is left, which is that state after the operations of each
--- answer that counts. Where the remotes tell what they hold, all is settled.
+-- The changes were made: over an image that showed one state another is left, which is that state
+-- after the operations of each answer that counts. Where the remotes tell what they hold, all is
+-- settled.
 pub record Changed (holds : Option Holdings) (May : Op → Type 0) (f : Holdings → World → Answer) (t : State) (u w : View) : Type 0 where
   pub before : State
   pub at : Shows (shows u) before

@@ -1,4 +1,5 @@
--- The answer over each result that counts: the one over the world that was read, or the refusal of the path that doesn't read.
+-- The answer over each result that counts: the one over the world that was read, or the refusal of
+-- the path that doesn't read.
 use Rattle.std.proofs.Common.{◌≡◌, inl, inr, [], ℕ, List, Option, None, Result, Ok, Err, refl, sym, ◌∙◌, ap}
 use Rattle.fp_host.specs.Paths.{Elements}
 use Rattle.fp_host.specs.View.{View}

@@ -141,7 +141,8 @@ leaf_no_dir dir leaf is = leaf
 leaf_no_dir (file id) leaf is = cc is
 leaf_no_dir (link text) leaf is = cc is
 
--- What was at these names in the folder, and below them, is within reach; what else is there is as it was.
+-- What was at these names in the folder, and below them, is within reach; what else is there is as
+-- it was.
 pub record AreReached (p : Elements) (depth : ℕ) (names : List (List ℕ)) (u w : View) : Type 0 where
   pub each : (x : List ℕ) → Contains names x → (q : Elements) → IsWithin (x ∷ p) q → (u.names q ≡ absent) ⊎ (length q ≤ length p + depth)
   pub others : (q : Elements) → (w.names q ≡ u.names q) ⊎ ((x : List ℕ) × Contains names x × IsWithin (x ∷ p) q)
