@@ -3,7 +3,7 @@ ghost use Rattle.std.specs.Prelude.{◌≡◌, ◌≤◌, ◌<◌, IfOk, IfErr, 
 ghost use Rattle.fl_top.specs.Input.{input_most, IsWhole, IsTaken, InputStops, Adds, StepStops};
 
 use fp_base::Blob;
-use fp_host::{Source, Taken};
+use fp_host::{PIECE_BYTES, Source, Taken};
 use std::alloc::{AllocError, Global};
 
 /// Why the input wasn't read.
@@ -30,9 +30,6 @@ impl From<AllocError> for InputEnd {
 /// The most bytes that the input may have.
 const MOST_INPUT: usize = 64 * 1024 * 1024;
 
-/// The bytes that are asked for at once.
-const PIECE: usize = 64 * 1024;
-
 /// All bytes that are left, at most 64 MiB. `TooLong` comes only where there are more, and `Fault`
 /// only where the source failed.
 pub(crate) fn read_input<I: Source>(alloc: Global, input: &mut I) -> Result<Blob, InputEnd>
@@ -42,7 +39,7 @@ pub(crate) fn read_input<I: Source>(alloc: Global, input: &mut I) -> Result<Blob
         (I.faults input.old) (I.faults input.new)) }
     ensures later { I.faults input.old ≤ I.faults input.new }
 {
-    let mut buffer = vec![in alloc; 0; PIECE]?;
+    let mut buffer = vec![in alloc; 0; PIECE_BYTES]?;
     let mut bytes = Vec::new(alloc);
     loop {
         if !take_some(input, &mut buffer, &mut bytes)? {

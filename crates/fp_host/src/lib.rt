@@ -11,7 +11,7 @@ mod source;
 mod text;
 
 pub use host::{Entry, Host, HostEnd, HostError, Stat};
-pub use limits::{MOST_ELEMENT_BYTES, MOST_LINK_BYTES, PERMISSION_BITS};
+pub use limits::{MOST_ELEMENT_BYTES, MOST_LINK_BYTES, PERMISSION_BITS, PIECE_BYTES};
 pub use path::{Path, PathError, are_elements, is_element};
 pub use remotes::{NoRemotes, Node, RemoteError, Remotes};
 pub use source::{Source, Taken};

@@ -3,6 +3,7 @@ use Rattle.std.specs.Prelude.{◌≡◌, ◌≢◌, ◌↔◌, ◌+◌, ◌-◌,
 use Rattle.std.specs.Str.{bytes_eq}
 use Rattle.fp_host.specs.Paths.{Elements, path_eq}
 use Rattle.fp_host.specs.Remote.{Held, nothing, directory, contents, target, Holdings}
+use Rattle.fp_host.specs.declared.limits.TheConstants.{PERMISSION_BITS}
 use Rattle.fp_host.specs.declared.remotes.RemoteError.{RemoteError}
 use Rattle.fp_host.specs.declared.remotes.RemoteError.TheVariants.{Failed}
 use Rattle.fp_memhost.specs.declared.remotes.MemNode.{MemNode}
@@ -13,9 +14,9 @@ abbrev pub node_held : MemNode → Held
 node_held (File mode bytes) = contents mode bytes
 node_held (Link text) = target text
 
--- permission bits are within 07777
+-- there are no bits but permission bits
 abbrev pub node_bits : MemNode → Bool
-node_bits (File mode bytes) = leb mode 4095
+node_bits (File mode bytes) = leb mode PERMISSION_BITS
 node_bits (Link text) = true
 
 -- these remotes with a file or symlink more, and the folders above it

@@ -7,6 +7,7 @@ use Rattle.fp_host.specs.Paths.{Elements, Slot, absent, dir, file, link, is_link
 use Rattle.fp_host.specs.View.{View, Inode}
 use Rattle.fp_host.specs.Outcome.{Disk, spot_of, Leaves}
 use Rattle.fp_host.specs.declared.host.Entry.{Entry}
+use Rattle.fp_host.specs.declared.limits.TheConstants.{PERMISSION_BITS}
 use Rattle.fp_memhost.specs.declared.image.FileRow.{FileRow}
 use Rattle.fp_memhost.specs.declared.image.Image.{Image}
 use Rattle.fp_memhost.specs.declared.image.Choice.{Choice}
@@ -48,13 +49,13 @@ opened image = record {
 abbrev pub disk_of : Image → Disk
 disk_of image q = spot_of (rows_of image.files) (at (slots_of image.names) q)
 
--- each file of a name has a row, each link's text is one, and permission bits are within 07777
+-- each file of a name has a row, each link's text is one, and no file has bits but permission bits
 pub record IsImage (image : Image) : Type 0 where
   pub known : (p : Elements) (id : ℕ) → slots_of image.names p ≡ file id
       → rows_of image.files id ≢ None
   pub linked : (p : Elements) (text : List ℕ) → slots_of image.names p ≡ link text
       → is_link_text text ≡ true
-  pub bits : (id : ℕ) (f : Inode) → rows_of image.files id ≡ Some f → f.mode ≤ 4095
+  pub bits : (id : ℕ) (f : Inode) → rows_of image.files id ≡ Some f → f.mode ≤ PERMISSION_BITS
 
 -- which entry of a name is chosen: the listed one, else its present one
 abbrev pub number_for : List (Elements × ℕ) → Elements → ℕ

@@ -66,7 +66,7 @@ abbrev pub room_in : Option Name → ℕ → Type 0
 room_in None n = ⊥
 room_in (Some name) n = vec_len name.earlier + n ≤ vec_capacity name.earlier
 
--- the name is there, with room for so many earlier entries more
+-- the name is there, with room for this number of earlier entries more
 pub record HasRoom (names : List Name) (p : Elements) (n : ℕ) : Type 0 where
   pub room : room_in (name_at names p) n
 
@@ -92,6 +92,6 @@ pub record ForgetsNames (old new : List Name) : Type 0 where
   pub names : (q : Elements) → names_of new q ≡ names_of old q
   pub earlier : (q : Elements) → earlier_of new q ≡ []
 
--- each name has as much room as before, but for so many entries
+-- each name has as much room as before, but for this number of entries
 pub record KeepsRoom (used : ℕ) (old new : List Name) : Type 0 where
   pub room : (q : Elements) (n : ℕ) → HasRoom old q (n + used) → HasRoom new q n

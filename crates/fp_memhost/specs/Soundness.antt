@@ -4,6 +4,7 @@ use Rattle.std.specs.List.{list_all}
 use Rattle.fp_host.specs.Paths.{Elements, Slot, absent, dir, file, link, is_link_text}
 use Rattle.fp_host.specs.View.{Inode}
 use Rattle.fp_host.specs.declared.host.Entry.{Entry}
+use Rattle.fp_host.specs.declared.limits.TheConstants.{PERMISSION_BITS}
 use Rattle.fp_memhost.specs.declared.image.FileRow.{FileRow}
 use Rattle.fp_memhost.specs.declared.image.Image.{Image}
 use Rattle.fp_memhost.specs.Images.{slots_of, rows_of}
@@ -21,7 +22,7 @@ is_good_slot rows (link text) = is_link_text text
 
 abbrev pub is_good_row : Option Inode → Bool
 is_good_row None = true
-is_good_row (Some f) = leb f.mode 4095
+is_good_row (Some f) = leb f.mode PERMISSION_BITS
 
 abbrev pub are_good_names : Image → List (Elements × Entry) → Bool
 are_good_names image = list_all (λ x. is_good_slot (rows_of image.files) (slots_of image.names x.0))

@@ -10,7 +10,7 @@ use Rattle.fp_host.specs.declared.host.HostError.TheVariants.{Failed}
 pub record Story : Type 0 where
   -- how many calls were made; the count stands still at 2^64 - 1
   pub calls : ℕ
-  -- the view after so many calls, where so many were made
+  -- the view after a number of calls, where that number was made
   pub after : ℕ → Option View
   -- whether the call of this number, from 0 on, is to fail, and then whether what it asks for is
   -- done

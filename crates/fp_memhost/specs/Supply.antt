@@ -5,7 +5,7 @@ use Rattle.fp_host.specs.declared.source.Taken.TheVariants.{Took, End, Failed}
 
 pub record Supply : Type 0 where
   pub left : List ℕ
-  -- at most so many bytes a call
+  -- the most bytes a call
   pub step : ℕ
   -- the number of the call that fails, from 0 on
   pub fail_at : Option ℕ

@@ -11,7 +11,7 @@ use crate::files::is_new;
 use crate::folders::{above, has_child};
 use crate::names::entry;
 use crate::scene::Scene;
-use fp_host::{Entry, Path, is_link_text};
+use fp_host::{Entry, PERMISSION_BITS, Path, is_link_text};
 
 /// Whether the entry is a folder.
 pub fn is_dir(entry: Option<&Entry>) -> bool
@@ -39,7 +39,7 @@ pub fn can_make_dir(scene: &Scene, path: &Path) -> bool
 pub fn can_create(scene: &Scene, path: &Path, mode: u32) -> bool
     ensures { IsTrue result ↔ CanCreate path.now mode (seen scene.now) }
 {
-    can_make_dir(scene, path) && mode <= 0o7777
+    can_make_dir(scene, path) && mode <= PERMISSION_BITS
 }
 
 pub fn can_append(scene: &Scene, path: &Path) -> bool

@@ -1,8 +1,8 @@
 //! Bytes that go into a buffer.
 ghost use Rattle.std.specs.Prelude.{◌≡◌, ◌≤◌, ◌-◌, length, take, drop, min};
 
-/// Copies bytes from the front, as many as there are, as there is room for and as are wanted at
-/// most.
+/// Copies bytes from the front: the least of the number that there are, the number that there is
+/// room for, and the most that are wanted.
 pub fn copy_front(from: &[u8], most: usize, into: &mut [u8]) -> usize
     ensures many { result ≡ min (min (length from.now) (length into.old)) most }
     ensures same { take result into.new ≡ take result from.now }

@@ -99,7 +99,7 @@ impl History {
         *self.log.allocator()
     }
 
-    /// What stood after so many calls.
+    /// What stood after this number of calls.
     pub fn scene_after(&self, calls: u64) -> Result<Scene, AllocError>
         ensures { IfOk result (λ s. seen s ≡ view_after (opened self.now.start) self.now.log.items
             calls) }

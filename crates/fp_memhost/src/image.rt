@@ -7,7 +7,7 @@ ghost use Rattle.fp_memhost.specs.Soundness.{row_in, is_good_slot, is_good_row, 
 
 use crate::opening::listed;
 use fp_base::{Blob, Items};
-use fp_host::{Entry, Path, is_link_text};
+use fp_host::{Entry, PERMISSION_BITS, Path, is_link_text};
 
 /// A file of an image, by its id: its permission bits and its bytes.
 #[derive(Debug, Drop)]
@@ -89,7 +89,7 @@ impl Image {
         ensures { result ≡ is_good_row (rows_of self.now.files id) }
     {
         match row(self.files.as_slice(), id) {
-            Some(file) => file.mode <= 0o7777,
+            Some(file) => file.mode <= PERMISSION_BITS,
             None => true,
         }
     }

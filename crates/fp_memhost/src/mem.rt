@@ -76,9 +76,9 @@ impl MemHost {
         })
     }
 
-    /// One image that a stop after so many calls may leave: the one that is chosen. There is none
-    /// exactly where a listed name has no such entry, a listed file wasn't created since the last
-    /// sync, or fewer calls were made.
+    /// One image that a stop after this number of calls may leave: the one that is chosen. There is
+    /// none exactly where a listed name has no such entry, a listed file wasn't created since the
+    /// last sync, or fewer calls were made.
     pub fn image_after(&self, calls: u64, choice: &Choice) -> Result<Option<Image>, AllocError>
         ensures gives { IfOk result (GivesImage ((⟦<MemHost as Recorder>⟧.story self.now).after
             calls) choice.now) }
@@ -94,8 +94,8 @@ impl MemHost {
         Ok(Some(choose(self.alloc(), &scene, choice)?))
     }
 
-    /// After so many calls: each name at which a stop may bring something back, ascending, with how
-    /// many entries. None where fewer calls were made.
+    /// After this number of calls: each name at which a stop may bring something back, ascending,
+    /// with how many entries. None where fewer calls were made.
     pub fn choices(&self, calls: u64) -> Result<Items<(Path, u64)>, AllocError>
         ensures { IfOk result (ChoicesOf ((⟦<MemHost as Recorder>⟧.story self.now).after calls)) }
     {

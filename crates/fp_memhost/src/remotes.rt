@@ -10,7 +10,7 @@ use crate::copying::copy_out;
 use crate::folders::is_below;
 use crate::story::Keeper;
 use fp_base::{Blob, Text};
-use fp_host::{Node, Path, RemoteError, Remotes};
+use fp_host::{Node, PERMISSION_BITS, Path, RemoteError, Remotes};
 use std::alloc::{AllocError, Global};
 
 /// What may be put at a path of a remote.
@@ -46,7 +46,7 @@ impl MemNode {
         ensures { result ≡ node_bits self.now }
     {
         match self {
-            MemNode::File { mode, .. } => *mode <= 0o7777,
+            MemNode::File { mode, .. } => *mode <= PERMISSION_BITS,
             MemNode::Link(_) => true,
         }
     }

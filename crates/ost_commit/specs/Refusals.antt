@@ -51,7 +51,7 @@ abbrev pub new_names : (Elements → Said) → Elements → ℕ
 new_names said [] = 0
 new_names said (x ∷ up) = (if is_nothing (said (x ∷ up)) then 1 else 0) + new_names said up
 
--- After rows that say this, and have so many names, the row is taken.
+-- After rows that say this, and have this number of names, the row is taken.
 abbrev pub is_taken : (Elements → Said) → ℕ → TreeRow → Bool
 is_taken said names r = is_good_row r
     && (is_clear said (row_path r)

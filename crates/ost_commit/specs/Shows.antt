@@ -41,7 +41,7 @@ pub record ShowsTree (have : Have) (D : Elements → DirRow → Type 0) (said : 
   pub files : (f : FileRow) → In view.files f → IsThere have f.digest kinds.File
   pub dirs : (d : DirRow) → In view.dirs d → D (d.name ∷ path) d
 
--- the directory and all below it, at most so many levels
+-- the directory and all below it, at most this number of levels
 abbrev pub Shows : Have → (Elements → Said) → ℕ → Elements → DirRow → Type 0
 Shows have said zero path e = ⊥
 Shows have said (suc levels) path e = ShowsTree have (Shows have said levels) said path e

@@ -88,7 +88,7 @@ pub record AreGatheredFor (folders : List Folder) (contents : List (List ℕ)) :
   pub digests : AreDigests rows contents
 
 -- Wherever the dirtrees are, and what they name, the directory is shown as it is said, and has at
--- most so many objects, fewer than 200,000.
+-- most the number of objects that was counted, fewer than 200,000.
 pub record IsWritten (rows : List TreeRow) (said : Elements → Said) (contents : List (List ℕ))
     (meta : List ℕ) (trees : List (List ℕ × Object)) (path : Elements) (done : Done) : Type 0 where
   pub shows : (have : Have) → HasTrees trees have → Supports rows contents meta have

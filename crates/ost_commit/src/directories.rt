@@ -208,7 +208,7 @@ impl Listing {
         Ok(())
     }
 
-    /// Counts so many objects.
+    /// Counts this number of objects more.
     fn count(&mut self, more: usize) -> Result<(), BuildError>
         requires { self.old.places < MOST_OBJECTS }
         ensures places { OnOk result (self.new.places ≡ self.old.places + more) }

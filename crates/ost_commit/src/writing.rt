@@ -16,13 +16,11 @@ use fp_base::{Blob, Text};
 use fp_name::{Digest, RefName};
 use gv_encode::{EncodeError, encode};
 use gv_value::{GvType, GvValue, TypeError};
+use ost_model::REF_BINDING;
 use ost_object::{
     Commit, DirMeta, DirTree, ObjectError, write_commit, write_dirmeta, write_dirtree,
 };
 use std::alloc::{AllocError, Global};
-
-/// The key of a commit's metadata under which it says its refs.
-const REF_BINDING: &str = "ostree.ref-binding";
 
 /// What there is of a commit besides its root.
 #[derive(Clone, Copy)]

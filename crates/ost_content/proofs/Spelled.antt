@@ -96,7 +96,7 @@ pub tuple_of : (n : ℕ) (text : List ℕ) → spelling (header_value n text) he
 tuple_of n text =
     spelled_fields n text ∙ ap (λ (m : List ℕ). tuple_bytes None members (fields m text)) (turned n) ∙ tuple_is _ _ _ _ text
 
--- a header after its length, with the offset of the text's end in so many bytes
+-- a header after its length, with the offset of the text's end in this number of bytes
 pub header_is : (n size : ℕ) (text : List ℕ) → size ≡ width (17 + length text) 1 → header_bytes n text
     ≡ to_be_bytes w32 (17 + length text + size) ++ (zeros 4 ++ (body (to_be_bytes w32 n) text ++ le_bytes size (17 + length text)))
 header_is n size text e =
@@ -116,7 +116,7 @@ file_header_is bits = header_is (0x8000 + bits) 1 [] refl
 pub narrow : (n : ℕ) → n + 2 ≤ 0xFFFF → width n 1 ≤ 2
 narrow n h = grind (arith, nat_tests)
 
--- a link's header in parts, where its text ends after so many bytes of the tuple
+-- a link's header in parts, where its text ends after this number of bytes of the tuple
 pub link_header_is : (target : List ℕ) (size end : ℕ) → end ≡ 16 + length target + 1 → size ≡ width end 1 → size ≤ 2 →
     (((to_be_bytes w32 (end + size) ++ (zeros 12 ++ (to_be_bytes w32 0xA1FF ++ zeros 4))) ++ target) ++ 0 ∷ [])
     ++ take size (little_bytes 2 end)

@@ -30,7 +30,7 @@ appends_on {t = t} {xs = xs} {ys = ys} {w = w} first second = record {
 pub still_new : {t : Elements} {bytes : List ℕ} {u w : View} → Appends t bytes u w → IsNewFile t u → IsNewFile t w
 still_new {bytes = bytes} more was = record { mode = was.mode; bytes = was.bytes ++ bytes; is = more.grown was.mode was.bytes was.is }
 
--- so many bytes of the remote's file were copied
+-- this number of bytes of the remote's file was copied
 pub record HasCopied (t p : Elements) (url : List ℕ) (holds : Option Holdings) (many : ℕ) (before after : Sha256) (a b : Option Moments) : Type 0 where
   pub bytes : List ℕ
   pub long : length bytes ≡ many

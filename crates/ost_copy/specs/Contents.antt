@@ -14,7 +14,7 @@ use Rattle.ost_head.specs.Stored.{IsFileOf}
 use Rattle.ost_copy.specs.declared.content.Content.{Content}
 use Rattle.ost_copy.specs.declared.content.Content.TheVariants as content
 
--- a file of so many bytes with these permission bits is within the limits
+-- a file of this size with these permission bits is within the limits
 pub record IsWithinLimits (mode size : ℕ) : Type 0 where
   pub short : size ≤ MOST_FILE_BYTES
   pub bits : is_permission mode ≡ true

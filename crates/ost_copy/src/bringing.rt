@@ -15,9 +15,9 @@ ghost use Rattle.ost_copy.specs.Copies.{IsCopiedAnew};
 
 use crate::content::{Content, remote_content};
 use crate::copying::copy_file;
-use crate::limits::{PIECE, refused};
+use crate::limits::refused;
 use fp_base::{ObjKind, Text};
-use fp_host::{Host, Path, Remotes};
+use fp_host::{Host, PIECE_BYTES, Path, Remotes};
 use fp_name::Digest;
 use ost_model::Object;
 use ost_store::{path_of, stage, stage_file};
@@ -91,7 +91,7 @@ fn bring_file<H: Host, R: Remotes>(
         (R.faults remotes.old) (R.faults remotes.new) }
 {
     let from = path_of(alloc, &Path::root(alloc), digest, ObjKind::File)?;
-    let mut buffer = vec![in alloc; 0u8; PIECE]?;
+    let mut buffer = vec![in alloc; 0u8; PIECE_BYTES]?;
     let got = copy_anew(
         alloc,
         host,

@@ -17,9 +17,9 @@ ghost use Rattle.ost_copy.specs.Contents.{ChecksIfThere};
 ghost use Rattle.ost_copy.specs.Pieces.{TakesIn};
 ghost use Rattle.ost_head.specs.Stored.{IsFileOf};
 
-use crate::limits::{PIECE, check_limits, check_link, refused};
+use crate::limits::{check_limits, check_link, refused};
 use fp_base::{ObjKind, Text};
-use fp_host::{Host, HostEnd, Path};
+use fp_host::{Host, HostEnd, PIECE_BYTES, Path};
 use fp_name::Digest;
 use ost_content::ContentHasher;
 use ost_model::MOST_FILE_BYTES;
@@ -27,7 +27,7 @@ use ost_store::{Got, get, read_piece};
 use ost_walk::{ObjectFault, WalkEnd};
 use std::alloc::Global;
 
-/// Takes in the bytes of the file from this place on, as many as there is room for or are left, and
+/// Takes in the bytes of the file from this place on, until the room is full or none is left, and
 /// says how many.
 fn hash_piece<H: Host>(
     alloc: Global,
@@ -102,7 +102,7 @@ fn stored_digest<H: Host>(
     ensures fault_has_cause { IsCaused (IsErrOf result HostEnd.Fault) (H.moments host.old)
         (HasFile root.now digest.now) (H.faults host.old) (H.faults host.new) }
 {
-    let mut buffer = vec![in alloc; 0u8; PIECE]?;
+    let mut buffer = vec![in alloc; 0u8; PIECE_BYTES]?;
     let mut hasher = ContentHasher::new(mode);
     hash_pieces(alloc, host, root, digest, size, &mut hasher, &mut buffer)?;
     Ok(hasher.finish())

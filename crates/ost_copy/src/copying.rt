@@ -16,8 +16,8 @@ use ost_content::ContentHasher;
 use ost_store::stage_piece;
 use ost_walk::WalkEnd;
 
-/// Adds the bytes of the remote's file from this place on, as many as there is room for or are
-/// left, to the end of the new file, and takes them in. Says how many.
+/// Adds the bytes of the remote's file from this place on, until the room is full or none is left,
+/// to the end of the new file, and takes them in. Says how many.
 fn copy_piece<H: Host, R: Remotes>(
     host: &mut H,
     remotes: &mut R,

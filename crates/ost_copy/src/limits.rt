@@ -15,9 +15,6 @@ use ost_model::MOST_FILE_BYTES;
 use ost_walk::{ObjectFault, WalkEnd, WalkFault};
 use std::alloc::Global;
 
-/// How many bytes of a file are read or copied at once.
-pub(crate) const PIECE: usize = 64 * 1024;
-
 /// The refusal of the file or link.
 pub(crate) fn refused(digest: &Digest, fault: ObjectFault) -> WalkEnd
     ensures { result ≡ refusal digest.now kinds.File fault }

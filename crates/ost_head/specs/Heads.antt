@@ -22,7 +22,7 @@ use Rattle.fp_small.specs.declared.refusal.Refusal.TheVariants as refusals
 use Rattle.ost_model.specs.declared.limits.TheConstants.{MOST_METADATA_FILE_BYTES}
 use Rattle.ost_model.specs.declared.object.Object.{Object}
 use Rattle.ost_model.specs.declared.object.Object.TheVariants as objects
-use Rattle.ost_model.specs.Fields.{CommitView, FileRow, TreeView}
+use Rattle.ost_model.specs.Fields.{CommitView, TreeView}
 use Rattle.ost_model.specs.Objects.{Have, or_else}
 use Rattle.ost_model.specs.Order.{commit_at, tree_at}
 use Rattle.ost_model.specs.Look.{Found, nothing, directory, file_at, entry_in}
@@ -67,10 +67,6 @@ abbrev pub file_in : Found → Option (List ℕ)
 file_in nothing = None
 file_in (directory e) = None
 file_in (file_at d) = Some d
-
-abbrev pub file_digest : Option FileRow → Option (List ℕ)
-file_digest None = None
-file_digest (Some f) = Some f.digest
 
 -- ---- the file `metadata`
 

@@ -22,7 +22,7 @@ use Rattle.ost_head.specs.declared.offering.TheConstants.{MOST_STORE_CONFIG_BYTE
 use Rattle.ost_refs.specs.declared.place.RefFile.{RefFile}
 use Rattle.ost_refs.specs.declared.place.RefFile.TheVariants as files
 
--- the bytes of a file of a remote that has at most so many
+-- the bytes of a file of a remote, where they are within the limit
 abbrev pub small_file : ℕ → Held → Option (List ℕ)
 small_file most nothing = None
 small_file most directory = None

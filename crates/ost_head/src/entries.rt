@@ -1,11 +1,12 @@
 //! Entries of a dirtree.
 ghost use Rattle.std.specs.Prelude.{◌≡◌, Some, map, is_some};
-ghost use Rattle.ost_model.specs.Look.{find_dir, find_file, entry_in};
-ghost use Rattle.ost_object.specs.Views.{dir_row, file_row, tree_view};
-ghost use Rattle.ost_head.specs.Heads.{file_digest, file_in, is_nothing};
+ghost use Rattle.ost_model.specs.Look.{find_dir, entry_in};
+ghost use Rattle.ost_object.specs.Views.{dir_row, tree_view};
+ghost use Rattle.ost_head.specs.Heads.{file_in, is_nothing};
 
 use fp_name::Digest;
-use ost_object::{DirEntry, DirTree, FileEntry};
+use ost_object::{DirEntry, DirTree};
+use ost_walk::find_file;
 
 /// Whether a directory has this name among these.
 fn has_dir(dirs: &[DirEntry], name: &str) -> bool
@@ -17,18 +18,6 @@ fn has_dir(dirs: &[DirEntry], name: &str) -> bool
         }
     }
     false
-}
-
-/// The digest of the file of this name among these.
-fn find_file(files: &[FileEntry], name: &str) -> Option<Digest>
-    ensures { result ≡ file_digest (find_file name.now (map file_row files.now)) }
-{
-    for file in files {
-        if file.name.as_str() == name {
-            return Some(file.digest);
-        }
-    }
-    None
 }
 
 /// The digest of the file of this name in a directory.

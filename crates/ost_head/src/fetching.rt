@@ -10,7 +10,7 @@ ghost use Rattle.ost_head.specs.Objects.{IsFit, Reads, Judges, as_is};
 ghost use Rattle.ost_head.specs.Fetches.{ReadsAt};
 ghost use Rattle.ost_walk.specs.declared.ends.WalkFault.{WalkFault};
 
-use crate::judging::{check, refused};
+use crate::judging::check;
 use crate::small::file_size;
 use fp_base::{Blob, ObjKind, Text};
 use fp_host::{Node, Path, Remotes, is_link_text};
@@ -18,7 +18,7 @@ use fp_name::Digest;
 use ost_content::is_permission;
 use ost_model::{MOST_FILE_BYTES, MOST_METADATA_OBJECT_BYTES, Object};
 use ost_store::path_of;
-use ost_walk::{ObjectFault, WalkEnd};
+use ost_walk::{ObjectFault, WalkEnd, refused};
 use std::alloc::Global;
 
 /// The bytes of a file of this size.

@@ -1,30 +1,18 @@
 //! Objects that are judged.
-ghost use Rattle.std.specs.Prelude.{◌≡◌, None, Some, IfOk};
+ghost use Rattle.std.specs.Prelude.{◌≡◌, None, IfOk};
 ghost use Rattle.fp_base.specs.declared.object.ObjKind.TheVariants as kinds;
-ghost use Rattle.ost_model.specs.Objects.{digest_of, dir_bits};
-ghost use Rattle.ost_object.specs.Views.{meta_view};
+ghost use Rattle.ost_model.specs.Objects.{digest_of};
 ghost use Rattle.ost_store.specs.Stage.{IsKeepable};
-ghost use Rattle.ost_walk.specs.Ends.{EndsBy, IsFaultOf, NoFault, refusal, unread_end};
+ghost use Rattle.ost_walk.specs.Ends.{EndsBy, IsFaultOf, NoFault};
 ghost use Rattle.ost_head.specs.Objects.{IsFit, Checks, ChecksRules, rules_fault};
 
 use fp_base::{Blob, ObjKind};
 use fp_name::Digest;
-use ost_content::{file_digest, is_permission, link_digest, meta_digest};
+use ost_content::{file_digest, link_digest, meta_digest};
 use ost_model::Object;
-use ost_object::{DirMeta, ObjectError, commit_root, read_dirmeta, read_dirtree};
-use ost_walk::{ObjectFault, WalkEnd, WalkFault};
+use ost_object::{commit_root, read_dirmeta, read_dirtree};
+use ost_walk::{ObjectFault, WalkEnd, check_mode, refused, unread};
 use std::alloc::{AllocError, Global};
-
-/// The refusal of this object.
-pub(crate) fn refused(digest: &Digest, kind: ObjKind, fault: ObjectFault) -> WalkEnd
-    ensures { result ≡ refusal digest.now kind fault }
-{
-    WalkEnd::Refused(WalkFault {
-        digest: *digest,
-        kind,
-        fault,
-    })
-}
 
 /// The digest of an object.
 fn digest_of(alloc: Global, object: &Object) -> Result<Digest, AllocError>
@@ -35,16 +23,6 @@ fn digest_of(alloc: Global, object: &Object) -> Result<Digest, AllocError>
         Object::Meta(bytes) => Ok(meta_digest(bytes.as_slice())),
         Object::File { mode, bytes } => Ok(file_digest(*mode, bytes.as_slice())),
         Object::Link(text) => link_digest(alloc, text.as_str()),
-    }
-}
-
-/// The end at an object that isn't read.
-pub(crate) fn unread(digest: &Digest, kind: ObjKind, error: ObjectError) -> WalkEnd
-    ensures { result ≡ unread_end digest.now kind error }
-{
-    match error {
-        ObjectError::Malformed(rule) => refused(digest, kind, ObjectFault::Malformed(rule)),
-        ObjectError::NoMemory => WalkEnd::NoMemory,
     }
 }
 
@@ -70,30 +48,13 @@ fn check_tree(alloc: Global, digest: &Digest, bytes: &Blob) -> Result<(), WalkEn
     }
 }
 
-/// Checks the permission bits of a dirmeta.
-fn check_bits(meta: DirMeta, digest: &Digest) -> Result<(), WalkEnd>
-    ensures tells { EndsBy (λ _. dir_bits (Some (meta_view meta)) ≡ None)
-        (IsFaultOf digest.now kinds.DirMeta (dir_bits (Some (meta_view meta)))) result }
-    ensures faults { NoFault result }
-{
-    if is_permission(meta.mode % 4096) {
-        Ok(())
-    } else {
-        Err(refused(
-            digest,
-            ObjKind::DirMeta,
-            ObjectFault::RefusedMode(meta.mode),
-        ))
-    }
-}
-
 /// Checks that the bytes are a dirmeta whose permission bits are within 0775.
 fn check_meta(alloc: Global, digest: &Digest, bytes: &Blob) -> Result<(), WalkEnd>
     ensures tells { ChecksRules digest.now kinds.DirMeta bytes.now result }
     ensures faults { NoFault result }
 {
     match read_dirmeta(alloc, bytes.as_slice()) {
-        Ok(meta) => check_bits(meta, digest),
+        Ok(meta) => check_mode(meta, digest),
         Err(error) => Err(unread(digest, ObjKind::DirMeta, error)),
     }
 }

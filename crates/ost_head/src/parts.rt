@@ -12,13 +12,12 @@ ghost use Rattle.ost_head.specs.Found.{found_object};
 ghost use Rattle.ost_head.specs.Parts.{ReadsAs, IsReadAs};
 
 use crate::found::{Found, find};
-use crate::judging::{refused, unread};
 use fp_base::ObjKind;
 use fp_host::{Host, Path, Remotes};
 use fp_name::Digest;
 use ost_model::Object;
 use ost_object::{Commit, DirTree, read_commit, read_dirtree};
-use ost_walk::{ObjectFault, WalkEnd};
+use ost_walk::{ObjectFault, WalkEnd, refused, unread};
 use std::alloc::Global;
 
 /// The object that was found.

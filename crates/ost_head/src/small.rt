@@ -19,7 +19,7 @@ pub(crate) fn file_size(node: &Node) -> Option<u64>
     }
 }
 
-/// A buffer of so many zeros.
+/// A buffer of this number of zeros.
 fn buffer(alloc: Global, size: u64) -> Result<Vec<u8>, RemoteError>
     ensures size { IfOk result (λ bytes. length bytes.items ≡ size) }
     ensures remote { IsErrOf result RemoteError.Failed → ⊥ }
@@ -51,7 +51,7 @@ pub(crate) fn read_whole<R: Remotes>(
     Ok(Blob::from_vec(bytes))
 }
 
-/// The bytes of a file of this size, where these are at most so many.
+/// The bytes of a file of this size, where it is within the limit.
 fn load_sized<R: Remotes>(
     alloc: Global,
     remotes: &mut R,
@@ -73,7 +73,7 @@ fn load_sized<R: Remotes>(
     Ok(Some(read_whole(alloc, remotes, url, path, size)?))
 }
 
-/// The bytes of a file of the remote at the url, where there is a file of at most so many bytes.
+/// The bytes of a file of the remote at the url, where there is a file within the limit.
 pub(crate) fn load_remote<R: Remotes>(
     alloc: Global,
     remotes: &mut R,

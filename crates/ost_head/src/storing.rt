@@ -14,14 +14,14 @@ ghost use Rattle.ost_head.specs.Objects.{IsFitIfThere, IsGoodIfThere, JudgesIfTh
 ghost use Rattle.ost_head.specs.Stored.{IsFileOf};
 ghost use Rattle.ost_walk.specs.declared.ends.WalkFault.{WalkFault};
 
-use crate::judging::{check, refused};
+use crate::judging::check;
 use fp_base::{Blob, ObjKind, Text};
 use fp_host::{Host, Path, is_link_text};
 use fp_name::Digest;
 use ost_content::is_permission;
 use ost_model::{MOST_FILE_BYTES, MOST_METADATA_OBJECT_BYTES, Object};
 use ost_store::{Got, get, read_piece};
-use ost_walk::{ObjectFault, WalkEnd};
+use ost_walk::{ObjectFault, WalkEnd, refused};
 use std::alloc::Global;
 
 /// The content of a file of the store of this size.

@@ -1,9 +1,10 @@
 -- The refs that a commit is bound to.
-use Rattle.std.specs.Prelude.{ℕ, Bool, true, false, List, Option, Some, None, option_and_then, if◌then◌else◌, codes}
+use Rattle.std.specs.Prelude.{ℕ, Bool, true, false, List, Option, Some, None, option_and_then, if◌then◌else◌}
 use Rattle.std.specs.Str.{bytes_eq}
 use Rattle.gv_value.specs.declared.basic.Basic.TheVariants as basics
 use Rattle.gv_value.specs.Shape.{Shape}
 use Rattle.gv_value.specs.Tree.{Tree, Trees, no_trees, tree}
+use Rattle.ost_model.specs.declared.limits.TheConstants.{REF_BINDING}
 use Rattle.ost_model.specs.Fields.{text_in, items_in, each_of}
 
 abbrev pub same_text : List ℕ → Option (List ℕ) → Bool
@@ -44,7 +45,7 @@ texts_in (Tree.variant t v) =
 texts_in _ = None
 
 abbrev pub binding_name : List ℕ
-binding_name = codes "ostree.ref-binding"
+binding_name = REF_BINDING.now
 
 -- The ref-binding: the value of the last entry `ostree.ref-binding` of the metadata where that has
 -- type `as`, else none.

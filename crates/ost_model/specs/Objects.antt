@@ -6,7 +6,7 @@ use Rattle.fp_host.specs.Paths.{Elements, is_link_text}
 use Rattle.fp_host.specs.Outcome.{Spot, gone, folder, holds, points, Disk}
 use Rattle.fp_base.specs.declared.object.ObjKind.{ObjKind}
 use Rattle.fp_base.specs.declared.object.ObjKind.TheVariants as kinds
-use Rattle.ost_model.specs.declared.limits.TheConstants.{MOST_METADATA_OBJECT_BYTES, MOST_FILE_BYTES}
+use Rattle.ost_model.specs.declared.limits.TheConstants.{LOWEST_TYPE_BIT, MOST_METADATA_OBJECT_BYTES, MOST_FILE_BYTES}
 use Rattle.ost_model.specs.declared.object.Object.{Object}
 use Rattle.ost_model.specs.declared.object.Object.TheVariants as objects
 use Rattle.fp_base.specs.declared.rule.Rule.{Rule}
@@ -128,7 +128,7 @@ name_fault d kind (Some object) = or_else (kind_fault kind object) (content_faul
 
 abbrev pub dir_bits : Option MetaView → Option Fault
 dir_bits None = None
-dir_bits (Some m) = unless (is_permission (m.mode % 4096)) (refused_mode m.mode)
+dir_bits (Some m) = unless (is_permission (m.mode % LOWEST_TYPE_BIT)) (refused_mode m.mode)
 
 abbrev pub dir_mode_fault : ObjKind → Option Object → Option Fault
 dir_mode_fault kinds.DirMeta (Some (objects.Meta bytes)) = dir_bits (meta_of bytes)

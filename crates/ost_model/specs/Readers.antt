@@ -9,6 +9,7 @@ use Rattle.fp_base.specs.declared.object.ObjKind.{ObjKind}
 use Rattle.fp_base.specs.declared.object.ObjKind.TheVariants as kinds
 use Rattle.fp_base.specs.declared.rule.Rule.{Rule}
 use Rattle.fp_base.specs.declared.rule.Rule.TheVariants as rules
+use Rattle.ost_model.specs.declared.limits.TheConstants.{LOWEST_TYPE_BIT, DIRECTORY_TYPE}
 use Rattle.ost_model.specs.Types.{commit_shape, tree_shape, meta_shape}
 use Rattle.ost_model.specs.Fields.{CommitView, FileRow, DirRow, TreeView, MetaView, commit_in, tree_in, meta_in}
 
@@ -67,7 +68,7 @@ abbrev pub meta_breaks : MetaView → Option Rule
 meta_breaks m = first_broken (
     (m.uid == 0 && m.gid == 0, rules.Owner)
     ∷ (m.bare, rules.Xattrs)
-    ∷ (m.mode / 4096 == 4, rules.Kind) ∷ [])
+    ∷ (m.mode / LOWEST_TYPE_BIT == DIRECTORY_TYPE, rules.Kind) ∷ [])
 
 -- what is said, where no rule is broken
 abbrev pub kept : {A : Type 0} → Option Rule → A → Result A Rule

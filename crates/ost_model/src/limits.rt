@@ -18,6 +18,12 @@ pub const MOST_METADATA_FILE_BYTES: u64 = 1024 * 1024;
 /// The permission bits that a file may have.
 pub const STORED_BITS: u32 = 0o775;
 
+/// The lowest bit of a mode that says the type: the bits below it are permission bits.
+pub const LOWEST_TYPE_BIT: u32 = 0o10000;
+
+/// The type of a directory: what its mode says from the lowest type bit on.
+pub const DIRECTORY_TYPE: u32 = 0o4;
+
 /// The mode of a file, which its permission bits are added to.
 pub const REGULAR_MODE: u32 = 0o100000;
 
@@ -26,3 +32,6 @@ pub const LINK_MODE: u32 = 0o120777;
 
 /// The file `config` of a store.
 pub const STORE_CONFIG: &str = "[core]\nrepo_version=1\nmode=bare-user-only\n";
+
+/// The key of a commit's metadata under which it says its refs.
+pub const REF_BINDING: &str = "ostree.ref-binding";

@@ -21,6 +21,7 @@ use crate::values::{check, children_of, text_of, text_of_bytes, value_of};
 use fp_base::{Items, Text};
 use gv_decode::{DecodeError, variant_parts};
 use gv_value::{Basic, GvType, GvValue, Kind, Parts};
+use ost_model::REF_BINDING;
 use std::alloc::{AllocError, Global};
 
 /// The refs that a commit says it was made for: the value of the last entry `ostree.ref-binding` of
@@ -109,7 +110,7 @@ fn is_binding(alloc: Global, key: &[u8]) -> Result<bool, AllocError>
     ensures { IfOk result (λ named. named ≡ is_named binding_name (tree_at text_shape key.now)) }
 {
     let text = text_of_bytes(alloc, key)?;
-    Ok(text.as_str() == "ostree.ref-binding")
+    Ok(text.as_str() == REF_BINDING)
 }
 
 /// The texts of the bytes of a variant of type `as`.

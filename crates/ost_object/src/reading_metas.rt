@@ -15,6 +15,7 @@ use crate::types::meta_type;
 use crate::values::{number_of, value_of};
 use fp_base::Rule;
 use gv_value::{GvValue, Parts};
+use ost_model::{DIRECTORY_TYPE, LOWEST_TYPE_BIT};
 use std::alloc::Global;
 
 /// The dirmeta that bytes are, or the first rule that they break.
@@ -94,7 +95,7 @@ fn judged(fields: MetaFields) -> Result<DirMeta, ObjectError>
     if !fields.bare {
         return Err(ObjectError::Malformed(Rule::Xattrs));
     }
-    if fields.mode / 0o10000 != 0o4 {
+    if fields.mode / LOWEST_TYPE_BIT != DIRECTORY_TYPE {
         return Err(ObjectError::Malformed(Rule::Kind));
     }
     Ok(DirMeta { mode: fields.mode })

@@ -12,6 +12,7 @@ use crate::spelling::spelled;
 use crate::types::meta_type;
 use fp_base::{Blob, Rule};
 use gv_value::GvValue;
+use ost_model::{DIRECTORY_TYPE, LOWEST_TYPE_BIT};
 use std::alloc::{AllocError, Global};
 
 /// The bytes that read as a dirmeta. `Malformed` comes exactly where there are none.
@@ -19,7 +20,7 @@ pub fn write_dirmeta(alloc: Global, meta: &DirMeta) -> Result<Blob, ObjectError>
     ensures { Writes meta_read meta_breaks result (meta_view meta.now) }
 {
     let meta = *meta;
-    if meta.mode / 0o10000 != 0o4 {
+    if meta.mode / LOWEST_TYPE_BIT != DIRECTORY_TYPE {
         return Err(ObjectError::Malformed(Rule::Kind));
     }
     let of = meta_type(alloc)?;

@@ -10,7 +10,7 @@ ghost use Rattle.ost_pull.specs.Batches.{IsParted, object_in};
 use fp_base::{Blob, ObjKind, Text};
 use fp_name::Digest;
 use ost_content::{header, is_permission, link_header};
-use ost_model::Object;
+use ost_model::{LOWEST_TYPE_BIT, Object};
 use ost_object::{commit_root, read_dirmeta, read_dirtree};
 use par_digest::Item;
 use std::alloc::{AllocError, Global};
@@ -69,7 +69,7 @@ fn is_dirmeta(alloc: Global, bytes: &[u8]) -> bool
     ensures { IsTrue result → rules_fault kinds.DirMeta (objects.Meta bytes.now) ≡ None }
 {
     match read_dirmeta(alloc, bytes) {
-        Ok(meta) => is_permission(meta.mode % 4096),
+        Ok(meta) => is_permission(meta.mode % LOWEST_TYPE_BIT),
         Err(_) => false,
     }
 }

@@ -89,7 +89,7 @@ fn fetch_meta<H: Host, R: Remotes>(
     }
 }
 
-/// The dirtree of a directory, as the object that has so many before it.
+/// The dirtree of a directory, as the object that has this number of objects before it.
 pub(crate) fn open_tree<H: Host, R: Remotes>(
     alloc: Global,
     host: &mut H,
@@ -114,7 +114,7 @@ pub(crate) fn open_tree<H: Host, R: Remotes>(
     }
 }
 
-/// Checks the dirmeta of a directory, as the object that has so many before it.
+/// Checks the dirmeta of a directory, as the object that has this number of objects before it.
 fn open_meta<H: Host, R: Remotes>(
     alloc: Global,
     host: &mut H,
@@ -139,8 +139,8 @@ fn open_meta<H: Host, R: Remotes>(
     }
 }
 
-/// The dirtree of a directory whose dirtree and dirmeta come next, with so many objects before
-/// them.
+/// The dirtree of a directory whose dirtree and dirmeta come next, with this number of objects
+/// before them.
 pub(crate) fn open_dir<H: Host, R: Remotes>(
     alloc: Global,
     host: &mut H,

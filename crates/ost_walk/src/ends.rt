@@ -16,7 +16,7 @@ pub enum ObjectFault {
     TooDeep,
     /// There is no such object.
     Missing,
-    /// It has so many bytes.
+    /// It has this number of bytes, which are too many.
     TooLong(u64),
     /// Its permission bits are not within 0775.
     RefusedMode(u32),
@@ -94,7 +94,7 @@ impl From<RemoteError> for WalkEnd {
 }
 
 /// The refusal of this object.
-pub(crate) fn refused(digest: &Digest, kind: ObjKind, fault: ObjectFault) -> WalkEnd
+pub fn refused(digest: &Digest, kind: ObjKind, fault: ObjectFault) -> WalkEnd
     ensures { result ≡ refusal digest.now kind fault }
 {
     WalkEnd::Refused(WalkFault {

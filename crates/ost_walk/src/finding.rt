@@ -22,7 +22,7 @@ pub(crate) fn find_dir(entries: &[DirEntry], name: &str, depth: u32) -> Option<D
 }
 
 /// The digest of the file of this name among these.
-pub(crate) fn find_file(files: &[FileEntry], name: &str) -> Option<Digest>
+pub fn find_file(files: &[FileEntry], name: &str) -> Option<Digest>
     ensures { result ≡ option_map file_digest (find_file name.now (map file_row files.now)) }
 {
     for file in files {

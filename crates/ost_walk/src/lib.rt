@@ -19,10 +19,12 @@ mod surveying;
 mod surveys;
 mod walking;
 
-pub use ends::{ObjectFault, WalkEnd, WalkFault};
+pub use ends::{ObjectFault, WalkEnd, WalkFault, refused};
+pub use finding::find_file;
 pub use found::Found;
 pub use gathering::used;
 pub use looking::look;
 pub use places::Places;
+pub use reading::{check_mode, unread};
 pub use surveying::{order, survey};
 pub use surveys::Survey;

@@ -5,8 +5,8 @@ ghost use Rattle.ost_walk.specs.Steps.{limit_of};
 use crate::ends::ObjectFault;
 use ost_model::{MOST_LEVELS, MOST_OBJECTS};
 
-/// The limit that an object passes which has so many before it, in a directory so far below the
-/// root.
+/// The limit that an object passes which has this number of objects before it, in a directory this
+/// far below the root.
 pub(crate) fn limit_of(count: usize, depth: u32) -> Option<ObjectFault>
     ensures { result ≡ limit_of count depth }
 {

@@ -1,5 +1,5 @@
 //! The bytes of metadata objects, read.
-ghost use Rattle.std.specs.Prelude.{◌≡◌, Some, None};
+ghost use Rattle.std.specs.Prelude.{◌≡◌, Some, None, IsErrOf};
 ghost use Rattle.fp_base.specs.declared.object.ObjKind.TheVariants as kinds;
 ghost use Rattle.ost_model.specs.Objects.{Have, object_fault, dir_bits};
 ghost use Rattle.ost_object.specs.Views.{root_view, tree_view, meta_view};
@@ -11,13 +11,14 @@ use crate::ends::{ObjectFault, WalkEnd, refused};
 use fp_base::{Blob, ObjKind};
 use fp_name::Digest;
 use ost_content::is_permission;
+use ost_model::LOWEST_TYPE_BIT;
 use ost_object::{
     CommitRoot, DirMeta, DirTree, ObjectError, commit_root, read_dirmeta, read_dirtree,
 };
 use std::alloc::Global;
 
 /// The end of a walk at an object that isn't read.
-fn unread(digest: &Digest, kind: ObjKind, error: ObjectError) -> WalkEnd
+pub fn unread(digest: &Digest, kind: ObjKind, error: ObjectError) -> WalkEnd
     ensures { result ≡ unread_end digest.now kind error }
 {
     match error {
@@ -80,13 +81,14 @@ pub(crate) fn check_meta(alloc: Global, bytes: &Blob, digest: &Digest) -> Result
     }
 }
 
-/// Checks the permission bits of a dirmeta.
-fn check_mode(meta: DirMeta, digest: &Digest) -> Result<(), WalkEnd>
+/// Checks that the permission bits of a dirmeta are within 0775.
+pub fn check_mode(meta: DirMeta, digest: &Digest) -> Result<(), WalkEnd>
     ensures tells { EndsBy (λ _. dir_bits (Some (meta_view meta)) ≡ None)
         (IsFaultOf digest.now kinds.DirMeta (dir_bits (Some (meta_view meta)))) result }
     ensures faults { NoFault result }
+    ensures needs_no_memory { IsErrOf result WalkEnd.NoMemory → ⊥ }
 {
-    if is_permission(meta.mode % 4096) {
+    if is_permission(meta.mode % LOWEST_TYPE_BIT) {
         Ok(())
     } else {
         Err(refused(
