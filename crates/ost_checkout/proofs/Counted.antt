@@ -114,7 +114,8 @@ most_left count listed listed' new files dirs inner others now most is split man
 
 -- ---- while the rows are listed
 
--- So many places were gone through, of the order; what is left are the directories that aren't expanded yet.
+-- The number of places of the order that were gone through; what is left are the directories that
+-- aren't expanded yet.
 pub record AreCounted (have : Have) (commit : List ℕ) (to : Elements) (rows : List Row) (i : ℕ) : Type 0 where
   pub count : ℕ
   pub sum : count + length (pending have (opens to (drop i rows))) + 1 ≡ length (order have commit)

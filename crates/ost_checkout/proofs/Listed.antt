@@ -74,7 +74,7 @@ ladder_once to rows i row low at ladder has = (rung_at to rows i row low at ladd
 
 -- ---- what is listed
 
--- The rows are paths of the commit; what is in the first of them, so many, is listed too.
+-- The rows are paths of the commit; what is in the first i of them is listed too.
 pub record AreListed (have : Have) (commit : List ℕ) (to : Elements) (rows : List Row) (i : ℕ) : Type 0 where
   pub each : (row : Row) → Contains rows row → IsRowOf have commit to row
   pub ladder : IsLadder to rows

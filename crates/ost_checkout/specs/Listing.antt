@@ -46,7 +46,7 @@ pub record Expands (root : Elements) (i : ℕ) (v : View) (rows rows' : List Row
   pub at : IsAt rows i row
   pub is : ExpandsEntry root row.path row.entry v rows rows'
 
--- where a list of so many rows may have what is in the directory of this dirtree too
+-- where a list with this number of rows may have what is in the directory of this dirtree too
 pub record CanExpandDir (root : Elements) (d : List ℕ) (listed : ℕ) (v : View) : Type 0 where
   pub tree : HasTree root d v
   pub room : (view : TreeView) → tree_at (store root (shows v)) d ≡ Some view

@@ -13,7 +13,7 @@ use ost_model::MOST_OBJECTS;
 use ost_object::DirTree;
 use std::alloc::{AllocError, Global};
 
-/// Whether a list of so many rows has room for these.
+/// Whether a list of `listed` rows has room for what is in this dirtree.
 fn has_room(listed: usize, tree: &DirTree) -> bool
     requires { listed ≤ most_rows }
     ensures { result ≡ leb (listed + (length tree.now.files + length tree.now.dirs)) most_rows }

@@ -3,3 +3,4 @@ mod Found
 mod Removed
 mod Parted
 mod Pruned
+mod InOrder

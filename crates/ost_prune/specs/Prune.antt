@@ -71,7 +71,7 @@ pub record ListsUnused (root : Elements) (keep : List (List ℕ)) (v : View)
   pub each : (object : List ℕ × ObjKind) → Contains objects object ↔ IsUnused root keep v object
   pub ascending : is_ascending (map (text_in root) objects) ≡ true
 
--- So many objects were there that no commit to keep uses, and they are gone.
+-- This is the number of objects that were there and that no commit to keep uses, and they are gone.
 pub record WasPruned (root : Elements) (keep : List (List ℕ)) (number : ℕ) (u w : View) : Type 0
   where
     pub objects : List (List ℕ × ObjKind)

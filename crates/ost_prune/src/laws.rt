@@ -1,14 +1,15 @@
 //! Laws of the words that the contract uses, for crates that build on it. Each is the contract of a
 //! function that does nothing.
-ghost use Rattle.std.specs.Prelude.{◌≡◌, ◌↔◌, ℕ, List, true, is_some};
+ghost use Rattle.std.specs.Prelude.{◌≡◌, ◌↔◌, ℕ, List, true, false, is_some};
 ghost use Rattle.fp_host.specs.Paths.{Elements};
 ghost use Rattle.fp_host.specs.View.{View, IsTree};
+ghost use Rattle.fp_host.specs.Calls.{unlinks, done};
 ghost use Rattle.fp_host.specs.Outcome.{Disk, Leaves, shows};
 ghost use Rattle.fp_name.specs.Hex.{is_digest};
 ghost use Rattle.fp_base.specs.declared.object.ObjKind.{ObjKind};
 ghost use Rattle.ost_model.specs.Objects.{store};
 ghost use Rattle.ost_model.specs.Used.{IsUsed};
-ghost use Rattle.ost_prune.specs.Prune.{path_in, IsUnused, Prunes, WasPruned};
+ghost use Rattle.ost_prune.specs.Prune.{path_in, is_commit, CommitsFirst, IsUnused, Prunes, WasPruned};
 
 /// What a commit to keep uses is untouched: its name holds what it held, and each stop leaves there
 /// what some stop before would have left.
@@ -34,4 +35,16 @@ pub fn used_objects_are_left()
         → (is_some (store root (shows w) object.0 object.1) ≡ true)
         ↔ ((is_some (store root (shows u) object.0 object.1) ≡ true)
         × (IsUnused root keep u object → ⊥)) }
+{}
+
+/// Of the objects that no commit to keep uses, a commit's name may go first, and the order is kept;
+/// where another object's name goes while such a commit is there, it is broken.
+pub fn commits_go_first()
+    ensures kept { (root : Elements) (keep : List (List ℕ)) (commit : List ℕ × ObjKind) (u : View)
+        → IsUnused root keep u commit → is_commit commit ≡ true
+        → CommitsFirst root keep u (done (unlinks (path_in root commit)) u) }
+    ensures broken { (root : Elements) (keep : List (List ℕ)) (commit other : List ℕ × ObjKind)
+        (u : View) → IsUnused root keep u commit → is_commit commit ≡ true
+        → IsUnused root keep u other → is_commit other ≡ false
+        → CommitsFirst root keep u (done (unlinks (path_in root other)) u) → ⊥ }
 {}

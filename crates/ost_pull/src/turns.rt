@@ -240,7 +240,7 @@ fn take_batch<H: Host, R: Remotes, G: Gate + Sync>(
     }
 }
 
-/// Where the batch ends that begins at this object of so many.
+/// Where the batch ends that begins at this object, of `count` objects.
 fn batch_end(at: usize, count: usize) -> usize
     requires { at < count }
     ensures later { at < result }

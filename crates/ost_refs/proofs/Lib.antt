@@ -6,4 +6,5 @@ mod Drops
 mod Levels
 mod Named
 mod Found
+mod Reached
 mod Stats

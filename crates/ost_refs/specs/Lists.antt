@@ -1,10 +1,10 @@
 -- The refs of a store in a list.
-use Rattle.std.specs.Prelude.{◌≡◌, ◌↔◌, ℕ, List, map, true, Contains}
-use Rattle.fp_host.specs.Paths.{Elements, path_text}
+use Rattle.std.specs.Prelude.{◌≡◌, ◌↔◌, ◌⊎◌, ◌+◌, ℕ, List, length, map, true, Contains}
+use Rattle.fp_host.specs.Paths.{Elements, IsAbove, path_text}
 use Rattle.fp_host.specs.View.{View}
 use Rattle.fp_host.specs.Calls.{IsFile}
 use Rattle.fp_host.specs.Reads.{is_ascending}
-use Rattle.ost_refs.specs.Places.{place_path, is_place}
+use Rattle.ost_refs.specs.Places.{heads, remotes, place_path, is_place}
 use Rattle.ost_refs.specs.declared.place.RefPlace.{RefPlace}
 
 -- the texts of their paths
@@ -16,3 +16,14 @@ pub record ListsRefs (root : Elements) (v : View) (places : List RefPlace) : Typ
   pub each : (place : RefPlace) → Contains places place
       ↔ ((is_place place ≡ true) × IsFile (v.names (place_path root place)))
   pub ascending : is_ascending (texts_of root places) ≡ true
+
+-- four names below refs/heads, or five below refs/remotes
+abbrev pub IsReached : Elements → Elements → Type 0
+IsReached root q = (IsAbove (heads root) q × (length q ≡ length (heads root) + 4))
+    ⊎ (IsAbove (remotes root) q × (length q ≡ length (remotes root) + 5))
+
+-- No other path counts: where all that is reached is the same, the same places are listed, whatever
+-- stands deeper.
+pub record ListsReached (root : Elements) (v : View) (places : List RefPlace) : Type 0 where
+  pub same : (w : View) → ((q : Elements) → IsReached root q → w.names q ≡ v.names q)
+      → ListsRefs root w places

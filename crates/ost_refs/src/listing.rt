@@ -2,7 +2,7 @@
 ghost use Rattle.std.specs.Prelude.{IfOk, OnOk, IsErrOf};
 ghost use Rattle.fp_host.specs.Causes.{IsCounted};
 ghost use Rattle.fp_host.specs.Frame.{AtEnd, Unchanged};
-ghost use Rattle.ost_refs.specs.Lists.{ListsRefs};
+ghost use Rattle.ost_refs.specs.Lists.{ListsRefs, ListsReached};
 ghost use Rattle.ost_refs.specs.Found.{place_named, ArePaths, Puts, Adds, Finds};
 
 use crate::naming::place_named;
@@ -29,6 +29,10 @@ pub fn list_refs<H: Host>(
 ) -> Result<Items<RefPlace>, HostEnd>
     ensures unchanged { Unchanged (H.moments host.old) (H.moments host.new) }
     ensures tells { IfOk result (λ places. AtEnd (λ u w. ListsRefs root.now u places)
+        (H.moments host.old) (H.moments host.new)) }
+    // It looks four names below `refs/heads` and five below `refs/remotes`: what stands deeper
+    // makes no difference.
+    ensures reach { IfOk result (λ places. AtEnd (λ u w. ListsReached root.now u places)
         (H.moments host.old) (H.moments host.new)) }
     ensures fault_has_cause { IsCounted (IsErrOf result HostEnd.Fault)
         (H.moments host.old) (H.faults host.old) (H.faults host.new) }

@@ -1,4 +1,4 @@
-//! The paths so many folders below a folder.
+//! The paths at one depth below a folder.
 ghost use Rattle.std.specs.Prelude.{IfOk, IsErrOf};
 ghost use Rattle.fp_host.specs.Causes.{IsCounted};
 ghost use Rattle.fp_host.specs.Frame.{AtEnd, Unchanged};
@@ -24,8 +24,8 @@ fn children<H: Host>(alloc: Global, host: &mut H, folders: &[Path]) -> Result<Ve
     Ok(paths)
 }
 
-/// The paths that are so many elements longer than that of the folder: what stands there, whatever
-/// it is.
+/// The paths that are longer than that of the folder by this number of elements: what stands there,
+/// whatever it is.
 pub fn paths_below<H: Host>(
     alloc: Global,
     host: &mut H,

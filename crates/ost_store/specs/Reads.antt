@@ -21,7 +21,7 @@ pub record IsThere (root : Elements) (d : List ℕ) (kind : ObjKind) (v : View)
     (there : Bool) : Type 0 where
   pub is : there ≡ is_some (object_of kind (object_path root d kind) v)
 
--- what is told of an object of at most so many bytes
+-- what is told of an object, where it has at most this number of bytes
 abbrev pub got_of : ℕ → Option Object → Got
 got_of most None = got.Absent
 got_of most (Some (objects.Meta bytes)) =

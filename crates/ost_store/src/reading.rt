@@ -24,7 +24,7 @@ pub enum Got {
     Link(Text),
     /// There is no such object.
     Absent,
-    /// The file that keeps it has so many bytes, more than were allowed.
+    /// The number of bytes of the file that keeps it, more than were allowed.
     TooLong(u64),
 }
 
@@ -61,7 +61,7 @@ pub fn has<H: Host>(
     }
 }
 
-/// The object as the store in this folder has it, where it has at most so many bytes: a metadata
+/// The object as the store in this folder has it, where it has at most `max` bytes: a metadata
 /// object's bytes, a file's permission bits and size, a link's text. Whether its name is true isn't
 /// looked at. `Absent` comes exactly where `has` is false.
 pub fn get<H: Host>(
