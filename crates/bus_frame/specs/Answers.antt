@@ -42,7 +42,7 @@ abbrev pub BeginsBroken : List ℕ → FrameRule → Type 0
 BeginsBroken bytes rule =
     (message : List ℕ) × (rest : List ℕ) × (bytes ≡ message ++ rest) × Breaks message rule
 
--- so many bytes lack: to the fixed part, or to the length of the message whose fixed part is sound
+-- n bytes lack: to the fixed part, or to the length of the message whose fixed part is sound
 abbrev pub Lacks : List ℕ → ℕ → Type 0
 Lacks bytes n =
     ((length bytes < 16) × (length bytes + n ≡ 16))

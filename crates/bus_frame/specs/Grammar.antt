@@ -101,7 +101,7 @@ type_alignment (array t) = 4
 type_alignment (struct t ts) = 8
 type_alignment (entry key t) = 8
 
--- a value of a type, with room for so many containers, arrays and structs
+-- a value of a type, with room for these numbers of containers, arrays and structs
 abbrev pub IsValue : Bool → (all arrays structs : ℕ) → Ty → ℕ → List ℕ → Type 0
 IsValue little all arrays structs (basic c) at bytes = IsBasic little c at bytes
 IsValue little (suc all) arrays structs variant at bytes =

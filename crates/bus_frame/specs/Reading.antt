@@ -102,8 +102,8 @@ header_of f k = record {
   body_len = f.body_len;
 }
 
--- what stands at the front of some bytes: less than a message, of which so many bytes lack at
--- least; a broken rule; or a message with this header and of this many bytes
+-- what stands at the front of some bytes: less than a message, of which at least this number of
+-- bytes lack; a broken rule; or a message with this header and of this number of bytes
 pub data Read : Type 0 where
   need : ℕ → Read
   bad : FrameRule → Read

@@ -37,7 +37,8 @@ abbrev mutual
   types_text none = []
   types_text (more t ts) = type_text t ++ types_text ts
 
--- A type has basic codes, and entries only as elements; at most so many arrays and structs nest.
+-- A type has basic codes, and entries only as elements; at most `arrays` arrays and `structs`
+-- structs nest.
 abbrev mutual
   pub is_type : Bool → Ty → ℕ → ℕ → Bool
   is_type as_element (basic c) arrays structs = is_basic c
@@ -73,7 +74,7 @@ members_after one (suc n) types = do
   rest ← one types
   or_else (remainder_byte 41 rest) (members_after one n rest)
 
--- with room for so many containers, and what reads the types within
+-- with room for these numbers of containers, and what reads the types within
 abbrev pub type_step : (all arrays structs : ℕ) → (ℕ → ℕ → List ℕ → Option (List ℕ)) → List ℕ
     → Option (List ℕ)
 type_step all arrays structs inner types = do

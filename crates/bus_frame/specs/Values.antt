@@ -106,7 +106,7 @@ struct_at one types p = do
   q ← aligned_at 8 p
   members_at one (length types) types q
 
--- a value, with room for so many containers and what reads the values within
+-- a value, with room for these numbers of containers and what reads the values within
 abbrev pub value_step : Bool → (all arrays structs : ℕ) → (ℕ → ℕ → List ℕ → Place → Option Ended)
     → List ℕ → Place → Option Ended
 value_step little all arrays structs inner types p = do

@@ -1,5 +1,5 @@
 -- How messages are written, after the D-Bus specification's "Marshaling" and "Message Protocol".
-use Rattle.std.specs.Prelude.{ℕ, ◌+◌, ◌-◌, Bool, if◌then◌else◌, List, [], ◌∷◌, ◌++◌, length, take, drop, replicate, codes, Option, Some, None}
+use Rattle.std.specs.Prelude.{ℕ, ◌+◌, ◌-◌, Bool, if◌then◌else◌, List, [], ◌∷◌, ◌++◌, length, take, drop, replicate, Option, Some, None}
 use Rattle.byteorder.specs.Endian.{little_bytes, big_bytes}
 use Rattle.bus_frame.specs.declared.header.Header.{Header}
 use Rattle.bus_frame.specs.declared.message.MessageType.{MessageType}
@@ -7,6 +7,7 @@ use Rattle.bus_frame.specs.declared.message.MessageType.TheVariants as type
 use Rattle.bus_frame.specs.declared.message.Flags.{Flags}
 use Rattle.bus_frame.specs.declared.message.TheConstants.Flags.{NO_REPLY_EXPECTED}
 use Rattle.bus_frame.specs.declared.limits.TheConstants.{GREATEST_SERIAL}
+use Rattle.bus_frame.specs.declared.names.TheConstants.{BUS_NAME}
 use Rattle.bus_frame.specs.Messages.{type_code}
 use Rattle.bus_frame.specs.Numbers.{padding}
 use Rattle.bus_frame.specs.Fields.{Content, word, number, other, Field}
@@ -57,7 +58,7 @@ abbrev pub error_fields : List ℕ → ℕ → Option (List ℕ) → List Field
 error_fields name reply to =
     record { code = 4; content = word 115 name } ∷ record { code = 5; content = number reply }
     ∷ field_of_peer to
-    ++ record { code = 7; content = word 115 (codes "org.freedesktop.DBus") } ∷ []
+    ++ record { code = 7; content = word 115 BUS_NAME.now } ∷ []
 
 -- a message with these fields and no body
 abbrev pub bare_bytes : Bool → MessageType → Flags → ℕ → List Field → List ℕ

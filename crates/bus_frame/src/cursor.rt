@@ -104,7 +104,7 @@ impl<'a> Cursor<'a> {
         Some((number(little, digits), remainder))
     }
 
-    /// A text of so many bytes, and a zero byte.
+    /// A text of this number of bytes, and a zero byte.
     #[tactic(auto, unfolding(crate::specs::Places::text_at))]
     pub fn text(self, count: usize) -> Option<(&'a str, Cursor<'a>)>
         ensures { Gives (λ x. (x.0.now, place_of x.1)) result

@@ -20,7 +20,7 @@ pub enum FrameError {
 impl fmt::Display for FrameError {
     fn fmt<W: fmt::Write>(&self, f: &mut fmt::Formatter<W>) -> fmt::Result {
         match self {
-            FrameError::Bad(rule) => write!(f, "a message that breaks a rule: {rule:?}"),
+            FrameError::Bad(rule) => write!(f, "a message that breaks a rule: {rule}"),
             FrameError::NoMemory => write!(f, "out of memory"),
         }
     }

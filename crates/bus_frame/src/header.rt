@@ -41,6 +41,6 @@ pub struct Header {
 pub enum ReadFrame {
     /// A whole message with this header and of this many bytes.
     Frame(Header, u64),
-    /// The beginning of a message, of which at least so many bytes lack.
+    /// The beginning of a message, of which at least this number of bytes lack.
     Need(u64),
 }

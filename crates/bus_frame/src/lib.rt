@@ -29,7 +29,7 @@ pub use limits::{
 };
 pub use message::{Flags, MessageType};
 pub use names::{
-    are_name_elements, is_bus_name, is_interface_name, is_member_name, is_object_path,
+    BUS_NAME, are_name_elements, is_bus_name, is_interface_name, is_member_name, is_object_path,
     is_unique_name, is_well_known_name,
 };
 pub use reading::read_frame;

@@ -6,6 +6,9 @@ ghost use Rattle.bus_frame.specs.Names.{begins_element, continues_element, is_el
 
 use crate::limits::MOST_NAME_BYTES;
 
+/// The bus's own name, and that of its interface.
+pub const BUS_NAME: &str = "org.freedesktop.DBus";
+
 /// Which characters the elements of a name have.
 #[derive(Clone, Copy)]
 pub enum Alphabet {

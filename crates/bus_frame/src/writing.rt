@@ -11,6 +11,7 @@ ghost use Rattle.bus_frame.specs.Writing.{number_bytes, zeros, text_bytes, field
 
 use crate::limits::GREATEST_SERIAL;
 use crate::message::{Flags, MessageType};
+use crate::names::BUS_NAME;
 use byteorder::{BigEndian, ByteOrder, LittleEndian};
 use fp_base::Blob;
 use std::alloc::{AllocError, Global};
@@ -78,8 +79,6 @@ fn put_number(fields: &mut Vec<u8>, little: bool, code: u8, number: u32) -> Resu
     Ok(())
 }
 
-const BUS: &str = "org.freedesktop.DBus";
-
 /// The field array of the answer to a refused call.
 fn error_array(
     alloc: Global,
@@ -100,7 +99,7 @@ fn error_array(
     if let Some(peer) = to {
         put_word(&mut fields, little, 6, peer)?;
     }
-    put_word(&mut fields, little, 7, BUS)?;
+    put_word(&mut fields, little, 7, BUS_NAME)?;
     Ok(fields)
 }
 

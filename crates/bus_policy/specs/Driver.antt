@@ -3,14 +3,16 @@ use Rattle.std.specs.Prelude.{ℕ, Bool, true, false, ◌||◌, ◌&&◌, if◌t
 use Rattle.std.specs.List.{list_any}
 use Rattle.std.specs.Str.{bytes_eq}
 use Rattle.bus_frame.specs.declared.header.Header.{Header}
+use Rattle.bus_frame.specs.declared.names.TheConstants.{BUS_NAME}
 use Rattle.bus_rules.specs.Rules.{says}
 use Rattle.bus_policy.specs.declared.driver.Handler.{Handler}
 use Rattle.bus_policy.specs.declared.driver.Handler.TheVariants as handler
+use Rattle.bus_policy.specs.declared.driver.TheConstants.{INTROSPECTABLE, PEER}
 use Rattle.bus_policy.specs.declared.level.Level.TheVariants as level
 
 -- the bus itself, by its name
 abbrev pub driver : List ℕ
-driver = codes "org.freedesktop.DBus"
+driver = BUS_NAME.now
 
 -- to its name, or to none
 abbrev pub is_to_driver : Header → Bool
@@ -46,9 +48,9 @@ own_handler member =
 -- those of its other interfaces
 abbrev pub other_handler : (interface member : List ℕ) → Handler
 other_handler interface member =
-    if (bytes_eq interface (codes "org.freedesktop.DBus.Introspectable")
+    if (bytes_eq interface INTROSPECTABLE.now
     && bytes_eq member (codes "Introspect"))
-    || (bytes_eq interface (codes "org.freedesktop.DBus.Peer")
+    || (bytes_eq interface PEER.now
     && (bytes_eq member (codes "Ping") || bytes_eq member (codes "GetMachineId"))) then handler.Pass
     else handler.Deny
 

@@ -5,14 +5,13 @@ ghost use Rattle.bus_rules.specs.Rules.{says};
 ghost use Rattle.bus_policy.specs.Driver.{is_to_driver, called_interface, called_member, own_handler, other_handler, handler_of, is_listing};
 
 use crate::level::Level;
-use bus_frame::Header;
+use bus_frame::{BUS_NAME, Header};
 use fp_base::Text;
 
-/// The bus's name, and that of its interface.
-pub const DRIVER: &str = "org.freedesktop.DBus";
-
+/// The interface of a bus that tells what it has.
 const INTROSPECTABLE: &str = "org.freedesktop.DBus.Introspectable";
 
+/// The interface that each peer has.
 const PEER: &str = "org.freedesktop.DBus.Peer";
 
 /// What becomes of a call to the bus.
@@ -43,7 +42,7 @@ pub fn is_text(found: &Option<Text>, text: &str) -> bool
 fn is_for_driver(header: &Header) -> bool
     ensures { result ≡ is_to_driver header.now }
 {
-    header.destination.is_none() || is_text(&header.destination, DRIVER)
+    header.destination.is_none() || is_text(&header.destination, BUS_NAME)
 }
 
 /// The interface of a call to the bus, which is the bus's own where none is named.
@@ -52,7 +51,7 @@ fn interface_called(header: &Header) -> &str
 {
     match &header.interface {
         Some(interface) => interface.as_str(),
-        None => DRIVER,
+        None => BUS_NAME,
     }
 }
 
@@ -99,7 +98,7 @@ pub fn handler_of_call(header: &Header) -> Handler
     ensures { result ≡ handler_of header.now }
 {
     let interface = interface_called(header);
-    if interface == DRIVER {
+    if interface == BUS_NAME {
         own_handler_of(member_called(header))
     } else {
         other_handler_of(interface, member_called(header))

@@ -5,9 +5,9 @@ ghost use Rattle.bus_policy.specs.Events.{is_call, is_reply, tells_owner};
 ghost use Rattle.bus_policy.specs.Verdicts.{pass_if as passed_if, holds_word, reply_to};
 ghost use Rattle.bus_policy.specs.Watching.{event};
 
-use crate::driver::{DRIVER, is_text};
+use crate::driver::is_text;
 use crate::verdict::Verdict;
-use bus_frame::{Header, MessageType, is_names};
+use bus_frame::{BUS_NAME, Header, MessageType, is_names};
 use fp_base::Side;
 
 /// A message that has leave passes, and another is dropped.
@@ -36,8 +36,8 @@ pub fn is_about_owner(header: &Header) -> bool
     ensures { result ≡ tells_owner header.now }
 {
     matches!(header.kind, MessageType::Signal)
-        && is_text(&header.sender, DRIVER)
-        && is_text(&header.interface, DRIVER)
+        && is_text(&header.sender, BUS_NAME)
+        && is_text(&header.interface, BUS_NAME)
         && is_text(&header.member, "NameOwnerChanged")
 }
 

@@ -12,7 +12,7 @@ ghost use Rattle.bus_policy.specs.Events.{Judged};
 ghost use Rattle.bus_policy.specs.Verdicts.{has_level, refused, match_call, name_call, driver_call, call_to, client_call, client_reply, client_signal, of_client, bus_reply, owner_signal, broadcast, bus_signal, of_bus, verdict_in};
 ghost use Rattle.bus_policy.specs.Watching.{Owners, WatchAt, rules_of, client_of, known_of, level_if as level_when, sight_of, level_after, verdict_after, event, judged_event};
 
-use crate::driver::{DRIVER, Handler, handler_of_call, is_text};
+use crate::driver::{Handler, handler_of_call, is_text};
 use crate::judging::{holds, is_about_owner, pass_if, replied};
 use crate::level::Level;
 use crate::noting::{note_bus_peer, note_bus_reply, note_client_call, note_client_reply};
@@ -21,7 +21,7 @@ use crate::peer::Peer;
 use crate::peers::{Peers, opening};
 use crate::policy::{Policy, RuleKind, any_gives_leave, level_by_rules};
 use crate::verdict::Verdict;
-use bus_frame::{Header, MessageType, first_string, three_strings};
+use bus_frame::{BUS_NAME, Header, MessageType, first_string, three_strings};
 use fp_base::{Items, Side, Text};
 use indexmap::IndexMap;
 use std::alloc::{AllocError, Global};
@@ -216,7 +216,7 @@ impl<S: BuildHasher> Watch<S> {
     fn level_now(&self, name: &str) -> Level
         ensures { result ≡ (sight_of self.now).level_of name.now }
     {
-        if name == DRIVER {
+        if name == BUS_NAME {
             Level::Talk
         } else if is_like_unique(name.as_bytes()) {
             self.level_of_unique(name)
@@ -283,7 +283,7 @@ impl<S: BuildHasher> Watch<S> {
     {
         match rule {
             Some(rule) if !holds(b"eavesdrop", rule.as_bytes()) => Verdict::Pass,
-            _ => self.refused_call(header, DRIVER),
+            _ => self.refused_call(header, BUS_NAME),
         }
     }
 
@@ -292,7 +292,7 @@ impl<S: BuildHasher> Watch<S> {
             ≡ name_call (sight_of self.now) header.now wanted (option_map (λ t. t.now) name.entry) }
     {
         let Some(name) = name else {
-            return self.refused_call(header, DRIVER);
+            return self.refused_call(header, BUS_NAME);
         };
         if self.has_level(wanted, name) {
             Verdict::Pass
@@ -310,7 +310,7 @@ impl<S: BuildHasher> Watch<S> {
             Handler::Pass | Handler::FilterNameListReply => Verdict::Pass,
             Handler::ValidateMatch => self.match_call(header, argument),
             Handler::Validate(wanted) => self.name_call(header, wanted, argument),
-            Handler::Deny => self.refused_call(header, DRIVER),
+            Handler::Deny => self.refused_call(header, BUS_NAME),
         }
     }
 
@@ -332,7 +332,7 @@ impl<S: BuildHasher> Watch<S> {
         let Some(name) = &header.destination else {
             return self.driver_call(header, first_string(header, message));
         };
-        if name.as_str() == DRIVER {
+        if name.as_str() == BUS_NAME {
             self.driver_call(header, first_string(header, message))
         } else {
             self.peer_call(header, name.as_str())

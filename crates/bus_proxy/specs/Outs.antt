@@ -1,6 +1,6 @@
 -- What a filter gives: for each event, by the events before it, the message itself, with fewer
 -- names, or an error.
-use Rattle.std.specs.Prelude.{ℕ, List, [], ◌∷◌, ◌++◌, codes, Option, Some, None}
+use Rattle.std.specs.Prelude.{ℕ, List, [], ◌∷◌, ◌++◌, Option, Some, None}
 use Rattle.std.specs.Option.{option_map_or, option_to_list}
 use Rattle.std.specs.List.{filter}
 use Rattle.fp_base.specs.declared.side.Side.TheVariants as side
@@ -15,6 +15,7 @@ use Rattle.bus_policy.specs.declared.verdict.Verdict.TheVariants as verdict
 use Rattle.bus_policy.specs.Levels.{is_at_least}
 use Rattle.bus_policy.specs.Events.{Event, Judged}
 use Rattle.bus_policy.specs.Watching.{Owners, level_after, verdict_after, judged}
+use Rattle.bus_proxy.specs.declared.judge.TheConstants.{DENIED, UNKNOWN}
 use Rattle.bus_proxy.specs.declared.out.Out.{Out}
 use Rattle.bus_proxy.specs.Arrivals.{other_side}
 
@@ -51,9 +52,9 @@ out_by level_of client e verdict.Pass = Some (record { to = other_side e.side; b
 out_by level_of client e verdict.FilterNameList =
     Some (record { to = other_side e.side; bytes = reduced level_of e })
 out_by level_of client e verdict.Deny =
-    Some (refusal (codes "org.freedesktop.DBus.Error.AccessDenied") client e.header)
+    Some (refusal DENIED.now client e.header)
 out_by level_of client e verdict.Hide =
-    Some (refusal (codes "org.freedesktop.DBus.Error.ServiceUnknown") client e.header)
+    Some (refusal UNKNOWN.now client e.header)
 out_by level_of client e verdict.Drop = None
 
 -- the events, the latest first, with their verdicts

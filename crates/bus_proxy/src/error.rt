@@ -19,7 +19,7 @@ impl fmt::Display for FilterError {
     fn fmt<W: fmt::Write>(&self, f: &mut fmt::Formatter<W>) -> fmt::Result {
         match self {
             FilterError::Bad(side, index, rule) => {
-                write!(f, "message {index} of {side:?} breaks a rule: {rule:?}")
+                write!(f, "message {index} of {side} breaks a rule: {rule}")
             }
             FilterError::NoMemory => write!(f, "out of memory"),
         }

@@ -39,8 +39,10 @@ pub enum Fate {
     Vanishes,
 }
 
+/// The error of a call that isn't let through.
 const DENIED: &str = "org.freedesktop.DBus.Error.AccessDenied";
 
+/// The error of a call to a name that may not be seen.
 const UNKNOWN: &str = "org.freedesktop.DBus.Error.ServiceUnknown";
 
 /// The side that a side's messages go to.

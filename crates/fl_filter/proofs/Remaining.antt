@@ -87,7 +87,7 @@ pub lines_all : (given now all : List Out) (lines : List (List ℕ)) → map out
 lines_all given now all lines remain is =
     parted given now [] all lines remain (is ∙ sym (append-nil (given ++ now))) ∙ append-nil (map out_text now)
 
--- so many lines were printed, and others are left
+-- some lines were printed, the first ones, and others are left
 pub first_of_all : {a b : Option Moments} (lines said left : List (List ℕ)) → lines ≡ said ++ left → Far lines said a b → Goes a b (PrintsFirst lines) (PrintsFirst lines)
 first_of_all lines said left parts far = goes_ends far (λ u w is. record { said = said; left = left; first = parts; is = is })
 

@@ -87,7 +87,7 @@ was_said text piece told same call =
 
 -- ---- several
 
--- of these lines so many were printed
+-- of the lines these were printed, the first ones
 abbrev pub Far : List (List ℕ) → List (List ℕ) → Option Moments → Option Moments → Type 0
 Far lines said a b = Goes a b (PrintsFirst lines) (λ u w. w ≡ with_lines said u)
 

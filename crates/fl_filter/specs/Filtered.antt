@@ -19,7 +19,7 @@ pub record Filtered : Type 0 where
 abbrev pub out_text : Out → List ℕ
 out_text out = side_word out.to ++ (codes " " ++ (encode_lower out.bytes ++ 10 ∷ []))
 
--- a side's message breaks a rule, after so many whole messages of that side
+-- a side's message breaks a rule, after this number of whole messages of that side
 abbrev pub broken : End → Refusal
 broken end = BadMessage end.0 end.1 end.2
 

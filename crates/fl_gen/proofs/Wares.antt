@@ -1,5 +1,5 @@
 -- Wares that are put into a store.
-use Rattle.std.proofs.Common.{◌≡◌, ◌+◌, ◌<◌, ℕ, zero, suc, List, [], ◌∷◌, ◌++◌, map, take, length, get_or, true, Result, Ok, Err, OnOk, refl, sym, ◌∙◌, ap, subst, arith, codes}
+use Rattle.std.proofs.Common.{◌≡◌, ◌+◌, ◌<◌, ℕ, zero, suc, List, [], ◌∷◌, ◌++◌, map, take, length, get_or, true, Result, Ok, Err, OnOk, refl, sym, ◌∙◌, ap, subst, arith}
 use Rattle.std.specs.List.{AllByRecursion}
 use Rattle.std.proofs.lemmas.List.{take_more, map-append}
 use Rattle.fp_name.specs.Hex.{is_digest}
@@ -9,6 +9,7 @@ use Rattle.ost_commit.specs.declared.built.Built.{Built}
 use Rattle.ost_commit.specs.declared.built.BuiltObject.{BuiltObject}
 use Rattle.ost_commit.specs.Built.{BuiltCommit}
 use Rattle.ost_commit.proofs.Holding.{all_push}
+use Rattle.fl_gen.specs.declared.filling.TheConstants.{SUBJECT}
 use Rattle.fl_gen.specs.declared.store.Row.{Row}
 use Rattle.fl_gen.specs.Stores.{Entry, Offer, Reads, object_entry, ref_entry}
 use Rattle.fl_gen.specs.Keeping.{Adds, Brings}
@@ -37,7 +38,7 @@ all_there P (x ∷ xs) (suc i) a low is all = all_there P xs i a (omega (arith, 
 -- ---- an offer
 
 pub offers_ware : {T E : Type 0} (r : Result T E) (version : ℕ) (name : Ref) (rows : List TreeRow) (built : Built) (s t u : List Row)
-    → BuiltCommit rows name (codes "gen") version built → is_digest built.commit ≡ true → Adds (ref_entry name built.commit ∷ []) s t
+    → BuiltCommit rows name SUBJECT.now version built → is_digest built.commit ≡ true → Adds (ref_entry name built.commit ∷ []) s t
     → OnOk r (Adds (map object_entry built.objects) t u) → OnOk r (AllByRecursion Reads built.objects)
     → OnOk r (Brings version (record { name = name; rows = rows } ∷ []) s u)
 offers_ware (Ok x) version name rows built s t u of digits first objects reads =

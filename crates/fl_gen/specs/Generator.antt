@@ -1,20 +1,21 @@
 -- What the made remotes hold.
-use Rattle.std.specs.Prelude.{◌≡◌, ℕ, List, codes, Option, Some, None, if◌then◌else◌}
+use Rattle.std.specs.Prelude.{◌≡◌, ℕ, List, Option, Some, None, if◌then◌else◌}
 use Rattle.std.specs.Str.{bytes_eq}
 use Rattle.fp_host.specs.Paths.{Elements}
 use Rattle.fp_host.specs.Outcome.{gone, Disk}
 use Rattle.fp_host.specs.Remote.{Holdings}
 use Rattle.ost_export.specs.Remotes.{held_of}
 use Rattle.fl_gen.specs.declared.remotes.GenRemotes.{GenRemotes}
+use Rattle.fl_gen.specs.declared.remotes.TheConstants.{FIRST_URL, SECOND_URL}
 use Rattle.fl_gen.specs.Made.{wares}
 use Rattle.fl_gen.specs.Stores.{IsStoreOf}
 use Rattle.fl_gen.specs.Keeping.{kept}
 
 abbrev pub first_url : List ℕ
-first_url = codes "file:///gen/1"
+first_url = FIRST_URL.now
 
 abbrev pub second_url : List ℕ
-second_url = codes "file:///gen/2"
+second_url = SECOND_URL.now
 
 -- the first at the first url, the second at the second, and nothing elsewhere
 abbrev pub at_urls : {A : Type 0} → A → A → List ℕ → Option A

@@ -1,5 +1,5 @@
 -- What is offered at a url.
-use Rattle.std.specs.Prelude.{◌≡◌, ℕ, List, codes, Some, None, Ok}
+use Rattle.std.specs.Prelude.{◌≡◌, ℕ, List, Some, None, Ok}
 use Rattle.fp_host.specs.Remote.{Holdings}
 use Rattle.fp_base.specs.declared.object.ObjKind.{ObjKind}
 use Rattle.fp_small.specs.declared.state.RemoteRow.{RemoteRow}
@@ -10,13 +10,14 @@ use Rattle.ost_commit.specs.declared.built.Built.{Built}
 use Rattle.ost_commit.specs.Built.{BuiltCommit}
 use Rattle.ost_commit.specs.Objects.{have_of}
 use Rattle.ost_head.specs.Offers.{offered}
+use Rattle.fl_gen.specs.declared.filling.TheConstants.{SUBJECT}
 use Rattle.fl_gen.specs.Made.{Ware}
 
 -- The remote at the url, whatever its name, offers the commit of the ware's rows under its ref,
 -- without a fault and with its objects.
 pub record Offers (held : Holdings) (url : List ℕ) (version : ℕ) (w : Ware) : Type 0 where
   pub built : Built
-  pub shows : BuiltCommit w.rows w.name (codes "gen") version built
+  pub shows : BuiltCommit w.rows w.name SUBJECT.now version built
   pub offered : (remote : RemoteRow) → remote.url ≡ url
       → offered held remote w.name ≡ Ok built.commit
   pub clean : first_fault (remote_at held url) built.commit ≡ None

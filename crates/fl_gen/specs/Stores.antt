@@ -1,5 +1,5 @@
 -- Stores as an export makes them, from what they offer.
-use Rattle.std.specs.Prelude.{◌≡◌, ℕ, Bool, true, leb, List, [], ◌∷◌, map, flat_map, if◌then◌else◌, Option, Some, None, codes}
+use Rattle.std.specs.Prelude.{◌≡◌, ℕ, Bool, true, leb, List, [], ◌∷◌, map, flat_map, if◌then◌else◌, Option, Some, None}
 use Rattle.std.specs.List.{AllByRecursion, list_any}
 use Rattle.fp_host.specs.Paths.{Elements, is_link_text, path_eq}
 use Rattle.fp_host.specs.declared.limits.TheConstants.{PERMISSION_BITS}
@@ -16,6 +16,7 @@ use Rattle.ost_commit.specs.declared.built.BuiltObject.{BuiltObject}
 use Rattle.ost_commit.specs.Built.{BuiltCommit}
 use Rattle.ost_commit.specs.Rows.{is_above}
 use Rattle.ost_export.specs.Exports.{config_path, config_text, ref_path}
+use Rattle.fl_gen.specs.declared.filling.TheConstants.{SUBJECT}
 use Rattle.fl_gen.specs.Made.{Ware, file_mode}
 
 -- ---- what stands in a store
@@ -94,10 +95,10 @@ object_bits (objects.Link text) = true
 abbrev pub Reads : BuiltObject → Type 0
 Reads o = object_at o.kind (object_spot o.object) ≡ Some o.object
 
--- The commit of the ware's rows, with the subject `gen` and the version as its time.
+-- The commit of the ware's rows, with the subject of all commits and the version as its time.
 pub record IsOfferOf (version : ℕ) (w : Ware) (o : Offer) : Type 0 where
   pub name : o.name ≡ w.name
-  pub built : BuiltCommit w.rows w.name (codes "gen") version o.built
+  pub built : BuiltCommit w.rows w.name SUBJECT.now version o.built
   pub digits : is_digest o.built.commit ≡ true
   pub reads : AllByRecursion Reads o.built.objects
 

@@ -316,7 +316,7 @@ fn plain_launch(rt: HostRuntime) {
     assert!(rt; is_plain(&text.expect(&rt, "a runtime")));
 }
 
-/// Whether a text has so many lines, and these among them.
+/// Whether a text has this number of lines, and these among them.
 fn has_among(text: &str, count: usize, first: &str, last: &str) -> bool {
     text.lines().count() == count && text.contains(first) && text.contains(last)
 }

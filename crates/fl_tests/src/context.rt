@@ -174,7 +174,7 @@ fn put_variable(text: &mut String, number: usize, value: &str) -> Result<(), All
     write!(text, "V{number:04}={value}\n")
 }
 
-/// An override with so many variables, whose values are this.
+/// An override with this number of variables, each of this value.
 pub fn many_variables(rt: &impl Abort, alloc: Global, count: usize, value: &str) -> String {
     let mut text = String::from_str(alloc, "[Environment]\n").expect(rt, "memory");
     for number in 0..count {
@@ -183,7 +183,7 @@ pub fn many_variables(rt: &impl Abort, alloc: Global, count: usize, value: &str)
     text
 }
 
-/// The layer of so many variables.
+/// The layer of this number of variables.
 fn long_layer(rt: &impl Abort, alloc: Global, count: usize, value: &str) -> Layer {
     layer_of(rt, alloc, &many_variables(rt, alloc, count, value))
 }
@@ -199,8 +199,8 @@ fn count_values(mentions: &[Mention], value: &str) -> usize {
     count
 }
 
-/// Whether twenty layers, of which the last is another one, grant so many permissions, and all of them with the last
-/// layer's value.
+/// Whether twenty layers, of which the last is another one, grant this number of permissions, and
+/// all of them with the last layer's value.
 fn are_folded(rt: &impl Abort, alloc: Global, count: usize) -> bool {
     let first = long_layer(rt, alloc, count, "1");
     let last = long_layer(rt, alloc, count, "2");

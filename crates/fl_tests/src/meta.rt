@@ -520,7 +520,7 @@ fn named(rt: &impl Abort, alloc: Global, before: &str, after: &str) -> String {
     [before, &name, after].concat(alloc).expect(rt, "memory")
 }
 
-/// Adds so many names of two lists.
+/// Adds this number of names to each of two lists.
 fn put_lists(rt: &impl Abort, alloc: Global, text: &mut String, count: usize) {
     put(
         rt,
@@ -532,7 +532,7 @@ fn put_lists(rt: &impl Abort, alloc: Global, text: &mut String, count: usize) {
     put_many(rt, text, count, &named(rt, alloc, ".", ""), ";");
 }
 
-/// Adds so many variables and extensions.
+/// Adds this number of variables and of extensions.
 fn put_groups(rt: &impl Abort, alloc: Global, text: &mut String, count: usize) {
     put(rt, text, "\n[Environment]\n");
     put_many(rt, text, count, "V", &named(rt, alloc, "=", "\n"));
@@ -540,7 +540,8 @@ fn put_groups(rt: &impl Abort, alloc: Global, text: &mut String, count: usize) {
     put_many(rt, text, count, "[Extension org.x.E", &tail);
 }
 
-/// Metadata with so many names in each of two lists, variables and extensions, each of 90 bytes and more.
+/// Metadata with this number of names in each of two lists, of variables and of extensions, each of
+/// 90 bytes and more.
 fn long_metadata(rt: &impl Abort, alloc: Global, count: usize) -> String {
     let mut text = String::new(alloc);
     put_lists(rt, alloc, &mut text, count);

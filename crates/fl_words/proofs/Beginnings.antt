@@ -13,7 +13,7 @@ use Rattle.fl_words.proofs.Reaching.{ends, samples, samples_fit, clear_places, c
 
 -- ---- the forms that words begin
 
--- so many words begin the form where others may follow them in it, and only there
+-- the first n words begin the form where others may follow them in it, and only there
 pub on_to_form : (words : List (List ℕ)) (n : ℕ) (form : Form) → begins words n form ≡ true → (more : List (List ℕ)) × (reads (take n words ++ more) form ≡ true)
 on_to_form words n form h = by (left_after (slots_of form) (take n words)) refl h
   where

@@ -2,6 +2,7 @@
 #![tactic(auto)]
 
 mod blob;
+mod control;
 mod frame_rule;
 mod items;
 mod key_rule;
@@ -13,6 +14,7 @@ mod text;
 mod what;
 
 pub use blob::Blob;
+pub use control::is_control;
 pub use frame_rule::FrameRule;
 pub use items::Items;
 pub use key_rule::KeyRule;

@@ -223,7 +223,7 @@ impl Path {
         Ok(self.child(element)?)
     }
 
-    /// The folder so many elements above.
+    /// The folder that is this number of elements above.
     pub fn folder(&self, up: usize) -> Result<Self, AllocError>
         requires { up ≤ length self.now }
         ensures { IfOk result (λ p. p ≡ drop up self.now) }

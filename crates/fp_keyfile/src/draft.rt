@@ -12,15 +12,28 @@ use crate::table::Table;
 use fp_base::{Items, KeyRule};
 use std::alloc::{AllocError, AllocFailed, Global};
 use std::collections::BTreeMap;
+use std::error::Error;
+use std::fmt;
 
 /// Why a line could not be taken in.
-#[derive(Drop)]
+#[derive(Debug, Drop)]
 pub(crate) enum LineError {
     /// The line breaks this rule.
     Rule(KeyRule),
     /// Memory ran out.
     NoMemory,
 }
+
+impl fmt::Display for LineError {
+    fn fmt<W: fmt::Write>(&self, f: &mut fmt::Formatter<W>) -> fmt::Result {
+        match self {
+            LineError::Rule(rule) => write!(f, "a line that breaks a rule: {rule}"),
+            LineError::NoMemory => write!(f, "out of memory"),
+        }
+    }
+}
+
+impl Error for LineError {}
 
 impl From<AllocError> for LineError {
     ghost from_gives = { λ _ e. e ≡ NoMemory };

@@ -29,7 +29,7 @@ impl fmt::Display for KeyError {
     fn fmt<W: fmt::Write>(&self, f: &mut fmt::Formatter<W>) -> fmt::Result {
         match self {
             KeyError::Fault(KeyFault { line, rule }) => {
-                write!(f, "line {line} breaks a rule: {rule:?}")
+                write!(f, "line {line} breaks a rule: {rule}")
             }
             KeyError::NoMemory => write!(f, "out of memory"),
         }

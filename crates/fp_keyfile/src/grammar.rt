@@ -5,6 +5,8 @@ ghost use Rattle.std.specs.Prelude.{◌≡◌, ◌==◌};
 ghost use Rattle.std.specs.List.{list_all, list_any};
 ghost use Rattle.fp_keyfile.specs.Grammar as grammar;
 
+use fp_base::is_control;
+
 /// Whether a byte is a space or a tab.
 pub(crate) fn is_blank(byte: u8) -> bool
     ensures { result ≡ grammar.is_blank byte }
@@ -24,13 +26,6 @@ pub(crate) fn has_zero(bytes: &[u8]) -> bool
     ensures { result ≡ list_any (λ b. b == 0) bytes.now }
 {
     bytes.iter().any(|byte| *byte == 0)
-}
-
-/// Whether a byte is a control character: below 0x20, or 0x7f.
-fn is_control(byte: u8) -> bool
-    ensures { result ≡ grammar.is_control byte }
-{
-    byte < 0x20 || byte == 0x7f
 }
 
 /// Whether a byte may stand in the name of a group.

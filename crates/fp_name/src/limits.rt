@@ -9,5 +9,5 @@ pub const MOST_REMOTE_NAME_BYTES: usize = 64;
 /// The most bytes that the url of a remote has.
 pub const MOST_URL_BYTES: usize = 1024;
 
-/// A digest is written with so many digits.
+/// How many digits a digest is written with.
 pub const DIGEST_DIGITS: usize = 64;

@@ -6,7 +6,7 @@ use std::io::ErrorKind;
 use std::{fmt, io};
 
 /// Why the system refused a call, or what breaks the call's condition.
-#[derive(Clone, Copy)]
+#[derive(Clone, Copy, Debug)]
 pub enum Cause {
     /// The system's error of this number, as `errno` has it.
     Number(i32),

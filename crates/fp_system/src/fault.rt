@@ -5,11 +5,12 @@ ghost use Rattle.fp_system.specs.Counts.{one_more};
 use crate::cause::Cause;
 use fp_base::Text;
 use std::alloc::Global;
+use std::error::Error;
 use std::fmt;
 use std::marker::Model;
 
 /// What an adapter asked of the system.
-#[derive(Clone, Copy, PartialEq, Eq)]
+#[derive(Clone, Copy, Debug, PartialEq, Eq)]
 pub enum Call {
     Stat,
     List,
@@ -67,7 +68,7 @@ impl fmt::Display for Call {
 
 /// What the system refused, as in `cannot sync installation/config: No space left on device (os
 /// error 28)`.
-#[derive(Drop)]
+#[derive(Debug, Drop)]
 pub struct SystemError {
     pub call: Call,
     /// The path, where the call has one and there was memory to keep it.
@@ -117,6 +118,8 @@ impl fmt::Display for SystemError {
         }
     }
 }
+
+impl Error for SystemError {}
 
 /// How often the system refused, and the last refusal. Contracts see the number.
 #[derive(Drop)]

@@ -7,8 +7,8 @@ use fp_host::{Entry, Path};
 use fp_memhost::{Choice, FileRow, Image, MemHost};
 use std::alloc::{AllocError, Global};
 
-/// What a stop after so many calls leaves: these names at these entries, these files with these
-/// bytes, all else as it is.
+/// What a stop after this number of calls leaves: these names at these entries, these files with
+/// these bytes, all else as it is.
 fn image_left(
     host: &MemHost,
     calls: u64,
@@ -72,9 +72,9 @@ fn with_file(
     image_left(host, calls, Vec::new(alloc), files)
 }
 
-/// What a stop after so many calls may leave: all as it is, every name at its oldest entry, each
-/// name alone at each other entry, and each new file without bytes and with all its bytes turned to
-/// ff.
+/// What a stop after this number of calls may leave: all as it is, every name at its oldest entry,
+/// each name alone at each other entry, and each new file without bytes and with all its bytes
+/// turned to ff.
 pub fn outcomes(alloc: Global, host: &MemHost, calls: u64) -> Result<Vec<Image>, AllocError> {
     let mut images = Vec::new(alloc);
     keep(&mut images, present_image(alloc, host, calls)?)?;
@@ -174,8 +174,8 @@ pub fn last_open(host: &MemHost) -> Result<u64, AllocError> {
     Ok(last)
 }
 
-/// The names at which a stop after so many calls may bring back something, each on a line with how
-/// many entries.
+/// The names at which a stop after this number of calls may bring back something, each on a line
+/// with how many entries.
 pub fn open_names(alloc: Global, host: &MemHost, calls: u64) -> Result<String, AllocError> {
     let mut text = String::new(alloc);
     for (path, entries) in host.choices(calls)?.as_slice() {

@@ -16,7 +16,7 @@ pub struct Lines {
 }
 
 impl Lines {
-    /// After so many.
+    /// After this number.
     pub fn exactly(count: usize) -> Self {
         Lines {
             first: count,
@@ -24,7 +24,7 @@ impl Lines {
         }
     }
 
-    /// After so many, or one more: the next line's change may be on the disk already.
+    /// After this number, or one more: the next line's change may be on the disk already.
     pub fn or_next(count: usize) -> Self {
         Lines {
             first: count,
@@ -40,7 +40,7 @@ pub struct Judge<'a> {
     alloc: Global,
     /// The remotes, with every commit of the case.
     wares: &'a Wares,
-    /// What the installation shows after so many lines.
+    /// What the installation shows after each number of lines.
     states: &'a [State],
     /// How the last moment looked.
     seen: String,
@@ -76,8 +76,8 @@ impl<'a> Judge<'a> {
         self.moment(program, rt, host, host.calls(), lines)
     }
 
-    /// Says which outcome after so many calls isn't whole, or shows another state than those after
-    /// these numbers of lines.
+    /// Says which outcome after this number of calls isn't whole, or shows another state than those
+    /// after these numbers of lines.
     pub fn moment<P: Program, R: Threads + Sync>(
         &mut self,
         program: &P,

@@ -17,7 +17,7 @@ struct Course {
     plain: Replay,
     /// For each line that is printed, the first call before which it was.
     printed_at: Vec<u64>,
-    /// What the installation shows after so many lines.
+    /// What the installation shows after each number of lines.
     states: Vec<State>,
 }
 
@@ -109,8 +109,8 @@ fn course_of<P: Program, R: Threads + Sync>(
     })
 }
 
-/// The first call before which so many lines were printed, by halves: a line that was printed
-/// stays.
+/// The first call before which this number of lines were printed, by halves: a line that was
+/// printed stays.
 fn call_after<P: Program, R: Threads + Sync>(
     program: &P,
     rt: &R,

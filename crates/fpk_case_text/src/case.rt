@@ -168,8 +168,8 @@ pub struct Command {
     pub calls: Option<u64>,
 }
 
-/// An input that comes in pieces of one size. Each of so many calls takes some of it or finds its
-/// end.
+/// An input that comes in pieces of one size, by at most this number of calls: each takes some of
+/// it or finds its end.
 #[derive(Clone, Copy)]
 pub struct Pieces {
     pub size: usize,

@@ -37,10 +37,10 @@ pub enum Sign {
     Command,
     /// `< LINE`: a line of its input.
     Input(Form),
-    /// `<0 NUMBER`: so many zero bytes of its input.
+    /// `<0 NUMBER`: this number of zero bytes of its input.
     Zeros,
-    /// `<! SIZE CALLS`: the input comes in pieces of this size, and each of so many calls fails in
-    /// turn.
+    /// `<! SIZE CALLS`: the input comes in pieces of this size, by at most this number of calls,
+    /// and each of them fails in turn.
     Pieces,
     /// `? NUMBER`: its status, which is 0 where nothing is said.
     Status,
@@ -48,7 +48,7 @@ pub enum Sign {
     FailureUndone,
     /// `!+ NUMBER`: that call of the host fails, and is done.
     FailureDone,
-    /// `calls NUMBER`: so many calls of the host are made.
+    /// `calls NUMBER`: this number of calls of the host are made.
     Calls,
     /// `= PATH`: a file that stands there now, with just the content that follows.
     File(Form),

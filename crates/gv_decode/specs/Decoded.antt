@@ -62,7 +62,7 @@ pub record IsWhole (f : Frame) : Type 0 where
   pub pos : 0 < f.width
   pub small : f.width ≤ 4
 
--- the children of a container, and so many offsets after them
+-- the children of a container, which take `before` bytes, and `count` offsets after them
 pub record IsFrame (f : Frame) (bytes : List ℕ) (before count : ℕ) : Type 0 where
   pub body : f.body.now ≡ take before bytes
   pub before_is : length f.body.now ≡ before

@@ -13,7 +13,7 @@ use fp_base::Text;
 use gv_value::{Basic, GvValue, has_zero, is_object_path, is_signature};
 use std::alloc::Global;
 
-/// The number that so many bytes are.
+/// The number in bytes of this size.
 fn number_of(bytes: &[u8], size: usize) -> Result<u64, DecodeError>
     requires some { 0 < size }
     requires few { size ≤ 8 }

@@ -52,7 +52,7 @@ pub fn offset_width(bytes: &[u8]) -> usize
     width(bytes.len(), 0)
 }
 
-/// A container's children and so many offsets, which begin after so many bytes.
+/// A container's children, which take `before` bytes, and `count` offsets after them.
 pub fn take_apart(bytes: &[u8], before: usize, count: usize) -> Result<Frame<'_>, DecodeError>
     requires short { length bytes.now ≤ MOST_BYTES }
     requires few { count ≤ length bytes.now }

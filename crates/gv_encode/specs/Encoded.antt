@@ -23,12 +23,12 @@ abbrev pub Adds : {X : Type 0} → Result X EncodeError → List ℕ → List �
 Adds (Ok x) before after bytes = IsAdded before after bytes
 Adds (Err e) before after bytes = Fails e before bytes
 
--- the bytes of offsets, after so many bytes
+-- the bytes of offsets that stand after this number of bytes
 abbrev pub offset_bytes : ℕ → List ℕ → List ℕ
 offset_bytes used offsets = flat_map (le_bytes (width used (length offsets))) offsets
 
--- what stands after the members of a tuple, which take so many bytes: zero bytes up to its fixed
--- size, or offsets
+-- what stands after the members of a tuple, which take this number of bytes: zero bytes up to its
+-- fixed size, or offsets
 abbrev pub closing : Option ℕ → ℕ → List ℕ → List ℕ
 closing (Some size) used offsets = zeros (size - used)
 closing None used offsets = offset_bytes used offsets

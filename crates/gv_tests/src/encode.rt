@@ -89,7 +89,7 @@ fn writes(rt: HostRuntime) {
     );
 }
 
-/// The array of so many bytes.
+/// The array of this number of bytes.
 fn bytes(rt: &impl Abort, alloc: Global, count: usize) -> GvValue {
     GvValue::Bytes(Blob::from_vec(vec![in alloc; 0; count].expect(rt, "memory")))
 }
@@ -103,7 +103,7 @@ fn fault_of(rt: &impl Abort, alloc: Global, of: &str, value: GvValue) -> Option<
     bytes.err()
 }
 
-/// Whether 16 MiB are written as so many.
+/// Whether a value is written in just 16 MiB.
 fn are_16_mib_written(rt: &impl Abort, alloc: Global, value: GvValue) -> bool {
     written(rt, alloc, "ay", value).len() == 0x100_0000
 }

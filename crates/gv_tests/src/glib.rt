@@ -69,12 +69,12 @@ fn reads_and_writes_as_glib_does(rt: HostRuntime) {
     agree_on_lines(&rt, rt.alloc(), EXAMPLES);
 }
 
-/// A text of so many letters a.
+/// A text of this number of letters a.
 fn letters(rt: &impl Abort, alloc: Global, count: usize) -> GvValue {
     GvValue::Str(Text::from_string("a".repeat(alloc, count).expect(rt, "memory")))
 }
 
-/// Whether bytes are so many, have this ending, and are read and written again.
+/// Whether bytes have this size and this ending, and are read and written again.
 fn ends_so(
     rt: &impl Abort,
     alloc: Global,
@@ -86,7 +86,7 @@ fn ends_so(
     bytes.len() == size && bytes.ends_with(ending) && agrees(rt, alloc, true, of, bytes)
 }
 
-/// Whether a value is written in so many bytes with this ending, and is read again.
+/// Whether a value is written in bytes of this size with this ending, and is read again.
 fn is_written(
     rt: &impl Abort,
     alloc: Global,
@@ -113,7 +113,7 @@ const PAIRS: [(usize, usize, usize, &[u8]); 4] = [
     (65000, 532, 65538, b"a\0\xe9\xfd\0\0"),
 ];
 
-/// Two texts of so many letters.
+/// Two texts of these numbers of letters.
 fn two_texts(rt: &impl Abort, alloc: Global, first: usize, second: usize) -> GvValue {
     pair(
         rt,

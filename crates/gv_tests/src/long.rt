@@ -9,7 +9,7 @@ use std::alloc::Global;
 use std::panic::Expect;
 use std::process::Abort;
 
-/// Whether these are so many children, each of them these bytes.
+/// Whether these are this number of children, each of them these bytes.
 fn are_so_many(children: &[&[u8]], count: usize, each: &[u8]) -> bool {
     for child in children {
         if *child != each {
@@ -19,7 +19,7 @@ fn are_so_many(children: &[&[u8]], count: usize, each: &[u8]) -> bool {
     children.len() == count
 }
 
-/// Whether bytes have so many children, each of them these bytes.
+/// Whether bytes have this number of children, each of them these bytes.
 fn has_children(
     rt: &impl Abort,
     alloc: Global,
@@ -34,13 +34,13 @@ fn has_children(
     are_so_many(&found.expect(rt, "children"), count, each)
 }
 
-/// Whether a child's bytes, as often as this, are so many children, and a value in normal form.
+/// Whether a child's bytes, this number of times, are as many children, and a value in normal form.
 fn is_long(rt: &impl Abort, alloc: Global, of: &str, each: &[u8], count: usize) -> bool {
     let bytes = each.repeat(alloc, count).expect(rt, "memory");
     has_children(rt, alloc, of, &bytes, count, each) && agrees(rt, alloc, true, of, &bytes)
 }
 
-/// Whether so many texts, as they are written, are as many children.
+/// Whether this number of texts, as they are written, are as many children.
 fn are_texts(rt: &impl Abort, alloc: Global, count: usize) -> bool {
     let bytes = written(rt, alloc, "as", many_texts(rt, alloc, count));
     has_children(rt, alloc, "as", bytes.as_slice(), count, b"a\0")

@@ -84,7 +84,7 @@ const NESTED: [(usize, u8, bool); 4] = [
     (64, b'v', false),
 ];
 
-/// A type string of so many arrays around a type.
+/// A type string of this number of arrays around a type.
 fn arrays(rt: &impl Abort, alloc: Global, count: usize, inside: u8) -> Vec<u8> {
     let mut text = vec![in alloc; b'a'; count].expect(rt, "memory");
     text.push(inside).expect(rt, "memory");
@@ -99,7 +99,7 @@ fn nested_types(rt: HostRuntime) {
     }
 }
 
-/// A type string of a tuple of so many bytes.
+/// A type string of a tuple of this number of bytes.
 pub fn long_tuple(rt: &impl Abort, alloc: Global, count: usize) -> String {
     let members = "y".repeat(alloc, count).expect(rt, "memory");
     ["(", &members, ")"].concat(alloc).expect(rt, "memory")

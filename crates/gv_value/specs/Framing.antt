@@ -27,7 +27,7 @@ abbrev pub ends : List ℕ → List Part → List ℕ
 ends body [] = []
 ends body (part ∷ parts) = length (placed body part) ∷ ends (placed body part) parts
 
--- how many bytes an offset takes, with so many bytes before the offsets and so many offsets: the
+-- how many bytes an offset takes, with `before` bytes before the offsets and `count` offsets: the
 -- least that fits
 abbrev pub width : ℕ → ℕ → ℕ
 width before count = if nat_le (before + count) 0xFF then 1
@@ -95,7 +95,7 @@ cut body at (mark ∷ marks) =
     option_and_then (λ child. option_map (λ others. child ∷ others) (cut body mark.1 marks))
     (child_at body at (at + padding at mark.0) mark.1)
 
--- how many bytes an offset takes in a container of so many bytes
+-- how many bytes an offset takes in a container of this number of bytes
 abbrev pub width_in : ℕ → ℕ
 width_in whole = width whole 0
 
@@ -103,7 +103,7 @@ abbrev pub numbers : ℕ → ℕ → List ℕ → List ℕ
 numbers w zero table = []
 numbers w (suc count) table = le_value (take w table) ∷ numbers w count (drop w table)
 
--- so many offsets of so many bytes, where the table is nothing else
+-- `count` offsets of `w` bytes each, where the table is nothing else
 abbrev pub offsets_at : ℕ → ℕ → List ℕ → Option (List ℕ)
 offsets_at w count table = let found = numbers w count table in if bytes_eq
     (flat_map (le_bytes w) found) table then Some found else None
@@ -114,12 +114,12 @@ offsets_after before count bytes =
     if nat_le before (length bytes) && width before count == width_in (length bytes)
     then offsets_at (width before count) count (drop before bytes) else None
 
--- so many children of one size
+-- this number of children of one size
 abbrev pub steps : ℕ → ℕ → ℕ → List Mark
 steps size at zero = []
 steps size at (suc count) = (1, at + size) ∷ steps size (at + size) count
 
--- the elements before the offsets, which begin after so many bytes
+-- the elements before the offsets, which begin after `before` bytes
 abbrev pub elements_before : ℕ → ℕ → List ℕ → Option (List (List ℕ))
 elements_before align before bytes =
     option_and_then (λ es. cut (take before bytes) 0 (map (λ e. (align, e)) es))
@@ -157,7 +157,7 @@ abbrev pub offset_count : Shapes → ℕ
 offset_count no_shapes = 0
 offset_count (shape t ts) = length (put_offset (size_of t) (is_none_left ts) 0 []) + offset_count ts
 
--- the members of a tuple of variable size, whose offsets begin after so many bytes
+-- the members of a tuple of variable size, whose offsets begin after `before` bytes
 abbrev pub open_children : Shapes → ℕ → List ℕ → Option (List (List ℕ))
 open_children ts before bytes =
     option_and_then (λ os. cut (take before bytes) 0 (marks before 0 ts (reverse os)))

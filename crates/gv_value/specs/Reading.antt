@@ -22,7 +22,7 @@ truth_at (zero ∷ []) = Some (Content.truth false)
 truth_at (suc zero ∷ []) = Some (Content.truth true)
 truth_at _ = None
 
--- the number of so many bytes, the lowest first
+-- the number in `w` bytes, the lowest first
 abbrev pub number_at : ℕ → List ℕ → Option ℕ
 number_at w bytes = let n = le_value bytes in if bytes_eq (le_bytes w n) bytes then Some n else None
 

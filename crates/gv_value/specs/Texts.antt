@@ -65,13 +65,13 @@ after_members one (suc n) text =
     option_and_then (λ r. option_and_then (λ p. after_member (after_members one n) r p.0 p.1)
     (sign_at r)) (one text)
 
--- what follows an array's element, where so many arrays may still open
+-- what follows an array's element, where this number of arrays may still open
 abbrev pub after_array : ℕ → After → After
 after_array zero one text = None
 after_array (suc arrays) one text =
     option_and_then (λ p. after_element one text p.0 p.1) (sign_at text)
 
--- what follows the members of a struct, where so many structs may still open
+-- what follows the members of a struct, where this number of structs may still open
 abbrev pub after_struct : ℕ → After → After
 after_struct zero one text = None
 after_struct (suc structs) one text = after_members one (length text) text
@@ -83,8 +83,8 @@ after_sign element members signs.Array rest = element rest
 after_sign element members signs.TupleOpen rest = members rest
 after_sign element members _ rest = None
 
--- What follows one complete type, in which at most so many arrays and structs are open at a place.
--- The first number is their sum.
+-- What follows one complete type, in which at most these numbers of arrays and of structs are open
+-- at a place. The first number is their sum.
 abbrev pub after_type : ℕ → ℕ → ℕ → After
 after_type zero arrays structs text =
     option_and_then (λ p. after_sign (λ _. None) (λ _. None) p.0 p.1) (sign_at text)

@@ -25,7 +25,7 @@ pub fn is_signature(text: &[u8]) -> bool
     true
 }
 
-/// What follows the type at the front, where so many arrays and structs may still open.
+/// What follows the type at the front, where this number of arrays and of structs may still open.
 #[cycle(signature)]
 fn after_type(text: &[u8], arrays: u32, structs: u32) -> Option<&[u8]>
     ensures { option_copied result ≡ rest_after_type (arrays + structs) arrays structs text.now }

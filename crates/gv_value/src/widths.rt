@@ -2,7 +2,7 @@
 ghost use Rattle.std.specs.Prelude.{◌≡◌, ◌+◌, ◌*◌, ◌<◌, ◌^◌};
 ghost use Rattle.gv_value.specs.Framing.{width as width_of};
 
-/// How many bytes an offset takes, with so many bytes before the offsets and so many offsets.
+/// How many bytes an offset takes, with `before` bytes before the offsets and `count` offsets.
 pub fn width(before: usize, count: usize) -> usize
     requires { before + 8 * count < 2 ^ 64 }
     ensures { result ≡ width_of before count }

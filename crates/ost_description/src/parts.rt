@@ -7,7 +7,7 @@ ghost use Rattle.ost_description.specs.Steps.{Gives};
 ghost use Rattle.ost_description.specs.Parts.{parts_at, has_leading_zero, are_digits as are_digits_of, number_in, octal_in, mode_in, is_lower_digit, hex_in, content_in, path_in, text_in, is_control, is_subject as may_be_subject};
 
 use crate::limits::MOST_SUBJECT_BYTES;
-use fp_base::Blob;
+use fp_base::{Blob, is_control};
 use fp_host::{Path, PathError};
 use hex::FromHexError;
 use std::alloc::{AllocError, Global};
@@ -177,12 +177,6 @@ pub(crate) fn path(alloc: Global, bytes: &[u8]) -> Result<Option<Path>, AllocErr
         Err(PathError::Bad) => Ok(None),
         Err(PathError::NoMemory) => Err(AllocError),
     }
-}
-
-fn is_control(byte: u8) -> bool
-    ensures { result ≡ is_control byte }
-{
-    byte < 0x20 || byte == 0x7f
 }
 
 fn has_no_control(text: &[u8]) -> bool
