@@ -20,7 +20,7 @@ pub enum MetaError {
 impl fmt::Display for MetaError {
     fn fmt<W: fmt::Write>(&self, f: &mut fmt::Formatter<W>) -> fmt::Result {
         match self {
-            MetaError::Rule(rule) => write!(f, "metadata that breaks a rule: {rule:?}"),
+            MetaError::Rule(rule) => write!(f, "metadata that breaks a rule: {rule}"),
             MetaError::NoMemory => write!(f, "out of memory"),
         }
     }

@@ -19,7 +19,7 @@ pub enum ObjectError {
 impl fmt::Display for ObjectError {
     fn fmt<W: fmt::Write>(&self, f: &mut fmt::Formatter<W>) -> fmt::Result {
         match self {
-            ObjectError::Malformed(rule) => write!(f, "a malformed object: {rule:?}"),
+            ObjectError::Malformed(rule) => write!(f, "a malformed object: {rule}"),
             ObjectError::NoMemory => write!(f, "out of memory"),
         }
     }
