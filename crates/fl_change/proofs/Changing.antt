@@ -27,7 +27,7 @@ use Rattle.dep_switch.specs.Writing.{new_deploy, new_folder, the_link, new_link}
 use Rattle.dep_tidy.specs.Tidy.{MayTidy, Tidies}
 use Rattle.dep_tidy.proofs.Left.{config_left}
 use Rattle.op_deploy.specs.Applied.{DeploysName, work_goes, before_switch, at_active as link_at}
-use Rattle.op_bring.specs.Bringing.{IsFolderFor, above_commit, above_object, above_head, for_work, BringsName, some_work, in_folder, a_record, at_active, an_object, a_config, a_folder}
+use Rattle.op_bring.specs.Bringing.{IsFolderFor, above_commit, above_object, above_head, above_remote, for_work, BringsName, some_work, in_folder, a_record, at_active, an_object, a_config, a_folder}
 use Rattle.op_change.specs.Applied.{MayChange, ChangesBy}
 use Rattle.fl_change.specs.Answer.{sets_config}
 use Rattle.fl_change.specs.Changes.{MayHold, operated, tidied, Changes, OnlyTidied, IsStill, IsUntouched, HasText}
@@ -188,6 +188,11 @@ no_folder name commit (above_head (inr (inl is))) = omega (arith, ap length is)
 no_folder name commit (above_head (inr (inr (inl is)))) = omega (arith, differs repo is)
 no_folder name commit (above_head (inr (inr (inr (inl is))))) = omega (arith, ap length is)
 no_folder name commit (above_head (inr (inr (inr (inr none))))) = none
+no_folder name commit (above_remote (inl is)) = omega (arith, ap length is)
+no_folder name commit (above_remote (inr (inl is))) = omega (arith, ap length is)
+no_folder name commit (above_remote (inr (inr (inl is)))) = omega (arith, differs repo is)
+no_folder name commit (above_remote (inr (inr (inr (inl is))))) = omega (arith, ap length is)
+no_folder name commit (above_remote (inr (inr (inr (inr none))))) = none
 no_folder name commit (for_work is) = omega (arith, ap length is)
 
 no_bring : (s : State) (name : Ref) (commit : List ℕ) (e : Slot) → BringsName s name commit config e → ⊥

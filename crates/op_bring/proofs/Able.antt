@@ -31,12 +31,12 @@ use Rattle.dep_switch.proofs.Spots.{now_left, folder_free, file_free}
 use Rattle.op_bring.specs.Furnishing.{CanFurnish}
 use Rattle.op_bring.specs.LayingOut.{CanLayOut}
 use Rattle.op_bring.specs.Places.{pull_work}
-use Rattle.op_bring.specs.Readying.{store_config, refs_folder, heads_folder, a_head, ReadiesStore, CanReady}
+use Rattle.op_bring.specs.Readying.{store_config, refs_folder, heads_folder, remotes_folder, a_head, a_remote, ReadiesStore, CanReady}
 use Rattle.op_bring.proofs.Apart.{dir_apart, object_not_above, store_by}
 use Rattle.op_bring.proofs.Changing.{ready_object}
 use Rattle.op_bring.proofs.Cleared.{can_empty}
 use Rattle.op_bring.proofs.Pulling.{true_names}
-use Rattle.op_bring.proofs.Readied.{which}
+use Rattle.op_bring.proofs.Readied.{which, which_above}
 use Rattle.op_bring.proofs.Sparing.{which_of}
 
 -- ---- what may stand at the folders of a ref
@@ -122,11 +122,14 @@ module _ {s : State} {v : View} (tree : IsTree v) (opens : Opens s v) where
     };
     folders = record {
       free = λ q has. elim (which q has) [
-        | inl at ↦ free_is v q repo (sym at) repo_free
-        | inr other ↦ elim other [
-          | inl at ↦ free_is v q refs_folder (sym at) (free_at refs_folder (λ f. f))
-          | inr at ↦ free_is v q heads_folder (sym at) (free_at heads_folder (λ f. f))
+        | inl head ↦ elim head [
+          | inl at ↦ free_is v q repo (sym at) repo_free
+          | inr other ↦ elim other [
+            | inl at ↦ free_is v q refs_folder (sym at) (free_at refs_folder (λ f. f))
+            | inr at ↦ free_is v q heads_folder (sym at) (free_at heads_folder (λ f. f))
+          ]
         ]
+        | inr at ↦ free_is v q remotes_folder (sym at) (free_at remotes_folder (λ f. f))
       ];
     };
   }
@@ -189,7 +192,10 @@ module _ (name : Ref) (commit : List ℕ) {u v : View} (ready : ReadiesStore u v
         | inl new ↦ cc new.0
         | inr other ↦ elim other [ inl made ↦ elim (which_of _ made.0) [ inl at ↦ cc at | inr at ↦ cc at ] | inr work ↦ cc work.is ]
       ]
-      | inr made ↦ omega (arith, above_longer (commit_dir name commit) a_head (ancestors_above a_head _ made.0))
+      | inr made ↦ elim (which_above _ made.0) [
+        | inl above ↦ omega (arith, above_longer (commit_dir name commit) a_head above)
+        | inr above ↦ omega (arith, above_longer (commit_dir name commit) a_remote above)
+      ]
     ])
   ]
 

@@ -37,10 +37,11 @@ use Rattle.op_bring.specs.Bringing as names
 use Rattle.op_bring.specs.Bringing.{IsFolderFor, BringsName, ChangesFor}
 use Rattle.op_bring.specs.Furnishing.{Furnishes, readies, lays}
 use Rattle.op_bring.specs.LayingOut.{MakesAbove, LaysOut, folders_come, paths_come}
-use Rattle.op_bring.specs.Readying.{a_head, ReadiesName, ReadiesStore}
+use Rattle.op_bring.specs.Readying.{a_head, a_remote, ReadiesName, ReadiesStore}
 use Rattle.op_bring.specs.Rooms.{RoomAt, RoomName}
 use Rattle.op_bring.proofs.Apart.{rest_within, object_off_tmp, object_off_dir, object_not_above, work_in_tmp, dir_apart, same_store, store_by}
 use Rattle.op_bring.proofs.LaidOut.{object_stays}
+use Rattle.op_bring.proofs.Readied.{which_above}
 use Rattle.op_bring.proofs.Sparing.{which_of}
 
 -- ---- in general
@@ -171,7 +172,10 @@ ready_object ready d kind = elim (ready.keeps.names (object_path repo d kind)) [
       | inl new ↦ cc new.0
       | inr other ↦ elim other [ inl made ↦ elim (which_of _ made.0) [ inl at ↦ cc at | inr at ↦ cc at ] | inr work ↦ cc work.is ]
     ]
-    | inr made ↦ omega (arith, above_longer (object_path repo d kind) a_head (ancestors_above a_head _ made.0))
+    | inr made ↦ elim (which_above _ made.0) [
+      | inl above ↦ omega (arith, above_longer (object_path repo d kind) a_head above)
+      | inr above ↦ omega (arith, above_longer (object_path repo d kind) a_remote above)
+    ]
   ])
 ]
 
@@ -196,7 +200,7 @@ module _ (s : State) (name : Ref) (commit : List ℕ) where
           | inl new ↦ names.a_config new.0 new.1
           | inr other ↦ elim other [ inl made ↦ folder_may q _ (which_of q made.0) made.1 | inr work ↦ names.some_work (subst (IsAbove tmp) (sym work.is) (inl refl)) ]
         ]
-        | inr made ↦ names.a_folder (names.above_head (ancestors_above a_head q made.0)) made.1
+        | inr made ↦ elim (which_above q made.0) [ inl above ↦ names.a_folder (names.above_head above) made.1 | inr above ↦ names.a_folder (names.above_remote above) made.1 ]
       ])
     ];
     objects = λ d kind digits there. ready_object ready d kind;

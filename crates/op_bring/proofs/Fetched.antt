@@ -44,14 +44,15 @@ use Rattle.op_bring.specs.Readying.{ReadiesStore}
 use Rattle.op_bring.specs.Rooms.{RoomAt, RoomName, HasRoom}
 use Rattle.fp_small.proofs.Keeping.{files_kept, files_on}
 use Rattle.ost_store.proofs.Creating.{creates_to, creates_on, creates_off}
-use Rattle.op_bring.proofs.Creating.{room_creates, furnish_creates}
 use Rattle.op_bring.proofs.Apart.{rest_within, dir_apart, work_in_tmp, object_off_tmp, store_by}
 use Rattle.op_bring.proofs.Changing.{changes_on, room_changes, room_store, pull_changes, ready_object, furnish_changes, furnish_files, furnish_store}
+use Rattle.op_bring.proofs.Cleared.{room_opens}
+use Rattle.op_bring.proofs.Creating.{room_creates, furnish_creates}
 use Rattle.op_bring.proofs.Folders.{lays_opens}
 use Rattle.op_bring.proofs.Pulling.{pull_opens, true_names}
-use Rattle.op_bring.proofs.Cleared.{room_opens}
+use Rattle.op_bring.proofs.Readied.{which_above}
 use Rattle.op_bring.proofs.Sparing.{ready_opens, which_of}
-use Rattle.op_bring.specs.Readying.{a_head}
+use Rattle.op_bring.specs.Readying.{a_head, a_remote}
 
 -- ---- names that stay through all of it
 
@@ -102,7 +103,7 @@ link_ready ready = elim (ready.keeps.names new_link) [
       | inl new ↦ cc new.0
       | inr other ↦ elim other [ inl made ↦ elim (which_of _ made.0) [ inl at ↦ cc at | inr at ↦ cc at ] | inr work ↦ link_no_new work.number work.is ]
     ]
-    | inr made ↦ elim_head (ancestors_above a_head _ made.0)
+    | inr made ↦ elim (which_above _ made.0) [ inl above ↦ elim_head above | inr above ↦ elim_remote above ]
   ])
 ]
   where
@@ -112,6 +113,13 @@ link_ready ready = elim (ready.keeps.names new_link) [
     elim_head (inr (inr (inl at))) = cc at
     elim_head (inr (inr (inr (inl at)))) = cc at
     elim_head (inr (inr (inr (inr none)))) = none
+
+    elim_remote : IsAbove new_link a_remote → ⊥
+    elim_remote (inl at) = cc at
+    elim_remote (inr (inl at)) = cc at
+    elim_remote (inr (inr (inl at))) = cc at
+    elim_remote (inr (inr (inr (inl at)))) = cc at
+    elim_remote (inr (inr (inr (inr none)))) = none
 
 module _ (name : Ref) (commit : List ℕ) where
   link_above : IsAbove new_link (commit_dir name commit) → ⊥

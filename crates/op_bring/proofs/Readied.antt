@@ -1,7 +1,7 @@
 -- The store of an installation, made ready.
 use Rattle.std.proofs.Common.{◌≡◌, ◌⊎◌, inl, inr, ℕ, List, [], ◌∷◌, Option, Result, Ok, refl, sym, ◌∙◌, ap, subst, Contains, arith}
-use Rattle.std.proofs.lemmas.List.Elements.{Contains-push_cases}
-use Rattle.fp_host.specs.Paths.{Elements, Slot, absent, dir}
+use Rattle.std.proofs.lemmas.List.Elements.{Contains-append_left, Contains-push, Contains-push_cases}
+use Rattle.fp_host.specs.Paths.{Elements, Slot, absent, dir, IsAbove}
 use Rattle.fp_host.specs.View.{View}
 use Rattle.fp_host.specs.Calls.{IsFile}
 use Rattle.fp_host.specs.Outcome.{Spot}
@@ -12,16 +12,17 @@ use Rattle.fp_host.specs.declared.host.HostError.{HostError}
 use Rattle.fp_host.specs.declared.host.Stat.{Stat}
 use Rattle.fp_host.specs.declared.host.Stat.TheVariants.{Absent}
 use Rattle.fp_host.proofs.Ending.{ends_both, ends_frame, ends_goes, ends_on}
-use Rattle.fp_host.proofs.Framed.{IsTold, keeps_on, keeps_to, keeps_same}
+use Rattle.fp_host.proofs.Framed.{IsTold, keeps_on, keeps_to, keeps_same, frame_start, frame_within}
 use Rattle.fp_host.proofs.Goes.{begins, goes_on, makes_goes}
 use Rattle.fp_small.specs.Places.{repo, tmp, new_name}
-use Rattle.fp_small.specs.Folders.{FoldersAt, DirsAt, AreFree, AreDirs}
+use Rattle.fp_small.specs.Folders.{ancestors, FoldersAt, DirsAt, AreFree, AreDirs}
 use Rattle.fp_small.specs.Replace.{IsStaging, ReplacesAt, ReplacesName, Replaces, WasReplaced, CanReplace, IsFreeFile}
 use Rattle.fp_small.proofs.Making.{stat_there}
 use Rattle.fp_small.proofs.Keeping.{files_same, files_on, files_kept}
+use Rattle.fp_small.proofs.Replacement.{ancestors_above}
 use Rattle.fp_small.proofs.Sharing.{shares_start, shares_empty, shares_on, shares_made}
 use Rattle.dep_states.specs.Lasting.IsLasting.{store_config as lasts_config}
-use Rattle.op_bring.specs.Readying.{store_config, store_text, refs_folder, heads_folder, heads_folders, ReadiesStore, ReadiesAt, ReadiesName, HasConfigured, CanReady, WasReadied}
+use Rattle.op_bring.specs.Readying.{store_config, store_text, refs_folder, heads_folder, remotes_folder, a_head, a_remote, heads_folders, store_folders, ReadiesStore, ReadiesAt, ReadiesName, HasConfigured, CanReady, WasReadied}
 
 -- nothing is written
 pub writes_none : {u w : View} → w ≡ u → Replaces store_config store_text u w
@@ -38,8 +39,8 @@ stat_writes start told call goes = goes_on {Q = λ u v. v ≡ u} told (begins st
 
 -- ---- what is made first is no name of `config`, nor one of work
 
-pub which : (q : Elements) → Contains heads_folders q → (repo ≡ q) ⊎ ((refs_folder ≡ q) ⊎ (heads_folder ≡ q))
-which q has = elim (Contains-push_cases (repo ∷ refs_folder ∷ []) heads_folder q has) [
+pub which_head : (q : Elements) → Contains heads_folders q → (repo ≡ q) ⊎ ((refs_folder ≡ q) ⊎ (heads_folder ≡ q))
+which_head q has = elim (Contains-push_cases (repo ∷ refs_folder ∷ []) heads_folder q has) [
   | inl first ↦ elim (Contains-push_cases (repo ∷ []) refs_folder q first) [
     | inl second ↦ elim (Contains-push_cases [] repo q second) [ inl none ↦ absurd (omega (arith, none.1)) | inr is ↦ inl is ]
     | inr is ↦ inr (inl is)
@@ -47,20 +48,74 @@ which q has = elim (Contains-push_cases (repo ∷ refs_folder ∷ []) heads_fold
   | inr is ↦ inr (inr is)
 ]
 
+pub which : (q : Elements) → Contains store_folders q → ((repo ≡ q) ⊎ ((refs_folder ≡ q) ⊎ (heads_folder ≡ q))) ⊎ (remotes_folder ≡ q)
+which q has = elim (Contains-push_cases heads_folders remotes_folder q has) [ inl first ↦ inl (which_head q first) | inr is ↦ inr is ]
+
+-- each is above a name in one of the two folders
+pub which_above : (q : Elements) → Contains store_folders q → IsAbove q a_head ⊎ IsAbove q a_remote
+which_above q has = elim (Contains-push_cases heads_folders remotes_folder q has) [ inl first ↦ inl (ancestors_above a_head q first) | inr is ↦ inr (inl (sym is)) ]
+
 -- no other name of what is made ready
-apart : (other : Elements) → (repo ≡ other → ⊥) → (refs_folder ≡ other → ⊥) → (heads_folder ≡ other → ⊥) → Contains heads_folders other → ⊥
-apart other no_repo no_refs no_heads has = elim (which other has) [ inl is ↦ no_repo is | inr more ↦ elim more [ inl is ↦ no_refs is | inr is ↦ no_heads is ] ]
+apart : (other : Elements) → (repo ≡ other → ⊥) → (refs_folder ≡ other → ⊥) → (heads_folder ≡ other → ⊥) → (remotes_folder ≡ other → ⊥) → Contains store_folders other → ⊥
+apart other no_repo no_refs no_heads no_remotes has = elim (which other has) [
+  | inl head ↦ elim head [ inl is ↦ no_repo is | inr more ↦ elim more [ inl is ↦ no_refs is | inr is ↦ no_heads is ] ]
+  | inr is ↦ no_remotes is
+]
 
-no_config : Contains heads_folders store_config → ⊥
-no_config has = apart store_config (λ is. cc is) (λ is. cc is) (λ is. cc is) has
+no_config : Contains store_folders store_config → ⊥
+no_config has = apart store_config (λ is. cc is) (λ is. cc is) (λ is. cc is) (λ is. cc is) has
 
-no_work : (k : ℕ) → Contains heads_folders (new_name k ∷ tmp) → ⊥
-no_work k has = apart (new_name k ∷ tmp) (λ is. cc is) (λ is. cc is) (λ is. cc is) has
+no_work : (k : ℕ) → Contains store_folders (new_name k ∷ tmp) → ⊥
+no_work k has = apart (new_name k ∷ tmp) (λ is. cc is) (λ is. cc is) (λ is. cc is) (λ is. cc is) has
+
+-- ---- the folders, those of the one name and then those of the other
+
+abbrev MakesHeads : View → View → Type 0
+MakesHeads u w = Keeps (FoldersAt heads_folders) (DirsAt heads_folders) NoPath u w
+
+abbrev MakesRemotes : View → View → Type 0
+MakesRemotes u w = Keeps (FoldersAt (ancestors a_remote)) (DirsAt (ancestors a_remote)) NoPath u w
+
+heads_in : (q : Elements) → Contains heads_folders q → Contains store_folders q
+heads_in q has = Contains-append_left heads_folders (remotes_folder ∷ []) q has
+
+remotes_in : (q : Elements) → Contains (ancestors a_remote) q → Contains store_folders q
+remotes_in q has = elim (Contains-push_cases (repo ∷ refs_folder ∷ []) remotes_folder q has) [
+  | inl first ↦ heads_in q (Contains-append_left (repo ∷ refs_folder ∷ []) (heads_folder ∷ []) q first)
+  | inr is ↦ subst (Contains store_folders) is (Contains-push heads_folders remotes_folder)
+]
+
+pub heads_free : {u : View} → AreFree store_folders u → AreFree heads_folders u
+heads_free can = record { free = λ q has. can.free q (heads_in q has) }
+
+pub remotes_free : {u v : View} → MakesHeads u v → AreFree store_folders u → AreFree (ancestors a_remote) v
+remotes_free first can = record {
+  free = λ q has. elim (first.names q) [ inl same ↦ subst (λ (e : Slot). (e ≡ absent) ⊎ (e ≡ dir)) (sym same) (can.free q (remotes_in q has)) | inr put ↦ inr put.1 ];
+}
+
+both_dirs : {u v w : View} → MakesHeads u v → (AreFree heads_folders u → AreDirs heads_folders v) → MakesRemotes v w → (AreFree (ancestors a_remote) v → AreDirs (ancestors a_remote) w) → AreFree store_folders u → AreDirs store_folders w
+both_dirs first heads second remotes can = record {
+  dirs = λ q has. elim (Contains-push_cases heads_folders remotes_folder q has) [
+    | inl at ↦ elim (second.names q) [ inl same ↦ same ∙ (heads (heads_free can)).dirs q at | inr put ↦ put.1 ]
+    | inr is ↦ (remotes (remotes_free first can)).dirs q (subst (Contains (ancestors a_remote)) is (Contains-push (repo ∷ refs_folder ∷ []) remotes_folder))
+  ];
+}
+
+pub heads_made : {a b : Option Moments} → IsTold a → Frame (FoldersAt heads_folders) (DirsAt heads_folders) NoPath a b → Frame (FoldersAt store_folders) (DirsAt store_folders) NoPath a b
+heads_made start frame = frame_within frame (frame_start start) start (λ q spot h. (heads_in q h.0, h.1)) (λ q e h. (heads_in q h.0, h.1)) (λ q b. absurd b) (λ q id a h. absurd a)
+
+pub both_made : {a b c : Option Moments} → IsTold a → IsTold b → Frame (FoldersAt heads_folders) (DirsAt heads_folders) NoPath a b → Frame (FoldersAt (ancestors a_remote)) (DirsAt (ancestors a_remote)) NoPath b c → Frame (FoldersAt store_folders) (DirsAt store_folders) NoPath a c
+both_made start told first second = frame_within second (heads_made start first) told (λ q spot h. (remotes_in q h.0, h.1)) (λ q e h. (remotes_in q h.0, h.1)) (λ q b. absurd b) (λ q id a h. absurd a)
+
+pub ends_made : {a b c : Option Moments} → IsTold a → IsTold b → Frame (FoldersAt heads_folders) (DirsAt heads_folders) NoPath a b → AtEnd (λ u w. AreFree heads_folders u → AreDirs heads_folders w) a b
+    → Frame (FoldersAt (ancestors a_remote)) (DirsAt (ancestors a_remote)) NoPath b c → AtEnd (λ u w. AreFree (ancestors a_remote) u → AreDirs (ancestors a_remote) w) b c → AtEnd (λ u w. AreFree store_folders u → AreDirs store_folders w) a c
+ends_made start told first heads second remotes =
+    ends_on (ends_both (ends_frame told second) remotes) (ends_both (ends_frame start first) heads) told (λ u v w tree one two. both_dirs one.0 one.1 two.0 two.1)
 
 -- ---- both
 
 abbrev MakesFolders : View → View → Type 0
-MakesFolders u w = Keeps (FoldersAt heads_folders) (DirsAt heads_folders) NoPath u w
+MakesFolders u w = Keeps (FoldersAt store_folders) (DirsAt store_folders) NoPath u w
 
 pub readies_folders : {u w : View} → MakesFolders u w → ReadiesStore u w
 readies_folders folders = record { keeps = keeps_to (λ q spot h. inr h) (λ q e h. inr h) (λ q b. absurd b) (λ q id a h. absurd (cc h.1)) folders; files = files_kept folders }
@@ -101,10 +156,10 @@ module _ {u v : View} (folders : MakesFolders u v) where
     files = files_on (files_kept folders) writes.files;
   }
 
-pub goes_folders : {a b : Option Moments} → IsTold a → Frame (FoldersAt heads_folders) (DirsAt heads_folders) NoPath a b → Goes a b ReadiesStore ReadiesStore
+pub goes_folders : {a b : Option Moments} → IsTold a → Frame (FoldersAt store_folders) (DirsAt store_folders) NoPath a b → Goes a b ReadiesStore ReadiesStore
 goes_folders told frame = begins told frame.goes (λ u w t r. readies_folders r) (λ u w t r e. readies_folders e)
 
-pub goes_both : {a b c : Option Moments} → IsTold a → IsTold b → Frame (FoldersAt heads_folders) (DirsAt heads_folders) NoPath a b → Goes b c (Replaces store_config store_text) (Replaces store_config store_text) → Goes a c ReadiesStore ReadiesStore
+pub goes_both : {a b c : Option Moments} → IsTold a → IsTold b → Frame (FoldersAt store_folders) (DirsAt store_folders) NoPath a b → Goes b c (Replaces store_config store_text) (Replaces store_config store_text) → Goes a c ReadiesStore ReadiesStore
 goes_both start told first second = goes_on {Q = MakesFolders} told (begins start first.goes (λ u w t r. readies_folders r) (λ u w t r e. e)) second (λ u v w t p q s. readies_both q s) (λ u v w t p q s last. readies_both q last)
 
 -- ---- what stands in the end
@@ -125,13 +180,13 @@ made_config put = record { there = λ free. made_there put; shares = shares_made
 pub config_there : {p : Elements} {s : Stat} {u w : View} → p ≡ store_config → StatOf p (Ok s) u w → (s ≡ Absent → ⊥) → HasConfigured u w
 config_there at stat off = record { there = λ free. was_there at stat off free; shares = shares_start stat.same }
 
-still_dirs : {v w : View} → AreDirs heads_folders v → Replaces store_config store_text v w → AreDirs heads_folders w
+still_dirs : {v w : View} → AreDirs store_folders v → Replaces store_config store_text v w → AreDirs store_folders w
 still_dirs folders writes = record {
   dirs = λ q has. elim (writes.keeps.names q) [
     | inl same ↦ same ∙ folders.dirs q has
     | inr put ↦ elim put [
-      | inl new ↦ absurd (no_config (subst (Contains heads_folders) new.0 has))
-      | inr other ↦ elim other [ inl made ↦ made.1 | inr work ↦ absurd (no_work work.number (subst (Contains heads_folders) work.is has)) ]
+      | inl new ↦ absurd (no_config (subst (Contains store_folders) new.0 has))
+      | inr other ↦ elim other [ inl made ↦ made.1 | inr work ↦ absurd (no_work work.number (subst (Contains store_folders) work.is has)) ]
     ]
   ];
 }
@@ -151,13 +206,13 @@ module _ {u v : View} (folders : MakesFolders u v) where
     no_work = can.config.no_work;
   }
 
-  ready : {w : View} → (AreFree heads_folders u → AreDirs heads_folders v) → Replaces store_config store_text v w → HasConfigured v w → WasReadied u w
+  ready : {w : View} → (AreFree store_folders u → AreDirs store_folders v) → Replaces store_config store_text v w → HasConfigured v w → WasReadied u w
   ready dirs writes configured = record {
-    store = λ can. record { config = configured.there (still_free can.config.entry); heads = still_dirs (dirs can.folders) writes };
+    store = λ can. record { config = configured.there (still_free can.config.entry); folders = still_dirs (dirs can.folders) writes };
     shares = shares_on (shares_empty folders) configured.shares writes.files;
   }
 
-pub ends_ready : {a b c : Option Moments} → IsTold a → IsTold b → Frame (FoldersAt heads_folders) (DirsAt heads_folders) NoPath a b → AtEnd (λ u w. AreFree heads_folders u → AreDirs heads_folders w) a b
+pub ends_ready : {a b c : Option Moments} → IsTold a → IsTold b → Frame (FoldersAt store_folders) (DirsAt store_folders) NoPath a b → AtEnd (λ u w. AreFree store_folders u → AreDirs store_folders w) a b
     → Goes b c (Replaces store_config store_text) (Replaces store_config store_text) → AtEnd HasConfigured b c → AtEnd WasReadied a c
 ends_ready start told frame dirs goes configured =
     ends_on (ends_both (ends_goes told goes) configured) (ends_both (ends_frame start frame) dirs) told (λ u v w tree first second. ready first.0 first.1 second.0 second.1)

@@ -13,7 +13,7 @@ use Rattle.dep_states.proofs.Deployed.{top}
 use Rattle.dep_states.proofs.Law.{frame_law}
 use Rattle.dep_states.proofs.Sparing.{none_in_repo}
 use Rattle.dep_states.proofs.Switching.{none_in_tmp, second, word_no_repo}
-use Rattle.op_bring.specs.Readying.{store_config, refs_folder, heads_folder, ReadiesAt, ReadiesStore}
+use Rattle.op_bring.specs.Readying.{store_config, refs_folder, heads_folder, remotes_folder, ReadiesAt, ReadiesStore}
 use Rattle.op_bring.proofs.Readied.{which}
 
 pub permits_in_repo : (i : Disk) (p other : Elements) (spot : Spot) → p ≡ other → top other ≡ codes "repo" → Allowed other spot → Permits i p spot
@@ -47,6 +47,9 @@ refs_spared i p at f = unfixed i p refs_folder at refl (λ is. cc is) f
 heads_spared : (i : Disk) (p : Elements) → p ≡ heads_folder → Fixed i p → ⊥
 heads_spared i p at f = unfixed i p heads_folder at refl (λ is. cc is) f
 
+remotes_spared : (i : Disk) (p : Elements) → p ≡ remotes_folder → Fixed i p → ⊥
+remotes_spared i p at f = unfixed i p remotes_folder at refl (λ is. cc is) f
+
 pub a_folder : (i : Disk) (p other : Elements) (spot : Spot) → p ≡ other → top other ≡ codes "repo" → Allowed other folder → spot ≡ folder → Permits i p spot
 a_folder i p other spot at in_repo allowed is = permits_in_repo i p other spot at in_repo (subst (Allowed other) (sym is) allowed)
 
@@ -68,15 +71,17 @@ pub folder_permitted : (i : Disk) (p : Elements) (spot : Spot) → (p ≡ repo) 
 folder_permitted i p spot (inl at) is = a_folder i p repo spot at refl (record { fits = tt; short = inr (omega arith) }) is
 folder_permitted i p spot (inr at) is = a_folder i p tmp spot at refl (record { fits = tt; short = inr (omega arith) }) is
 
-head_spared : (i : Disk) (p : Elements) → (repo ≡ p) ⊎ ((refs_folder ≡ p) ⊎ (heads_folder ≡ p)) → Fixed i p → ⊥
-head_spared i p (inl at) f = repo_spared i p (sym at) f
-head_spared i p (inr (inl at)) f = refs_spared i p (sym at) f
-head_spared i p (inr (inr at)) f = heads_spared i p (sym at) f
+made_spared : (i : Disk) (p : Elements) → ((repo ≡ p) ⊎ ((refs_folder ≡ p) ⊎ (heads_folder ≡ p))) ⊎ (remotes_folder ≡ p) → Fixed i p → ⊥
+made_spared i p (inl (inl at)) f = repo_spared i p (sym at) f
+made_spared i p (inl (inr (inl at))) f = refs_spared i p (sym at) f
+made_spared i p (inl (inr (inr at))) f = heads_spared i p (sym at) f
+made_spared i p (inr at) f = remotes_spared i p (sym at) f
 
-head_permitted : (i : Disk) (p : Elements) (spot : Spot) → (repo ≡ p) ⊎ ((refs_folder ≡ p) ⊎ (heads_folder ≡ p)) → spot ≡ folder → Permits i p spot
-head_permitted i p spot (inl at) is = a_folder i p repo spot (sym at) refl (record { fits = tt; short = inr (omega arith) }) is
-head_permitted i p spot (inr (inl at)) is = a_folder i p refs_folder spot (sym at) refl (record { fits = tt; short = inr (omega arith) }) is
-head_permitted i p spot (inr (inr at)) is = a_folder i p heads_folder spot (sym at) refl (record { fits = tt; short = inr (omega arith) }) is
+made_permitted : (i : Disk) (p : Elements) (spot : Spot) → ((repo ≡ p) ⊎ ((refs_folder ≡ p) ⊎ (heads_folder ≡ p))) ⊎ (remotes_folder ≡ p) → spot ≡ folder → Permits i p spot
+made_permitted i p spot (inl (inl at)) is = a_folder i p repo spot (sym at) refl (record { fits = tt; short = inr (omega arith) }) is
+made_permitted i p spot (inl (inr (inl at))) is = a_folder i p refs_folder spot (sym at) refl (record { fits = tt; short = inr (omega arith) }) is
+made_permitted i p spot (inl (inr (inr at))) is = a_folder i p heads_folder spot (sym at) refl (record { fits = tt; short = inr (omega arith) }) is
+made_permitted i p spot (inr at) is = a_folder i p remotes_folder spot (sym at) refl (record { fits = tt; short = inr (omega arith) }) is
 
 -- ---- new names in repo/tmp
 
@@ -92,7 +97,7 @@ module _ {v : View} where
       | inl new ↦ config_spared disk p new.0 f
       | inr other ↦ elim other [ inl made ↦ folder_spared disk p (which_of p made.0) f | inr work ↦ none_in_tmp (new_name work.number ∷ []) work.is f ]
     ]
-    | inr made ↦ head_spared disk p (which p made.0) f
+    | inr made ↦ made_spared disk p (which p made.0) f
   ]
 
   permits : (disk : Disk) → Leaves v disk → (p : Elements) (spot : Spot) → ReadiesAt v p spot → Permits disk p spot
@@ -101,7 +106,7 @@ module _ {v : View} where
       | inl new ↦ config_permitted disk p spot new.0 new.1.0 _ new.1.1
       | inr other ↦ elim other [ inl made ↦ folder_permitted disk p spot (which_of p made.0) made.1 | inr work ↦ work_permitted disk p spot work.number work.is ]
     ]
-    | inr made ↦ head_permitted disk p spot (which p made.0) made.1
+    | inr made ↦ made_permitted disk p spot (which p made.0) made.1
   ]
 
   pub ready_spares : Spares v (ReadiesAt v)

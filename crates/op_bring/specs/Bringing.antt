@@ -29,7 +29,7 @@ use Rattle.dep_states.specs.Sound.{Opens}
 use Rattle.dep_states.specs.Switch.{OpensEither}
 use Rattle.op_deploy.specs.Applied.{SameObjects}
 use Rattle.op_bring.specs.Brought.{brought_refusal, state_brought, supply_at, HasObjects}
-use Rattle.op_bring.specs.Readying.{store_config, a_head}
+use Rattle.op_bring.specs.Readying.{store_config, a_head, a_remote}
 
 -- ---- the names
 
@@ -39,6 +39,7 @@ pub data IsFolderFor (name : Ref) (commit : List ℕ) (q : Elements) : Type 0 wh
   above_object : (d : List ℕ) (kind : ObjKind) → is_digest d ≡ true
       → IsAbove q (object_path repo d kind) → IsFolderFor name commit q
   above_head : IsAbove q a_head → IsFolderFor name commit q
+  above_remote : IsAbove q a_remote → IsFolderFor name commit q
   for_work : q ≡ tmp → IsFolderFor name commit q
 
 -- What names may come to hold: work; the folder of a commit that the state doesn't keep, its

@@ -1,5 +1,5 @@
 -- The store of an installation, made ready for its first commit.
-use Rattle.std.specs.Prelude.{◌⊎◌, List, ◌∷◌, ℕ, codes}
+use Rattle.std.specs.Prelude.{◌⊎◌, List, [], ◌∷◌, ◌++◌, ℕ, codes}
 use Rattle.fp_host.specs.Paths.{Elements, Slot}
 use Rattle.fp_host.specs.View.{View}
 use Rattle.fp_host.specs.Calls.{IsFile}
@@ -20,26 +20,35 @@ store_config = codes "config" ∷ repo
 abbrev pub store_text : List ℕ
 store_text = STORE_CONFIG.now
 
--- a name in the folder of the store's refs, and the folders above it
+-- the folders of the store's refs, a name in each, and the folders above them
 abbrev pub refs_folder : Elements
 refs_folder = codes "refs" ∷ repo
 
 abbrev pub heads_folder : Elements
 heads_folder = codes "heads" ∷ refs_folder
 
+abbrev pub remotes_folder : Elements
+remotes_folder = codes "remotes" ∷ refs_folder
+
 abbrev pub a_head : Elements
 a_head = codes "x" ∷ heads_folder
+
+abbrev pub a_remote : Elements
+a_remote = codes "x" ∷ remotes_folder
 
 abbrev pub heads_folders : List Elements
 heads_folders = ancestors a_head
 
+abbrev pub store_folders : List Elements
+store_folders = heads_folders ++ remotes_folder ∷ []
+
 -- ---- what may come to stand where
 
 abbrev pub ReadiesAt : View → Elements → Spot → Type 0
-ReadiesAt u q spot = ReplacesAt store_config store_text u q spot ⊎ FoldersAt heads_folders q spot
+ReadiesAt u q spot = ReplacesAt store_config store_text u q spot ⊎ FoldersAt store_folders q spot
 
 abbrev pub ReadiesName : View → Elements → Slot → Type 0
-ReadiesName u q e = ReplacesName store_config u q e ⊎ DirsAt heads_folders q e
+ReadiesName u q e = ReplacesName store_config u q e ⊎ DirsAt store_folders q e
 
 pub record ReadiesStore (u w : View) : Type 0 where
   pub keeps : Keeps (ReadiesAt u) (ReadiesName u) (IsStaging u) u w
@@ -53,11 +62,11 @@ pub record HasConfigured (u w : View) : Type 0 where
 -- where it can be made ready
 pub record CanReady (v : View) : Type 0 where
   pub config : CanReplace store_config v
-  pub folders : AreFree heads_folders v
+  pub folders : AreFree store_folders v
 
 pub record HasStore (w : View) : Type 0 where
   pub config : IsFile (w.names store_config)
-  pub heads : AreDirs heads_folders w
+  pub folders : AreDirs store_folders w
 
 -- After it the store is there. A new file that has bytes came to a lasting name.
 pub record WasReadied (u w : View) : Type 0 where

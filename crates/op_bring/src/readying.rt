@@ -1,24 +1,46 @@
 //! The store of an installation, made ready for its first commit.
 ghost use Rattle.std.specs.Prelude.{◌≡◌, IfOk, OnOk, IsErrOf};
 ghost use Rattle.fp_host.specs.Causes.{IsCaused};
-ghost use Rattle.fp_host.specs.Frame.{AtEnd};
+ghost use Rattle.fp_host.specs.Frame.{Frame, AtEnd, NoPath};
 ghost use Rattle.fp_host.specs.Moments.{Always};
+ghost use Rattle.fp_small.specs.Folders.{FoldersAt, DirsAt, AreFree, AreDirs};
 ghost use Rattle.fp_small.specs.Replace.{Replaces, CanReplace};
-ghost use Rattle.op_bring.specs.Readying.{store_config, store_text, a_head, ReadiesStore, HasConfigured, WasReadied, CanReady};
+ghost use Rattle.op_bring.specs.Readying.{store_config, store_text, a_head, a_remote, store_folders, ReadiesStore, HasConfigured, WasReadied, CanReady};
 
 use fp_host::{Host, HostEnd, Path, Stat};
 use fp_small::{make_above, replace};
 use ost_model::STORE_CONFIG;
 use std::alloc::{AllocError, Global};
 
-/// `config` of the store, and a name in the folder of its refs.
-fn store_paths(alloc: Global) -> Result<(Path, Path), AllocError>
-    ensures { IfOk result (λ paths. (paths.0 ≡ store_config) × (paths.1 ≡ a_head)) }
+/// `config` of the store.
+fn config_path(alloc: Global) -> Result<Path, AllocError>
+    ensures { IfOk result (λ path. path ≡ store_config) }
 {
-    let repo = Path::root(alloc).child("repo")?;
-    let config = repo.child("config")?;
-    let head = repo.child("refs")?.child("heads")?.child("x")?;
-    Ok((config, head))
+    Path::root(alloc).child("repo")?.child("config")
+}
+
+/// A name in the folder of the store's refs, and one in that of its remotes' refs.
+fn ref_paths(alloc: Global) -> Result<(Path, Path), AllocError>
+    ensures { IfOk result (λ paths. (paths.0 ≡ a_head) × (paths.1 ≡ a_remote)) }
+{
+    let refs = Path::root(alloc).child("repo")?.child("refs")?;
+    let head = refs.child("heads")?.child("x")?;
+    let remote = refs.child("remotes")?.child("x")?;
+    Ok((head, remote))
+}
+
+/// Makes the folders `repo/refs/heads` and `repo/refs/remotes` where they are absent.
+fn make_refs<H: Host>(alloc: Global, host: &mut H) -> Result<(), HostEnd>
+    ensures frame { Frame (FoldersAt store_folders) (DirsAt store_folders) NoPath
+        (H.moments host.old) (H.moments host.new) }
+    ensures on_success { OnOk result (AtEnd (λ u w. AreFree store_folders u
+        → AreDirs store_folders w) (H.moments host.old) (H.moments host.new)) }
+    ensures fault_has_cause { IsCaused (IsErrOf result HostEnd.Fault) (H.moments host.old)
+        (AreFree store_folders) (H.faults host.old) (H.faults host.new) }
+{
+    let (head, remote) = ref_paths(alloc)?;
+    make_above(alloc, host, &head)?;
+    make_above(alloc, host, &remote)
 }
 
 /// Writes `config` of the store where it is absent.
@@ -37,8 +59,9 @@ fn write_config<H: Host>(alloc: Global, host: &mut H, config: &Path) -> Result<(
     }
 }
 
-/// Makes the folder `repo/refs/heads`, and then `repo/config`, each where it is absent. So where
-/// the store has a `config`, it has the folder of its refs.
+/// Makes the folders `repo/refs/heads` and `repo/refs/remotes`, and then `repo/config`, each where
+/// it is absent. So where the store has a `config`, it has the folders of its refs, without which
+/// `ostree` doesn't read it.
 pub(crate) fn ready_store<H: Host>(alloc: Global, host: &mut H) -> Result<(), HostEnd>
     ensures any_moment { Always ReadiesStore (H.moments host.old) (H.moments host.new) }
     ensures on_success { OnOk result (AtEnd WasReadied
@@ -46,7 +69,7 @@ pub(crate) fn ready_store<H: Host>(alloc: Global, host: &mut H) -> Result<(), Ho
     ensures fault_has_cause { IsCaused (IsErrOf result HostEnd.Fault) (H.moments host.old)
         CanReady (H.faults host.old) (H.faults host.new) }
 {
-    let (config, head) = store_paths(alloc)?;
-    make_above(alloc, host, &head)?;
+    let config = config_path(alloc)?;
+    make_refs(alloc, host)?;
     write_config(alloc, host, &config)
 }
