@@ -1,6 +1,7 @@
 //! A test as data: what is done one after another in a folder, and what is to come of it.
 use crate::remote::{Remote, ask_remote};
 use fp_host::PERMISSION_BITS;
+use fp_progress::{Progress, Watched};
 use fp_realhost::HostDir;
 use fp_reallog::{Kind, Log, Logged};
 use fp_realplay::{Made, Part, clear, is_free, make_all, play_all, tells};
@@ -19,6 +20,8 @@ pub enum Act<'a> {
     Run(Access, &'a str, &'a [Part<'a>], (u64, &'a str)),
     /// The same over a system that notes what it is asked.
     Logged(Access, &'a str, &'a [Part<'a>]),
+    /// The same, watched as a command is.
+    Watched(Access, &'a str, &'a [Part<'a>]),
     Remote(Remote<'a>),
     /// Nobody holds the lock.
     Free(&'a str),
@@ -64,6 +67,7 @@ fn do_act<T: Threads + Sync>(rt: &HostRuntime, threads: &T, log: &Log<'_>, act: 
             *told,
         ),
         Act::Logged(access, root, parts) => run_logged(rt, threads, log, (*access, root), parts),
+        Act::Watched(access, root, parts) => run_watched(rt, threads, log, (*access, root), parts),
         Act::Remote(remote) => ask_remote(rt, log, remote),
         Act::Free(at) => log.demand(is_free(rt, at, Access::Change) == Some(true), 0, at),
         Act::Bits(at, want) => log.demand(has_bits(rt, at, *want), 0, at),
@@ -101,6 +105,23 @@ fn run_logged<T: Threads + Sync>(
 ) {
     let (access, root) = place;
     let system = Logged { rt, log };
+    match HostDir::new(&system, threads, &system, log.alloc, root, access) {
+        Ok(mut host) => play_all(rt, log, &mut host, parts),
+        Err(_) => log.demand(false, 0, "memory"),
+    }
+}
+
+fn run_watched<T: Threads + Sync>(
+    rt: &HostRuntime,
+    threads: &T,
+    log: &Log<'_>,
+    place: (Access, &str),
+    parts: &[Part<'_>],
+) {
+    let (access, root) = place;
+    let logged = Logged { rt, log };
+    let progress = Progress::new(&logged, false);
+    let system = Watched::host(&logged, &progress);
     match HostDir::new(&system, threads, &system, log.alloc, root, access) {
         Ok(mut host) => play_all(rt, log, &mut host, parts),
         Err(_) => log.demand(false, 0, "memory"),

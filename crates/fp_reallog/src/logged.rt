@@ -10,6 +10,7 @@ use std::io::{Eprint, Print, Read, Seek, SeekFrom, Write};
 use std::path::PathBuf;
 use std::rt::Files;
 use std::thread::Threads;
+use std::time::{Clock, Duration};
 
 /// A system that notes what it is asked to change.
 #[derive(Drop)]
@@ -235,6 +236,16 @@ impl Eprint for Logged<'_> {
 
     fn eprintln<D: Display + Drop>(&self, value: D) -> io::Result<()> {
         self.eprint(value)
+    }
+}
+
+impl Clock for Logged<'_> {
+    fn monotonic(&self) -> io::Result<Duration> {
+        self.rt.monotonic()
+    }
+
+    fn since_1970(&self) -> io::Result<Duration> {
+        self.rt.since_1970()
     }
 }
 

@@ -130,6 +130,13 @@ const WAITING: [(Step<'static>, &str); 14] = [
 
 const ASKING: [Act<'static>; 1] = [Act::Logged(Access::Change, "order/root", &[Part::Ask(&ASKED)])];
 
+/// The system is asked the same where it is watched.
+const WATCHING: [Act<'static>; 1] = [Act::Watched(
+    Access::Change,
+    "order/root",
+    &[Part::Ask(&ASKED)],
+)];
+
 const DATING: [Act<'static>; 1] = [Act::Logged(
     Access::Change,
     "date/root",
@@ -226,6 +233,58 @@ const UNLOCKED: [Act<'static>; 2] = [
     Act::Logged(Access::Change, "old/root", &[Part::Ask(&UNKNOWN)]),
 ];
 
+/// A file that was renamed is synced by its path.
+const MOVED: [Step<'static>; 4] = [
+    Step::Create("x", 0o644),
+    Step::Append("x", "some"),
+    Step::Rename("x", "y"),
+    Step::Sync,
+];
+
+const UNMOVED: &str = "sync moved/root/y";
+
+const MOVING: [Act<'static>; 1] = [Act::Logged(
+    Access::Change,
+    "moved/root",
+    &[Part::Stop(&MOVED, 3, false)],
+)];
+
+/// The next run fails at what was left.
+const LOST: &str = "sync left/root/d/f";
+
+const LEAVING: [Act<'static>; 2] = [
+    Act::Logged(Access::Change, "left/root", &[Part::Ask(&UNSYNCED)]),
+    Act::Logged(
+        Access::Change,
+        "left/root",
+        &[Part::Stop(&[Step::Sync], 0, false)],
+    ),
+];
+
+/// An earlier run made the root, and changed nothing in it.
+const ENTERED: [(Step<'static>, &str); 1] = [(
+    Step::Stat("none"),
+    "make bare\nmake bare/root\nlock bare/root/.lock\n",
+)];
+
+/// What the next one changes lasts only with the folders above.
+const CHANGED: [(Step<'static>, &str); 2] = [
+    (
+        Step::MakeDir("d"),
+        "lock bare/root/.lock\nwrite bare/root/.lock\nmake bare/root/d\n",
+    ),
+    (
+        Step::Sync,
+        "sync .\nsync bare\nsync bare/root\nsync bare/root\nsync bare/root/d\n\
+         cut bare/root/.lock\n",
+    ),
+];
+
+const BARE: [Act<'static>; 2] = [
+    Act::Logged(Access::Change, "bare/root", &[Part::Ask(&ENTERED)]),
+    Act::Logged(Access::Change, "bare/root", &[Part::Ask(&CHANGED)]),
+];
+
 /// What is looked at: the root, and what isn't known to be there or absent. A file that was written while it had two names is looked
 /// at again.
 const LOOKS: [(Step<'static>, &str); 27] = [
@@ -274,11 +333,19 @@ const LOOKING: [Act<'static>; 1] = [Act::Logged(
 #[test]
 fn the_system_is_asked_in_order(rt: HostRuntime) {
     assert!(rt; tell(&rt, &rt, "order", Kind::Plain, &ASKING));
+    assert!(rt; tell(&rt, &rt, "order", Kind::Plain, &WATCHING));
     assert!(rt; tell(&rt, &rt, "date", Kind::Plain, &DATING));
     assert!(rt; tell(&rt, &rt, "left", Kind::Plain, &LEFT));
     assert!(rt; tell(&rt, &rt, "left", Kind::Plain, &MARKED));
+    assert!(rt; tell(&rt, &rt, "left", Kind::Failing(LOST), &LEAVING));
     assert!(rt; tell(&rt, &rt, "old", Kind::Plain, &UNLOCKED));
     assert!(rt; tell(&rt, &rt, "looks", Kind::TellingLooks, &LOOKING));
+}
+
+#[test]
+fn what_stands_there_is_synced(rt: HostRuntime) {
+    assert!(rt; tell(&rt, &rt, "moved", Kind::Failing(UNMOVED), &MOVING));
+    assert!(rt; tell(&rt, &rt, "bare", Kind::Plain, &BARE));
 }
 
 /// How many files are made, and the sync that fails. Where 192 files are open beside the one that is written, they are synced before
