@@ -69,7 +69,7 @@ fn url_below(rt: &HostRuntime, at: &str) -> Option<String> {
     format!(in rt.alloc(); "file://{here}/{at}").ok()
 }
 
-/// Whether there is an error, and this is its text.
+/// Whether there is an error, and this is its text. After two dots stands how the text ends.
 pub fn is_message(alloc: Global, error: Option<&SystemError>, want: &str) -> bool {
     match error {
         Some(error) => is_text(alloc, error, want),
@@ -79,8 +79,15 @@ pub fn is_message(alloc: Global, error: Option<&SystemError>, want: &str) -> boo
 
 fn is_text(alloc: Global, error: &SystemError, want: &str) -> bool {
     match error.to_string(alloc) {
-        Ok(text) => text.as_str() == want,
+        Ok(text) => is_such(text.as_str(), want),
         Err(_) => false,
+    }
+}
+
+fn is_such(text: &str, want: &str) -> bool {
+    match want.strip_prefix("..") {
+        Some(end) => text.ends_with(end),
+        None => text == want,
     }
 }
 

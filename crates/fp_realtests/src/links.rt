@@ -79,7 +79,10 @@ const LINKED: [Act<'static>; 2] = [
         folder: "links_there/root",
         holds: &[("repo/tmp/file", FAULT, 0), ("repo", "../outside", 0)],
         urls: &[],
-        told: (2, ""),
+        told: (
+            2,
+            "../links_there/root/repo/tmp/file: a symlink is in the place of a folder",
+        ),
     }),
 ];
 
