@@ -1,7 +1,10 @@
-//! Tests of a real folder as a host: what the system is asked, in order, and the lock.
+//! Tests of a real folder as a host: what the system is asked, in order, what several threads sync,
+//! and the lock.
 #![tactic(auto)]
 
 #[cfg(test)]
 mod held;
 #[cfg(test)]
 mod order;
+#[cfg(test)]
+mod synced;

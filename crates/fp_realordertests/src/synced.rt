@@ -1,0 +1,203 @@
+//! Syncs of many things at once, by several threads.
+use fp_progress::{Progress, Watched};
+use fp_realfiles::{Failure, Syncer, Unsynced, sync_by_threads};
+use fp_reallog::{Kind, Log, Logged};
+use fp_realroot::System;
+use fp_system::{Call, Cause};
+use std::alloc::{AllocError, Global};
+use std::fs;
+use std::sync::atomic::{AtomicU64, Ordering};
+use std::thread::Threads;
+
+/// What is synced: its place, and how often that was.
+#[derive(Drop)]
+struct Item {
+    place: usize,
+    syncs: AtomicU64,
+}
+
+/// The places of what cannot be opened, and of what cannot be synced.
+#[derive(Clone, Copy)]
+struct Failing {
+    closed: &'static [usize],
+    broken: &'static [usize],
+}
+
+impl Syncer<Item> for Failing {
+    fn sync_one(&self, item: &Item) -> Option<Unsynced> {
+        item.syncs.fetch_add(1, Ordering::SeqCst);
+        if self.broken.contains(&item.place) {
+            return Some(unsynced(Call::Sync));
+        }
+        if self.closed.contains(&item.place) {
+            return Some(unsynced(Call::Open));
+        }
+        None
+    }
+}
+
+fn unsynced(call: Call) -> Unsynced {
+    Unsynced {
+        call,
+        cause: Cause::MayBeLost,
+    }
+}
+
+/// How many there are, the places of what cannot be opened, and of what cannot be synced, and what
+/// is answered: a place and a call. From 32 on they are cut. The first failure is answered, but a
+/// sync that failed before all others.
+const ROWS: [(usize, &[usize], &[usize], Option<(usize, Call)>); 14] = [
+    (0, &[], &[], None),
+    (1, &[], &[], None),
+    (31, &[], &[], None),
+    (32, &[], &[], None),
+    (33, &[], &[], None),
+    (1000, &[], &[], None),
+    (31, &[], &[30], Some((30, Call::Sync))),
+    (32, &[], &[31], Some((31, Call::Sync))),
+    (33, &[32], &[], Some((32, Call::Open))),
+    (1000, &[999], &[], Some((999, Call::Open))),
+    (1000, &[3, 999], &[], Some((3, Call::Open))),
+    (1000, &[], &[3, 999], Some((3, Call::Sync))),
+    (1000, &[3], &[999], Some((999, Call::Sync))),
+    (1000, &[999], &[3], Some((3, Call::Sync))),
+];
+
+fn make_items(alloc: Global, count: usize) -> Result<Vec<Item>, AllocError> {
+    let mut items = Vec::new(alloc);
+    for place in 0..count {
+        items.push(Item {
+            place,
+            syncs: AtomicU64::new(0),
+        })?;
+    }
+    Ok(items)
+}
+
+/// Whether each was synced once. After a failure some are left out.
+fn are_synced(items: &[Item], leaves_out: bool) -> bool {
+    for item in items {
+        let syncs = item.syncs.load(Ordering::SeqCst);
+        if syncs > 1 || syncs == 0 && !leaves_out {
+            return false;
+        }
+    }
+    true
+}
+
+/// Whether this failure is answered, at this place and by this call.
+fn is_met(met: Option<Failure>, want: Option<(usize, Call)>) -> bool {
+    match (met, want) {
+        (None, None) => true,
+        (Some(failure), Some((place, call))) => {
+            failure.place == place && failure.unsynced.call == call
+        }
+        _ => false,
+    }
+}
+
+/// Whether of this many each is synced, up to what fails, and this is answered.
+fn holds<T: Threads + Sync>(
+    threads: &T,
+    alloc: Global,
+    count: usize,
+    failing: &Failing,
+    want: Option<(usize, Call)>,
+) -> bool {
+    match make_items(alloc, count) {
+        Ok(items) => {
+            let met = sync_by_threads(threads, failing, items.as_slice());
+            is_met(met, want) && are_synced(items.as_slice(), want.is_some())
+        }
+        Err(_) => false,
+    }
+}
+
+fn all_hold<T: Threads + Sync>(threads: &T, log: &Log<'_>) {
+    for (i, (count, closed, broken, want)) in (&ROWS).iter().enumerate() {
+        let failing = Failing {
+            closed: *closed,
+            broken: *broken,
+        };
+        let held = holds(threads, log.alloc, *count, &failing, *want);
+        log.demand(held, i, "what is synced");
+    }
+}
+
+#[test]
+fn each_is_synced_once(rt: HostRuntime) {
+    let log = Log::new(rt.alloc(), Kind::Plain);
+    all_hold(&rt, &log);
+    assert!(rt; log.all_held(&rt));
+}
+
+/// A device, which cannot be synced, and a path below it, where nothing is.
+const DEVICE: &str = "/dev/null";
+
+const GONE: &str = "/dev/null/none";
+
+/// How many stand before the device in a list.
+const BEFORE: [usize; 4] = [0, 1, 40, 2500];
+
+fn list_paths(alloc: Global, before: usize) -> Result<Vec<&'static str>, AllocError> {
+    let mut paths = Vec::new(alloc);
+    for _ in 0..before {
+        paths.push(GONE)?;
+    }
+    paths.push(DEVICE)?;
+    Ok(paths)
+}
+
+/// Whether the system finds that the last of the paths cannot be synced.
+fn fails_by_path<R: System, T: Threads + Sync>(
+    system: &R,
+    threads: &T,
+    alloc: Global,
+    before: usize,
+) -> bool {
+    match list_paths(alloc, before) {
+        Ok(paths) => {
+            let met = system.sync_paths(threads, paths.as_slice());
+            is_met(met, Some((before, Call::Sync)))
+        }
+        Err(_) => false,
+    }
+}
+
+fn all_fail_by_path<R: System, T: Threads + Sync>(system: &R, threads: &T, log: &Log<'_>) {
+    for before in &BEFORE {
+        let fails = fails_by_path(system, threads, log.alloc, *before);
+        log.demand(fails, *before, "the paths");
+    }
+}
+
+fn all_fail_watched<T: Threads + Sync>(rt: &HostRuntime, threads: &T, log: &Log<'_>) {
+    let logged = Logged { rt, log };
+    let progress = Progress::new(&logged, false);
+    let system = Watched::host(&logged, &progress);
+    all_fail_by_path(&system, threads, log);
+}
+
+#[test]
+fn paths_are_synced(rt: HostRuntime) {
+    let log = Log::new(rt.alloc(), Kind::Plain);
+    all_fail_by_path(&rt, &rt, &log);
+    all_fail_watched(&rt, &rt, &log);
+    assert!(rt; log.all_held(&rt));
+}
+
+/// Whether the system finds that an open file cannot be synced.
+fn fails_by_file<R: System, T: Threads + Sync>(system: &R, threads: &T) -> bool {
+    match fs::open(system, DEVICE) {
+        Ok(device) => {
+            let met = system.sync_files(threads, &[&device]);
+            is_met(met, Some((0, Call::Sync)))
+        }
+        Err(_) => false,
+    }
+}
+
+#[test]
+fn open_files_are_synced(rt: HostRuntime) {
+    assert!(rt; fails_by_file(&rt, &rt));
+}
