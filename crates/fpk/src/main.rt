@@ -1,14 +1,17 @@
 //! fpk: the words of the command line, run on the installation's folder.
 #![tactic(auto)]
 
-ghost use Rattle.std.specs.Prelude.{◌≡◌};
+ghost use Rattle.std.specs.Prelude.{◌≡◌, ◌↔◌, Some, true, IfOk, map, option_map, string_bytes};
+ghost use Rattle.fl_words.specs.Forms.{command_of};
+ghost use Rattle.fl_words.specs.Words.{may_change};
 
 use fl_top::run;
-use fl_words::{WordsError, batch_reason, read_words, reason};
+use fl_words::{Command, WordsError, batch_reason, read_words, reason};
 use fp_progress::{Progress, Watched};
 use fp_realhost::{HostDir, Screen};
 use fp_realinput::{DirRemotes, StdinSource};
-use fp_realroot::{Access, System};
+use fp_realroot::System;
+use fp_realsync::Access;
 use fp_system::SystemError;
 use std::alloc::{AllocError, Global};
 use std::env::{self, VarError};
@@ -164,11 +167,23 @@ fn run_over<R: System + Input + Clock + Threads + Sync, O: Print>(
 
 /// What the words open the installation for: what may change it has it alone. Words that are no
 /// command change nothing.
-fn access_of(alloc: Global, words: &[String]) -> Result<Access, AllocError> {
+fn access_of(alloc: Global, words: &[String]) -> Result<Access, AllocError>
+    ensures { IfOk result (λ access. (access ≡ Access.Change)
+        ↔ (option_map may_change (command_of (map string_bytes words.now)) ≡ Some true)) }
+{
     match read_words(alloc, words) {
-        Ok(command) if command.changes() => Ok(Access::Change),
-        Ok(_) | Err(WordsError::BadWords { index: _ }) => Ok(Access::Look),
+        Ok(command) => Ok(access_for(&command)),
+        Err(WordsError::BadWords { index: _ }) => Ok(Access::Look),
         Err(WordsError::NoMemory) => Err(AllocError),
+    }
+}
+
+fn access_for(command: &Command) -> Access
+    ensures { (result ≡ Access.Change) ↔ (may_change command.now ≡ true) }
+{
+    match command.changes() {
+        true => Access::Change,
+        false => Access::Look,
     }
 }
 
