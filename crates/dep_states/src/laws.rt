@@ -1,5 +1,5 @@
 //! Laws of what images show. Each is the contract of a function that does nothing.
-ghost use Rattle.std.specs.Prelude.{◌≡◌, ◌≢◌, ◌⊎◌, ◌↔◌, ◌≤◌, ◌+◌, ◌++◌, ◌∷◌, ℕ, List, [], length, map, true, Some, None, Result, Err};
+ghost use Rattle.std.specs.Prelude.{◌≡◌, ◌≢◌, ◌⊎◌, ◌↔◌, ◌≤◌, ◌++◌, ◌∷◌, ℕ, List, [], length, map, true, Some, None, Result, Err};
 ghost use Rattle.fp_host.specs.Paths.{Elements, absent, IsAbove};
 ghost use Rattle.fp_host.specs.View.{View, IsTree};
 ghost use Rattle.fp_host.specs.Calls.{CanCreate, creates, appends, links, done};
@@ -12,7 +12,6 @@ ghost use Rattle.fp_small.specs.Config.{IsSettings, config_text};
 ghost use Rattle.fp_small.specs.Clear.{IsWithin};
 ghost use Rattle.fp_small.specs.Files.{KeepsFiles};
 ghost use Rattle.fp_small.specs.Places.{repo, tmp};
-ghost use Rattle.fp_small.specs.declared.limits.TheConstants.{MOST_ELEMENTS};
 ghost use Rattle.fp_small.specs.declared.config.Settings.{Settings};
 ghost use Rattle.fp_small.specs.declared.op.Op.TheVariants.{Install, Update, Uninstall, SetOverride, DropOverride, Rollback};
 ghost use Rattle.fp_small.specs.declared.state.State.{State};
@@ -109,12 +108,12 @@ pub fn a_bare_view_is_sound()
         → ((x : List ℕ) (up : Elements) → v.names (x ∷ up) ≡ absent) → IsSound v }
 {}
 
-/// A path of the most elements that is for nothing else may be a folder, and one of one more may
+/// A path of 128 elements, the most, that is for nothing else may be a folder, and one of 129 may
 /// not.
 pub fn paths_have_a_longest()
-    ensures longest { (p : Elements) → length p ≡ MOST_ELEMENTS → zone (outward p) ≡ anything
+    ensures longest { (p : Elements) → length p ≡ 128 → zone (outward p) ≡ anything
         → Allowed p folder }
-    ensures too_long { (p : Elements) → length p ≡ MOST_ELEMENTS + 1 → Allowed p folder → ⊥ }
+    ensures too_long { (p : Elements) → length p ≡ 129 → Allowed p folder → ⊥ }
 {}
 
 // ---- steps
