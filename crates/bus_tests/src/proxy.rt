@@ -5,7 +5,7 @@ use crate::told::spelled;
 use bus_policy::{Level, Policy};
 use bus_proxy::{Filtered, Out, filter};
 use bus_stream::Recording;
-use fp_base::{Blob, Items, Side};
+use fp_base::{Blob, Items, Side, Text};
 use std::alloc::Global;
 use std::panic::Expect;
 use std::process::Abort;
@@ -98,6 +98,32 @@ b:6c01000100000000010000007500000001016f00150000002f6f72672f667265656465736b746f
 000000200000010000000050175000100000008016700026173000c000000070000006f72672e62617200",
 };
 
+/// The same of 1,100 names that may all be seen.
+const ALL_NAMES: Case = Case {
+    level: Level::See,
+    sent: "\
+c:6c01000100000000010000007500000001016f00150000002f6f72672f667265656465736b746f702f444275730000\
+0002017300140000006f72672e667265656465736b746f702e444275730000000003017300090000004c6973744e616d\
+65730000000000000006017300140000006f72672e667265656465736b746f702e4442757300000000 b:6c020001943\
+3000002000000100000000501750001000000080167000261730090330000+070000006f72672e62617200*1100",
+    wanted: "\
+b:6c01000100000000010000007500000001016f00150000002f6f72672f667265656465736b746f702f444275730000\
+0002017300140000006f72672e667265656465736b746f702e444275730000000003017300090000004c6973744e616d\
+65730000000000000006017300140000006f72672e667265656465736b746f702e4442757300000000 c:6c020001943\
+3000002000000100000000501750001000000080167000261730090330000+070000006f72672e62617200*1100",
+};
+
+/// A broadcast of `:1.7`, which may talk as the owner of a name that may be talked to.
+const BROADCAST: Case = Case {
+    level: Level::Talk,
+    sent: "\
+b:6c04000100000000050000003d00000001016f00020000002f6100000000000002017300070000006f72672e782e49\
+000301730001000000530000000000000007017300040000003a312e3700000000",
+    wanted: "\
+c:6c04000100000000050000003d00000001016f00020000002f6100000000000002017300070000006f72672e782e49\
+000301730001000000530000000000000007017300040000003a312e3700000000",
+};
+
 /// The side of this letter.
 fn side(letter: &str) -> Side {
     if letter == "c" {
@@ -168,16 +194,17 @@ fn policy(rt: &impl Abort, alloc: Global, level: Level) -> Policy {
     policy
 }
 
-/// What becomes of messages under a policy.
+/// What becomes of messages under a policy, where names have these owners.
 fn filtered(
     rt: &impl Abort,
     alloc: Global,
     policy: Policy,
+    owners: Items<(Text, Text)>,
     pieces: Items<(Side, Blob)>,
 ) -> Filtered {
     let recording = Recording {
         client: None,
-        owners: Items::new(alloc),
+        owners,
         pieces,
     };
     let filtered = filter(alloc, policy, &recording);
@@ -195,7 +222,8 @@ fn are_filtered(rt: &impl Abort, alloc: Global, filtered: Filtered, wanted: &str
 /// Whether a case comes to what it has to, cut into pieces of at most this many bytes.
 fn is_filtered(rt: &impl Abort, alloc: Global, case: &Case, most: usize) -> bool {
     let pieces = pieces(rt, alloc, case.sent, most);
-    let filtered = filtered(rt, alloc, policy(rt, alloc, case.level), pieces);
+    let policy = policy(rt, alloc, case.level);
+    let filtered = filtered(rt, alloc, policy, Items::new(alloc), pieces);
     are_filtered(rt, alloc, filtered, case.wanted)
 }
 
@@ -208,7 +236,48 @@ fn agree_on(rt: &impl Abort, alloc: Global, case: &Case) {
 
 #[test]
 fn worked_streams(rt: HostRuntime) {
-    for case in &[TALK, HIDDEN, NOTHING, NAMES, NO_NAMES, MANY_NAMES] {
+    for case in &[
+        TALK, HIDDEN, NOTHING, NAMES, NO_NAMES, MANY_NAMES, ALL_NAMES,
+    ] {
         agree_on(&rt, rt.alloc(), case);
     }
+}
+
+/// Adds a name that this peer owns.
+fn push_owner(
+    rt: &impl Abort,
+    alloc: Global,
+    owners: &mut Items<(Text, Text)>,
+    name: String,
+    peer: &str,
+) {
+    let peer = Text::from_str(alloc, peer).expect(rt, "memory");
+    let owner = (Text::from_string(name), peer);
+    owners.push(owner).expect(rt, "memory");
+}
+
+/// This many names of one peer, and `org.bar` of another.
+fn owners(rt: &impl Abort, alloc: Global, count: u32) -> Items<(Text, Text)> {
+    let mut owners = Items::new(alloc);
+    for number in 0..count {
+        let name = format!(in alloc; "org.n{number}").expect(rt, "memory");
+        push_owner(rt, alloc, &mut owners, name, ":1.6");
+    }
+    let last = String::from_str(alloc, "org.bar").expect(rt, "memory");
+    push_owner(rt, alloc, &mut owners, last, ":1.7");
+    owners
+}
+
+/// Whether a case comes to what it has to, where so many names and `org.bar` have owners.
+fn is_owned(rt: &impl Abort, alloc: Global, case: &Case, count: u32) -> bool {
+    let pieces = pieces(rt, alloc, case.sent, 1000);
+    let policy = policy(rt, alloc, case.level);
+    let filtered = filtered(rt, alloc, policy, owners(rt, alloc, count), pieces);
+    are_filtered(rt, alloc, filtered, case.wanted)
+}
+
+#[test]
+fn many_owners(rt: HostRuntime) {
+    assert!(rt; !is_filtered(&rt, rt.alloc(), &BROADCAST, 1000));
+    assert!(rt; is_owned(&rt, rt.alloc(), &BROADCAST, 1_100));
 }
