@@ -1,8 +1,9 @@
 //! Words of command lines.
 
 use crate::rows::agree_on_words;
-use fl_words::{Change, Command, Listing, PolicySource, Shown, WordsError, read_words};
+use fl_words::{Change, Command, Listing, PolicySource, Shown, ValueType, WordsError, read_words};
 use fp_base::Text;
+use fp_name::NameError;
 use std::alloc::{AllocError, Global};
 use std::panic::Expect;
 use std::process::Abort;
@@ -537,6 +538,21 @@ fn long_words(rt: HostRuntime) {
     let long = many(&rt, rt.alloc(), "a", 1 << 20);
     assert!(rt; read_as(&rt, rt.alloc(), &["pin", &long], "bad words at 1"));
     assert!(rt; read_as(&rt, rt.alloc(), &["list"; 1_100], "bad words at 1"));
+}
+
+/// Whether a text isn't the type of a value.
+fn is_no_type(alloc: Global, text: &str) -> bool {
+    match ValueType::parse(alloc, text.as_bytes()) {
+        Ok(_of) => false,
+        Err(error) => error == NameError::Bad,
+    }
+}
+
+/// Arrays that are nested 100 Ki deep are no type.
+#[test]
+fn long_type(rt: HostRuntime) {
+    let long = many(&rt, rt.alloc(), "a", 100 << 10);
+    assert!(rt; is_no_type(rt.alloc(), &long));
 }
 
 /// A change of an override by 3,000 options is read.
