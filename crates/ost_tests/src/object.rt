@@ -10,8 +10,8 @@ use fp_base::{Blob, Items, ObjKind, Rule, Text};
 use fp_name::Digest;
 use ost_content::meta_digest;
 use ost_object::{
-    Commit, DirEntry, DirMeta, DirTree, FileEntry, ObjectError, binding, read_commit, read_dirmeta,
-    read_dirtree, write_commit, write_dirmeta, write_dirtree,
+    Commit, DirEntry, DirMeta, DirTree, FileEntry, ObjectError, binding, commit_root, read_commit,
+    read_dirmeta, read_dirtree, write_commit, write_dirmeta, write_dirtree,
 };
 use std::alloc::Global;
 use std::panic::Expect;
@@ -430,10 +430,17 @@ fn is_long_commit(rt: &impl Abort, alloc: Global, bytes: &[u8]) -> bool {
         && has_name(rt, alloc, long_objects::COMMIT, bytes)
 }
 
+/// Whether the root of a commit has the dirtree whose digest is of the byte 3, and the dirmeta whose
+/// digest is of the byte 4.
+fn has_root(rt: &impl Abort, alloc: Global, bytes: &[u8]) -> bool {
+    let root = commit_root(alloc, bytes).expect(rt, "a commit");
+    root.tree == Digest::from_bytes([3; 32]) && root.meta == Digest::from_bytes([4; 32])
+}
+
 #[test]
 fn a_long_commit_is_written_back(rt: HostRuntime) {
     let bytes = spelled(&rt, rt.alloc(), COMMIT_PIECES);
-    assert!(rt; is_long_commit(&rt, rt.alloc(), &bytes));
+    assert!(rt; is_long_commit(&rt, rt.alloc(), &bytes) && has_root(&rt, rt.alloc(), &bytes));
 }
 
 /// The same of a dirtree that has all rows, as files and as directories.
@@ -446,4 +453,11 @@ fn is_long_tree(rt: &impl Abort, alloc: Global, bytes: &[u8]) -> bool {
 fn a_long_dirtree_is_written_back(rt: HostRuntime) {
     let bytes = spelled(&rt, rt.alloc(), TREE_PIECES);
     assert!(rt; is_long_tree(&rt, rt.alloc(), &bytes));
+}
+
+/// 100 KiB of zero bytes are no dirmeta, whose mode would be that of no folder.
+#[test]
+fn a_long_dirmeta_is_refused(rt: HostRuntime) {
+    let bytes = vec![in rt.alloc(); b'\0'; 100 << 10].expect(&rt, "memory");
+    assert!(rt; rule_of(&rt, read_dirmeta(rt.alloc(), &bytes)).is_some());
 }

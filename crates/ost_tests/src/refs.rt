@@ -1,6 +1,6 @@
 //! Refs of a store.
 
-use crate::steps::{Content, Place, Said, Step, tell_all};
+use crate::steps::{Content, Place, Said, Step, calls_after, tell_all};
 
 /// A ref of the store, and one of the remote `lab`.
 const HEAD: Place = ("", "app/org.x.Editor/x86_64/stable");
@@ -196,4 +196,35 @@ const STORIES: &[(&str, &[Step])] = &[
 #[test]
 fn refs_of_a_store(rt: HostRuntime) {
     tell_all(&rt, rt.alloc(), STORIES);
+}
+
+/// A store's ref and a remote's, and beside each a branch that is an empty folder.
+const FLAT: &[Step] = &[
+    Step::RefWrite(HEAD),
+    Step::RefWrite(REMOTE),
+    Step::Folder("repo/refs/heads/app/org.x.Editor/x86_64/beta"),
+    Step::Folder("repo/refs/remotes/lab/app/org.x.Editor/x86_64/beta"),
+];
+
+/// The same where three folders and a file stand in each of these branches.
+const DEEP: &[Step] = &[
+    Step::RefWrite(HEAD),
+    Step::RefWrite(REMOTE),
+    Step::File(
+        "repo/refs/heads/app/org.x.Editor/x86_64/beta/a/b/c/d",
+        0o644,
+        Content::Bytes(b""),
+    ),
+    Step::File(
+        "repo/refs/remotes/lab/app/org.x.Editor/x86_64/beta/a/b/c/d",
+        0o644,
+        Content::Bytes(b""),
+    ),
+];
+
+/// Below a branch nothing is looked for: what stands there takes no call.
+#[test]
+fn what_is_below_a_branch_takes_no_call(rt: HostRuntime) {
+    let calls = calls_after(&rt, rt.alloc(), FLAT);
+    assert!(rt; calls > 0 && calls == calls_after(&rt, rt.alloc(), DEEP));
 }

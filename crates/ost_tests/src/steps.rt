@@ -465,11 +465,37 @@ fn agree(rt: &impl Abort, name: &str, step: usize, is_so: bool) {
 }
 
 /// Takes the steps on an empty host, one after another.
-fn tell(rt: &impl Abort, alloc: Global, root: &Path, tmp: &Path, name: &str, steps: &[Step]) {
+fn told(
+    rt: &impl Abort,
+    alloc: Global,
+    root: &Path,
+    tmp: &Path,
+    name: &str,
+    steps: &[Step],
+) -> MemHost {
     let mut host = MemHost::new(alloc).expect(rt, "memory");
     for (at, step) in steps.iter().enumerate() {
         agree(rt, name, at, is_so(rt, alloc, &mut host, root, tmp, step));
     }
+    host
+}
+
+/// How many calls of the host a list of the store's refs takes.
+fn calls_of(rt: &impl Abort, alloc: Global, host: &mut MemHost, root: &Path) -> u64 {
+    let before = host.calls();
+    let refs = list_refs(alloc, host, root).expect(rt, "a list");
+    drop(refs);
+    host.calls().saturating_sub(before)
+}
+
+/// The same after these steps.
+pub fn calls_after(rt: &impl Abort, alloc: Global, steps: &[Step]) -> u64 {
+    let root = path_of(rt, alloc, "repo");
+    let tmp = path_of(rt, alloc, "repo/tmp/new0");
+    let mut host = told(rt, alloc, &root, &tmp, "a list", steps);
+    let calls = calls_of(rt, alloc, &mut host, &root);
+    drop(host);
+    calls
 }
 
 /// Tells stories: what is shown, and the steps. Ends the test at the first step that isn't so.
@@ -477,6 +503,7 @@ pub fn tell_all(rt: &impl Abort, alloc: Global, stories: &[(&str, &[Step])]) {
     let root = path_of(rt, alloc, "repo");
     let tmp = path_of(rt, alloc, "repo/tmp/new0");
     for (name, steps) in stories {
-        tell(rt, alloc, &root, &tmp, name, steps);
+        let host = told(rt, alloc, &root, &tmp, name, steps);
+        drop(host);
     }
 }
