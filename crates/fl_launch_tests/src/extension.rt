@@ -363,7 +363,7 @@ fn many_candidates(rt: HostRuntime) {
 }
 
 /// The groups of this many points.
-fn many_groups(rt: &impl Abort, alloc: Global, count: u32) -> String {
+pub fn many_groups(rt: &impl Abort, alloc: Global, count: u32) -> String {
     many(rt, alloc, count, "[Extension org.x.E", "]\ndirectory=e\n")
 }
 

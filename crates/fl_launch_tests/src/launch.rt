@@ -2,7 +2,7 @@
 
 ghost use Rattle.std.specs.Prelude.{IsTrue, IsSome};
 
-use crate::extension::many;
+use crate::extension::{many, many_groups};
 use crate::given::{key_file, ref_name, row_of};
 use crate::rows::agree;
 use bus_policy::{Grant, Level, Policy, PolicyRule};
@@ -329,6 +329,44 @@ fn many_variables(rt: HostRuntime) {
     let text = text_without_points(&rt, rt.alloc(), &state, &options).expect(&rt, "a runtime");
     drop(state);
     assert!(rt; has_among(&text, 1_121, "\nV0=x\n", "\nV1099=x\n"));
+}
+
+/// Whether the launch with these points and refs has so many lines, and mounts the extensions of the
+/// first point and of the last.
+fn are_mounted(
+    rt: &impl Abort,
+    alloc: Global,
+    groups: &str,
+    installed: &str,
+    lines: usize,
+) -> bool {
+    let app = [USUAL, groups].concat(alloc).expect(rt, "memory");
+    let given = Given {
+        runtime: PLATFORM,
+        app: &app,
+        global: "",
+        own: "",
+        options: "",
+        installed,
+    };
+    let launch = launch_of(rt, alloc, &given);
+    let is_so = has_among(
+        launch.text.as_str(),
+        lines,
+        "\n/app/e=runtime/org.x.E0/x86_64/stable\n",
+        "\n/app/e=runtime/org.x.E1099/x86_64/stable\n",
+    );
+    drop(launch);
+    is_so
+}
+
+/// 1,100 extensions are mounted, a line each, besides the 21 lines of the usual launch, the line of the
+/// extensions and the head of the mounts.
+#[test]
+fn many_mounts(rt: HostRuntime) {
+    let groups = many_groups(&rt, rt.alloc(), 1_100);
+    let installed = many(&rt, rt.alloc(), 1_100, "runtime/org.x.E", "/x86_64/stable ");
+    assert!(rt; are_mounted(&rt, rt.alloc(), &groups, &installed, 1_123));
 }
 
 /// The word of a level.

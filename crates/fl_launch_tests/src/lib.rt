@@ -1,4 +1,4 @@
-//! Tests of extension points, of launches, and of words that are options or rules.
+//! Tests of extension points, of launches, of long files, and of words that are options or rules.
 #![tactic(auto)]
 
 #[cfg(test)]
@@ -7,6 +7,8 @@ mod extension;
 mod given;
 #[cfg(test)]
 mod launch;
+#[cfg(test)]
+mod long;
 #[cfg(test)]
 mod rows;
 #[cfg(test)]

@@ -1,0 +1,100 @@
+//! Metadata and a desktop file of 100 KiB, and what has to be found in them or made of them.
+
+use crate::extension::many;
+use crate::given::ref_name;
+use fl_export::rewrite;
+use fl_installed::{meta_said, points_in, runtime_named};
+use fl_meta::Meta;
+use fp_base::Blob;
+use fp_name::RefName;
+use std::alloc::Global;
+use std::panic::Expect;
+use std::process::Abort;
+
+/// The application.
+const APP: &str = "app/org.x.App/x86_64/stable";
+
+/// Its metadata, with 1,100 points whose directories have 70 bytes.
+fn metadata(rt: &impl Abort, alloc: Global) -> Blob {
+    let directory = "d".repeat(alloc, 70).expect(rt, "memory");
+    let tail = ["]\ndirectory=", directory.as_str(), "\n"].concat(alloc);
+    let tail = tail.expect(rt, "memory");
+    let groups = many(rt, alloc, 1_100, "[Extension org.x.E", &tail);
+    let head = "[Application]\nruntime=org.x.Platform/x86_64/1\n";
+    let text = [head, groups.as_str()].concat(alloc).expect(rt, "memory");
+    Blob::from_slice(alloc, text.as_bytes()).expect(rt, "memory")
+}
+
+/// How many extensions metadata names, or none.
+fn extensions_of(meta: &Option<Meta>) -> usize {
+    match meta {
+        Some(meta) => meta.extensions.as_slice().len(),
+        None => 0,
+    }
+}
+
+/// Whether the metadata names all extensions.
+fn names_extensions(rt: &impl Abort, alloc: Global, name: &RefName, metadata: &Blob) -> bool {
+    let meta = meta_said(alloc, name, metadata).expect(rt, "memory");
+    let is_so = extensions_of(&meta) == 1_100;
+    drop(meta);
+    is_so
+}
+
+/// Whether it names the runtime.
+fn names_runtime(rt: &impl Abort, alloc: Global, name: &RefName, metadata: &Blob) -> bool {
+    match runtime_named(alloc, name, metadata).expect(rt, "memory") {
+        Some(runtime) => runtime.as_str() == "runtime/org.x.Platform/x86_64/1",
+        None => false,
+    }
+}
+
+/// Whether it has all points.
+fn has_points(rt: &impl Abort, alloc: Global, name: &RefName, metadata: &Blob) -> bool {
+    let points = points_in(alloc, name, metadata).expect(rt, "memory");
+    points.as_slice().len() == 1_100
+}
+
+/// Whether all is found in metadata of 100 KiB and more.
+fn is_read(rt: &impl Abort, alloc: Global, name: &RefName, metadata: &Blob) -> bool {
+    metadata.len() > 100 << 10
+        && names_extensions(rt, alloc, name, metadata)
+        && names_runtime(rt, alloc, name, metadata)
+        && has_points(rt, alloc, name, metadata)
+}
+
+#[test]
+fn long_metadata(rt: HostRuntime) {
+    let name = ref_name(&rt, rt.alloc(), APP);
+    assert!(rt; is_read(&rt, rt.alloc(), &name, &metadata(&rt, rt.alloc())));
+}
+
+/// A desktop file of 1,100 actions with names of 70 bytes, where this is each command.
+fn desktop(rt: &impl Abort, alloc: Global, command: &str) -> String {
+    let name = "n".repeat(alloc, 70).expect(rt, "memory");
+    let tail = ["]\nName=", &name, "\nExec=", command, "\n"].concat(alloc);
+    let tail = tail.expect(rt, "memory");
+    let actions = many(rt, alloc, 1_100, "[Desktop Action a", &tail);
+    let head = ["[Desktop Entry]\nName=App\nExec=", command, "\n"].concat(alloc);
+    let head = head.expect(rt, "memory");
+    [head.as_str(), actions.as_str()]
+        .concat(alloc)
+        .expect(rt, "memory")
+}
+
+/// Whether a desktop file of 100 KiB and more becomes this one.
+fn becomes(rt: &impl Abort, alloc: Global, text: &str, want: &str) -> bool {
+    let rewritten = rewrite(alloc, text.as_bytes(), &ref_name(rt, alloc, APP));
+    match rewritten.expect(rt, "memory") {
+        Some(bytes) => text.len() > 100 << 10 && bytes.as_slice() == want.as_bytes(),
+        None => false,
+    }
+}
+
+/// Each command becomes the launch of the application with the first word as its command.
+#[test]
+fn long_desktop_file(rt: HostRuntime) {
+    let own = "fpk launch app/org.x.App/x86_64/stable --command=run";
+    let want = desktop(&rt, rt.alloc(), own);
+    assert!(rt; becomes(&rt, rt.alloc(), &desktop(&rt, rt.alloc(), "run %U"), &want));
+}
