@@ -262,7 +262,7 @@ fn refs_of(rt: &impl Abort, alloc: Global, names: &str) -> Items<RefRow> {
 }
 
 /// A state with the refs.
-fn state_of(rt: &impl Abort, alloc: Global, names: &str) -> State {
+pub fn state_of(rt: &impl Abort, alloc: Global, names: &str) -> State {
     State {
         layout: Layout::Two,
         refs: refs_of(rt, alloc, names),

@@ -1,12 +1,16 @@
-//! Metadata and a desktop file of 100 KiB, and what has to be found in them or made of them.
+//! Metadata and a desktop file of 100 KiB, and states of 1,100 rows: what has to be found in them or
+//! made of them.
 
-use crate::extension::many;
-use crate::given::ref_name;
+use crate::extension::{many, state_of};
+use crate::given::{key_file, ref_name};
+use dep_switch::put_override;
 use fl_export::rewrite;
 use fl_installed::{meta_said, points_in, runtime_named};
 use fl_meta::Meta;
-use fp_base::Blob;
+use fl_plan::unused;
+use fp_base::{Blob, Text};
 use fp_name::RefName;
+use fp_small::OverrideRow;
 use std::alloc::Global;
 use std::panic::Expect;
 use std::process::Abort;
@@ -97,4 +101,42 @@ fn long_desktop_file(rt: HostRuntime) {
     let own = "fpk launch app/org.x.App/x86_64/stable --command=run";
     let want = desktop(&rt, rt.alloc(), own);
     assert!(rt; becomes(&rt, rt.alloc(), &desktop(&rt, rt.alloc(), "run %U"), &want));
+}
+
+/// How many runtimes of these refs are unused where no application is installed.
+fn count_unused(rt: &impl Abort, alloc: Global, refs: &str) -> usize {
+    let state = state_of(rt, alloc, refs);
+    let names = unused(alloc, &state, &[]).expect(rt, "memory");
+    drop(state);
+    names.as_slice().len()
+}
+
+#[test]
+fn many_unused(rt: HostRuntime) {
+    let refs = many(&rt, rt.alloc(), 1_100, "runtime/org.x.P", "/x86_64/1 ");
+    assert!(rt; count_unused(&rt, rt.alloc(), &refs) == 1_100);
+}
+
+/// Puts an override without a permission.
+fn put_named(rt: &impl Abort, alloc: Global, rows: &mut Vec<OverrideRow>, name: String) {
+    let row = OverrideRow {
+        name: Text::from_string(name),
+        file: key_file(rt, alloc, ""),
+    };
+    put_override(rows, row).expect(rt, "memory");
+}
+
+/// How many overrides there are where as many are put, each of another application.
+fn count_put(rt: &impl Abort, alloc: Global, count: u32) -> usize {
+    let mut rows = Vec::new(alloc);
+    for number in 0..count {
+        let name = format!(in alloc; "org.x.A{number}").expect(rt, "memory");
+        put_named(rt, alloc, &mut rows, name);
+    }
+    rows.len()
+}
+
+#[test]
+fn many_overrides(rt: HostRuntime) {
+    assert!(rt; count_put(&rt, rt.alloc(), 1_100) == 1_100);
 }
