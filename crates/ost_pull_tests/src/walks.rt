@@ -9,6 +9,7 @@ use fp_memhost::{MemHost, MemRemotes};
 use fp_name::Digest;
 use ost_commit::Built;
 use ost_head::PullEnd;
+use ost_prune::prune;
 use ost_store::remove;
 use ost_walk::{Found, Places, WalkEnd, look, order, used};
 use std::alloc::Global;
@@ -183,10 +184,21 @@ fn take_root(rt: &impl Abort, alloc: Global, host: &mut MemHost, root: &Path) {
     remove(alloc, host, root, &digest, ObjKind::DirTree).expect(rt, "an object");
 }
 
-/// Whether this is what the commit of no file uses in a store that has it, or in one that lacks the dirtree of its root.
+/// A commit, named so often.
+fn so_often(rt: &impl Abort, alloc: Global, commit: Digest, times: usize) -> Vec<Digest> {
+    let mut commits = Vec::new(alloc);
+    for _ in 0..times {
+        commits.push(commit).expect(rt, "memory");
+    }
+    commits
+}
+
+/// Whether this is what the commit of no file, named so often, uses in a store that has it, or in
+/// one that lacks the dirtree of its root.
 fn are_used(
     rt: &(impl Abort + Threads + Sync),
     alloc: Global,
+    times: usize,
     lacks_root: bool,
     want: &str,
 ) -> bool {
@@ -196,7 +208,8 @@ fn are_used(
     if lacks_root {
         take_root(rt, alloc, &mut host, &root);
     }
-    let walked = used(alloc, &mut host, &root, &[built.commit]);
+    let commits = so_often(rt, alloc, built.commit, times);
+    let walked = used(alloc, &mut host, &root, &commits);
     end.as_str().is_empty() && told(rt, alloc, walked).as_str() == want
 }
 
@@ -207,5 +220,21 @@ const NO_ROOT: &str =
 #[test]
 fn used_objects_are_those_of_the_order(rt: HostRuntime) {
     let alloc = rt.alloc();
-    assert!(rt; are_used(&rt, alloc, false, BARE_USED) && are_used(&rt, alloc, true, NO_ROOT));
+    assert!(rt; are_used(&rt, alloc, 1, false, BARE_USED));
+    assert!(rt; are_used(&rt, alloc, 1, true, NO_ROOT));
+    assert!(rt; are_used(&rt, alloc, 1_100, false, BARE_USED));
+}
+
+/// Whether no object goes where the one commit is kept, named so often.
+fn all_stay(rt: &(impl Abort + Threads + Sync), alloc: Global, times: usize) -> bool {
+    let (built, root) = (bare(rt, alloc), path(rt, alloc, "repo"));
+    let mut host = new_host(rt, alloc);
+    let end = pull_offered(rt, alloc, &mut host, &built, &[]);
+    let keep = so_often(rt, alloc, built.commit, times);
+    end.as_str().is_empty() && prune(alloc, &mut host, &root, &keep) == Ok(0)
+}
+
+#[test]
+fn objects_of_many_commits_stay(rt: HostRuntime) {
+    assert!(rt; all_stay(&rt, rt.alloc(), 1_100));
 }
