@@ -22,7 +22,8 @@ use Rattle.fp_small.proofs.Ordered.{bytes_eq-is}
 use Rattle.fp_small.specs.declared.state.State.{State}
 use Rattle.fp_small.specs.declared.state.RefRow.{RefRow}
 use Rattle.ost_model.specs.declared.object.Object.{Object}
-use Rattle.ost_model.specs.Objects.{Have, Fault, or_else, unless, object_path, kind_text, object_at, object_fault, name_fault, dir_mode_fault, kind_fault, content_fault, length_fault, mode_fault, digest_fault, digest_of, rule_fault, corrupt, store}
+use Rattle.ost_model.specs.Objects.{Have, Fault, or_else, unless, object_path, object_at, object_fault, name_fault, dir_mode_fault, kind_fault, content_fault, length_fault, mode_fault, digest_fault, digest_of, rule_fault, corrupt, store}
+use Rattle.fp_base.specs.Objects.{kind_text}
 use Rattle.ost_model.specs.Order.{Place, In, order}
 use Rattle.ost_model.specs.Stores.{IsStore}
 use Rattle.ost_model.specs.Used.{IsUsed}

@@ -14,7 +14,8 @@ use Rattle.fp_name.specs.Hex.{is_byte, is_digest, digit, digit_value, hex}
 use Rattle.fp_small.specs.Places.{repo}
 use Rattle.fp_small.specs.declared.state.State.{State}
 use Rattle.ost_model.specs.declared.object.Object.{Object}
-use Rattle.ost_model.specs.Objects.{Have, kind_text, object_path, object_at, name_fault, dir_mode_fault, store}
+use Rattle.ost_model.specs.Objects.{Have, object_path, object_at, name_fault, dir_mode_fault, store}
+use Rattle.fp_base.specs.Objects.{kind_text}
 use Rattle.ost_model.specs.Order.{Place, In, order}
 use Rattle.ost_model.specs.Stores.{IsObject}
 use Rattle.ost_model.proofs.Places.{faultless, or_none}

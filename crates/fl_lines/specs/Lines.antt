@@ -14,7 +14,8 @@ use Rattle.fp_small.specs.declared.state.Previous.{Previous}
 use Rattle.fp_small.specs.declared.state.RefRow.{RefRow}
 use Rattle.fp_small.specs.declared.state.RemoteRow.{RemoteRow}
 use Rattle.fp_small.specs.declared.op.Op.TheVariants.{Install, Update, Uninstall, AddPin, DropPin, AddRemote, ModifyRemote, DropRemote, SetOverride, DropOverride, Migrate, Rollback}
-use Rattle.fl_lines.specs.PrintedWords.{kind_word, rule_word, what_word, side_word, metadata_rule_word, frame_rule_word}
+use Rattle.fp_base.specs.Objects.{kind_text}
+use Rattle.fl_lines.specs.PrintedWords.{rule_word, what_word, side_word, metadata_rule_word, frame_rule_word}
 
 -- ---- a text that we didn't make
 
@@ -46,7 +47,7 @@ line_of words = line (join_with_byte 32 words)
 
 -- an object by its name: DIGEST.KIND
 abbrev pub object_text : List ℕ → ObjKind → List ℕ
-object_text digest kind = hex digest ++ (codes "." ++ kind_word kind)
+object_text digest kind = hex digest ++ (codes "." ++ kind_text kind)
 
 -- the four lowest octal digits of a mode, which are its permission bits
 abbrev pub bits_text : ℕ → List ℕ

@@ -1,7 +1,5 @@
 -- The words that enums are printed as.
 use Rattle.std.specs.Prelude.{ℕ, List, codes}
-use Rattle.fp_base.specs.declared.object.ObjKind.{ObjKind}
-use Rattle.fp_base.specs.declared.object.ObjKind.TheVariants as kinds
 use Rattle.fp_base.specs.declared.rule.Rule.{Rule}
 use Rattle.fp_base.specs.declared.rule.Rule.TheVariants as rules
 use Rattle.fp_base.specs.declared.what.What.{What}
@@ -16,13 +14,6 @@ use Rattle.fp_base.specs.declared.meta_rule.MetadataRule.{MetadataRule}
 use Rattle.fp_base.specs.declared.meta_rule.MetadataRule.TheVariants.{Key, Meta}
 use Rattle.fp_base.specs.declared.frame_rule.FrameRule.{FrameRule}
 use Rattle.fp_base.specs.declared.frame_rule.FrameRule.TheVariants as frames
-
--- the kind of an object, as in the name of its file
-abbrev pub kind_word : ObjKind → List ℕ
-kind_word kinds.Commit = codes "commit"
-kind_word kinds.DirTree = codes "dirtree"
-kind_word kinds.DirMeta = codes "dirmeta"
-kind_word kinds.File = codes "file"
 
 -- the rule that an object breaks
 abbrev pub rule_word : Rule → List ℕ

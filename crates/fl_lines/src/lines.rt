@@ -4,7 +4,6 @@ ghost use Rattle.fp_name.specs.Hex.{hex, is_digest};
 ghost use Rattle.fp_name.specs.Refs.{ref_text};
 ghost use Rattle.fl_lines.specs.Lines.{line_of, object_text, op_text, pins_text, remotes_text, deployed_line, refs_text, skipped_text};
 
-use crate::printed_words::kind_word;
 use fp_base::{ObjKind, Text};
 use fp_name::{Digest, PinPattern, RefName};
 use fp_small::{Op, RefRow, RemoteRow};
@@ -114,7 +113,7 @@ pub fn object_of(alloc: Global, digest: &Digest, kind: ObjKind) -> Result<String
 {
     let mut text = digits_of(alloc, digest)?;
     text.push('.')?;
-    text.push_str(kind_word(kind))?;
+    text.push_str(kind.word())?;
     Ok(text)
 }
 

@@ -1,20 +1,8 @@
 //! The words that enums are printed as. None takes memory.
 ghost use Rattle.std.specs.Prelude.{◌≡◌};
-ghost use Rattle.fl_lines.specs.PrintedWords.{kind_word as word_of_kind, rule_word as word_of_rule, what_word as word_of_what, side_word as word_of_side, key_rule_word as word_of_key_rule, meta_rule_word as word_of_meta_rule, metadata_rule_word as word_of_metadata_rule, frame_rule_word as word_of_frame_rule};
+ghost use Rattle.fl_lines.specs.PrintedWords.{rule_word as word_of_rule, what_word as word_of_what, side_word as word_of_side, key_rule_word as word_of_key_rule, meta_rule_word as word_of_meta_rule, metadata_rule_word as word_of_metadata_rule, frame_rule_word as word_of_frame_rule};
 
-use fp_base::{FrameRule, KeyRule, MetaRule, MetadataRule, ObjKind, Rule, Side, What};
-
-/// The kind of an object, as in the name of its file.
-pub fn kind_word(kind: ObjKind) -> &'static str
-    ensures { result.now ≡ word_of_kind kind }
-{
-    match kind {
-        ObjKind::Commit => "commit",
-        ObjKind::DirTree => "dirtree",
-        ObjKind::DirMeta => "dirmeta",
-        ObjKind::File => "file",
-    }
-}
+use fp_base::{FrameRule, KeyRule, MetaRule, MetadataRule, Rule, Side, What};
 
 /// The rule that an object breaks.
 pub fn rule_word(rule: Rule) -> &'static str

@@ -16,7 +16,8 @@ use Rattle.fp_small.specs.Places.{repo, tmp, new_name}
 use Rattle.fp_small.specs.Clear.{IsWithin}
 use Rattle.fp_small.specs.Move.{IsNew}
 use Rattle.ost_model.specs.declared.object.Object.{Object}
-use Rattle.ost_model.specs.Objects.{Have, kind_text, object_path, object_at}
+use Rattle.ost_model.specs.Objects.{Have, object_path, object_at}
+use Rattle.fp_base.specs.Objects.{kind_text}
 use Rattle.ost_refs.specs.Places.{remotes}
 use Rattle.ost_export.specs.Storing.{IsWork}
 use Rattle.ost_export.specs.Exports.{config_path, config_text, ref_path, IsExportFolder, ExportsAt}

@@ -16,7 +16,7 @@ use Rattle.gv_decode.specs.declared.error.DecodeError.TheVariants.{TooLong}
 use Rattle.fp_base.specs.declared.object.ObjKind.{ObjKind}
 use Rattle.fp_base.specs.declared.object.ObjKind.TheVariants as kinds
 use Rattle.fp_base.specs.declared.rule.Rule.{Rule}
-use Rattle.fl_lines.specs.PrintedWords.{kind_word}
+use Rattle.fp_base.specs.Objects.{kind_text}
 use Rattle.ost_model.specs.Contents.{meta_digest}
 use Rattle.ost_model.specs.Fields.{CommitView, TreeView, MetaView}
 use Rattle.ost_model.specs.Readers.{commit_read, tree_read, meta_read}
@@ -30,7 +30,7 @@ use Rattle.fl_top.specs.Ends.{Prints, end_of_object}
 use Rattle.fl_top.specs.Objects.{head, parent_text, commit_lines, tree_lines, meta_lines, normal_line}
 use Rattle.fl_change.specs.declared.end.RunEnd.{RunEnd}
 
-read_told : {A : Type 0} (digest text : List ℕ) (kind : ObjKind) (lines : A → List ℕ) (read : Result A Rule) (a : A) → read ≡ Ok a → text ≡ head digest (kind_word kind) ++ lines a → by_read digest kind lines read ≡ text_answer text
+read_told : {A : Type 0} (digest text : List ℕ) (kind : ObjKind) (lines : A → List ℕ) (read : Result A Rule) (a : A) → read ≡ Ok a → text ≡ head digest (kind_text kind) ++ lines a → by_read digest kind lines read ≡ text_answer text
 read_told digest text kind lines read a is said = ap (by_read digest kind lines) is ∙ ap text_answer (sym said)
 
 -- what bytes with this digest that don't read end with

@@ -55,7 +55,7 @@ use Rattle.gv_value.specs.TypeText.{type_of}
 use Rattle.gv_value.specs.Reading.{value_of}
 use Rattle.ost_model.specs.Contents.{meta_digest}
 use Rattle.ost_model.specs.Readers.{commit_read, tree_read, meta_read}
-use Rattle.fl_lines.specs.PrintedWords.{kind_word}
+use Rattle.fp_base.specs.Objects.{kind_text}
 use Rattle.fl_top.specs.Objects.{head, commit_lines, tree_lines, meta_lines, normal_line}
 use Rattle.fl_change.specs.Turns.{changing}
 use Rattle.fl_exercise.specs.Exercising.{exercising}
@@ -110,7 +110,7 @@ checked report x = text_answer (report_text report)
 
 -- what an object of this kind and digest says, or the first rule that it breaks
 abbrev pub by_read : {A : Type 0} → List ℕ → ObjKind → (A → List ℕ) → Result A Rule → Answer
-by_read digest kind lines (Ok a) = text_answer (head digest (kind_word kind) ++ lines a)
+by_read digest kind lines (Ok a) = text_answer (head digest (kind_text kind) ++ lines a)
 by_read digest kind lines (Err rule) = refusal_answer (MalformedObject digest kind rule)
 
 unfoldable pub commit_shown : List ℕ → Answer

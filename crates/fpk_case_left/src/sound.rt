@@ -90,7 +90,7 @@ fn is_place(path: &str, object: &BuiltObject) -> bool {
                 && rest.len() == 62
                 && digits.starts_with(first.as_bytes())
                 && digits.ends_with(rest.as_bytes())
-                && kind == kind_text(object.kind)
+                && kind == object.kind.word()
         }
         None => false,
     }
@@ -101,15 +101,6 @@ fn cut_place(path: &str) -> Option<(&str, &str, &str)> {
     let (first, name) = path.strip_prefix("repo/objects/")?.split_once('/')?;
     let (rest, kind) = name.split_once('.')?;
     Some((first, rest, kind))
-}
-
-fn kind_text(kind: ObjKind) -> &'static str {
-    match kind {
-        ObjKind::Commit => "commit",
-        ObjKind::DirTree => "dirtree",
-        ObjKind::DirMeta => "dirmeta",
-        ObjKind::File => "file",
-    }
 }
 
 /// What stands where an object belongs.

@@ -12,7 +12,8 @@ use Rattle.fp_host.specs.Paths.{Elements}
 use Rattle.fp_host.specs.Outcome.{Spot, gone}
 use Rattle.fp_base.specs.declared.object.ObjKind.{ObjKind}
 use Rattle.fp_base.specs.declared.object.ObjKind.TheVariants as kinds
-use Rattle.ost_model.specs.Objects.{kind_text, object_path, Named}
+use Rattle.ost_model.specs.Objects.{object_path, Named}
+use Rattle.fp_base.specs.Objects.{kind_text}
 use Rattle.ost_model.specs.Laws.{StoreIsLocal, StoreGoesOn, NothingIsAStore, ObjectsAreNamed, ObjectsAreNoFolders}
 use Rattle.ost_model.specs.Stores.{objects_folder, IsObject, MayBePrefix, MayBeObject}
 

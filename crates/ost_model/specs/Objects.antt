@@ -4,6 +4,7 @@ use Rattle.std.specs.Str.{bytes_eq}
 use Rattle.fp_name.specs.Hex.{hex}
 use Rattle.fp_host.specs.Paths.{Elements, is_link_text}
 use Rattle.fp_host.specs.Outcome.{Spot, gone, folder, holds, points, Disk}
+use Rattle.fp_base.specs.Objects.{kind_text}
 use Rattle.fp_base.specs.declared.object.ObjKind.{ObjKind}
 use Rattle.fp_base.specs.declared.object.ObjKind.TheVariants as kinds
 use Rattle.ost_model.specs.declared.limits.TheConstants.{LOWEST_TYPE_BIT, MOST_METADATA_OBJECT_BYTES, MOST_FILE_BYTES}
@@ -17,12 +18,6 @@ use Rattle.ost_model.specs.Readers.{meta_of, broken_rule}
 -- where objects come from: what there is of each digest and kind
 abbrev pub Have : Type 0
 Have = List ℕ → ObjKind → Option Object
-
-abbrev pub kind_text : ObjKind → List ℕ
-kind_text kinds.Commit = codes "commit"
-kind_text kinds.DirTree = codes "dirtree"
-kind_text kinds.DirMeta = codes "dirmeta"
-kind_text kinds.File = codes "file"
 
 -- `objects/XX/REST.KIND` below a store's folder, XX the first two digits of the digest
 abbrev pub object_path : Elements → List ℕ → ObjKind → Elements

@@ -10,7 +10,8 @@ use Rattle.fp_small.proofs.Keeping.{files_on, files_stay}
 use Rattle.fp_small.proofs.Emptying.{above_longer}
 use Rattle.fp_name.specs.Hex.{hex}
 use Rattle.fp_base.specs.declared.object.ObjKind.{ObjKind}
-use Rattle.ost_model.specs.Objects.{object_path, kind_text}
+use Rattle.ost_model.specs.Objects.{object_path}
+use Rattle.fp_base.specs.Objects.{kind_text}
 use Rattle.ost_model.specs.Stores.{objects_folder, is_prefix, MayBePrefix, MayBeObject}
 use Rattle.ost_model.proofs.Stores.{store_goes_on}
 use Rattle.ost_store.specs.Place.{LeavesStore}

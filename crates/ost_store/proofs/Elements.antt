@@ -14,7 +14,7 @@ use Rattle.fp_name.proofs.Bytes.{list_all-wider}
 use Rattle.fp_name.proofs.HexTexts.{length-hex, hex_is_encoded}
 use Rattle.fp_base.specs.declared.object.ObjKind.{ObjKind}
 use Rattle.fp_base.specs.declared.object.ObjKind.TheVariants as kinds
-use Rattle.ost_model.specs.Objects.{kind_text}
+use Rattle.fp_base.specs.Objects.{kind_text}
 use Rattle.ost_model.specs.Stores.{is_prefix}
 
 -- ---- digits

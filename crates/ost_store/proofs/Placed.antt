@@ -19,7 +19,8 @@ use Rattle.fp_small.proofs.Emptying.{above_longer}
 use Rattle.fp_small.proofs.Replacement.{ancestors_above, parent_in}
 use Rattle.fp_base.specs.declared.object.ObjKind.{ObjKind}
 use Rattle.fp_name.specs.Hex.{hex}
-use Rattle.ost_model.specs.Objects.{kind_text, object_path}
+use Rattle.ost_model.specs.Objects.{object_path}
+use Rattle.fp_base.specs.Objects.{kind_text}
 use Rattle.ost_store.specs.Place.{Places, WasPlaced, CanPlace}
 
 -- ---- a file that nothing wrote to may hold what it might hold before

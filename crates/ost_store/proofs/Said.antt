@@ -8,7 +8,8 @@ use Rattle.fp_host.specs.Paths.{Elements, path_eq}
 use Rattle.fp_host.proofs.Separate.{path_decides}
 use Rattle.fp_base.specs.declared.object.ObjKind.{ObjKind}
 use Rattle.fp_base.specs.declared.object.ObjKind.TheVariants as kinds
-use Rattle.ost_model.specs.Objects.{kind_text, object_path}
+use Rattle.ost_model.specs.Objects.{object_path}
+use Rattle.fp_base.specs.Objects.{kind_text}
 use Rattle.ost_model.proofs.Stores.{rest_long, take_at}
 use Rattle.ost_store.specs.declared.naming.TheConstants.{REST_DIGITS}
 use Rattle.ost_store.specs.Names.{kind_said, both_said, object_said}

@@ -11,7 +11,8 @@ use Rattle.fp_small.proofs.Emptying.{above_longer}
 use Rattle.fp_small.proofs.Replacement.{ancestors_above}
 use Rattle.fp_base.specs.declared.object.ObjKind.{ObjKind}
 use Rattle.ost_model.specs.declared.object.Object.{Object}
-use Rattle.ost_model.specs.Objects.{object_path, name_fault, kind_text, Named}
+use Rattle.ost_model.specs.Objects.{object_path, name_fault, Named}
+use Rattle.fp_base.specs.Objects.{kind_text}
 use Rattle.ost_model.specs.Stores.{objects_folder, is_prefix, MayBePrefix, MayBeObject}
 use Rattle.ost_model.proofs.Stores.{store_goes_on, store_same}
 use Rattle.fp_small.specs.Clear.{GoneAt, AbsentAt}

@@ -2,25 +2,14 @@
 ghost use Rattle.std.specs.Prelude.{◌≡◌, ◌++◌, codes, take, drop, true, IfOk, string_bytes};
 ghost use Rattle.fp_host.specs.Paths.{is_element, path_eq};
 ghost use Rattle.fp_name.specs.Hex.{hex, unhex, is_digest};
-ghost use Rattle.ost_model.specs.Objects.{kind_text, object_path};
+ghost use Rattle.ost_model.specs.Objects.{object_path};
+ghost use Rattle.fp_base.specs.Objects.{kind_text};
 ghost use Rattle.ost_store.specs.Names.{kind_said, object_said, IsNamed};
 
 use fp_base::ObjKind;
 use fp_host::Path;
 use fp_name::{DIGEST_DIGITS, Digest};
 use std::alloc::{AllocError, Global};
-
-/// The word of the kind, with which the names of its objects end.
-fn word_of(kind: ObjKind) -> &'static str
-    ensures { result.now ≡ kind_text kind }
-{
-    match kind {
-        ObjKind::Commit => "commit",
-        ObjKind::DirTree => "dirtree",
-        ObjKind::DirMeta => "dirmeta",
-        ObjKind::File => "file",
-    }
-}
 
 /// The name of the object's folder in `objects`: the first two digits.
 #[tactic(auto, using(crate::proofs::Elements::prefix_is, crate::proofs::Elements::prefix_element))]
@@ -40,7 +29,7 @@ fn file_name(alloc: Global, digest: &Digest, kind: ObjKind) -> Result<String, Al
 {
     let (_, rest) = digest.as_bytes().split_at(1);
     let digits = hex::encode(alloc, rest)?;
-    let word = word_of(kind);
+    let word = kind.word();
     format!(in alloc; "{digits}.{word}")
 }
 
