@@ -1,7 +1,7 @@
 //! The bodies that a filter reads: texts, and lists of names.
 
 ghost use Rattle.std.specs.Prelude.{◌≡◌, ◌↔◌, IsTrue, Some, option_map, ◌==◌, ◌+◌, length, map, is_some, IfOk, List, ℕ};
-ghost use Rattle.bus_frame.specs.Steps.{Gives};
+ghost use Rattle.fp_base.specs.Steps.{Gives};
 ghost use Rattle.bus_frame.specs.Places.{place_of};
 ghost use Rattle.bus_frame.specs.Bodies.{BeginsWithText, AreThreeTexts, AreNames, body_place, signature_text, has_signature, first_text, three_texts_at, three_texts, texts_at, elements_place, names_place, names_in};
 

@@ -1,7 +1,7 @@
 //! Places in a message and what stands there, after the D-Bus specification's "Marshaling".
 
 ghost use Rattle.std.specs.Prelude.{◌≡◌, ℕ, ◌+◌, ◌^◌, ◌<◌, ◌≤◌, if◌then◌else◌, length, Some, None};
-ghost use Rattle.bus_frame.specs.Steps.{Gives};
+ghost use Rattle.fp_base.specs.Steps.{Gives};
 
 use crate::steps::first_byte;
 use byteorder::{BigEndian, ByteOrder, LittleEndian};
@@ -50,7 +50,7 @@ fn text(bytes: &[u8]) -> Option<&str>
 
 impl<'a> Cursor<'a> {
     ghost use Rattle.std.specs.Prelude.{◌≡◌, ℕ, ◌+◌, ◌^◌, ◌<◌, ◌≤◌, length};
-    ghost use Rattle.bus_frame.specs.Steps.{Gives};
+    ghost use Rattle.fp_base.specs.Steps.{Gives};
     ghost use Rattle.bus_frame.specs.Places.{place_of, bytes_at, byte_at, aligned_at, number_at, text_at, long_text_at, short_text_at};
 
     /// So many bytes, and the place after them.

@@ -1,6 +1,6 @@
 //! A field of a header: its code and what it says.
 
-ghost use Rattle.bus_frame.specs.Steps.{Gives};
+ghost use Rattle.fp_base.specs.Steps.{Gives};
 ghost use Rattle.bus_frame.specs.Places.{place_of};
 ghost use Rattle.bus_frame.specs.Fields.{content_of, field_of, content_at, field_at};
 

@@ -1,6 +1,7 @@
 //! The smallest steps of reading.
 
-ghost use Rattle.bus_frame.specs.Steps.{Gives, first_of, remainder_byte};
+ghost use Rattle.bus_frame.specs.Steps.{first_of, remainder_byte};
+ghost use Rattle.fp_base.specs.Steps.{Gives};
 
 /// The first byte and those after it.
 pub fn first_byte(bytes: &[u8]) -> Option<(u8, &[u8])>

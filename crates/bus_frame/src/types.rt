@@ -1,7 +1,7 @@
 //! Complete types and signatures, after the D-Bus specification's "Type System".
 
 ghost use Rattle.std.specs.Prelude.{◌≡◌, ◌==◌, ◌||◌, length};
-ghost use Rattle.bus_frame.specs.Steps.{Gives};
+ghost use Rattle.fp_base.specs.Steps.{Gives};
 ghost use Rattle.bus_frame.specs.Types.{is_basic, element_after, members_after, type_after, is_one_type, is_signature, are_types_text};
 
 use crate::limits::MOST_SIGNATURE_BYTES;

@@ -1,7 +1,8 @@
 //! Values of a type, after the D-Bus specification's "Marshaling".
 
 ghost use Rattle.std.specs.Prelude.{◌≡◌, ◌<◌, length};
-ghost use Rattle.bus_frame.specs.Steps.{Gives, first_of};
+ghost use Rattle.bus_frame.specs.Steps.{first_of};
+ghost use Rattle.fp_base.specs.Steps.{Gives};
 ghost use Rattle.bus_frame.specs.Types.{is_one_type};
 ghost use Rattle.bus_frame.specs.Places.{place_of};
 ghost use Rattle.bus_frame.specs.Values.{fixed_size, alignment, fixed_at, truth_at, basic_at, closed, members_at, elements_at, array_type_after, array_head_at, array_at, variant_type_at, variant_at, struct_at, value_at};

@@ -1,7 +1,7 @@
 //! Patterns of names, and unique names.
 
 ghost use Rattle.std.specs.Prelude.{◌≡◌, if◌then◌else◌, Some, None};
-ghost use Rattle.bus_frame.specs.Steps.{Gives};
+ghost use Rattle.fp_base.specs.Steps.{Gives};
 ghost use Rattle.bus_policy.specs.Events.{is_unique_like};
 ghost use Rattle.bus_policy.specs.Levels.{is_open, stem, is_pattern, pattern_matches};
 

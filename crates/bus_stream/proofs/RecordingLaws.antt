@@ -11,7 +11,7 @@ use Rattle.std.specs.Cmp.Lexicographic.{nat_list_eq_equiv}
 use Rattle.std.proofs.lemmas.List.Sums.{fails_before_first}
 use Rattle.std.proofs.lemmas.List.Splits.{slice_split_none, slice_split_first, length-slice_split}
 use Rattle.bus_stream.specs.declared.recording.Recording.{Recording}
-use Rattle.bus_stream.specs.Lines.{parts_at}
+use Rattle.fp_base.specs.Parts.{parts_at}
 use Rattle.bus_stream.specs.declared.recording.Draft.{Draft}
 use Rattle.bus_stream.specs.Recordings.{or_bad, with_line, with_lines, said, Knows, Took}
 

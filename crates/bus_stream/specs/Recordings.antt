@@ -11,7 +11,8 @@ use Rattle.bus_stream.specs.declared.recording.Recording.{Recording}
 use Rattle.bus_stream.specs.declared.recording.RecordError.{RecordError}
 use Rattle.bus_stream.specs.declared.recording.RecordError.TheVariants.{BadRecord, NoMemory}
 use Rattle.bus_stream.specs.declared.recording.Draft.{Draft}
-use Rattle.bus_stream.specs.Lines.{parts_at, where_it, hex_in}
+use Rattle.fp_base.specs.Steps.{where_it}
+use Rattle.fp_base.specs.Parts.{parts_at, hex_in}
 
 abbrev pub nothing_said : Recording
 nothing_said = record { client = None; owners = []; pieces = [] }

@@ -3,8 +3,8 @@
 ghost use Rattle.std.specs.Prelude.{◌≡◌, IfOk, OnOk};
 ghost use Rattle.bus_stream.specs.Recordings.{with_client, push_names, with_owner, with_piece, with_line, recording_of, said, Knows, Took, AnswersRecording};
 
-use crate::lines::{cut, decoded, unique_name, well_known_name};
-use fp_base::{Blob, Items, Side, Text};
+use crate::lines::{unique_name, well_known_name};
+use fp_base::{Blob, Items, Side, Text, bytes_of_hex, cut};
 use std::alloc::{AllocError, Global};
 use std::collections::BTreeSet;
 use std::error::Error;
@@ -113,7 +113,7 @@ impl Draft {
         ensures { IfOk result (λ good. Took good self.new (with_piece side (said self.old)
             text.now)) }
     {
-        let Some(bytes) = decoded(alloc, text)? else {
+        let Some(bytes) = bytes_of_hex(alloc, text)? else {
             return Ok(false);
         };
         self.pieces.push((side, Blob::from_vec(bytes)))?;

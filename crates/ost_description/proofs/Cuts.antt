@@ -6,7 +6,7 @@ use Rattle.std.proofs.Math.Seq.{take-append_seam, drop-append_seam}
 use Rattle.std.proofs.lemmas.Bool.{or_parts, lt-ltb, eq-eqb}
 use Rattle.std.proofs.lemmas.List.Elements.{All-nil, All-cons}
 use Rattle.std.proofs.lemmas.List.Splits.{slice_split_at}
-use Rattle.ost_description.specs.Parts.{parts_at}
+use Rattle.fp_base.specs.Parts.{parts_at}
 use Rattle.ost_description.specs.Descriptions.{pieces}
 use Rattle.ost_description.specs.Writing.{is_newline}
 

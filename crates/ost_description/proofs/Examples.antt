@@ -5,7 +5,8 @@ use Rattle.std.specs.Str.{is_utf8, chars}
 use Rattle.hex.specs.Hex.{decode_pairs}
 use lib.Utf8.{encode}
 use Rattle.ost_commit.specs.declared.row.TreeRow.TheVariants as row
-use Rattle.ost_description.specs.Parts.{parts_at, number_in, mode_in, hex_in, content_in, path_in, text_in}
+use Rattle.ost_description.specs.Parts.{number_in, mode_in, content_in, path_in, text_in}
+use Rattle.fp_base.specs.Parts.{parts_at, hex_in}
 use Rattle.ost_description.specs.Descriptions.{timestamp_in, subject_in, folder_in, file_in, link_in, row_in, described}
 
 -- no rows, at the beginning of 1970

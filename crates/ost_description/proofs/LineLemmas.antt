@@ -8,7 +8,7 @@ use Rattle.std.proofs.lemmas.List.{length-drop}
 use Rattle.std.proofs.lemmas.List.Sums.{fails_before_first}
 use Rattle.std.proofs.lemmas.List.Splits.{slice_split_none, slice_split_first, length-slice_split}
 use Rattle.ost_commit.specs.declared.row.TreeRow.{TreeRow}
-use Rattle.ost_description.specs.Parts.{parts_at}
+use Rattle.fp_base.specs.Parts.{parts_at}
 use Rattle.ost_description.specs.Descriptions.{pieces, first_by, row_in, row_before, rows_in, unformed_in}
 
 abbrev is_end : ℕ → Bool

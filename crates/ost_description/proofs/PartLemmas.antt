@@ -10,7 +10,7 @@ use Rattle.std.proofs.lemmas.Bool.{and_parts, lt-ltb, ltb-true, false_from_ne_tr
 use Rattle.std.proofs.lemmas.Fmt.{IsAscii-from_digits}
 use Rattle.std.proofs.lemmas.Str.{is_utf8-from_IsUtf8, IsUtf8-from_is_utf8, IsUtf8-from_ascii}
 use Rattle.std.proofs.lemmas.Str.Parse.{IsNumeralModel, numerals_by_value, parse_digits}
-use Rattle.ost_description.specs.Steps.{where_it}
+use Rattle.fp_base.specs.Steps.{where_it}
 use Rattle.ost_description.specs.Parts.{are_digits, has_leading_zero, number_in, text_in}
 
 pub text_is : (bytes text : List ℕ) → text ≡ bytes → IsUtf8 bytes → text_in bytes ≡ Some text

@@ -1,19 +1,14 @@
 -- The parts of a description's lines.
-use Rattle.std.specs.Prelude.{ℕ, ◌+◌, ◌-◌, ◌*◌, ◌^◌, Bool, ◌&&◌, ◌||◌, ◌==◌, nat_le, nat_lt, slice_index, not, if◌then◌else◌, List, [], length, take, drop, codes, Option, Some, None, option_map}
+use Rattle.std.specs.Prelude.{ℕ, ◌+◌, ◌-◌, ◌*◌, ◌^◌, Bool, ◌&&◌, ◌||◌, ◌==◌, nat_le, nat_lt, slice_index, not, if◌then◌else◌, List, [], length, codes, Option, Some, None}
 use Rattle.std.specs.Char.{is_ascii_digit}
-use Rattle.std.specs.List.{list_all, list_any, position}
-use Rattle.std.specs.Result.{result_ok}
+use Rattle.std.specs.List.{list_all, list_any}
 use Rattle.std.specs.Str.{bytes_eq, is_utf8}
 use Rattle.std.specs.Str.Parse.{digits_value}
-use Rattle.hex.specs.Hex.{decode_of}
 use Rattle.fp_host.specs.Paths.{Elements, is_element, cut}
 use Rattle.ost_description.specs.declared.limits.TheConstants.{MOST_SUBJECT_BYTES}
-use Rattle.ost_description.specs.Steps.{◌>>=◌, where_it}
-
--- what stands before the first such byte, and after it
-unfoldable pub parts_at : ℕ → List ℕ → Option (List ℕ × List ℕ)
-parts_at byte bytes =
-    option_map (λ at. (take at bytes, drop (at + 1) bytes)) (position (λ b. b == byte) bytes)
+use Rattle.ost_description.specs.Steps.{◌>>=◌}
+use Rattle.fp_base.specs.Parts.{hex_in}
+use Rattle.fp_base.specs.Steps.{where_it}
 
 -- decimal digits, one or more, without a leading zero
 abbrev pub has_leading_zero : List ℕ → Bool
@@ -41,14 +36,6 @@ mode_in text =
       c ← octal_in (slice_index text 2)
       Some (a * 64 + b * 8 + c))
     else None
-
-abbrev pub is_lower_digit : ℕ → Bool
-is_lower_digit c = (nat_le 48 c && nat_le c 57) || (nat_le 97 c && nat_le c 102)
-
--- the bytes of lower-case hexadecimal, one or more
-unfoldable pub hex_in : List ℕ → Option (List ℕ)
-hex_in text = if not (length text == 0) && list_all is_lower_digit text
-    then result_ok (decode_of text) else None
 
 -- the bytes of a file, for none of which a dash stands
 unfoldable pub content_in : List ℕ → Option (List ℕ)

@@ -1,33 +1,16 @@
 //! The parts of a description's lines.
 
-ghost use Rattle.std.specs.Prelude.{◌≡◌, ◌<◌, ◌==◌, ◌||◌, IfOk, IfSome, true, not};
+ghost use Rattle.std.specs.Prelude.{◌≡◌, ◌<◌, ◌==◌, IfOk, IfSome, true, not};
 ghost use Rattle.std.specs.Char.{is_ascii_digit};
-ghost use Rattle.std.specs.List.{list_all, list_any, position};
-ghost use Rattle.ost_description.specs.Steps.{Gives};
-ghost use Rattle.ost_description.specs.Parts.{parts_at, has_leading_zero, are_digits as are_digits_of, number_in, octal_in, mode_in, is_lower_digit, hex_in, content_in, path_in, text_in, is_control, is_subject as may_be_subject};
+ghost use Rattle.std.specs.List.{list_all, list_any};
+ghost use Rattle.fp_base.specs.Steps.{Gives};
+ghost use Rattle.ost_description.specs.Parts.{has_leading_zero, are_digits as are_digits_of, number_in, octal_in, mode_in, content_in, path_in, text_in, is_control, is_subject as may_be_subject};
 
 use crate::limits::MOST_SUBJECT_BYTES;
-use fp_base::{Blob, is_control};
+use fp_base::{Blob, bytes_of_hex, is_control};
 use fp_host::{Path, PathError};
-use hex::FromHexError;
 use std::alloc::{AllocError, Global};
 use std::str;
-
-/// The place of the first such byte.
-fn place_of_first(byte: u8, bytes: &[u8]) -> Option<usize>
-    ensures { result ≡ position (λ b. b == byte) bytes.now }
-{
-    bytes.iter().position(|b| *b == byte)
-}
-
-/// What stands before the first such byte, and what stands after it.
-#[tactic(auto, unfolding(crate::specs::Parts::parts_at))]
-pub(crate) fn cut(byte: u8, bytes: &[u8]) -> Option<(&[u8], &[u8])>
-    ensures { Gives (λ p. (p.0.now, p.1.now)) result (parts_at byte bytes.now) }
-{
-    let at = place_of_first(byte, bytes)?;
-    Some((&bytes[..at], &bytes[at + 1..]))
-}
 
 /// Whether a zero stands before other digits.
 fn has_leading_zero(text: &[u8]) -> bool
@@ -105,33 +88,6 @@ pub(crate) fn mode(text: &[u8]) -> Option<u32>
     Some(first * 64 + second * 8 + third)
 }
 
-fn is_lower_hex_digit(digit: u8) -> bool
-    ensures { result ≡ is_lower_digit digit }
-{
-    matches!(digit, b'0'..=b'9' | b'a'..=b'f')
-}
-
-fn are_lower_hex_digits(text: &[u8]) -> bool
-    ensures { result ≡ list_all is_lower_digit text.now }
-{
-    text.iter().all(|digit| is_lower_hex_digit(*digit))
-}
-
-/// The bytes that lower-case hexadecimal writes, one or more.
-#[tactic(auto, unfolding(crate::specs::Parts::hex_in))]
-fn decoded(alloc: Global, text: &[u8]) -> Result<Option<Vec<u8>>, AllocError>
-    ensures { IfOk result (λ found. Gives (λ v. v.items) found (hex_in text.now)) }
-{
-    if text.is_empty() || !are_lower_hex_digits(text) {
-        return Ok(None);
-    }
-    match hex::decode(alloc, text) {
-        Ok(bytes) => Ok(Some(bytes)),
-        Err(FromHexError::OutOfMemory) => Err(AllocError),
-        Err(_) => Ok(None),
-    }
-}
-
 /// The bytes of a file: a dash where there are none, else lower-case hexadecimal.
 #[tactic(auto, unfolding(crate::specs::Parts::content_in))]
 pub(crate) fn content(alloc: Global, text: &[u8]) -> Result<Option<Blob>, AllocError>
@@ -139,7 +95,7 @@ pub(crate) fn content(alloc: Global, text: &[u8]) -> Result<Option<Blob>, AllocE
 {
     let found = match text {
         b"-" => Some(Vec::new(alloc)),
-        _ => decoded(alloc, text)?,
+        _ => bytes_of_hex(alloc, text)?,
     };
     Ok(found.map(Blob::from_vec))
 }

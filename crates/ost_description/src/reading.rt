@@ -2,13 +2,13 @@
 
 ghost use Rattle.std.specs.Prelude.{◌≡◌, ◌<◌, ◌≤◌, ◌+◌, ◌^◌, ◌==◌, if◌then◌else◌, length, Some, None, IfOk, IfErr, IfSome};
 ghost use Rattle.ost_commit.specs.Refusals.{first_refused};
-ghost use Rattle.ost_description.specs.Steps.{Gives};
+ghost use Rattle.fp_base.specs.Steps.{Gives};
 ghost use Rattle.ost_description.specs.Commits.{IsDescriptionFault};
 ghost use Rattle.ost_description.specs.Descriptions.{said_after, timestamp_in, subject_in, folder_in, file_in, link_in, row_in, pieces, first_by, rows_in, unformed_in, judged, with_rows, described};
 
 use crate::description::{Description, DescriptionError};
-use crate::parts::{content, cut, is_subject, mode, number, path, text};
-use fp_base::{Items, Text};
+use crate::parts::{content, is_subject, mode, number, path, text};
+use fp_base::{Items, Text, cut};
 use ost_commit::TreeRow;
 use std::alloc::{AllocError, Global};
 

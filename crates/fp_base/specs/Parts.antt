@@ -1,5 +1,5 @@
--- The parts of a recording's lines.
-use Rattle.std.specs.Prelude.{ℕ, ◌+◌, Bool, ◌&&◌, ◌||◌, ◌==◌, nat_le, not, if◌then◌else◌, List, length, take, drop, Option, Some, None, option_map}
+-- The parts of lines: what a byte separates, and hexadecimal.
+use Rattle.std.specs.Prelude.{ℕ, ◌+◌, Bool, ◌&&◌, ◌||◌, ◌==◌, nat_le, not, if◌then◌else◌, List, length, take, drop, Option, None, option_map}
 use Rattle.std.specs.List.{list_all, position}
 use Rattle.std.specs.Result.{result_ok}
 use Rattle.hex.specs.Hex.{decode_of}
@@ -8,9 +8,6 @@ use Rattle.hex.specs.Hex.{decode_of}
 unfoldable pub parts_at : ℕ → List ℕ → Option (List ℕ × List ℕ)
 parts_at byte bytes =
     option_map (λ at. (take at bytes, drop (at + 1) bytes)) (position (λ b. b == byte) bytes)
-
-abbrev pub where_it : {A : Type 0} → Bool → A → Option A
-where_it test x = if test then Some x else None
 
 abbrev pub is_lower_digit : ℕ → Bool
 is_lower_digit c = (nat_le 48 c && nat_le c 57) || (nat_le 97 c && nat_le c 102)
