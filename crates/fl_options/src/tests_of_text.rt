@@ -8,12 +8,7 @@ ghost use Rattle.fp_keyfile.specs.Grammar as keys;
 ghost use Rattle.fp_keyfile.specs.Lines.{split_at};
 ghost use Rattle.fl_options.specs.Options as spec;
 
-/// Whether a byte is a control character: below 0x20, or 0x7f.
-fn is_control(byte: u8) -> bool
-    ensures { result ≡ keys.is_control byte }
-{
-    byte < 0x20 || byte == 0x7f
-}
+use fp_base::is_control;
 
 /// Whether a byte is `;`, `=` or a control character.
 fn is_barred(byte: u8) -> bool
