@@ -1,14 +1,14 @@
 //! What may stand after the name of an option.
 
 ghost use Rattle.std.specs.Prelude.{◌≡◌, ◌&&◌, option_map};
-ghost use Rattle.std.specs.List.{list_all, list_any};
-ghost use Rattle.fp_name.specs.Bytes as bytes;
+ghost use Rattle.std.specs.List.{list_any};
 ghost use Rattle.fp_name.specs.Grammar as grammar;
 ghost use Rattle.fp_keyfile.specs.Grammar as keys;
 ghost use Rattle.fp_keyfile.specs.Lines.{split_at};
 ghost use Rattle.fl_options.specs.Options as spec;
 
 use fp_base::is_control;
+use fp_name::is_inner_element;
 
 /// Whether a byte is `;`, `=` or a control character.
 fn is_barred(byte: u8) -> bool
@@ -52,33 +52,6 @@ pub(crate) fn is_given(text: &str) -> bool
     !text.is_empty() && !has_barred(text) && !begins_in_lead(text)
 }
 
-/// A letter or `_`.
-fn starts_variable(byte: u8) -> bool
-    ensures { result ≡ bytes.is_word_start byte }
-{
-    byte.is_ascii_alphabetic() || byte == b'_'
-}
-
-/// A letter, a digit or `_`.
-fn is_word(byte: u8) -> bool
-    ensures { result ≡ bytes.is_word byte }
-{
-    byte.is_ascii_alphanumeric() || byte == b'_'
-}
-
-fn all_words(text: &str) -> bool
-    ensures { result ≡ list_all bytes.is_word text.now }
-{
-    text.bytes().all(is_word)
-}
-
-/// Whether a text names a variable.
-fn is_variable_name(text: &str) -> bool
-    ensures { result ≡ grammar.is_element text.now }
-{
-    text.bytes().next().is_some_and(starts_variable) && all_words(text)
-}
-
 /// Whether a text may be that of a variable.
 fn is_text(text: &str) -> bool
     ensures { result ≡ spec.is_text text.now }
@@ -86,11 +59,11 @@ fn is_text(text: &str) -> bool
     !has_control(text) && !begins_in_blank(text)
 }
 
-/// Whether these are the name of a variable and its text.
+/// Whether these are the name of a variable, as an inner element of an ID, and its text.
 fn are_variable(name: &str, value: &str) -> bool
     ensures { result ≡ (grammar.is_element name.now && spec.is_text value.now) }
 {
-    is_variable_name(name) && is_text(value)
+    is_inner_element(name) && is_text(value)
 }
 
 /// Whether a text is the name of a variable, `=` and its text.

@@ -64,8 +64,9 @@ fn all_graphic(text: &str) -> bool
     text.bytes().all(|byte| byte.is_ascii_graphic())
 }
 
-/// One element of an ID that is not its last.
-fn is_inner_element(text: &str) -> bool
+/// Whether a text may be an element of an ID other than its last: a letter or `_`, and then
+/// letters, digits and `_`.
+pub fn is_inner_element(text: &str) -> bool
     ensures { result ≡ is_element text.now }
 {
     text.bytes().next().is_some_and(starts_word) && all_words(text)

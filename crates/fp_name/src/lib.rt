@@ -17,7 +17,7 @@ mod remote_url;
 pub use app_id::AppId;
 pub use digest::Digest;
 pub use fault::NameError;
-pub use grammar::{is_arch, is_branch, is_id, is_remote_name, is_url};
+pub use grammar::{is_arch, is_branch, is_id, is_inner_element, is_remote_name, is_url};
 pub use kind::RefKind;
 pub use laws::{
     digests_read_back, names_are_equal_by_text, names_are_file_names, names_are_ordered_by_text,
