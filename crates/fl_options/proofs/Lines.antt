@@ -1,7 +1,6 @@
 -- The lines of a word.
-use denote.Ref.{Bor}
-use Rattle.std.proofs.Common.{◌≡◌, ℕ, false, not, ◌==◌, List, [], length, Option, Some, None, Result, Ok, Err, IfOk, refl, ap, sym, ◌∙◌, inl, inr}
-use Rattle.std.specs.Prelude.{option_and_then, option_map, MatchOption}
+use Rattle.std.proofs.Common.{◌≡◌, ℕ, false, not, ◌==◌, List, [], length, Option, Some, None, Result, Ok, Err, IfOk, refl, ap, ◌∙◌, inl, inr}
+use Rattle.std.specs.Prelude.{option_and_then, option_map}
 use Rattle.std.specs.Option.{option_map_or}
 use Rattle.std.specs.Str.{is_utf8, IsUtf8}
 use Rattle.std.proofs.lemmas.Bool.{cases_Bool, false_from_ne_true}
@@ -9,10 +8,6 @@ use Rattle.std.proofs.lemmas.Str.{is_utf8-from_IsUtf8, IsUtf8-from_is_utf8}
 use Rattle.fp_keyfile.specs.Lines.{split_at}
 use Rattle.fl_meta.specs.declared.permission.Mention.{Mention}
 use Rattle.fl_options.specs.Options.{are_variable, is_variable, text_mentions, lines_with, lines_of_parts, option_lines, option_layer, is_option, command_in, command_option, is_launch_option}
-
-pub cut_is : (text : List ℕ) (r : Option (Bor (List ℕ) × Bor (List ℕ))) → MatchOption r (split_at 61 text ≡ None) (λ x. split_at 61 text ≡ Some (x.0.now, x.1.now)) → option_map (λ x. (x.0.now, x.1.now)) r ≡ split_at 61 text
-cut_is text None h = sym h
-cut_is text (Some x) h = sym h
 
 pub variable_is : (text : List ℕ) (o : Option (List ℕ × List ℕ)) → o ≡ split_at 61 text → are_variable o ≡ is_variable text
 unfolding is_variable

@@ -5,15 +5,16 @@ ghost use Rattle.std.specs.Option.{option_copied};
 ghost use Rattle.fl_options.specs.Options as spec;
 
 use crate::names::{bus_group, bus_level, denied_list, granted_list};
-use crate::tests_of_text::{cut, is_given, is_variable};
+use crate::tests_of_text::{is_given, is_variable};
 use fl_meta::{PermList, Value, is_pattern};
+use fp_keyfile::cut_at_equals;
 use std::alloc::{AllocError, Global};
 
 /// The lines of a word, where it is an option.
 pub(crate) fn option_lines(alloc: Global, word: &str) -> Result<Option<String>, AllocError>
     ensures { IfOk result (λ lines. option_map string_bytes lines ≡ spec.option_lines word.now) }
 {
-    match cut(word) {
+    match cut_at_equals(word) {
         Some((name, text)) => lines_with(alloc, name, text),
         None => Ok(None),
     }

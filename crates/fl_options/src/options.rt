@@ -5,10 +5,10 @@ ghost use Rattle.std.specs.Option.{option_copied};
 ghost use Rattle.fl_options.specs.Options as spec;
 
 use crate::option_lines::option_lines;
-use crate::tests_of_text::{cut, is_given};
+use crate::tests_of_text::is_given;
 use fl_meta::{Layer, Source, mentions_of};
 use fp_base::Text;
-use fp_keyfile::{KeyError, KeyFile};
+use fp_keyfile::{KeyError, KeyFile, cut_at_equals};
 use std::alloc::{AllocError, Global};
 
 /// What a word mentions as an option: one permission, or nothing where it is no option.
@@ -71,7 +71,7 @@ fn push_option(alloc: Global, layer: &mut Layer, word: &str) -> Result<(), Alloc
 fn command_option(word: &str) -> Option<&str>
     ensures { option_copied result ≡ spec.command_option word.now }
 {
-    match cut(word) {
+    match cut_at_equals(word) {
         Some((option, name)) => command_in(option, name),
         None => None,
     }

@@ -1,13 +1,13 @@
 //! What may stand after the name of an option.
 
-ghost use Rattle.std.specs.Prelude.{◌≡◌, ◌&&◌, option_map};
+ghost use Rattle.std.specs.Prelude.{◌≡◌, ◌&&◌};
 ghost use Rattle.std.specs.List.{list_any};
 ghost use Rattle.fp_name.specs.Grammar as grammar;
 ghost use Rattle.fp_keyfile.specs.Grammar as keys;
-ghost use Rattle.fp_keyfile.specs.Lines.{split_at};
 ghost use Rattle.fl_options.specs.Options as spec;
 
 use fp_base::is_control;
+use fp_keyfile::cut_at_equals;
 use fp_name::is_inner_element;
 
 /// Whether a byte is `;`, `=` or a control character.
@@ -70,15 +70,8 @@ fn are_variable(name: &str, value: &str) -> bool
 pub(crate) fn is_variable(text: &str) -> bool
     ensures { result ≡ spec.is_variable text.now }
 {
-    match cut(text) {
+    match cut_at_equals(text) {
         Some((name, value)) => are_variable(name, value),
         None => false,
     }
-}
-
-/// The text before the first `=`, and the text after it.
-pub(crate) fn cut(text: &str) -> Option<(&str, &str)>
-    ensures { option_map (λ x. (x.0.now, x.1.now)) result ≡ split_at 61 text.now }
-{
-    text.split_once('=')
 }

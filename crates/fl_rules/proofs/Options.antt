@@ -1,7 +1,6 @@
 -- Words as rules.
-use denote.Ref.{Bor}
-use Rattle.std.proofs.Common.{◌≡◌, ℕ, true, false, List, [], ◌∷◌, ◌++◌, Option, Some, None, Result, Ok, Err, OnOk, OnErr, IfErr, IsErrOf, MatchOption, refl, sym, ap, ◌∙◌, inl, inr}
-use Rattle.std.specs.Prelude.{codes, nat_eq, option_map, option_and_then, option_to_list}
+use Rattle.std.proofs.Common.{◌≡◌, ℕ, true, false, List, [], ◌∷◌, ◌++◌, Option, Some, None, Result, Ok, Err, OnOk, OnErr, IfErr, IsErrOf, refl, sym, ap, ◌∙◌, inl, inr}
+use Rattle.std.specs.Prelude.{codes, nat_eq, option_and_then, option_to_list}
 use Rattle.std.specs.Option.{is_some}
 use Rattle.std.specs.List.{starts_with}
 use Rattle.std.specs.Str.{bytes_eq}
@@ -20,10 +19,6 @@ use Rattle.bus_policy.specs.Levels.{is_pattern}
 use Rattle.fl_rules.specs.Rules.{level_named, kind_named, message_rule, rule_read, rule_with, rule_of_parts, word_rule, is_rule}
 use Rattle.fl_rules.proofs.Splits.{first_is}
 use Rattle.fl_rules.proofs.Reading.{back, none_read}
-
-pub cut_is : (text : List ℕ) (r : Option (Bor (List ℕ) × Bor (List ℕ))) → MatchOption r (split_at 61 text ≡ None) (λ x. split_at 61 text ≡ Some (x.0.now, x.1.now)) → option_map (λ x. (x.0.now, x.1.now)) r ≡ split_at 61 text
-cut_is text None h = sym h
-cut_is text (Some x) h = sym h
 
 -- the rule of a word by its cut
 pub word_cut : (word : List ℕ) (o : Option (List ℕ × List ℕ)) → o ≡ split_at 61 word → option_and_then rule_of_parts o ≡ word_rule word

@@ -1,13 +1,13 @@
 //! Words read as rules.
 
-ghost use Rattle.std.specs.Prelude.{◌≡◌, ◌++◌, IfOk, OnOk, IfErr, None, Some, option_map, option_to_list};
+ghost use Rattle.std.specs.Prelude.{◌≡◌, ◌++◌, IfOk, OnOk, IfErr, None, Some, option_to_list};
 ghost use Rattle.bus_policy.specs.declared.policy.Grant.TheVariants as grants;
-ghost use Rattle.fp_keyfile.specs.Lines.{split_at};
 ghost use Rattle.fl_rules.specs.Rules as spec;
 
 use crate::names::{kind_named, level_named};
 use bus_policy::{Level, Policy, PolicyError, RuleKind};
 use fp_base::Text;
+use fp_keyfile::cut_at_equals;
 use std::alloc::{AllocError, Global};
 
 /// Whether a word is a rule of a filter: `--see=B`, `--talk=B`, `--own=B`, `--call=B=RULE` or
@@ -39,7 +39,7 @@ pub fn policy_of(alloc: Global, words: &[Text]) -> Result<Policy, AllocError>
 fn push_word(alloc: Global, policy: &mut Policy, word: &str) -> Result<(), AllocError>
     ensures { OnOk result (policy.new ≡ policy.old ++ option_to_list (spec.word_rule word.now)) }
 {
-    match cut(word) {
+    match cut_at_equals(word) {
         Some((name, text)) => {
             push_with(alloc, policy, level_named(name), kind_named(name), text)
         }
@@ -88,7 +88,7 @@ fn push_rule(
     ensures { OnOk result (policy.new ≡ policy.old
         ++ option_to_list (spec.rule_with None (Some kind) text.now)) }
 {
-    match cut(text) {
+    match cut_at_equals(text) {
         Some((pattern, rule)) => unless_bad(policy.add_rule(alloc, kind, pattern, rule)),
         None => Ok(()),
     }
@@ -102,11 +102,4 @@ fn unless_bad(added: Result<(), PolicyError>) -> Result<(), AllocError>
         Ok(()) | Err(PolicyError::Bad) => Ok(()),
         Err(PolicyError::NoMemory) => Err(AllocError),
     }
-}
-
-/// The text before the first `=`, and the text after it.
-fn cut(text: &str) -> Option<(&str, &str)>
-    ensures { option_map (λ x. (x.0.now, x.1.now)) result ≡ split_at 61 text.now }
-{
-    text.split_once('=')
 }

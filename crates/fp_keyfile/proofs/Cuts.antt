@@ -1,6 +1,7 @@
 -- What the code's searches give, in the words of the definitions.
 use Rattle.std.proofs.Common.{◌≡◌, ◌≢◌, ℕ, suc, ◌+◌, ◌<◌, true, false, eqb, List, [], ◌∷◌, length, get_or, take, drop, Option, Some, None, Ok, Err, ◌&&◌, MatchOption, refl, sym, ap, ◌∙◌, inl, inr, arith}
 use denote.Ref.{Bor}
+use Rattle.std.specs.Prelude.{option_map}
 use Rattle.std.specs.List.{list_all, list_any, position}
 use Rattle.std.specs.Str.{is_utf8, IsUtf8}
 use Rattle.std.proofs.lemmas.Bool.{ne_eqb, false_from_ne_true}
@@ -22,6 +23,10 @@ split_once_is c bs None h lt = split_at_none c bs (none_by_index c bs (split_par
 split_once_is c bs (Some x) h lt =
     let p = split_parts c bs (Some x) h lt in
     ap (split_at c) p.0 ∙ split_at_found c x.0.now x.1.now (none_by_index c x.0.now p.1)
+
+pub cut_is : (text : List ℕ) (r : Option (Bor (List ℕ) × Bor (List ℕ))) → MatchOption r (split_at 61 text ≡ None) (λ x. split_at 61 text ≡ Some (x.0.now, x.1.now)) → option_map (λ x. (x.0.now, x.1.now)) r ≡ split_at 61 text
+cut_is text None h = sym h
+cut_is text (Some x) h = sym h
 
 lines_of-remainder : (b : ℕ) (bytes : List ℕ) (end : ℕ) → eqb b 10 ≡ false → lines_of bytes ≡ take end bytes ∷ lines_of (drop (end + 1) bytes) → lines_of (b ∷ bytes) ≡ take (suc end) (b ∷ bytes) ∷ lines_of (drop (suc end + 1) (b ∷ bytes))
 lines_of-remainder b bytes end e h =

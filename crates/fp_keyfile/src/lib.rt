@@ -19,4 +19,4 @@ pub use fault::{KeyError, KeyFault};
 pub use grammar::{is_group_name, is_pair_key, is_pair_value};
 pub use group::{Group, Pair};
 pub use key_file::KeyFile;
-pub use line::{first_line, trim_front};
+pub use line::{cut_at_equals, first_line, trim_front};

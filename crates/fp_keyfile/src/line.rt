@@ -1,9 +1,9 @@
 //! One line of a key file.
 
-ghost use Rattle.std.specs.Prelude.{◌≡◌, ◌<◌, ◌+◌, ◌∷◌, ◌==◌, drop, length};
+ghost use Rattle.std.specs.Prelude.{◌≡◌, ◌<◌, ◌+◌, ◌∷◌, ◌==◌, drop, length, option_map};
 ghost use Rattle.std.specs.List.{position};
 ghost use Rattle.fp_keyfile.specs.Grammar as grammar;
-ghost use Rattle.fp_keyfile.specs.Lines.{lines_of, trimmed_front, trimmed_end, header_of, entry_of, marked, line_says};
+ghost use Rattle.fp_keyfile.specs.Lines.{lines_of, split_at, trimmed_front, trimmed_end, header_of, entry_of, marked, line_says};
 ghost use Rattle.fp_keyfile.specs.Line.{said};
 
 use crate::grammar::{are_blank, has_zero, is_blank, is_group_name, is_pair_key};
@@ -89,11 +89,18 @@ fn read_header(text: &str) -> Result<Line<'_>, KeyRule>
     }
 }
 
+/// The text before the first `=`, and the text after it.
+pub fn cut_at_equals(text: &str) -> Option<(&str, &str)>
+    ensures { option_map (λ x. (x.0.now, x.1.now)) result ≡ split_at 61 text.now }
+{
+    text.split_once('=')
+}
+
 /// Reads the line of a pair.
 fn read_entry(text: &str) -> Result<Line<'_>, KeyRule>
     ensures { said result ≡ entry_of text.now }
 {
-    let Some((key, value)) = text.split_once('=') else {
+    let Some((key, value)) = cut_at_equals(text) else {
         return Err(KeyRule::Line);
     };
     let key = trim_end(key);
