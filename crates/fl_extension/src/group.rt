@@ -2,11 +2,11 @@
 
 ghost use Rattle.std.specs.Prelude.{◌≡◌};
 ghost use Rattle.std.specs.List.{list_all};
-ghost use Rattle.fp_keyfile.specs.Grammar.{is_key_byte};
+ghost use Rattle.fp_keyfile.specs.Grammar as keys;
 ghost use Rattle.fl_extension.specs.Points as spec;
 
 use fp_host::are_elements;
-use fp_keyfile::Group;
+use fp_keyfile::{Group, is_key_byte};
 
 /// Whether the key has the value `true`.
 pub(crate) fn is_on(group: &Group, key: &str) -> bool
@@ -18,18 +18,11 @@ pub(crate) fn is_on(group: &Group, key: &str) -> bool
     }
 }
 
-/// Whether a byte is neither `=` nor a control character.
-fn is_plain(byte: u8) -> bool
-    ensures { result ≡ is_key_byte byte }
-{
-    byte != b'=' && byte >= 0x20 && byte != 0x7f
-}
-
 /// Whether no byte is `=` or a control character.
 fn are_plain(text: &str) -> bool
-    ensures { result ≡ list_all is_key_byte text.now }
+    ensures { result ≡ list_all keys.is_key_byte text.now }
 {
-    text.bytes().all(is_plain)
+    text.bytes().all(is_key_byte)
 }
 
 /// Whether an extension may be mounted at the text: a path that isn't the root, without `=` and

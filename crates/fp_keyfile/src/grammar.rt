@@ -50,8 +50,8 @@ pub fn is_group_name(text: &str) -> bool
     !text.is_empty() && are_name_bytes(text.as_bytes())
 }
 
-/// Whether a byte may stand in a key.
-fn is_key_byte(byte: u8) -> bool
+/// Whether a byte may stand in a key: it is neither `=` nor a control character.
+pub fn is_key_byte(byte: u8) -> bool
     ensures { result ≡ grammar.is_key_byte byte }
 {
     byte != b'=' && !is_control(byte)

@@ -16,7 +16,7 @@ mod table;
 mod writing;
 
 pub use fault::{KeyError, KeyFault};
-pub use grammar::{is_group_name, is_pair_key, is_pair_value};
+pub use grammar::{is_group_name, is_key_byte, is_pair_key, is_pair_value};
 pub use group::{Group, Pair};
 pub use key_file::KeyFile;
 pub use line::{cut_at_equals, first_line, trim_front};
