@@ -10,7 +10,7 @@ mod rows;
 mod staged;
 mod switched;
 
-pub use paths::new_link_path;
+pub use paths::{commit_path, new_link_path};
 pub use retiring::{RetireError, RetirePlan};
 pub use rows::{find_override, find_ref, find_remote, put_override, remove_override};
 pub use staged::Staged;

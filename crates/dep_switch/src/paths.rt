@@ -2,6 +2,7 @@
 ghost use Rattle.std.specs.Prelude.{◌≡◌, ◌∷◌, [], codes, true, IfOk, OnOk};
 ghost use Rattle.fp_host.specs.Paths.{is_link_text};
 ghost use Rattle.fp_name.specs.Hex.{hex, is_digest};
+ghost use Rattle.fp_name.specs.Refs.{is_ref};
 ghost use Rattle.dep_states.specs.Names.{branch_dir, active, commit_dir, deploy};
 ghost use Rattle.dep_switch.specs.Writing.{new_link};
 
@@ -23,7 +24,8 @@ pub fn new_link_path(alloc: Global) -> Result<Path, AllocError>
 /// The branch directory of a ref.
 #[tactic(auto, using(crate::proofs::Texts::kind_element, crate::proofs::Texts::id_element, crate::proofs::Texts::arch_element, crate::proofs::Texts::branch_element))]
 fn branch_path(alloc: Global, name: &RefName) -> Result<Path, AllocError>
-    ensures { IfOk result (λ p. p ≡ branch_dir name.now) }
+    ensures path { IfOk result (λ p. p ≡ branch_dir name.now) }
+    ensures good { OnOk result (is_ref name.now ≡ true) }
 {
     let kind = Path::root(alloc).child(name.kind().word())?;
     let id = kind.child(name.id())?;
@@ -38,8 +40,18 @@ pub(crate) fn active_path(alloc: Global, name: &RefName) -> Result<Path, AllocEr
     branch_path(alloc, name)?.child("active")
 }
 
-/// The path of the `deploy` of a commit of the ref.
+/// The folder of a commit of the ref.
 #[tactic(auto, using(crate::proofs::Texts::element_digits))]
+pub fn commit_path(alloc: Global, name: &RefName, commit: &Digest) -> Result<Path, AllocError>
+    ensures path { IfOk result (λ p. p ≡ commit_dir name.now commit.now) }
+    ensures good { OnOk result (is_digest commit.now ≡ true) }
+    ensures ref_good { OnOk result (is_ref name.now ≡ true) }
+{
+    let digits = commit.write(alloc)?;
+    branch_path(alloc, name)?.child(digits.as_str())
+}
+
+/// The path of the `deploy` of a commit of the ref.
 pub(crate) fn deploy_path(
     alloc: Global,
     name: &RefName,
@@ -47,10 +59,7 @@ pub(crate) fn deploy_path(
 ) -> Result<Path, AllocError>
     ensures { IfOk result (λ p. p ≡ deploy (commit_dir name.now commit.now)) }
 {
-    let digits = commit.write(alloc)?;
-    branch_path(alloc, name)?
-        .child(digits.as_str())?
-        .child("deploy")
+    commit_path(alloc, name, commit)?.child("deploy")
 }
 
 /// The text of the link to a commit: its digits.

@@ -1,4 +1,3 @@
-pub mod Texts
 pub mod Readied
 pub mod Sparing
 pub mod LaidOut
