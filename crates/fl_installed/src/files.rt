@@ -15,10 +15,11 @@ ghost use Rattle.ost_walk.specs.Ends.{EndsBy, IsFirst};
 ghost use Rattle.ost_walk.specs.Looked.{IsFound};
 ghost use Rattle.fl_installed.specs.Files as spec;
 
-use crate::places::{metadata_path, repo, store_alone};
+use crate::places::{metadata_path, store_alone};
 use fp_base::{Blob, ObjKind};
 use fp_host::{Host, HostEnd, NoRemotes, Path};
 use fp_name::Digest;
+use fp_small::repo_path;
 use ost_model::MOST_METADATA_FILE_BYTES;
 use ost_store::{Got, get, read_piece};
 use ost_walk::{Found, Places, WalkEnd, look};
@@ -119,7 +120,7 @@ fn read_short<H: Host>(
     ensures fault_has_cause { IsCounted (IsErrOf result HostEnd.Fault)
         (H.moments host.old) (H.faults host.old) (H.faults host.new) }
 {
-    let root = repo(alloc)?;
+    let root = repo_path(alloc)?;
     match get(
         alloc,
         host,

@@ -4,22 +4,16 @@ ghost use Rattle.fp_small.specs.Places.{repo};
 ghost use Rattle.ost_model.specs.Standing.{metadata_name};
 
 use fp_host::Path;
+use fp_small::repo_path;
 use ost_walk::Places;
 use std::alloc::{AllocError, Global};
-
-/// The folder of the installation's store.
-pub(crate) fn repo(alloc: Global) -> Result<Path, AllocError>
-    ensures { IfOk result (λ path. path ≡ repo) }
-{
-    Path::root(alloc).child("repo")
-}
 
 /// The store alone.
 pub(crate) fn store_alone(alloc: Global) -> Result<Places, AllocError>
     ensures { IfOk result (λ places. (places.root ≡ repo) × (places.url ≡ None)) }
 {
     Ok(Places {
-        root: repo(alloc)?,
+        root: repo_path(alloc)?,
         url: None,
     })
 }
