@@ -9,16 +9,14 @@ ghost use Rattle.dep_switch.specs.Writing.{new_link};
 use fp_base::Text;
 use fp_host::Path;
 use fp_name::{Digest, RefName};
+use fp_small::tmp_path;
 use std::alloc::{AllocError, Global};
 
 /// The path at which the link to the new commit is made.
 pub fn new_link_path(alloc: Global) -> Result<Path, AllocError>
     ensures { IfOk result (λ p. p ≡ new_link) }
 {
-    Path::root(alloc)
-        .child("repo")?
-        .child("tmp")?
-        .child("active")
+    tmp_path(alloc)?.child("active")
 }
 
 /// The branch directory of a ref.

@@ -5,6 +5,7 @@ ghost use Rattle.op_bring.specs.Places.{ArePlaces};
 use dep_switch::commit_path;
 use fp_host::Path;
 use fp_name::{Digest, RefName};
+use fp_small::repo_path;
 use std::alloc::{AllocError, Global};
 
 /// The paths by which a commit is brought.
@@ -25,7 +26,7 @@ impl Places {
     pub(crate) fn of(alloc: Global, name: &RefName, commit: &Digest) -> Result<Places, AllocError>
         ensures { IfOk result (ArePlaces name.now commit.now) }
     {
-        let repo = Path::root(alloc).child("repo")?;
+        let repo = repo_path(alloc)?;
         let tmp = repo.child("tmp")?;
         let work = tmp.child("pull")?;
         let folder = commit_path(alloc, name, commit)?;

@@ -7,7 +7,7 @@ ghost use Rattle.fp_small.specs.Replace.{Replaces, CanReplace};
 ghost use Rattle.op_bring.specs.Readying.{store_config, store_text, a_head, ReadiesStore, HasConfigured, WasReadied, CanReady};
 
 use fp_host::{Host, HostEnd, Path, Stat};
-use fp_small::{make_above, replace};
+use fp_small::{make_above, replace, repo_path};
 use ost_model::STORE_CONFIG;
 use std::alloc::{AllocError, Global};
 
@@ -15,7 +15,7 @@ use std::alloc::{AllocError, Global};
 fn store_paths(alloc: Global) -> Result<(Path, Path), AllocError>
     ensures { IfOk result (λ paths. (paths.0 ≡ store_config) × (paths.1 ≡ a_head)) }
 {
-    let repo = Path::root(alloc).child("repo")?;
+    let repo = repo_path(alloc)?;
     let config = repo.child("config")?;
     let head = repo.child("refs")?.child("heads")?.child("x")?;
     Ok((config, head))
