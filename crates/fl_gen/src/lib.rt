@@ -2,7 +2,6 @@
 #![tactic(auto)]
 
 mod commands;
-mod copying;
 mod filling;
 pub mod laws;
 mod limits;

@@ -8,9 +8,8 @@ ghost use Rattle.ost_export.specs.Remotes.{held_of};
 ghost use Rattle.fl_gen.specs.Stores.{spot_by};
 ghost use Rattle.fl_gen.specs.Keeping.{Adds, covers as is_below, has_bits, kept, leaf_bits, leaf_spot, row_at, row_spot_of};
 
-use crate::copying::copy_out;
 use fp_base::{Blob, Text};
-use fp_host::{Node, Path, RemoteError};
+use fp_host::{Node, Path, RemoteError, copy_out};
 use std::alloc::{AllocError, Global};
 
 /// What stands at a path that is no folder.

@@ -2,6 +2,7 @@
 //! command's input.
 #![tactic(auto)]
 
+mod copying;
 mod host;
 pub mod laws;
 mod limits;
@@ -10,6 +11,7 @@ mod remotes;
 mod source;
 mod text;
 
+pub use copying::{copy_front, copy_out};
 pub use host::{Entry, Host, HostEnd, HostError, Stat};
 pub use limits::{MOST_ELEMENT_BYTES, MOST_LINK_BYTES, PERMISSION_BITS, PIECE_BYTES};
 pub use path::{Path, PathError, are_elements, is_element};

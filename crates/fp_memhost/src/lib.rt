@@ -4,7 +4,6 @@
 
 mod choosing;
 mod conditions;
-mod copying;
 mod entry;
 mod event;
 mod files;

@@ -10,13 +10,12 @@ ghost use Rattle.fp_memhost.specs.Stats.{IsOtherStat};
 ghost use Rattle.fp_memhost.specs.Scenes.{seen};
 
 use crate::conditions::is_dir;
-use crate::copying::copy_out;
 use crate::files::{Content, file};
 use crate::folders::children;
 use crate::names::entry;
 use crate::scene::Scene;
 use fp_base::{Items, Text};
-use fp_host::{Entry, HostError, Path, Stat};
+use fp_host::{Entry, HostError, Path, Stat, copy_out};
 use std::alloc::Global;
 
 /// The file's id, where the entry is one.

@@ -6,11 +6,10 @@ ghost use Rattle.fp_host.specs.Remote.{IsNode, HasNodeBits, CameFrom, bytes_of, 
 ghost use Rattle.fp_memhost.specs.Holding.{node_bits, node_held};
 ghost use Rattle.fp_memhost.specs.RemoteRows.{has_bits, is_row, row_at, covers, stands_over, PutsRow, IsRowAt, held_in, held_of};
 
-use crate::copying::copy_out;
 use crate::folders::is_below;
 use crate::story::Keeper;
 use fp_base::{Blob, Text};
-use fp_host::{Node, PERMISSION_BITS, Path, RemoteError, Remotes};
+use fp_host::{Node, PERMISSION_BITS, Path, RemoteError, Remotes, copy_out};
 use std::alloc::{AllocError, Global};
 
 /// What may be put at a path of a remote.

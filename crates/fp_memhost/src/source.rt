@@ -2,10 +2,9 @@
 ghost use Rattle.std.specs.Prelude.{◌≡◌, ◌≢◌, Some};
 ghost use Rattle.fp_memhost.specs.Supply.{fails_now};
 
-use crate::copying::copy_front;
 use crate::story::Supplier;
 use fp_base::Blob;
-use fp_host::{Source, Taken};
+use fp_host::{Source, Taken, copy_front};
 
 /// A source of given bytes, which may fail at one call.
 #[derive(Drop)]
