@@ -20,12 +20,12 @@ use Rattle.fl_meta.specs.declared.permission.Permission.{Permission}
 use Rattle.fl_meta.specs.declared.permission.Mention.{Mention}
 use Rattle.fl_meta.specs.Order.{permission_cmp}
 use Rattle.fl_context.specs.Grants.{permission_of, IsAscending}
-use Rattle.fl_meta.specs.Names.{key_of}
+use Rattle.fl_meta.specs.Names.{key_of, unknown_lists}
 use Rattle.fl_override.specs.Written.{list_text, list_pair, context_pairs, named_pairs, group_if, file_with}
 use Rattle.fl_override.specs.Overrides.{AllCanWrite}
 use Rattle.fl_override.proofs.Reading.{utf8_ascii}
 use Rattle.fl_override.proofs.Files.{file_good}
-use Rattle.fl_launch.specs.Granted.{gives, gives_known, granted, known, unknown_key, unknown_lists, unknown_pair, unknown_pairs, granted_groups, has_session_bus}
+use Rattle.fl_launch.specs.Granted.{gives, gives_known, granted, known, unknown_key, unknown_pair, unknown_pairs, granted_groups, has_session_bus}
 use Rattle.fl_launch.specs.Extensions.{commit_of, extensions_of}
 use Rattle.fl_launch.specs.Launch.{word}
 use Rattle.fl_launch.specs.Groups.{said, application_pairs, instance_pairs, group, launch_groups, GroupsReadBack}

@@ -8,7 +8,7 @@ use Rattle.fl_meta.specs.declared.permission.PermList.{PermList}
 use Rattle.fl_meta.specs.declared.permission.PermList.TheVariants as lists
 use Rattle.fl_meta.specs.declared.permission.Permission.{Permission}
 use Rattle.fl_meta.specs.declared.permission.Mention.{Mention}
-use Rattle.fl_meta.specs.Names.{key_of}
+use Rattle.fl_meta.specs.Names.{key_of, unknown_lists}
 use Rattle.fl_meta.specs.Order.{place_of}
 use Rattle.fl_context.specs.Grants.{is_granted, value_in}
 use Rattle.fl_override.specs.Written.{list_text, pair_if, group_if, file_with}
@@ -35,10 +35,6 @@ known grants = filter gives_known grants
 abbrev pub unknown_key : PermList → List ℕ
 unknown_key list =
     if starts_with nat_eq (key_of list) (codes "unknown-") then drop 8 (key_of list) else []
-
-abbrev pub unknown_lists : List PermList
-unknown_lists = lists.UnknownShared ∷ lists.UnknownSockets ∷ lists.UnknownDevices
-    ∷ lists.UnknownFeatures ∷ lists.UnknownSessionBus ∷ lists.UnknownSystemBus ∷ []
 
 abbrev pub unknown_pair : List Mention → PermList → List Pair
 unknown_pair mentions list = pair_if (unknown_key list) (list_text list mentions)
