@@ -1,14 +1,13 @@
 //! Objects of the remote.
-ghost use Rattle.std.specs.Prelude.{◌≡◌, ◌≤◌, ℕ, length, true, false, IfOk, IsErrOf, Some, None};
+ghost use Rattle.std.specs.Prelude.{◌≡◌, ℕ, true, false, IfOk, IsErrOf, Some, None};
 ghost use Rattle.fp_base.specs.declared.object.ObjKind.TheVariants as kinds;
-ghost use Rattle.fp_host.specs.Remote.{Holdings, IsNode, bytes_of, contents, target};
+ghost use Rattle.fp_host.specs.Remote.{Holdings, IsNode, target};
 ghost use Rattle.fp_host.specs.declared.remotes.Node.TheVariants as nodes;
-ghost use Rattle.ost_model.specs.Objects.{may_be_link, object_fault, object_path};
+ghost use Rattle.ost_model.specs.Objects.{may_be_link, object_fault};
 ghost use Rattle.ost_model.specs.Remotes.{remote_at};
 ghost use Rattle.ost_walk.specs.Ends.{IsRemotes, NoFault};
 ghost use Rattle.ost_head.specs.Objects.{IsFit, Reads, Judges, as_is};
 ghost use Rattle.ost_head.specs.Fetches.{ReadsAt};
-ghost use Rattle.ost_walk.specs.declared.ends.WalkFault.{WalkFault};
 
 use crate::judging::check;
 use crate::small::file_size;
@@ -18,32 +17,8 @@ use fp_name::Digest;
 use ost_content::is_permission;
 use ost_model::{MOST_FILE_BYTES, MOST_METADATA_OBJECT_BYTES, Object};
 use ost_store::path_of;
-use ost_walk::{ObjectFault, WalkEnd, refused};
+use ost_walk::{ObjectFault, WalkEnd, read_remote, refused};
 use std::alloc::Global;
-
-/// The bytes of a file of this size.
-fn read_bytes<R: Remotes>(
-    alloc: Global,
-    remotes: &mut R,
-    url: &str,
-    path: &Path,
-    size: u64,
-) -> Result<Blob, WalkEnd>
-    ensures same { R.holds remotes.new ≡ R.holds remotes.old }
-    ensures short { IfOk result (λ bytes. length bytes ≤ size) }
-    ensures tells { (held : Holdings) → R.holds remotes.old ≡ Some held
-        → length (bytes_of (held url.now path.now)) ≡ size
-        → IfOk result (λ bytes. bytes ≡ bytes_of (held url.now path.now)) }
-    ensures refuses { (w : WalkFault) → IsErrOf result (WalkEnd.Refused w) → ⊥ }
-    ensures host { IsErrOf result WalkEnd.HostFault → ⊥ }
-    ensures fault_has_cause { IsRemotes (IsErrOf result WalkEnd.RemoteFault)
-        (R.faults remotes.old) (R.faults remotes.new) }
-{
-    let mut bytes = vec![in alloc; 0u8; size as usize]?;
-    let count = remotes.read_at(url, path, 0, &mut bytes)?;
-    bytes.truncate(count);
-    Ok(Blob::from_vec(bytes))
-}
 
 /// A file of the remote with these permission bits and of this size.
 fn read_file<R: Remotes>(
@@ -70,7 +45,7 @@ fn read_file<R: Remotes>(
     if !is_permission(mode) {
         return Err(refused(digest, ObjKind::File, ObjectFault::RefusedMode(mode)));
     }
-    let bytes = read_bytes(alloc, remotes, url, path, size)?;
+    let bytes = read_remote(alloc, remotes, url, path, size)?;
     Ok(Object::File { mode, bytes })
 }
 
@@ -134,7 +109,7 @@ fn read_sized<R: Remotes>(
     if size > MOST_METADATA_OBJECT_BYTES {
         return Err(refused(digest, kind, ObjectFault::TooLong(size)));
     }
-    Ok(Object::Meta(read_bytes(alloc, remotes, url, path, size)?))
+    Ok(Object::Meta(read_remote(alloc, remotes, url, path, size)?))
 }
 
 /// The metadata object of the remote at the path.

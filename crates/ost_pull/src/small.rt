@@ -1,8 +1,8 @@
 //! Small objects of a remote, which are read whole. Their digests aren't taken here.
-ghost use Rattle.std.specs.Prelude.{◌≡◌, ◌≤◌, ℕ, length, false, IfOk, IfSome, IsErrOf, Some};
+ghost use Rattle.std.specs.Prelude.{◌≡◌, ℕ, false, IfOk, IfSome, IsErrOf, Some};
 ghost use Rattle.fp_base.specs.declared.object.ObjKind.TheVariants as kinds;
 ghost use Rattle.fp_host.specs.Outcome.{points};
-ghost use Rattle.fp_host.specs.Remote.{Holdings, IsNode, bytes_of};
+ghost use Rattle.fp_host.specs.Remote.{Holdings, IsNode};
 ghost use Rattle.fp_host.specs.declared.remotes.Node.TheVariants as nodes;
 ghost use Rattle.ost_model.specs.Objects.{may_be_link, object_at};
 ghost use Rattle.ost_model.specs.Remotes.{as_spot, remote_at};
@@ -16,34 +16,9 @@ use fp_name::Digest;
 use ost_content::is_permission;
 use ost_model::Object;
 use ost_store::path_of;
-use ost_walk::WalkEnd;
+use ost_walk::{WalkEnd, read_remote};
 use par_digest::MOST_SMALL_BYTES;
 use std::alloc::Global;
-
-/// The bytes of a file of this size.
-fn read_bytes<R: Remotes>(
-    alloc: Global,
-    remotes: &mut R,
-    url: &str,
-    path: &Path,
-    size: u64,
-) -> Result<Blob, WalkEnd>
-    requires { size ≤ MOST_SMALL_BYTES }
-    ensures same { R.holds remotes.new ≡ R.holds remotes.old }
-    ensures short { IfOk result (λ bytes. length bytes ≤ size) }
-    ensures tells { (held : Holdings) → R.holds remotes.old ≡ Some held
-        → length (bytes_of (held url.now path.now)) ≡ size
-        → IfOk result (λ bytes. bytes ≡ bytes_of (held url.now path.now)) }
-    ensures refuses { (w : WalkFault) → IsErrOf result (WalkEnd.Refused w) → ⊥ }
-    ensures host { IsErrOf result WalkEnd.HostFault → ⊥ }
-    ensures fault_has_cause { IsRemotes (IsErrOf result WalkEnd.RemoteFault)
-        (R.faults remotes.old) (R.faults remotes.new) }
-{
-    let mut bytes = vec![in alloc; 0u8; size as usize]?;
-    let count = remotes.read_at(url, path, 0, &mut bytes)?;
-    bytes.truncate(count);
-    Ok(Blob::from_vec(bytes))
-}
 
 /// The file with these permission bits and of this size, where it is small and its bits are taken.
 #[tactic(auto, using(crate::proofs::Read::fit_file, crate::proofs::Read::file_there))]
@@ -69,7 +44,7 @@ fn small_file<R: Remotes>(
     if size > MOST_SMALL_BYTES || !is_permission(mode) {
         return Ok(None);
     }
-    let bytes = read_bytes(alloc, remotes, url, path, size)?;
+    let bytes = read_remote(alloc, remotes, url, path, size)?;
     Ok(Some(Object::File { mode, bytes }))
 }
 
@@ -137,7 +112,7 @@ fn small_bytes<R: Remotes>(
     if size > MOST_SMALL_BYTES {
         return Ok(None);
     }
-    let bytes = read_bytes(alloc, remotes, url, path, size)?;
+    let bytes = read_remote(alloc, remotes, url, path, size)?;
     Ok(Some(Object::Meta(bytes)))
 }
 

@@ -26,5 +26,6 @@ pub use gathering::used;
 pub use looking::look;
 pub use places::Places;
 pub use reading::{check_mode, unread};
+pub use remote::read_remote;
 pub use surveying::{order, survey};
 pub use surveys::Survey;

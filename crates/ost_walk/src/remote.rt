@@ -33,8 +33,9 @@ pub(crate) fn named(bytes: Blob, digest: &Digest, kind: ObjKind) -> Result<Blob,
     }
 }
 
-/// The bytes of a file of this size.
-fn read_whole<R: Remotes>(
+/// The bytes of a file of the remote that has this size. It is for a size within a limit, since as
+/// much memory is taken.
+pub fn read_remote<R: Remotes>(
     alloc: Global,
     remotes: &mut R,
     url: &str,
@@ -42,12 +43,13 @@ fn read_whole<R: Remotes>(
     size: u64,
 ) -> Result<Blob, WalkEnd>
     ensures same { R.holds remotes.new ≡ R.holds remotes.old }
-    ensures tells { (held : Holdings) → R.holds remotes.old ≡ Some held → length
-        (bytes_of (held url.now path.now)) ≡ size → IfOk result
-        (λ bytes. bytes ≡ bytes_of (held url.now path.now)) }
+    ensures short { IfOk result (λ bytes. length bytes ≤ size) }
+    ensures tells { (held : Holdings) → R.holds remotes.old ≡ Some held
+        → length (bytes_of (held url.now path.now)) ≡ size
+        → IfOk result (λ bytes. bytes ≡ bytes_of (held url.now path.now)) }
     ensures refuses { (w : WalkFault) → IsErrOf result (WalkEnd.Refused w) → ⊥ }
     ensures host { IsErrOf result WalkEnd.HostFault → ⊥ }
-    ensures remote { IsRemotes (IsErrOf result WalkEnd.RemoteFault)
+    ensures fault_has_cause { IsRemotes (IsErrOf result WalkEnd.RemoteFault)
         (R.faults remotes.old) (R.faults remotes.new) }
 {
     let mut bytes = vec![in alloc; 0u8; size as usize]?;
@@ -78,7 +80,7 @@ pub(crate) fn fetch_remote<R: Remotes>(
             Err(refused(digest, kind, ObjectFault::TooLong(size)))
         }
         Node::File { size, .. } => {
-            named(read_whole(alloc, remotes, url, &path, size)?, digest, kind)
+            named(read_remote(alloc, remotes, url, &path, size)?, digest, kind)
         }
         _ => Err(refused(digest, kind, ObjectFault::Missing)),
     }
