@@ -2,24 +2,22 @@
 use Rattle.std.specs.Prelude.{ℕ, List, []}
 use Rattle.gv_value.specs.declared.basic.Basic.TheVariants as basics
 use Rattle.gv_value.specs.Shape.{Shape}
-use Rattle.gv_value.specs.Tree.{Content, Tree, no_trees, tree}
+use Rattle.gv_value.specs.Tree.{Tree, no_trees, tree}
 use Rattle.fp_name.specs.Refs.{Ref, ref_text}
 use Rattle.ost_model.specs.Fields.{CommitView}
 use Rattle.ost_model.specs.Binding.{binding_name}
-
-abbrev pub text_of : List ℕ → Tree
-text_of text = Tree.leaf basics.Str (Content.text text)
+use Rattle.ost_object.specs.Values.{text_value}
 
 -- a list of one text
 abbrev pub one_text : List ℕ → Tree
-one_text text = Tree.array (tree (text_of text) no_trees)
+one_text text = Tree.array (tree (text_value text) no_trees)
 
 -- the list of the ref, as a variant of type `as`
 abbrev pub refs_of : Ref → Tree
 refs_of r = Tree.variant (Shape.array (Shape.basic basics.Str)) (one_text (ref_text r))
 
 abbrev pub binding_entry_of : Ref → Tree
-binding_entry_of r = Tree.entry (text_of binding_name) (refs_of r)
+binding_entry_of r = Tree.entry (text_value binding_name) (refs_of r)
 
 -- the one entry `ostree.ref-binding`
 abbrev pub bound_to : Ref → Tree

@@ -5,8 +5,9 @@ ghost use Rattle.gv_value.specs.Views.{shape_of, plain};
 ghost use Rattle.gv_value.specs.Shape.{Shape};
 ghost use Rattle.ost_model.specs.Types.{text_shape, dictionary_shape};
 ghost use Rattle.ost_model.specs.Readers.{commit_read, tree_read, meta_read};
+ghost use Rattle.ost_object.specs.Values.{text_value};
 ghost use Rattle.ost_object.specs.Views.{commit_view, tree_view, tree_at};
-ghost use Rattle.ost_commit.specs.Commits.{text_of, one_text, refs_of, binding_entry_of, bound_to as binding_of, commit_of_tree};
+ghost use Rattle.ost_commit.specs.Commits.{one_text, refs_of, binding_entry_of, bound_to as binding_of, commit_of_tree};
 ghost use Rattle.ost_commit.specs.Shows.{plain_meta};
 ghost use Rattle.ost_commit.specs.Writing.{IsWantOfRoom};
 
@@ -18,7 +19,8 @@ use gv_encode::{EncodeError, encode};
 use gv_value::{GvType, GvValue, TypeError};
 use ost_model::REF_BINDING;
 use ost_object::{
-    Commit, DirMeta, DirTree, ObjectError, write_commit, write_dirmeta, write_dirtree,
+    Commit, DirMeta, DirTree, ObjectError, dictionary_type, text_as_value, write_commit,
+    write_dirmeta, write_dirtree,
 };
 use std::alloc::{AllocError, Global};
 
@@ -134,7 +136,7 @@ fn binding_entry(alloc: Global, name: &RefName) -> Result<GvValue, AllocError>
 
 /// A text as a value, in a box.
 fn boxed_text(alloc: Global, text: &str) -> Result<Box<GvValue>, AllocError>
-    ensures { IfOk result (λ value. plain value.value ≡ text_of text.now) }
+    ensures { IfOk result (λ value. plain value.value ≡ text_value text.now) }
 {
     let value = text_as_value(alloc, text)?;
     Ok(Box::new(alloc, value)?)
@@ -165,29 +167,11 @@ fn list_of(alloc: Global, text: &str) -> Result<GvValue, AllocError>
     Ok(GvValue::Array(vec![in alloc; value]?))
 }
 
-/// A text as a value.
-fn text_as_value(alloc: Global, text: &str) -> Result<GvValue, AllocError>
-    ensures { IfOk result (λ value. plain value ≡ text_of text.now) }
-{
-    Ok(GvValue::Str(Text::from_str(alloc, text)?))
-}
-
 /// The type of a list of texts.
 fn texts_type(alloc: Global) -> Result<GvType, AllocError>
     ensures { IfOk result (λ of. shape_of of ≡ Shape.array text_shape) }
 {
     match GvType::parse(alloc, b"as") {
-        Ok(of) => Ok(of),
-        Err(TypeError::NoMemory) => Err(AllocError),
-        Err(TypeError::Bad) => unreachable!(),
-    }
-}
-
-/// The type of a commit's metadata.
-fn dictionary_type(alloc: Global) -> Result<GvType, AllocError>
-    ensures { IfOk result (λ of. shape_of of ≡ dictionary_shape) }
-{
-    match GvType::parse(alloc, b"a{sv}") {
         Ok(of) => Ok(of),
         Err(TypeError::NoMemory) => Err(AllocError),
         Err(TypeError::Bad) => unreachable!(),
