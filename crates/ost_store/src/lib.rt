@@ -12,6 +12,6 @@ mod walking;
 
 pub use listing::names;
 pub use naming::{object_named, path_of};
-pub use placing::{place, remove};
+pub use placing::{place, place_from, remove};
 pub use reading::{Got, get, has, read_piece};
 pub use staging::{stage, stage_file, stage_piece};

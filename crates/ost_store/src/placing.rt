@@ -47,6 +47,30 @@ pub fn place<H: Host>(
     Ok(host.rename(tmp, &path)?)
 }
 
+/// Gives an object that stands in a work folder, laid out as a store, its name in the store. Nothing
+/// is synced. It is for an object that may be placed so.
+pub fn place_from<H: Host>(
+    alloc: Global,
+    host: &mut H,
+    root: &Path,
+    work: &Path,
+    digest: &Digest,
+    kind: ObjKind,
+) -> Result<(), HostEnd>
+    ensures any_moment { Always
+        (Places (object_path work.now digest.now kind) (object_path root.now digest.now kind))
+        (H.moments host.old) (H.moments host.new) }
+    ensures on_success { OnOk result (AtEnd (WasPlaced (object_path work.now digest.now kind)
+        (object_path root.now digest.now kind)) (H.moments host.old) (H.moments host.new)) }
+    ensures unsynced { AtEnd MakesNoFile (H.moments host.old) (H.moments host.new) }
+    ensures fault_has_cause { IsCaused (IsErrOf result HostEnd.Fault) (H.moments host.old)
+        (CanPlace root.now (object_path work.now digest.now kind) digest.now kind)
+        (H.faults host.old) (H.faults host.new) }
+{
+    let path = path_of(alloc, work, digest, kind)?;
+    place(alloc, host, root, &path, digest, kind)
+}
+
 /// Takes the object's name in the store in this folder away. Nothing is synced. It is for an object
 /// that is there.
 pub fn remove<H: Host>(

@@ -29,19 +29,19 @@ loop-object-preserved g c =
     let o = c.in-Some.object in
     let known = λ (have : Have). subst (λ (l : List (List ℕ × ObjKind)). AtEnd (Between have root work all l) (g.H.Host.moments c.args.host.now) (g.H.Host.moments c.loop-object.host)) c.in-Some.ensures.items (c.loop-object.invariant.known have) in
     record {
-      puts = λ have. puts_next c.requires all left o (t c.loop-object.host) (c.loop-object.invariant.puts have) (known have) c.place_one.ensures.any_moment;
-      known = λ have. between_next c.requires all left o (t c.loop-object.host) (c.loop-object.invariant.puts have) (known have) (t c.args.host.now) (t c.place_one.new.host) c.place_one.ensures.any_moment c.in_ok-place_one.ensures.on_success c.place_one.ensures.unsynced;
-      later = omega (arith, c.loop-object.invariant.later, c.place_one.ensures.fault_has_cause.later);
+      puts = λ have. puts_next c.requires all left o (t c.loop-object.host) (c.loop-object.invariant.puts have) (known have) c.place_from.ensures.any_moment;
+      known = λ have. between_next c.requires all left o (t c.loop-object.host) (c.loop-object.invariant.puts have) (known have) (t c.args.host.now) (t c.place_from.new.host) c.place_from.ensures.any_moment c.in_ok-place_from.ensures.on_success c.place_from.ensures.unsynced;
+      later = omega (arith, c.loop-object.invariant.later, c.place_from.ensures.fault_has_cause.later);
     }
 
-pub returns-in_err-place_one-clause-any_moment : goal.returns-in_err-place_one-clause-any_moment
-returns-in_err-place_one-clause-any_moment g c have =
+pub returns-in_err-place_from-clause-any_moment : goal.returns-in_err-place_from-clause-any_moment
+returns-in_err-place_from-clause-any_moment g c have =
     let t = g.met.H.Host.is_tree in
     let known = λ (have : Have). subst (λ (l : List (List ℕ × ObjKind)). AtEnd (Between have c.args.root.now c.args.work.now c.args.objects.now.items l) (g.H.Host.moments c.args.host.now) (g.H.Host.moments c.loop-object.host)) c.in-Some.ensures.items (c.loop-object.invariant.known have) in
-    puts_next c.requires c.args.objects.now.items c.pop.new.self.items c.in-Some.object (t c.loop-object.host) (c.loop-object.invariant.puts have) (known have) c.place_one.ensures.any_moment
+    puts_next c.requires c.args.objects.now.items c.pop.new.self.items c.in-Some.object (t c.loop-object.host) (c.loop-object.invariant.puts have) (known have) c.place_from.ensures.any_moment
 
-pub returns-in_err-place_one-clause-fault_has_cause : goal.returns-in_err-place_one-clause-fault_has_cause
-returns-in_err-place_one-clause-fault_has_cause g c have =
+pub returns-in_err-place_from-clause-fault_has_cause : goal.returns-in_err-place_from-clause-fault_has_cause
+returns-in_err-place_from-clause-fault_has_cause g c have =
     let t = g.met.H.Host.is_tree in
     let root = c.args.root.now in
     let work = c.args.work.now in
@@ -50,7 +50,7 @@ returns-in_err-place_one-clause-fault_has_cause g c have =
     let o = c.in-Some.object in
     let known = λ (have : Have). subst (λ (l : List (List ℕ × ObjKind)). AtEnd (Between have root work all l) (g.H.Host.moments c.args.host.now) (g.H.Host.moments c.loop-object.host)) c.in-Some.ensures.items (c.loop-object.invariant.known have) in
     fault_caused (CanPlaceAll have root work all) (CanPlace root (object_path work o.0 o.1) o.0 o.1) _ _ _ _ _ (t c.args.host.now) c.loop-object.invariant.later
-    (ends_both (ends_goes (t c.args.host.now) (goes_last (c.loop-object.invariant.puts have))) (known have)) c.place_one.ensures.fault_has_cause (same_fault _ _ _ c.in_err-place_one.was c.from_residual.ensures.1)
+    (ends_both (ends_goes (t c.args.host.now) (goes_last (c.loop-object.invariant.puts have))) (known have)) c.place_from.ensures.fault_has_cause (same_fault _ _ _ c.in_err-place_from.was c.from_residual.ensures.1)
     (λ u v tree q can. can_place_next c.requires all left o (t c.loop-object.host) (c.loop-object.invariant.puts have) (known have) q.0 q.1 can)
 
 pub returns-clause-on_success : goal.returns-clause-on_success

@@ -30,19 +30,19 @@ loop-object-preserved g c =
     let o = c.in-Some.object in
     let known = subst (λ (l : List (List ℕ × ObjKind)). AtEnd (Between root work all l) (g.H.Host.moments c.args.host.now) (g.H.Host.moments c.loop-object.host)) c.in-Some.ensures.items c.loop-object.invariant.known in
     record {
-      pulls = pulls_next c.requires all left o (t c.loop-object.host) c.loop-object.invariant.pulls known c.place_one.ensures.any_moment;
-      known = between_next c.requires all left o (t c.loop-object.host) c.loop-object.invariant.pulls known (t c.args.host.now) (t c.place_one.new.host) c.place_one.ensures.any_moment c.in_ok-place_one.ensures.on_success c.place_one.ensures.unsynced;
-      later = omega (arith, c.loop-object.invariant.later, c.place_one.ensures.fault_has_cause.later);
+      pulls = pulls_next c.requires all left o (t c.loop-object.host) c.loop-object.invariant.pulls known c.place_from.ensures.any_moment;
+      known = between_next c.requires all left o (t c.loop-object.host) c.loop-object.invariant.pulls known (t c.args.host.now) (t c.place_from.new.host) c.place_from.ensures.any_moment c.in_ok-place_from.ensures.on_success c.place_from.ensures.unsynced;
+      later = omega (arith, c.loop-object.invariant.later, c.place_from.ensures.fault_has_cause.later);
     }
 
-pub returns-in_err-place_one-clause-any_moment : goal.returns-in_err-place_one-clause-any_moment
-returns-in_err-place_one-clause-any_moment g c =
+pub returns-in_err-place_from-clause-any_moment : goal.returns-in_err-place_from-clause-any_moment
+returns-in_err-place_from-clause-any_moment g c =
     let t = g.met.H.Host.is_tree in
     let known = subst (λ (l : List (List ℕ × ObjKind)). AtEnd (Between c.args.root.now c.args.work.now c.args.objects.now.items l) (g.H.Host.moments c.args.host.now) (g.H.Host.moments c.loop-object.host)) c.in-Some.ensures.items c.loop-object.invariant.known in
-    pulls_next c.requires c.args.objects.now.items c.pop.new.self.items c.in-Some.object (t c.loop-object.host) c.loop-object.invariant.pulls known c.place_one.ensures.any_moment
+    pulls_next c.requires c.args.objects.now.items c.pop.new.self.items c.in-Some.object (t c.loop-object.host) c.loop-object.invariant.pulls known c.place_from.ensures.any_moment
 
-pub returns-in_err-place_one-clause-fault_has_cause : goal.returns-in_err-place_one-clause-fault_has_cause
-returns-in_err-place_one-clause-fault_has_cause g c =
+pub returns-in_err-place_from-clause-fault_has_cause : goal.returns-in_err-place_from-clause-fault_has_cause
+returns-in_err-place_from-clause-fault_has_cause g c =
     let t = g.met.H.Host.is_tree in
     let root = c.args.root.now in
     let work = c.args.work.now in
@@ -51,7 +51,7 @@ returns-in_err-place_one-clause-fault_has_cause g c =
     let o = c.in-Some.object in
     let known = subst (λ (l : List (List ℕ × ObjKind)). AtEnd (Between root work all l) (g.H.Host.moments c.args.host.now) (g.H.Host.moments c.loop-object.host)) c.in-Some.ensures.items c.loop-object.invariant.known in
     fault_caused (CanPlaceAll root work all) (CanPlace root (object_path work o.0 o.1) o.0 o.1) _ _ _ _ _ (t c.args.host.now) c.loop-object.invariant.later
-    (ends_both (ends_goes (t c.args.host.now) (goes_last c.loop-object.invariant.pulls)) known) c.place_one.ensures.fault_has_cause (same_fault _ _ _ c.in_err-place_one.was c.from_residual.ensures.1)
+    (ends_both (ends_goes (t c.args.host.now) (goes_last c.loop-object.invariant.pulls)) known) c.place_from.ensures.fault_has_cause (same_fault _ _ _ c.in_err-place_from.was c.from_residual.ensures.1)
     (λ u v tree q can. can_place_next c.requires all left o (t c.loop-object.host) c.loop-object.invariant.pulls known q.0 q.1 can)
 
 pub returns-clause-on_success : goal.returns-clause-on_success
