@@ -7,7 +7,6 @@ use Rattle.fp_keyfile.specs.declared.group.Group.{Group}
 use Rattle.fp_keyfile.specs.declared.fault.KeyFault.{KeyFault}
 use Rattle.fp_keyfile.specs.KeyFile.{file_of}
 use Rattle.fp_name.specs.declared.kind.RefKind.{RefKind}
-use Rattle.fp_name.specs.declared.kind.RefKind.TheVariants.{App, Runtime}
 use Rattle.fp_name.specs.Refs.{Ref, is_ref}
 use Rattle.fp_small.specs.Places.{repo, tmp}
 use Rattle.fp_small.specs.declared.limits.TheConstants.{MOST_ELEMENTS}
@@ -15,10 +14,9 @@ use Rattle.fp_small.specs.declared.state.State.{State}
 use Rattle.fp_small.specs.declared.state.RefRow.{RefRow}
 use Rattle.fp_small.specs.declared.state.Previous.{Previous}
 use Rattle.fl_meta.specs.declared.meta.MetaKind.{MetaKind}
-use Rattle.fl_meta.specs.declared.meta.MetaKind.TheVariants as metas
 use Rattle.fl_meta.specs.declared.meta.Meta.{Meta}
 use Rattle.fp_base.specs.declared.meta_rule.MetaRule.{MetaRule}
-use Rattle.fl_meta.specs.Metadata.{meta_of}
+use Rattle.fl_meta.specs.Metadata.{meta_of, meta_kind}
 use Rattle.ost_model.specs.Objects.{object_path, store}
 use Rattle.ost_model.specs.Order.{Place, In, order}
 use Rattle.ost_model.specs.Standing.{deploy_name, Stands}
@@ -27,10 +25,6 @@ use Rattle.dep_states.specs.Shown.{there, ref_seen, Shows, IsShown}
 use Rattle.dep_states.specs.Zones.{IsFileOrGone, Allowed}
 
 -- ---- metadata that reads
-
-abbrev pub meta_kind : RefKind → MetaKind
-meta_kind App = metas.App
-meta_kind Runtime = metas.Runtime
 
 abbrev pub is_meta : Result Meta MetaRule → Bool
 is_meta (Ok meta) = true

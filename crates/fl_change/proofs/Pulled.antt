@@ -12,7 +12,7 @@ use Rattle.fp_keyfile.specs.declared.fault.KeyFault.{KeyFault}
 use Rattle.fp_keyfile.specs.KeyFile.{file_of}
 use Rattle.fp_name.specs.Refs.{Ref, ref_text}
 use Rattle.fl_meta.specs.declared.meta.Meta.{Meta}
-use Rattle.fl_meta.specs.Metadata.{meta_of}
+use Rattle.fl_meta.specs.Metadata.{meta_of, meta_kind}
 use Rattle.fp_small.specs.declared.refusal.Refusal.{Refusal}
 use Rattle.fp_small.specs.declared.refusal.Refusal.TheVariants as refusals
 use Rattle.fp_small.specs.declared.op.Op.{Op}
@@ -23,7 +23,7 @@ use Rattle.ost_model.specs.Look.{Found, nothing, directory, file_at, entry_in}
 use Rattle.ost_model.specs.Objects.{Have, Fault, too_many, too_deep, missing, too_long, refused_mode, corrupt, malformed, or_else, object_fault}
 use Rattle.ost_model.specs.Order.{Place, commit_at, tree_at, first_fault}
 use Rattle.ost_head.specs.declared.head.Head.{Head}
-use Rattle.ost_head.specs.Heads.{lists, binding_refused, age_refused, commit_refused, is_nothing, root_refused, meta_kind, no_metadata, meta_refused, lines_refused, metadata_refused, unless_refused, content_in, with_content, metadata_at, head_in, with_tree, with_commit, head_of}
+use Rattle.ost_head.specs.Heads.{lists, binding_refused, age_refused, commit_refused, is_nothing, root_refused, no_metadata, meta_refused, lines_refused, metadata_refused, unless_refused, content_in, with_content, metadata_at, head_in, with_tree, with_commit, head_of}
 use Rattle.ost_head.specs.Refusals.{refusal_of, object_refused}
 use Rattle.ost_pull.specs.Pulls.{first_refusal}
 use Rattle.op_bring.specs.Brought.{refusal_in, brought_refusal}

@@ -14,8 +14,7 @@ use Rattle.fp_name.specs.declared.kind.RefKind.{RefKind}
 use Rattle.fp_name.specs.declared.kind.RefKind.TheVariants.{App, Runtime}
 use Rattle.fp_name.proofs.Refs.{ref_of-some}
 use Rattle.fp_small.proofs.Ordered.{bytes_eq-is}
-use Rattle.fl_meta.specs.Metadata.{has_group, meta_of, app_of, runtime_meta, runtime_of, runtime_in as runtime_said}
-use Rattle.ost_head.specs.Heads.{meta_kind}
+use Rattle.fl_meta.specs.Metadata.{has_group, meta_of, app_of, runtime_meta, runtime_of, runtime_in as runtime_said, meta_kind}
 use Rattle.fl_installed.specs.Metadata.{groups_in, runtime_in, runtime_named}
 use Rattle.fl_installed.specs.Standing.{ApplicationsName}
 use Rattle.fl_installed.specs.Users.{is_app}

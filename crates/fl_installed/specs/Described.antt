@@ -11,9 +11,8 @@ use Rattle.fp_small.specs.Order.{sorted_by}
 use Rattle.fp_small.specs.declared.refusal.Refusal.{Refusal}
 use Rattle.fp_small.specs.declared.refusal.Refusal.TheVariants as refusals
 use Rattle.fl_meta.specs.declared.meta.Meta.{Meta}
-use Rattle.fl_meta.specs.Metadata.{meta_of}
+use Rattle.fl_meta.specs.Metadata.{meta_of, meta_kind}
 use Rattle.ost_model.specs.Objects.{Have}
-use Rattle.ost_head.specs.Heads.{meta_kind}
 use Rattle.fl_installed.specs.Files.{metadata_file}
 use Rattle.fl_installed.specs.declared.info.Info.{Info}
 

@@ -6,10 +6,9 @@ use Rattle.fp_keyfile.specs.KeyFile.{file_of}
 use Rattle.fp_name.specs.Refs.{Ref}
 use Rattle.fp_base.specs.declared.meta_rule.MetaRule.{MetaRule}
 use Rattle.fl_meta.specs.declared.meta.Meta.{Meta}
-use Rattle.fl_meta.specs.Metadata.{meta_of}
+use Rattle.fl_meta.specs.Metadata.{meta_of, meta_kind}
 use Rattle.fl_extension.specs.declared.point.Point.{Point}
 use Rattle.fl_extension.specs.Points.{points_of}
-use Rattle.ost_head.specs.Heads.{meta_kind}
 
 -- the groups of a key file; bytes that don't read have none
 abbrev pub groups_in : Result (List Group) KeyFault → List Group

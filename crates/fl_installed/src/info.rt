@@ -5,15 +5,13 @@ ghost use Rattle.fp_host.specs.Frame.{Unchanged};
 ghost use Rattle.fp_keyfile.specs.KeyFile.{are_distinct, file_of};
 ghost use Rattle.fp_small.specs.Order.{sorted_by};
 ghost use Rattle.fp_small.specs.Places.{repo};
-ghost use Rattle.fl_meta.specs.Metadata.{meta_of};
-ghost use Rattle.ost_head.specs.Heads.{meta_kind};
+ghost use Rattle.fl_meta.specs.Metadata.{meta_of, meta_kind};
 ghost use Rattle.ost_model.specs.Objects.{Have};
 ghost use Rattle.ost_model.specs.Remotes.{Stores};
 ghost use Rattle.fl_installed.specs.Described as spec;
 
 use crate::files::metadata_file;
-use crate::metadata::meta_kind;
-use fl_meta::{Meta, MetaError};
+use fl_meta::{Meta, MetaError, meta_kind};
 use fp_base::{Blob, Items, MetaRule, MetadataRule, Text};
 use fp_host::{Host, HostEnd};
 use fp_keyfile::{KeyError, KeyFile};

@@ -1,14 +1,13 @@
 //! What the bytes of a file `metadata` say.
 ghost use Rattle.std.specs.Prelude.{◌≡◌, IfOk};
 ghost use Rattle.fp_keyfile.specs.KeyFile.{file_of};
-ghost use Rattle.ost_head.specs.Heads.{meta_kind};
 ghost use Rattle.fl_installed.specs.Metadata as spec;
 
 use fl_extension::Point;
-use fl_meta::{Meta, MetaError, MetaKind};
+use fl_meta::{Meta, MetaError, meta_kind};
 use fp_base::{Blob, Items};
 use fp_keyfile::{KeyError, KeyFile};
-use fp_name::{RefKind, RefName};
+use fp_name::RefName;
 use std::alloc::{AllocError, Global};
 
 /// The key file of these bytes; one without a group where they don't read.
@@ -19,16 +18,6 @@ fn read_lines(alloc: Global, bytes: &Blob) -> Result<KeyFile, AllocError>
         Ok(file) => Ok(file),
         Err(KeyError::Fault(_)) => Ok(KeyFile::new(alloc)),
         Err(KeyError::NoMemory) => Err(AllocError),
-    }
-}
-
-/// The kind of metadata that a ref has.
-pub(crate) fn meta_kind(kind: RefKind) -> MetaKind
-    ensures { result ≡ meta_kind kind }
-{
-    match kind {
-        RefKind::App => MetaKind::App,
-        RefKind::Runtime => MetaKind::Runtime,
     }
 }
 

@@ -6,6 +6,7 @@ use Rattle.fp_keyfile.specs.declared.group.Group.{Group}
 use Rattle.fp_keyfile.specs.KeyFile.{value_at}
 use Rattle.fp_name.specs.Refs.{Ref, ref_of}
 use Rattle.fp_name.specs.Kinds.{kind_word}
+use Rattle.fp_name.specs.declared.kind.RefKind.{RefKind}
 use Rattle.fp_name.specs.declared.kind.RefKind.TheVariants as refs
 use Rattle.fl_meta.specs.declared.meta.MetaKind.{MetaKind}
 use Rattle.fl_meta.specs.declared.meta.MetaKind.TheVariants as kinds
@@ -17,6 +18,11 @@ use Rattle.fl_meta.specs.declared.fault.MetaError.TheVariants as errors
 use Rattle.fl_meta.specs.declared.mentions.Source.TheVariants as sources
 use Rattle.fl_meta.specs.Entries.{is_empty}
 use Rattle.fl_meta.specs.Mentions.{file_mentions}
+
+-- the kind of metadata that a ref has
+abbrev pub meta_kind : RefKind → MetaKind
+meta_kind refs.App = kinds.App
+meta_kind refs.Runtime = kinds.Runtime
 
 -- the group that says what kind of file it is
 abbrev pub kind_group : MetaKind → List ℕ

@@ -14,6 +14,6 @@ mod permission;
 pub use fault::MetaError;
 pub use limits::MOST_BUS_NAME_BYTES;
 pub use mentions::{Source, mentions_of};
-pub use meta::{Meta, MetaKind, extension_name};
+pub use meta::{Meta, MetaKind, extension_name, meta_kind};
 pub use pattern::is_pattern;
 pub use permission::{Layer, Mention, PermList, Permission, Value};

@@ -21,6 +21,16 @@ pub enum MetaKind {
     Runtime,
 }
 
+/// The kind of metadata that a ref has.
+pub fn meta_kind(kind: RefKind) -> MetaKind
+    ensures { result ≡ metadata.meta_kind kind }
+{
+    match kind {
+        RefKind::App => MetaKind::App,
+        RefKind::Runtime => MetaKind::Runtime,
+    }
+}
+
 /// The metadata of an application or a runtime, after flatpak-metadata(5).
 #[derive(Drop)]
 pub struct Meta {

@@ -18,10 +18,9 @@ use Rattle.fp_small.specs.Order.{has_name}
 use Rattle.fp_small.specs.declared.state.State.{State}
 use Rattle.fp_small.specs.declared.state.RefRow.{RefRow}
 use Rattle.fp_small.specs.declared.state.RemoteRow.{RemoteRow}
-use Rattle.fl_meta.specs.Metadata.{has_group, meta_of, app_of, runtime_meta, runtime_of, runtime_in as runtime_said}
+use Rattle.fl_meta.specs.Metadata.{has_group, meta_of, app_of, runtime_meta, runtime_of, runtime_in as runtime_said, meta_kind}
 use Rattle.fl_extension.specs.declared.point.Point.{Point}
 use Rattle.fl_extension.specs.Found.{has_ref}
-use Rattle.ost_head.specs.Heads.{meta_kind}
 use Rattle.fl_installed.specs.Metadata.{groups_in, runtime_in, runtime_named}
 use Rattle.fl_plan.specs.Extensions.{is_coming, is_filled}
 use Rattle.fl_plan.specs.Plans.{deployed, is_at, begun}

@@ -15,7 +15,7 @@ use Rattle.fp_small.specs.declared.refusal.Refusal.TheVariants as refusals
 use Rattle.fp_small.specs.declared.state.State.{State}
 use Rattle.fp_small.specs.declared.state.RemoteRow.{RemoteRow}
 use Rattle.fl_meta.specs.declared.meta.Meta.{Meta}
-use Rattle.fl_meta.specs.Metadata.{meta_of}
+use Rattle.fl_meta.specs.Metadata.{meta_of, meta_kind}
 use Rattle.fl_extension.specs.declared.point.Point.{Point}
 use Rattle.fl_extension.specs.Found.{has_ref}
 use Rattle.ost_model.specs.Fields.{CommitView, TreeView}
@@ -24,7 +24,7 @@ use Rattle.ost_model.specs.Order.{commit_at, tree_at}
 use Rattle.ost_model.specs.Look.{Found, nothing, directory, file_at, entry_in}
 use Rattle.ost_model.specs.Binding.{binding_in}
 use Rattle.ost_head.specs.Refusals.{refusal_of, object_refused}
-use Rattle.ost_head.specs.Heads.{lists, binding_refused, age_refused, commit_refused, is_nothing, root_refused, meta_kind, meta_refused, lines_refused, metadata_refused, unless_refused, content_in, with_content, metadata_at, head_in, with_tree, with_commit, head_of}
+use Rattle.ost_head.specs.Heads.{lists, binding_refused, age_refused, commit_refused, is_nothing, root_refused, meta_refused, lines_refused, metadata_refused, unless_refused, content_in, with_content, metadata_at, head_in, with_tree, with_commit, head_of}
 use Rattle.ost_head.specs.Offers.{offered}
 use Rattle.fl_plan.specs.Answers.{and_then, mapped}
 use Rattle.fl_plan.specs.Offers.{offer_with, offer_of, first_of, first_offer, in_turn, have_at, chosen_with, chosen}

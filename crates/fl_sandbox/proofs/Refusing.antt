@@ -13,9 +13,8 @@ use Rattle.fp_small.specs.declared.refusal.Refusal.TheVariants.{NotInstalled, Ru
 use Rattle.fp_small.specs.declared.state.RefRow.{RefRow}
 use Rattle.fp_small.specs.declared.state.State.{State}
 use Rattle.fl_meta.specs.declared.meta.Meta.{Meta}
-use Rattle.fl_meta.specs.Metadata.{meta_of}
+use Rattle.fl_meta.specs.Metadata.{meta_of, meta_kind}
 use Rattle.fl_extension.specs.declared.point.Point.{Point}
-use Rattle.ost_head.specs.Heads.{meta_kind}
 use Rattle.ost_model.specs.Objects.{Have}
 use Rattle.fl_installed.specs.Described.{broken, by_rules, by_lines, by_file, described}
 use Rattle.fl_installed.specs.Files.{metadata_file}

@@ -26,7 +26,7 @@ use Rattle.fp_small.specs.declared.op.Op.TheVariants as ops
 use Rattle.fp_small.specs.declared.refusal.Refusal.{Refusal}
 use Rattle.fp_small.specs.declared.refusal.Refusal.TheVariants as refusals
 use Rattle.ost_model.specs.Objects.{Have, Fault, too_many, too_deep, missing, too_long, refused_mode, corrupt, malformed}
-use Rattle.ost_head.specs.Heads.{head_of, meta_kind}
+use Rattle.ost_head.specs.Heads.{head_of}
 use Rattle.ost_head.specs.Offers.{offered, after_mode, commit_said, wrong_mode, ref_at}
 use Rattle.ost_head.specs.Refusals.{refusal_of}
 use Rattle.ost_refs.specs.declared.place.RefFile.{RefFile}
@@ -35,7 +35,7 @@ use Rattle.dep_states.specs.After.{row_at}
 use Rattle.dep_states.specs.Shown.{at_name, override_key, small_most}
 use Rattle.op_change.specs.Applied.{op_refusal, done_with}
 use Rattle.fl_meta.specs.declared.meta.Meta.{Meta}
-use Rattle.fl_meta.specs.Metadata.{meta_of}
+use Rattle.fl_meta.specs.Metadata.{meta_of, meta_kind}
 use Rattle.fl_extension.specs.declared.point.Point.{Point}
 use Rattle.fl_extension.specs.Found.{has_ref}
 use Rattle.fl_installed.specs.Described.{by_rules, by_lines, by_file, broken, described, info_in, as_info}

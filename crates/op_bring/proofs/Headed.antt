@@ -17,7 +17,7 @@ use Rattle.fp_small.specs.declared.refusal.Refusal.{Refusal}
 use Rattle.fp_small.specs.declared.refusal.Refusal.TheVariants as refusals
 use Rattle.fp_base.specs.declared.what.What.TheVariants as whats
 use Rattle.fl_meta.specs.declared.meta.Meta.{Meta}
-use Rattle.fl_meta.specs.Metadata.{meta_of}
+use Rattle.fl_meta.specs.Metadata.{meta_of, meta_kind}
 use Rattle.ost_model.specs.declared.object.Object.{Object}
 use Rattle.ost_model.specs.declared.object.Object.TheVariants as objects
 use Rattle.ost_model.specs.Fields.{CommitView, TreeView}
@@ -43,11 +43,11 @@ meta_fine : (name : Ref) (r : Result Meta MetaRule) → heads.meta_refused name 
 meta_fine name (Ok meta) e = refl
 meta_fine name (Err rule) e = absurd (cc e)
 
-lines_fine : (name : Ref) (r : Result (List Group) KeyFault) → heads.lines_refused name r ≡ None → is_meta_file (heads.meta_kind name.kind) r ≡ true
-lines_fine name (Ok file) e = meta_fine name (meta_of (heads.meta_kind name.kind) file) e
+lines_fine : (name : Ref) (r : Result (List Group) KeyFault) → heads.lines_refused name r ≡ None → is_meta_file (meta_kind name.kind) r ≡ true
+lines_fine name (Ok file) e = meta_fine name (meta_of (meta_kind name.kind) file) e
 lines_fine name (Err fault) e = absurd (cc e)
 
-same_kind : (k : RefKind) (bytes : List ℕ) → is_meta_file (heads.meta_kind k) (file_of bytes) ≡ true → reads_as k bytes ≡ true
+same_kind : (k : RefKind) (bytes : List ℕ) → is_meta_file (meta_kind k) (file_of bytes) ≡ true → reads_as k bytes ≡ true
 unfolding reads_as
 same_kind ref_kinds.App bytes e = e
 same_kind ref_kinds.Runtime bytes e = e

@@ -11,12 +11,8 @@ use Rattle.fp_keyfile.specs.declared.group.Group.{Group}
 use Rattle.fp_keyfile.specs.declared.fault.KeyFault.{KeyFault}
 use Rattle.fp_keyfile.specs.KeyFile.{file_of}
 use Rattle.fp_name.specs.Refs.{Ref, ref_text}
-use Rattle.fp_name.specs.declared.kind.RefKind.{RefKind}
-use Rattle.fp_name.specs.declared.kind.RefKind.TheVariants as ref_kinds
 use Rattle.fl_meta.specs.declared.meta.Meta.{Meta}
-use Rattle.fl_meta.specs.declared.meta.MetaKind.{MetaKind}
-use Rattle.fl_meta.specs.declared.meta.MetaKind.TheVariants as meta_kinds
-use Rattle.fl_meta.specs.Metadata.{meta_of}
+use Rattle.fl_meta.specs.Metadata.{meta_of, meta_kind}
 use Rattle.fp_small.specs.declared.refusal.Refusal.{Refusal}
 use Rattle.fp_small.specs.declared.refusal.Refusal.TheVariants as refusals
 use Rattle.ost_model.specs.declared.limits.TheConstants.{MOST_METADATA_FILE_BYTES}
@@ -69,10 +65,6 @@ file_in (directory e) = None
 file_in (file_at d) = Some d
 
 -- ---- the file `metadata`
-
-abbrev pub meta_kind : RefKind → MetaKind
-meta_kind ref_kinds.App = meta_kinds.App
-meta_kind ref_kinds.Runtime = meta_kinds.Runtime
 
 abbrev pub no_metadata : Ref → Refusal
 no_metadata name = refusals.BadMetadata name 0 (metadata_rules.Meta meta_rules.Absent)

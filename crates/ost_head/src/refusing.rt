@@ -4,15 +4,15 @@ ghost use Rattle.fp_name.specs.Refs.{ref_text};
 ghost use Rattle.ost_object.specs.Views.{commit_view, tree_view};
 ghost use Rattle.ost_walk.specs.Ends.{fault_of};
 ghost use Rattle.fp_keyfile.specs.KeyFile.{file_of};
-ghost use Rattle.fl_meta.specs.Metadata.{meta_of};
-ghost use Rattle.ost_head.specs.Heads.{age_refused, binding_refused, commit_refused, lines_refused, lists, meta_kind, meta_refused, metadata_refused, no_metadata, root_refused};
+ghost use Rattle.fl_meta.specs.Metadata.{meta_of, meta_kind};
+ghost use Rattle.ost_head.specs.Heads.{age_refused, binding_refused, commit_refused, lines_refused, lists, meta_refused, metadata_refused, no_metadata, root_refused};
 ghost use Rattle.ost_head.specs.Refusals.{long_what, refusal_of};
 
 use crate::entries::has_none;
-use fl_meta::{Meta, MetaError, MetaKind};
+use fl_meta::{Meta, MetaError, meta_kind};
 use fp_base::{Blob, Items, MetaRule, MetadataRule, ObjKind, Text, What};
 use fp_keyfile::{KeyError, KeyFile};
-use fp_name::{Digest, RefKind, RefName};
+use fp_name::{Digest, RefName};
 use fp_small::Refusal;
 use ost_model::{MOST_LEVELS, MOST_METADATA_FILE_BYTES, MOST_OBJECTS};
 use ost_object::{Commit, DirTree, binding};
@@ -153,16 +153,6 @@ pub(crate) fn refuse_absent(name: &RefName) -> Result<Refusal, AllocError>
         line: 0,
         rule: MetadataRule::Meta(MetaRule::Absent),
     })
-}
-
-/// The kind of metadata that a ref has.
-fn meta_kind(kind: RefKind) -> MetaKind
-    ensures { result ≡ meta_kind kind }
-{
-    match kind {
-        RefKind::App => MetaKind::App,
-        RefKind::Runtime => MetaKind::Runtime,
-    }
 }
 
 /// The refusal of a key file that is no metadata.
