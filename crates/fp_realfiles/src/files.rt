@@ -1,13 +1,10 @@
 //! Files of ours that are opened, also where their own permission bits are in the way.
-use fp_system::{Cause, Found, Kind, known, look};
+use fp_system::{Cause, Found, Kind, NO_ENTRY, known, look};
 use std::fs;
 use std::fs::{OpenOptions, Permissions};
 use std::io::ErrorKind;
 use std::os::unix::fs::PermissionsExt;
 use std::rt::Files;
-
-/// The system's number of the error that nothing stands there.
-const NO_ENTRY: i32 = 2;
 
 /// The file at the path. What is none is an error.
 pub fn find_file<R: Files>(rt: &R, at: &str) -> Result<Found, Cause> {

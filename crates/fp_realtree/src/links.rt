@@ -1,13 +1,10 @@
 //! Names that come into a folder or go, but for moves.
 use fp_realnotes::{Made, Notes};
 use fp_realroot::find_file;
-use fp_system::{Cause, Found, Kind, known, look};
+use fp_system::{Cause, Found, Kind, NO_ENTRY, known, look};
 use std::fs;
 use std::os::unix;
 use std::rt::Files;
-
-/// The system's number of the error that nothing stands there.
-const NO_ENTRY: i32 = 2;
 
 /// Gives a file a second name.
 pub fn link<R: Files>(rt: &R, from: &str, to: &str, notes: &mut Notes) -> Result<(), Cause> {

@@ -5,6 +5,9 @@ use std::alloc::AllocError;
 use std::io::ErrorKind;
 use std::{fmt, io};
 
+/// The system's number of the error that nothing stands there: ENOENT of Linux.
+pub const NO_ENTRY: i32 = 2;
+
 /// Why the system refused a call, or what breaks the call's condition.
 #[derive(Clone, Copy, Debug)]
 pub enum Cause {

@@ -11,7 +11,7 @@ mod paths;
 mod reader;
 mod reading;
 
-pub use cause::{Cause, known};
+pub use cause::{Cause, NO_ENTRY, known};
 pub use fault::{Call, Faults, SystemError};
 pub use folders::{Folders, note};
 pub use found::{Found, Kind, has_folder, kind_at, look};
