@@ -174,8 +174,8 @@ module _ (holds : Option Holdings) (held : Holdings) (told : holds ≡ Some held
         tidied = was.settled known rests.opens rests.settled;
         text = λ some. absurd (cc some);
         config = λ not. config_kept s op (refused_keeps here op r is) changes;
-        shares = λ none. absurd (cc none);
-        creates = λ none. absurd (cc none);
+        shares = λ unpulled. absurd (op_pulls here op r is unpulled);
+        creates = λ unpulled. absurd (op_pulls here op r is unpulled);
       }
 
   pub apply_refused : {w : View} (r : Refusal) → op_refusal here op ≡ Some r → Applies s op holds v w → WasLeft s holds v w → WasDoneBy held op s (Err (Refused r)) v w
@@ -377,8 +377,8 @@ module _ (held : Holdings) (op : Op) (s t : State) (v : View) where
       tidied = was.settled (subst (λ (q : State). Opens q w) (sym done.state) done.holds.opens) done.rest;
       text = λ some. text_on (config_tidied tidies) tidies.files (subst (λ (q : State). HasText q w) done.state (done.text (sets true some)));
       config = λ not. config_tidied tidies ∙ done.config (sets false not);
-      shares = λ none. shares_on done.shares was.shares tidies.files;
-      creates = λ none. one_created held x op d op_is (files_on done.files tidies.files)
+      shares = λ no. shares_on done.shares was.shares tidies.files;
+      creates = λ no. one_created held x op d op_is (files_on done.files tidies.files)
           (creates_on done.creates was.creates done.files tidies.files);
     },
   )

@@ -57,8 +57,8 @@ told held text s {x = x} {y = y} rests was = record {
   tidied = same_settled was.shown rests.settled;
   text = λ some. absurd (cc some);
   config = λ not. was.untouched.names _;
-  shares = λ none. none_made was.untouched;
-  creates = λ none. no_ops_created held (world_at s x) [] refl (none_created was.untouched);
+  shares = λ no. none_made was.untouched;
+  creates = λ no. no_ops_created held (world_at s x) [] refl (none_created was.untouched);
 }
 
 while_told : (text : List ℕ) (s : State) (holds : Option Holdings) (x y : View) → Says text x y → PerformsOver (Rests s) holds (λ held w. text_answer text) s x y

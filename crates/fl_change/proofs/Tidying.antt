@@ -82,8 +82,8 @@ module _ (s : State) {u v : View} (tidies : Tidies s u v) (opens : Opens s u) wh
       tidied = done.tidied;
       text = done.text;
       config = λ not. done.config not ∙ config_tidied tidies;
-      shares = λ none. shares_on made (done.shares none) kept;
-      creates = λ none. created_off held (world_at s v) (ops_of a) creates (done.creates none) tidies.files kept;
+      shares = λ unpulled. shares_on made (done.shares unpulled) kept;
+      creates = λ unpulled. created_off held (world_at s v) (ops_of a) creates (done.creates unpulled) tidies.files kept;
     }
 
     halted_moved : (a : Answer) {w : View} → IsHalted a s v w → IsHalted a s u w

@@ -206,8 +206,8 @@ done_onto held pieces b x y {v = v} {w = w} {z = z} is done next before kept = r
   holds = subst (λ (q : World). Holds q z) (worlds_pieces held x y pieces b.pieces is) next.holds;
   text = λ some. subst (λ (q : State). HasText q z) after_both (text_by (set_config (ops_of b)) refl (set_both some));
   config = λ not. let none = none_set not in next.config none.1 ∙ done.config none.0;
-  shares = λ none. shares_on (done.shares refl) (next.shares none) kept;
-  creates = λ none. created_both held x y (ops_in pieces) (ops_of b) (ops_of (continued pieces None b)) is (ops-append pieces b.pieces) (done.creates refl) (next.creates none) before kept;
+  shares = λ unpulled. shares_on (done.shares tt) (next.shares unpulled) kept;
+  creates = λ unpulled. created_both held x y (ops_in pieces) (ops_of b) (ops_of (continued pieces None b)) is (ops-append pieces b.pieces) (done.creates tt) (next.creates unpulled) before kept;
   tidied = next.tidied;
 }
   where
@@ -270,8 +270,8 @@ done_plain held a x done none = record {
   tidied = done.tidied;
   text = done.text;
   config = done.config;
-  shares = λ ok. done.shares none;
-  creates = λ ok. done.creates none;
+  shares = λ ok. done.shares (subst IsUnpulled (sym none) tt);
+  creates = λ ok. done.creates (subst IsUnpulled (sym none) tt);
 }
 
 -- the world in which the first leaves the view

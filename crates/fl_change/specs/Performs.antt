@@ -25,7 +25,7 @@ use Rattle.op_bring.specs.Bringing.{AreTold}
 use Rattle.op_change.specs.Applied.{Brings, op_refusal, done_with}
 use Rattle.fl_lines.specs.Lines.{op_text}
 use Rattle.fl_change.specs.World.{World, world_at, used_of, supplied, world_after, worlds_after}
-use Rattle.fl_change.specs.Answer.{Answer, Piece, joined, ops_in, ops_of, lines_of, sets_config, set_config, keeps_commits, IsIdle}
+use Rattle.fl_change.specs.Answer.{Answer, Piece, joined, ops_in, ops_of, lines_of, sets_config, set_config, keeps_commits, IsUnpulled, IsIdle}
 use Rattle.fl_change.specs.Refs.{op_over}
 use Rattle.fl_change.specs.Changes.{Changes, OnlyTidied, IsStill, HasText}
 use Rattle.fl_change.specs.Created.{LacksFor, CreatesInTurn}
@@ -68,8 +68,8 @@ pub record Holds (x : World) (v : View) : Type 0 where
 
 -- All that isn't the line of a refusal was printed, every stop leaves the state after all
 -- operations, and all is settled. Where one of them set it, `config` has just its text; else it is
--- as it was. Without a refusal each new file that has bytes came to a lasting name, and each
--- operation in turn made just the objects that it lacked.
+-- as it was. Where nothing was pulled before a refusal, each new file that has bytes came to a
+-- lasting name, and each operation in turn made just the objects that it lacked.
 pub record IsDone (held : Holdings) (a : Answer) (x : World) (v w : View) : Type 0 where
   pub printed : w.printed ≡ v.printed ++ joined a.pieces
   pub only_tidied : IsIdle a → OnlyTidied x.state v w
@@ -78,8 +78,8 @@ pub record IsDone (held : Holdings) (a : Answer) (x : World) (v w : View) : Type
   pub tidied : Settled (shows w)
   pub text : set_config (ops_of a) ≡ true → HasText (after_all x.state (ops_of a)) w
   pub config : set_config (ops_of a) ≡ false → w.names config ≡ v.names config
-  pub shares : a.refusal ≡ None → Shares IsLasting v w
-  pub creates : a.refusal ≡ None → CreatesInTurn held x (ops_of a) v w
+  pub shares : IsUnpulled a.refusal → Shares IsLasting v w
+  pub creates : IsUnpulled a.refusal → CreatesInTurn held x (ops_of a) v w
 
 -- every stop leaves the state after the acknowledged operations
 pub record IsHalted (a : Answer) (s : State) (v w : View) : Type 0 where

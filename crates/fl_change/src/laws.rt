@@ -19,11 +19,12 @@ ghost use Rattle.fp_small.specs.declared.state.State.{State};
 ghost use Rattle.ost_model.specs.Objects.{Have};
 ghost use Rattle.ost_model.specs.Order.{Place, In, order};
 ghost use Rattle.dep_states.specs.After.{Done, after_all, plain};
+ghost use Rattle.op_change.specs.Applied.{op_refusal};
 ghost use Rattle.fl_lines.specs.Lines.{op_text};
 ghost use Rattle.fl_words.specs.declared.command.Change.{Change};
 ghost use Rattle.fl_words.specs.declared.command.Change.TheVariants as changes;
 ghost use Rattle.fl_change.specs.World.{World, kept_commits, is_used, used_of, world_after, worlds_after};
-ghost use Rattle.fl_change.specs.Answer.{Answer, done_answer, nothing, op_answer, refusal_answer};
+ghost use Rattle.fl_change.specs.Answer.{Answer, done_answer, nothing, op_answer, refusal_answer, IsUnpulled};
 ghost use Rattle.fl_change.specs.Settings.{first_from, is_pinned};
 ghost use Rattle.fl_change.specs.Turns.{change_over, changing, in_turn};
 
@@ -73,6 +74,16 @@ pub fn migration_comes_first()
         } }
     ensures stays { (held : Holdings) (x : World) (more : List Change) → x.state.layout ≡ Two
         → changing more held x ≡ in_turn more held x }
+{}
+
+/// Nothing is pulled before a change is refused for what the state says, as for a pin that stands.
+/// What an operation is refused for is found in what is pulled.
+pub fn some_refusals_pull_nothing()
+    ensures pin { (held : Holdings) (x : World) (pin : List ℕ)
+        → is_pinned x.state.pins pin ≡ true
+        → IsUnpulled (change_over (changes.Pin pin) held x).refusal }
+    ensures operation { (have : Have) (op : Op) (refusal : Refusal)
+        → op_refusal have op ≡ Some refusal → IsUnpulled (Some refusal) → ⊥ }
 {}
 
 /// A pattern is pinned once, and there are at most 1,024. One that isn't there isn't taken away.

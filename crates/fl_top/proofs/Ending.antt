@@ -7,6 +7,7 @@ use Rattle.fp_host.specs.Paths.{Elements}
 use Rattle.fp_host.specs.Remote.{Holdings}
 use Rattle.fp_host.specs.View.{View}
 use Rattle.fp_host.specs.Outcome.{Disk, Leaves, Follows, Nothing}
+use Rattle.fp_small.proofs.Sharing.{shares_on}
 use Rattle.fp_small.specs.declared.refusal.Refusal.{Refusal}
 use Rattle.fp_small.specs.declared.refusal.Refusal.TheVariants.{MalformedObject, MalformedValue, Limit, BadRecord, Damaged}
 use Rattle.fp_small.specs.declared.refusal.Refusal.TheVariants as refusals
@@ -36,7 +37,7 @@ use Rattle.fl_filter.specs.Filtered.{broken}
 use Rattle.fl_launch.specs.declared.launching.LaunchText.{LaunchText}
 use Rattle.fl_sandbox.specs.Refusals.{MayRefuse}
 use Rattle.fl_sandbox.proofs.Refusing.{launch_refuses}
-use Rattle.fl_change.specs.World.{World}
+use Rattle.fl_change.specs.World.{World, world_at}
 use Rattle.fl_change.specs.Answer.{Answer, Piece, lines_of, last_of, joined, ops_in, ops_of, text_answer, refusal_answer}
 use Rattle.fl_export.specs.Exported.{exported}
 use Rattle.fl_top.specs.Fsck.{report_text}
@@ -63,7 +64,8 @@ use Rattle.dep_states.specs.Names.{config}
 use Rattle.fl_top.specs.Status.{status_of, status_by, IsAnswered}
 use Rattle.fl_change.proofs.Same.{unmoved, same_shown, same_sound, same_settled}
 use Rattle.fl_top.proofs.Starting.{stood, unchanged}
-use Rattle.fl_change.proofs.Changing.{untouched_both, text_on, keeps_files}
+use Rattle.fl_change.proofs.Changing.{untouched_both, text_on, keeps_files, none_made}
+use Rattle.fl_change.proofs.Created.{none_created, created_on}
 use Rattle.fl_top.proofs.Altering.{rest_none, rest_on}
 use Rattle.fl_change.proofs.Turning.{joined-append}
 use Rattle.fl_exercise.specs.Exercising.{exercising}
@@ -172,8 +174,8 @@ answers_all held a r status {u = u} {v = v} {w = w} is status_is done said = rec
   shown = λ sound s at. same_shown said.shown (done.shown sound s at);
   tidied = λ sound why. same_settled said.shown (done.tidied sound why);
   text = λ some s at. text_on (said.untouched.names config) (keeps_files said.untouched) (done.text some s at);
-  shares = λ none. absurd (cc (sym none ∙ is));
-  creates = λ none. absurd (cc (sym none ∙ is));
+  shares = λ unpulled. shares_on (done.shares unpulled) (none_made said.untouched) (keeps_files said.untouched);
+  creates = λ unpulled s at. created_on held (world_at s u) (ops_of a) (done.creates unpulled s at) (none_created said.untouched) done.files (keeps_files said.untouched);
 }
 
 pub ran_done : (held : Holdings) (a : Answer) {u w : View} → Runs a u w → Ended held a (Ok tt) u w → Ran held a 0 u w

@@ -115,8 +115,8 @@ module _ (f : Filtered) where
     tidied = λ sound why. elim why [ inl settled ↦ same_settled (seen_by f.lines u w is) settled | inr some ↦ absurd (some (ops_none f.lines)) ];
     text = λ some s at. absurd (false≢true (sym (ap set_config (ops_none f.lines)) ∙ some));
     files = keeps_files (untouched_by f.lines is);
-    shares = λ none. none_made (untouched_by f.lines is);
-    creates = λ none s at. no_ops_created held (world_at s u) (ops_of a) (ops_none f.lines) (none_created (untouched_by f.lines is));
+    shares = λ no. none_made (untouched_by f.lines is);
+    creates = λ no s at. no_ops_created held (world_at s u) (ops_of a) (ops_none f.lines) (none_created (untouched_by f.lines is));
   }
 
   -- the end of a filter, as one of a run

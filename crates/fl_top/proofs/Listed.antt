@@ -71,8 +71,8 @@ tells held text {u = u} {w = w} said_it = record {
   tidied = λ sound why. elim why [ inl settled ↦ same_settled said_it.shown settled | inr some ↦ absurd (some refl) ];
   text = λ some s at. absurd (cc some);
   files = keeps_files said_it.untouched;
-  shares = λ none. none_made said_it.untouched;
-  creates = λ none s at. no_ops_created held (world_at s u) [] refl (none_created said_it.untouched);
+  shares = λ no. none_made said_it.untouched;
+  creates = λ no s at. no_ops_created held (world_at s u) [] refl (none_created said_it.untouched);
 }
 
 -- ---- what was read

@@ -223,9 +223,9 @@ module _ (remote : List ℕ) (r : Ref) (t : Told) (bytes : List ℕ) (whole : Is
       shown = λ sound s at. same_shown said.shown (shown_made h sound s at);
       tidied = λ sound why. elim why [ inl settled ↦ same_settled said.shown (h.was.settled settled) | inr some ↦ absurd (some refl) ];
       text = λ some s at. absurd (cc some);
-      shares = λ none. shares_on (shares_to (λ q above. a_made_one (below_child remote (codes "made" ∷ []) q above)) h.was.shares) (none_made said.untouched) (keeps_files said.untouched);
+      shares = λ no. shares_on (shares_to (λ q above. a_made_one (below_child remote (codes "made" ∷ []) q above)) h.was.shares) (none_made said.untouched) (keeps_files said.untouched);
       files = files_on h.makes.files (keeps_files said.untouched);
-      creates = λ none s at. no_ops_created held (world_at s u) [] refl (creates_on h.was.creates (none_created said.untouched) h.makes.files (keeps_files said.untouched));
+      creates = λ no s at. no_ops_created held (world_at s u) [] refl (creates_on h.was.creates (none_created said.untouched) h.makes.files (keeps_files said.untouched));
     }
 
     leaves : {u v w : View} → HasMade u v → WasSaid line v w → MadeBy (Exporting remote r) t.left u w

@@ -44,7 +44,7 @@ use Rattle.fl_change.proofs.Doing.{none_yet}
 use Rattle.ost_store.specs.Created.{Creates, NoObject}
 use Rattle.ost_store.proofs.Creating.{creates_refl, creates_frame}
 use Rattle.fl_change.specs.Created.{CreatesInTurn}
-use Rattle.fl_change.proofs.Created.{created_off}
+use Rattle.fl_change.proofs.Created.{no_ops_created, created_off}
 use Rattle.fl_top.specs.Exports.{StaysAtRest}
 
 -- ---- nothing is printed and nothing shown changes, no new file gets a byte, and no object is made
@@ -187,11 +187,11 @@ completes held a s x {u = u} {w = w} same opened keeping files here is = record 
       let one : s ≡ t = one_state (shows u) s t opened.shown at in
       subst (λ (z : State). HasText (after_all z (ops_of a)) w) (same ∙ one) (is.text some);
   files = files_on keeping.files files;
-  shares = λ none. shares_on (shares_to (λ q no. absurd no) keeping.empty) (is.shares none) files;
-  creates = λ none t at.
+  shares = λ unpulled. shares_on (shares_to (λ q no. absurd no) keeping.empty) (is.shares unpulled) files;
+  creates = λ unpulled t at.
       let one : s ≡ t = one_state (shows u) s t opened.shown at in
       subst (λ (z : World). CreatesInTurn held z (ops_of a) u w) (sym here ∙ ap (λ (z : State). world_at z u) one)
-      (created_off held x (ops_of a) keeping.creates (is.creates none) keeping.files files);
+      (created_off held x (ops_of a) keeping.creates (is.creates unpulled) keeping.files files);
 }
   where
     opens : Opens (after_all s (ops_of a)) w
@@ -239,8 +239,8 @@ damaged held path {u = u} keeping none = record {
   tidied = λ sound why. let is = sound.shown (shows u) (now_left u) in absurd (none is.state is.shows);
   text = λ some s at. absurd (none s at);
   files = keeping.files;
-  shares = λ none. absurd (cc none);
-  creates = λ none. absurd (cc none);
+  shares = λ unpulled. shares_to (λ q no. absurd no) keeping.empty;
+  creates = λ unpulled s at. absurd (none s at);
 }
 
 -- out of memory before anything is done
@@ -275,6 +275,6 @@ refused_at_once held refusal u = record {
   tidied = λ sound why. elim why [ inl tidy ↦ tidy | inr some ↦ absurd (some refl) ];
   text = λ some s at. absurd (cc some);
   files = files_stay;
-  shares = λ none. absurd (cc none);
-  creates = λ none. absurd (cc none);
+  shares = λ unpulled. shares_refl;
+  creates = λ unpulled s at. no_ops_created held (world_at s u) [] refl creates_refl;
 }

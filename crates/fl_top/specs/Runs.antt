@@ -18,7 +18,7 @@ use Rattle.fl_words.specs.declared.command.Command.{Command}
 use Rattle.fl_words.specs.declared.command.Command.TheVariants.{Change as Changing, List as Listed, Show as Showing, Filter as Filtering, Batch, Fsck, Export as Exporting, Exercise as Exercising}
 use Rattle.fl_words.specs.Forms.{command_of}
 use Rattle.fl_change.specs.World.{World, world_at}
-use Rattle.fl_change.specs.Answer.{Answer, Piece, lines_of, joined, ops_in, ops_of, set_config, IsIdle}
+use Rattle.fl_change.specs.Answer.{Answer, Piece, lines_of, joined, ops_in, ops_of, set_config, IsUnpulled, IsIdle}
 use Rattle.fl_top.specs.Answer.{Given, answer, IsOver, IsAtOnce}
 use Rattle.fl_top.specs.Input.{IsDrained}
 use Rattle.fl_change.specs.Changes.{IsUntouched, HasText}
@@ -79,9 +79,9 @@ pub record Stands (a : Answer) (u w : View) : Type 0 where
 
 -- The whole answer was printed; what stands now is the state after its operations. Where one was
 -- done, or all was settled before, all is settled. Where one of them set it, `config` has exactly
--- its text, and the permission bits 0644. Without a refusal each new file that has bytes came to a
--- lasting name, and each operation in turn made just the objects that it lacked, by what the
--- remotes hold.
+-- its text, and the permission bits 0644. Where nothing was pulled before a refusal, each new file
+-- that has bytes came to a lasting name, and each operation in turn made just the objects that it
+-- lacked, by what the remotes hold.
 pub record Answers (held : Holdings) (a : Answer) (status : ℕ) (u w : View) : Type 0 where
   pub status_is : status ≡ status_at a
   pub printed : w.printed ≡ u.printed ++ joined (lines_of a)
@@ -89,8 +89,8 @@ pub record Answers (held : Holdings) (a : Answer) (status : ℕ) (u w : View) : 
   pub tidied : IsSound u → Settled (shows u) ⊎ (ops_of a ≢ []) → Settled (shows w)
   pub text : set_config (ops_of a) ≡ true → (s : State) → Shows (shows u) s
       → HasText (after_all s (ops_of a)) w
-  pub shares : a.refusal ≡ None → Shares IsLasting u w
-  pub creates : a.refusal ≡ None → (s : State) → Shows (shows u) s
+  pub shares : IsUnpulled a.refusal → Shares IsLasting u w
+  pub creates : IsUnpulled a.refusal → (s : State) → Shows (shows u) s
       → CreatesInTurn held (world_at s u) (ops_of a) u w
 
 -- At the return. 3 says that the host failed, 4 that the remotes did, 5 that the input did, and 6

@@ -16,7 +16,7 @@ use Rattle.dep_open.specs.Open.{NotShown}
 use Rattle.dep_states.specs.Settled.{Settled}
 use Rattle.fl_words.specs.declared.command.Command.{Command}
 use Rattle.fl_change.specs.World.{World, world_at}
-use Rattle.fl_change.specs.Answer.{Answer, joined, ops_of, set_config}
+use Rattle.fl_change.specs.Answer.{Answer, joined, ops_of, set_config, IsUnpulled}
 use Rattle.fp_small.specs.declared.op.Op.{Op}
 use Rattle.fl_top.specs.Answer.{Given, over, answer_over, checked, IsOver}
 use Rattle.fl_top.specs.Fsck.{Finds, HasReport}
@@ -54,9 +54,9 @@ pub record LooksOver (f : World → Answer) (u w : View) : Type 0 where
   pub untouched : IsUntouched u w
 
 -- All that isn't the line of a refusal was printed, and what stands is the state after the
--- operations. Each file that was there is as it was. Without a refusal each new file that has bytes
--- came to a lasting name, and each operation in turn made just the objects that it lacked, by what
--- the remotes hold.
+-- operations. Each file that was there is as it was. Where nothing was pulled before a refusal,
+-- each new file that has bytes came to a lasting name, and each operation in turn made just the
+-- objects that it lacked, by what the remotes hold.
 pub record Completes (held : Holdings) (a : Answer) (u w : View) : Type 0 where
   pub printed : w.printed ≡ u.printed ++ joined a.pieces
   pub just : IsSound u → (disk : Disk) → Leaves w disk → IsJust (ops_of a) u disk
@@ -65,8 +65,8 @@ pub record Completes (held : Holdings) (a : Answer) (u w : View) : Type 0 where
   pub text : set_config (ops_of a) ≡ true → (s : State) → Shows (shows u) s
       → HasText (after_all s (ops_of a)) w
   pub files : KeepsFiles u w
-  pub shares : a.refusal ≡ None → Shares IsLasting u w
-  pub creates : a.refusal ≡ None → (s : State) → Shows (shows u) s
+  pub shares : IsUnpulled a.refusal → Shares IsLasting u w
+  pub creates : IsUnpulled a.refusal → (s : State) → Shows (shows u) s
       → CreatesInTurn held (world_at s u) (ops_of a) u w
 
 abbrev pub Ended : Holdings → Answer → Result (Unit {0}) RunEnd → View → View → Type 0
