@@ -8,8 +8,8 @@ use Rattle.std.proofs.lemmas.List.{length-append, append-nil, take-append-drop}
 use Rattle.std.proofs.lemmas.Slice.Eq.{bytes_eq-Decides}
 use Rattle.bus_frame.specs.declared.limits.TheConstants.{MOST_ARRAY_BYTES}
 use Rattle.bus_frame.specs.declared.header.Header.{Header}
-use Rattle.bus_frame.specs.Steps.{◌>>=◌, first_of, remainder_byte}
-use Rattle.fp_base.specs.Steps.{Gives}
+use Rattle.bus_frame.specs.Steps.{first_of, remainder_byte}
+use Rattle.fp_base.specs.Steps.{◌>>=◌, Gives}
 use Rattle.bus_frame.specs.Places.{Place, bytes_at, long_text_at}
 use Rattle.bus_frame.specs.Types.{basic}
 use Rattle.bus_frame.specs.Values.{array_head_at}

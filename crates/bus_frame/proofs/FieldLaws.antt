@@ -5,7 +5,8 @@ use Rattle.std.proofs.lemmas.Bool.{eqb-true, eqb-false, eq-eqb, ne_eqb, or_cases
 use Rattle.std.proofs.lemmas.Option.{some_pair_parts}
 use Rattle.std.proofs.lemmas.List.{length-append, append-nil}
 use Rattle.bus_frame.specs.declared.limits.TheConstants.{MOST_CONTAINERS, MOST_ARRAYS, MOST_STRUCTS}
-use Rattle.bus_frame.specs.Steps.{◌>>=◌, first_of}
+use Rattle.bus_frame.specs.Steps.{first_of}
+use Rattle.fp_base.specs.Steps.{◌>>=◌}
 use Rattle.bus_frame.specs.Types.{Ty, Tys, basic, variant, array, struct, entry, none, more, type_text, types_text, is_basic, is_type}
 use Rattle.bus_frame.specs.Places.{Place, byte_at, aligned_at, number_at, long_text_at, short_text_at}
 use Rattle.bus_frame.specs.Values.{Ended, value_at, variant_type_at}

@@ -1,5 +1,6 @@
 -- What is known of the fields so far, and the first rule that one more field breaks.
 use Rattle.std.proofs.Common.{◌≡◌, ℕ, zero, suc, ◌+◌, ◌-◌, ◌<◌, ◌≤◌, Bool, true, false, not, cond, eqb, ltb, List, [], ◌∷◌, ◌++◌, length, Option, Some, None, Result, Ok, Err, refl, sym, ap, subst, ◌∙◌, append_assoc, inl, inr, arith}
+use Rattle.std.specs.Option.{option_or}
 use Rattle.std.specs.Prelude.{◌&&◌, ◌||◌, ◌⊎◌, option_map, is_some, MatchOption}
 use Rattle.std.proofs.lemmas.Bool.{cases_eq, eqb-true, eqb-false, eq-eqb, ne_eqb, ltb-true, ltb-false, lt-ltb, le-ltb, cases_Bool, cases_lt, false≢true}
 use Rattle.std.proofs.lemmas.List.{length-append, append-nil}
@@ -9,7 +10,6 @@ use Rattle.bus_frame.specs.declared.header.Header.{Header}
 use Rattle.bus_frame.specs.declared.fixed.Fixed.{Fixed}
 use Rattle.bus_frame.specs.declared.known.Grammar.{Grammar}
 use Rattle.bus_frame.specs.declared.known.Grammar.TheVariants as grammar
-use Rattle.bus_frame.specs.Steps.{or_else}
 use Rattle.bus_frame.specs.Fields.{Content, word, number, other, Field, Known, none_known, good_text, word_in, number_in, once, ◌>=>◌, add_field}
 use Rattle.bus_frame.specs.Reading.{header_of}
 use Rattle.bus_frame.specs.Frame.{given, word_type, known_grammar, is_kind, is_good, field_fault, header_says}
@@ -323,16 +323,16 @@ put_said k (suc (suc (suc (suc (suc (suc (suc (suc (suc (suc code)))))))))) c lo
 
 -- ---- one field more
 
-given-push : (code : ℕ) (before : List Field) (f : Field) → given code (before ++ f ∷ []) ≡ or_else (given code before) (cond (eqb f.code code) (Some f.content) None)
+given-push : (code : ℕ) (before : List Field) (f : Field) → given code (before ++ f ∷ []) ≡ option_or (given code before) (cond (eqb f.code code) (Some f.content) None)
 given-push code [] f = refl
 given-push code (g ∷ before) f = by_test (eqb g.code code) (given-push code before f)
   where
-    by_test : (b : Bool) → given code (before ++ f ∷ []) ≡ or_else (given code before) (cond (eqb f.code code) (Some f.content) None)
-        → cond b (Some g.content) (given code (before ++ f ∷ [])) ≡ or_else (cond b (Some g.content) (given code before)) (cond (eqb f.code code) (Some f.content) None)
+    by_test : (b : Bool) → given code (before ++ f ∷ []) ≡ option_or (given code before) (cond (eqb f.code code) (Some f.content) None)
+        → cond b (Some g.content) (given code (before ++ f ∷ [])) ≡ option_or (cond b (Some g.content) (given code before)) (cond (eqb f.code code) (Some f.content) None)
     by_test true ih = refl
     by_test false ih = ih
 
-or_else_none : {A : Type 0} (o : Option A) → or_else o None ≡ o
+or_else_none : {A : Type 0} (o : Option A) → option_or o None ≡ o
 or_else_none (Some x) = refl
 or_else_none None = refl
 
@@ -345,7 +345,7 @@ tied_above : (k : Known) (before : List Field) (f : Field) → Tied k before →
 tied_above k before f t lt = record {
   says = λ code low high.
       let apart : eqb f.code code ≡ false = ne_eqb f.code code (λ e. omega arith) in
-      t.says code low high ∙ sym (given-push code before f ∙ ap (λ (b : Bool). or_else (given code before) (cond b (Some f.content) None)) apart ∙ or_else_none (given code before));
+      t.says code low high ∙ sym (given-push code before f ∙ ap (λ (b : Bool). option_or (given code before) (cond b (Some f.content) None)) apart ∙ or_else_none (given code before));
 }
 
 tied_put : (k : Known) (before : List Field) (f : Field) → Tied k before → 1 ≤ f.code → f.code ≤ 9 → given f.code before ≡ None → is_kind f.code f.content ≡ true → Tied (put k f.code f.content) (before ++ f ∷ [])
@@ -357,11 +357,11 @@ tied_put k before f t low high absent kind = record {
         | inl e ↦
             let test = eq-eqb f.code o e in
             at_yes (eqb f.code o) (Some f.content) (known_says k o) test
-            ∙ sym (given-push o before f ∙ ap (λ (b : Bool). or_else (given o before) (cond b (Some f.content) None)) test ∙ ap (λ (r : Option Content). or_else r (Some f.content)) (ap (λ (c : ℕ). given c before) (sym e) ∙ absent))
+            ∙ sym (given-push o before f ∙ ap (λ (b : Bool). option_or (given o before) (cond b (Some f.content) None)) test ∙ ap (λ (r : Option Content). option_or r (Some f.content)) (ap (λ (c : ℕ). given c before) (sym e) ∙ absent))
         | inr ne ↦
             let test = ne_eqb f.code o ne in
             at_no (eqb f.code o) (Some f.content) (known_says k o) test ∙ t.says o o_low o_high
-            ∙ sym (given-push o before f ∙ ap (λ (b : Bool). or_else (given o before) (cond b (Some f.content) None)) test ∙ or_else_none (given o before))
+            ∙ sym (given-push o before f ∙ ap (λ (b : Bool). option_or (given o before) (cond b (Some f.content) None)) test ∙ or_else_none (given o before))
       ];
 }
 

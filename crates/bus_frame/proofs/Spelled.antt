@@ -6,7 +6,7 @@ use Rattle.std.proofs.lemmas.Nat.{le_bytes_4, be_bytes_4}
 use Rattle.byteorder.specs.Numbers.{little_number-reads_back, big_number-reads_back}
 use Rattle.std.proofs.lemmas.Option.{cond_some, some_pair_parts}
 use Rattle.std.proofs.lemmas.List.{length-append, get_or-append-add, get_or_append_left, get_or_past}
-use Rattle.bus_frame.specs.Steps.{◌>>=◌}
+use Rattle.fp_base.specs.Steps.{◌>>=◌}
 use Rattle.bus_frame.specs.Numbers.{padding, number_from, is_text}
 use Rattle.bus_frame.specs.Places.{Place, bytes_at, byte_at, aligned_at, number_at, text_at, long_text_at, short_text_at}
 use Rattle.bus_frame.specs.Writing.{zeros, number_bytes}

@@ -5,7 +5,8 @@ use Rattle.std.proofs.lemmas.Bool.{ltb-false, le-ltb, eqb-true, eq-eqb, and_part
 use Rattle.std.proofs.lemmas.Option.{cond_some, some_pair_parts}
 use Rattle.std.proofs.lemmas.List.{take_at, drop_at, take-append-drop, length-append, length-take-le, length-replicate}
 use Rattle.std.specs.List.{list_all}
-use Rattle.bus_frame.specs.Steps.{◌>>=◌, first_of}
+use Rattle.bus_frame.specs.Steps.{first_of}
+use Rattle.fp_base.specs.Steps.{◌>>=◌}
 use Rattle.bus_frame.specs.Numbers.{padding, are_zero}
 use Rattle.bus_frame.specs.Places.{Place, bytes_at, byte_at, aligned_at}
 use Rattle.bus_frame.specs.Writing.{zeros}

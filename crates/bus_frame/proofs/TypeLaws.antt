@@ -1,12 +1,13 @@
 -- A type that is read is a complete type, and a complete type is read.
 use Rattle.std.proofs.Common.{◌≡◌, ℕ, zero, suc, ◌+◌, ◌-◌, ◌<◌, ◌≤◌, Bool, true, false, cond, eqb, ltb, List, [], ◌∷◌, ◌++◌, length, Option, Some, None, refl, sym, ap, subst, ◌∙◌, append_assoc, inl, inr, arith}
-use Rattle.std.specs.Option.{option_map_or}
+use Rattle.std.specs.Option.{option_map_or, option_or}
 use Rattle.std.specs.Prelude.{◌&&◌, ◌||◌, ◌⊎◌}
 use Rattle.std.proofs.lemmas.Bool.{ltb-true, lt-ltb, eqb-true, eqb-false, eq-eqb, ne_eqb, and_parts, and_from, or_cases, cases_Bool, false≢true}
 use Rattle.std.proofs.lemmas.Option.{cond_some, some_pair_parts}
 use Rattle.std.proofs.lemmas.List.{length-append, append-nil, nil_from_length}
 use Rattle.bus_frame.specs.declared.limits.TheConstants.{MOST_CONTAINERS, MOST_ARRAYS, MOST_STRUCTS}
-use Rattle.bus_frame.specs.Steps.{◌>>=◌, or_else, first_of, remainder_byte}
+use Rattle.bus_frame.specs.Steps.{first_of, remainder_byte}
+use Rattle.fp_base.specs.Steps.{◌>>=◌}
 use Rattle.bus_frame.specs.Types.{Ty, Tys, basic, variant, array, struct, entry, none, more, type_text, types_text, is_basic, is_type, are_types, entry_after, element_after, members_after, type_step, type_after, whole_type_after, is_one_type}
 use Rattle.bus_frame.proofs.Taking.{bind_some, bind_is, none_if}
 use Rattle.bus_frame.proofs.TypeSteps.{step}
@@ -64,7 +65,7 @@ members_again one a s zero t ts rest lt first others good = absurd (omega arith)
 members_again one a s (suc n) t none rest lt first others good =
     let grouped : (type_text t ++ []) ++ 41 ∷ rest ≡ type_text t ++ 41 ∷ rest = ap (λ (l : List ℕ). l ++ 41 ∷ rest) (append-nil (type_text t)) in
     let read : one ((type_text t ++ []) ++ 41 ∷ rest) ≡ Some (41 ∷ rest) = ap one grouped ∙ first (41 ∷ rest) in
-    bind_is (one ((type_text t ++ []) ++ 41 ∷ rest)) (λ r. or_else (remainder_byte 41 r) (members_after one n r)) (41 ∷ rest) read
+    bind_is (one ((type_text t ++ []) ++ 41 ∷ rest)) (λ r. option_or (remainder_byte 41 r) (members_after one n r)) (41 ∷ rest) read
 members_again one a s (suc n) t (more u us) rest lt first others good =
     let goods = and_parts (is_type false u a s) (are_types us a s) good in
     let after = (type_text u ++ types_text us) ++ 41 ∷ rest in
@@ -72,8 +73,8 @@ members_again one a s (suc n) t (more u us) rest lt first others good =
     let grouped : (type_text t ++ (type_text u ++ types_text us)) ++ 41 ∷ rest ≡ type_text t ++ after = append_assoc (type_text t) (type_text u ++ types_text us) (41 ∷ rest) in
     let read : one ((type_text t ++ (type_text u ++ types_text us)) ++ 41 ∷ rest) ≡ Some after = ap one grouped ∙ first after in
     let unclosed : remainder_byte 41 after ≡ None = ap (remainder_byte 41) after_is ∙ not_closing false u a s 41 (types_text us ++ 41 ∷ rest) goods.0 refl refl refl refl refl in
-    bind_is (one ((type_text t ++ (type_text u ++ types_text us)) ++ 41 ∷ rest)) (λ r. or_else (remainder_byte 41 r) (members_after one n r)) after read
-    ∙ ap (λ (o : Option (List ℕ)). or_else o (members_after one n after)) unclosed
+    bind_is (one ((type_text t ++ (type_text u ++ types_text us)) ++ 41 ∷ rest)) (λ r. option_or (remainder_byte 41 r) (members_after one n r)) after read
+    ∙ ap (λ (o : Option (List ℕ)). option_or o (members_after one n after)) unclosed
     ∙ members_again one a s n u us rest (omega arith) others.0 others.1 goods.1
 
 -- as an element, or as a type
@@ -145,7 +146,7 @@ abbrev AllTys : (Ty → Type 0) → Tys → Type 0
 AllTys P none = Unit {0}
 AllTys P (more t ts) = P t × AllTys P ts
 
-pub or_else_some : {A : Type 0} (x y : Option A) (z : A) → or_else x y ≡ Some z → (x ≡ Some z) ⊎ (y ≡ Some z)
+pub or_else_some : {A : Type 0} (x y : Option A) (z : A) → option_or x y ≡ Some z → (x ≡ Some z) ⊎ (y ≡ Some z)
 or_else_some (Some x) y z e = inl e
 or_else_some None y z e = inr e
 
@@ -153,7 +154,7 @@ members_take : (one : List ℕ → Option (List ℕ)) (P : Ty → Type 0) → So
     → (t : Ty) × (ts : Tys) × P t × AllTys P ts × (types ≡ (type_text t ++ types_text ts) ++ 41 ∷ rest)
 members_take one P sound zero types rest e = absurd cc
 members_take one P sound (suc n) types rest e =
-    let a = bind_some (one types) (λ r. or_else (remainder_byte 41 r) (members_after one n r)) rest e in
+    let a = bind_some (one types) (λ r. option_or (remainder_byte 41 r) (members_after one n r)) rest e in
     let first = sound types a.0 a.1 in
     elim (or_else_some (remainder_byte 41 a.0) (members_after one n a.0) rest a.2) [
       | inl closed ↦

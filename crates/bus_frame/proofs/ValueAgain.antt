@@ -1,11 +1,13 @@
 -- A value of a type is read.
 use Rattle.std.proofs.Common.{◌≡◌, ℕ, zero, suc, ◌+◌, ◌-◌, ◌^◌, ◌<◌, ◌≤◌, Bool, true, false, cond, eqb, ltb, leb, List, [], ◌∷◌, ◌++◌, length, take, drop, Option, Some, None, refl, sym, ap, subst, ◌∙◌, append_assoc, inl, inr, arith}
+use Rattle.std.specs.Option.{option_or}
 use Rattle.std.specs.Prelude.{◌&&◌, ◌||◌, ◌⊎◌, option_map, MatchBool}
 use Rattle.std.specs.List.{concat}
 use Rattle.std.proofs.lemmas.Bool.{ltb-true, ltb-false, lt-ltb, le-ltb, eqb-true, eqb-false, eq-eqb, ne_eqb, and_parts, and_from, cases_Bool, false≢true, MatchBool-at_true, MatchBool-at_false}
 use Rattle.std.proofs.lemmas.List.{length-append, append-nil, nil_from_length}
 use Rattle.bus_frame.specs.declared.limits.TheConstants.{MOST_ARRAY_BYTES, MOST_ARRAYS, MOST_STRUCTS}
-use Rattle.bus_frame.specs.Steps.{◌>>=◌, or_else, first_of}
+use Rattle.bus_frame.specs.Steps.{first_of}
+use Rattle.fp_base.specs.Steps.{◌>>=◌}
 use Rattle.bus_frame.specs.Types.{Ty, Tys, basic, variant, array, struct, entry, none, more, type_text, types_text, is_basic, is_type, are_types, element_after, whole_type_after, is_one_type}
 use Rattle.bus_frame.specs.Numbers.{padding}
 use Rattle.bus_frame.specs.Places.{Place, bytes_at, byte_at, aligned_at, number_at, long_text_at, short_text_at}
@@ -131,8 +133,8 @@ members_again one P b a s left close (suc n) t none again good lt p v rest parts
     let q = place (p.at + length first) rest in
     let read : one types p ≡ Some (b ∷ left, q) = ap (λ (l : List ℕ). one l p) grouped ∙ again.0 (b ∷ left) p first rest (parts ∙ ap (λ (l : List ℕ). l ++ rest) v_is) is.3 in
     let shut : closed (b ∷ left) ≡ Some left = ap (λ (t : Bool). cond t (Some left) None) close in
-    bind_is (one types p) (λ r. or_else (option_map (λ (l : List ℕ). (l, r.1)) (closed r.0)) (members_at one n r.0 r.1)) (b ∷ left, q) read
-    ∙ ap (λ (o : Option (List ℕ)). or_else (option_map (λ (l : List ℕ). (l, q)) o) (members_at one n (b ∷ left) q)) shut
+    bind_is (one types p) (λ r. option_or (option_map (λ (l : List ℕ). (l, r.1)) (closed r.0)) (members_at one n r.0 r.1)) (b ∷ left, q) read
+    ∙ ap (λ (o : Option (List ℕ)). option_or (option_map (λ (l : List ℕ). (l, q)) o) (members_at one n (b ∷ left) q)) shut
     ∙ ap (λ (l : List ℕ). Some (left, place (p.at + length l) rest)) (sym v_is)
 members_again one P b a s left close (suc n) t (more u us) again good lt p v rest parts is =
     let first = is.0 in
@@ -145,8 +147,8 @@ members_again one P b a s left close (suc n) t (more u us) again good lt p v res
     let q = place (p.at + length first) (later ++ rest) in
     let read : one types p ≡ Some (after, q) = ap (λ (l : List ℕ). one l p) grouped ∙ again.0 after p first (later ++ rest) (parts ∙ ap (λ (l : List ℕ). l ++ rest) is.2 ∙ append_assoc first later rest) is.3 in
     let unclosed : closed after ≡ None = ap closed after_is ∙ not_closed false u a s (types_text us ++ b ∷ left) goods.0 in
-    bind_is (one types p) (λ r. or_else (option_map (λ (l : List ℕ). (l, r.1)) (closed r.0)) (members_at one n r.0 r.1)) (after, q) read
-    ∙ ap (λ (o : Option (List ℕ)). or_else (option_map (λ (l : List ℕ). (l, q)) o) (members_at one n after q)) unclosed
+    bind_is (one types p) (λ r. option_or (option_map (λ (l : List ℕ). (l, r.1)) (closed r.0)) (members_at one n r.0 r.1)) (after, q) read
+    ∙ ap (λ (o : Option (List ℕ)). option_or (option_map (λ (l : List ℕ). (l, q)) o) (members_at one n after q)) unclosed
     ∙ members_again one P b a s left close n u us again.1 goods.1 (omega arith) q later rest refl is.4
     ∙ ap (λ (r : Place). Some (left, r)) (remainder_both p.at first later v rest is.2)
 

@@ -1,12 +1,14 @@
 -- A value that is read is a value of the type.
 use Rattle.std.proofs.Common.{◌≡◌, ℕ, zero, suc, ◌+◌, ◌-◌, ◌<◌, ◌≤◌, Bool, true, false, cond, eqb, ltb, leb, List, [], ◌∷◌, ◌++◌, length, take, drop, Option, Some, None, refl, sym, ap, subst, ◌∙◌, append_assoc, inl, inr, arith}
+use Rattle.std.specs.Option.{option_or}
 use Rattle.std.specs.Prelude.{◌&&◌, ◌||◌, ◌⊎◌, option_map, MatchBool}
 use Rattle.std.specs.List.{concat}
 use Rattle.std.proofs.lemmas.Bool.{ltb-true, ltb-false, lt-ltb, leb-true, eqb-true, eqb-false, eq-eqb, ne_eqb, and_parts, and_from, or_cases, cases_Bool, false≢true}
 use Rattle.std.proofs.lemmas.Option.{cond_some, some_pair_parts}
 use Rattle.std.proofs.lemmas.List.{length-append, append-nil, nil_from_length}
 use Rattle.bus_frame.specs.declared.limits.TheConstants.{MOST_ARRAY_BYTES, MOST_ARRAYS, MOST_STRUCTS}
-use Rattle.bus_frame.specs.Steps.{◌>>=◌, or_else, first_of}
+use Rattle.bus_frame.specs.Steps.{first_of}
+use Rattle.fp_base.specs.Steps.{◌>>=◌}
 use Rattle.bus_frame.specs.Types.{Ty, Tys, basic, variant, array, struct, entry, none, more, type_text, types_text, is_basic, is_type, are_types, element_after, whole_type_after, is_one_type}
 use Rattle.bus_frame.specs.Numbers.{padding}
 use Rattle.bus_frame.specs.Places.{Place, bytes_at, byte_at, aligned_at, number_at, long_text_at, short_text_at}
@@ -180,11 +182,11 @@ members_take one P b a s left close zero t ts p end sound good fits e = absurd c
 members_take one P b a s left close (suc n) t none p end sound good fits e =
     let types = (type_text t ++ []) ++ b ∷ left in
     let grouped : types ≡ type_text t ++ b ∷ left = ap (λ (l : List ℕ). l ++ b ∷ left) (append-nil (type_text t)) in
-    let next = λ (r : Ended). or_else (option_map (λ (rest : List ℕ). (rest, r.1)) (closed r.0)) (members_at one n r.0 r.1) in
+    let next = λ (r : Ended). option_or (option_map (λ (rest : List ℕ). (rest, r.1)) (closed r.0)) (members_at one n r.0 r.1) in
     let m = bind_some (one types p) next end e in
     let first = sound.0 (b ∷ left) p m.0 fits (sym (ap (λ (l : List ℕ). one l p) grouped) ∙ m.1) in
     let shut : closed m.0.0 ≡ Some left = ap closed first.left_is ∙ ap (λ (v : Bool). cond v (Some left) None) close in
-    let end_is : (left, m.0.1) ≡ end = cc (sym (ap (λ (o : Option (List ℕ)). or_else (option_map (λ (rest : List ℕ). (rest, m.0.1)) o) (members_at one n m.0.0 m.0.1)) shut) ∙ m.2) in
+    let end_is : (left, m.0.1) ≡ end = cc (sym (ap (λ (o : Option (List ℕ)). option_or (option_map (λ (rest : List ℕ). (rest, m.0.1)) o) (members_at one n m.0.0 m.0.1)) shut) ∙ m.2) in
     record {
       left_is = sym (ap (λ (r : Ended). r.0) end_is);
       value = first.value;
@@ -197,11 +199,11 @@ members_take one P b a s left close (suc n) t (more u us) p end sound good fits 
     let types = (type_text t ++ (type_text u ++ types_text us)) ++ b ∷ left in
     let grouped : types ≡ type_text t ++ after = append_assoc (type_text t) (type_text u ++ types_text us) (b ∷ left) in
     let after_is : after ≡ type_text u ++ (types_text us ++ b ∷ left) = append_assoc (type_text u) (types_text us) (b ∷ left) in
-    let next = λ (r : Ended). or_else (option_map (λ (rest : List ℕ). (rest, r.1)) (closed r.0)) (members_at one n r.0 r.1) in
+    let next = λ (r : Ended). option_or (option_map (λ (rest : List ℕ). (rest, r.1)) (closed r.0)) (members_at one n r.0 r.1) in
     let m = bind_some (one types p) next end e in
     let first = sound.0 after p m.0 fits (sym (ap (λ (l : List ℕ). one l p) grouped) ∙ m.1) in
     let unclosed : closed m.0.0 ≡ None = ap closed (first.left_is ∙ after_is) ∙ not_closed false u a s (types_text us ++ b ∷ left) goods.0 in
-    let goes_on : members_at one n after m.0.1 ≡ Some end = sym (ap (λ (l : List ℕ). members_at one n l m.0.1) first.left_is) ∙ sym (ap (λ (o : Option (List ℕ)). or_else (option_map (λ (rest : List ℕ). (rest, m.0.1)) o) (members_at one n m.0.0 m.0.1)) unclosed) ∙ m.2 in
+    let goes_on : members_at one n after m.0.1 ≡ Some end = sym (ap (λ (l : List ℕ). members_at one n l m.0.1) first.left_is) ∙ sym (ap (λ (o : Option (List ℕ)). option_or (option_map (λ (rest : List ℕ). (rest, m.0.1)) o) (members_at one n m.0.0 m.0.1)) unclosed) ∙ m.2 in
     let fits_rest = (Takes-bytes p m.0.1 first.value fits first.takes).1 in
     let others = members_take one P b a s left close n u us m.0.1 end sound.1 goods.1 fits_rest goes_on in
     record {

@@ -3,7 +3,8 @@ use Rattle.std.specs.Prelude.{◌≡◌, ◌≤◌, ℕ, zero, suc, ◌+◌, ◌
 use Rattle.std.specs.Str.{bytes_eq}
 use Rattle.bus_frame.specs.declared.limits.TheConstants.{MOST_ARRAY_BYTES}
 use Rattle.bus_frame.specs.declared.header.Header.{Header}
-use Rattle.bus_frame.specs.Steps.{◌>>=◌, first_of, remainder_byte}
+use Rattle.bus_frame.specs.Steps.{first_of, remainder_byte}
+use Rattle.fp_base.specs.Steps.{◌>>=◌}
 use Rattle.bus_frame.specs.Places.{Place, bytes_at, long_text_at}
 use Rattle.bus_frame.specs.Values.{array_head_at}
 use Rattle.bus_frame.specs.Grammar.{IsLongText, array_head}

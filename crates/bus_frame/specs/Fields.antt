@@ -11,7 +11,8 @@ use Rattle.bus_frame.specs.declared.field.RawField.{RawField}
 use Rattle.bus_frame.specs.declared.known.RawKnown.{RawKnown}
 use Rattle.bus_frame.specs.Names.{is_path, is_interface, is_member, is_bus}
 use Rattle.bus_frame.specs.Types.{is_signature}
-use Rattle.bus_frame.specs.Steps.{◌>>=◌, first_of}
+use Rattle.bus_frame.specs.Steps.{first_of}
+use Rattle.fp_base.specs.Steps.{◌>>=◌}
 use Rattle.bus_frame.specs.Places.{Place, byte_at, aligned_at, number_at, long_text_at, short_text_at}
 use Rattle.bus_frame.specs.Values.{value_at, variant_type_at}
 

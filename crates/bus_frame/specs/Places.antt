@@ -3,7 +3,8 @@
 use Rattle.std.specs.Prelude.{ℕ, ◌+◌, Bool, ◌&&◌, ◌==◌, nat_lt, if◌then◌else◌, List, length, take, drop, Option, Some, None}
 use Rattle.bus_frame.specs.Numbers.{padding, are_zero, number_from, is_text}
 use Rattle.bus_frame.specs.declared.cursor.Cursor.{Cursor}
-use Rattle.bus_frame.specs.Steps.{◌>>=◌, first_of}
+use Rattle.bus_frame.specs.Steps.{first_of}
+use Rattle.fp_base.specs.Steps.{◌>>=◌}
 
 -- a place, counted from the message's first byte, and the bytes from there on
 pub record Place : Type 0 where

@@ -1,8 +1,9 @@
 -- Complete types and signatures, after the D-Bus specification's "Type System".
 use Rattle.std.specs.Prelude.{ℕ, zero, suc, ◌-◌, Bool, true, false, ◌&&◌, ◌||◌, ◌==◌, nat_lt, nat_le, if◌then◌else◌, List, [], ◌∷◌, ◌++◌, length, Option, Some, None}
-use Rattle.std.specs.Option.{option_map_or}
+use Rattle.std.specs.Option.{option_map_or, option_or}
 use Rattle.bus_frame.specs.declared.limits.TheConstants.{MOST_SIGNATURE_BYTES, MOST_CONTAINERS, MOST_ARRAYS, MOST_STRUCTS}
-use Rattle.bus_frame.specs.Steps.{◌>>=◌, or_else, first_of, remainder_byte}
+use Rattle.bus_frame.specs.Steps.{first_of, remainder_byte}
+use Rattle.fp_base.specs.Steps.{◌>>=◌}
 
 -- the code of a basic type: y b n q i u x t d s o g h
 abbrev pub is_basic : ℕ → Bool
@@ -72,7 +73,7 @@ abbrev pub members_after : (List ℕ → Option (List ℕ)) → ℕ → List ℕ
 members_after one zero types = None
 members_after one (suc n) types = do
   rest ← one types
-  or_else (remainder_byte 41 rest) (members_after one n rest)
+  option_or (remainder_byte 41 rest) (members_after one n rest)
 
 -- with room for these numbers of containers, and what reads the types within
 abbrev pub type_step : (all arrays structs : ℕ) → (ℕ → ℕ → List ℕ → Option (List ℕ)) → List ℕ

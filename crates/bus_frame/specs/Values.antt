@@ -1,8 +1,10 @@
 -- Reading a value of a type, after the D-Bus specification's "Marshaling": what follows the type
 -- and where the value ends. The types are well formed, as reading them has shown before.
 use Rattle.std.specs.Prelude.{ℕ, zero, suc, ◌-◌, Bool, ◌||◌, ◌&&◌, ◌==◌, nat_lt, if◌then◌else◌, List, length, Option, Some, None, option_map}
+use Rattle.std.specs.Option.{option_or}
 use Rattle.bus_frame.specs.declared.limits.TheConstants.{MOST_ARRAY_BYTES}
-use Rattle.bus_frame.specs.Steps.{◌>>=◌, or_else, first_of}
+use Rattle.bus_frame.specs.Steps.{first_of}
+use Rattle.fp_base.specs.Steps.{◌>>=◌}
 use Rattle.bus_frame.specs.Types.{element_after, whole_type_after, is_one_type}
 use Rattle.bus_frame.specs.Places.{Place, bytes_at, byte_at, aligned_at, number_at, long_text_at, short_text_at}
 
@@ -56,7 +58,7 @@ abbrev pub members_at : (List ℕ → Place → Option Ended) → ℕ → List �
 members_at one zero types p = None
 members_at one (suc n) types p = do
   r ← one types p
-  or_else (option_map (λ rest. (rest, r.1)) (closed r.0)) (members_at one n r.0 r.1)
+  option_or (option_map (λ rest. (rest, r.1)) (closed r.0)) (members_at one n r.0 r.1)
 
 -- elements one after another, up to the last byte: what follows their type
 abbrev pub elements_at : (List ℕ → Place → Option Ended) → ℕ → List ℕ → Place → Option (List ℕ)

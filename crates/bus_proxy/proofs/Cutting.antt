@@ -1,5 +1,6 @@
 -- A piece may be cut in two anywhere.
 use Rattle.std.proofs.Common.{◌≡◌, ℕ, zero, suc, ◌+◌, ◌<◌, ◌≤◌, Bool, true, false, List, [], ◌∷◌, ◌++◌, length, take, drop, Option, Some, None, refl, sym, ap, subst, ◌∙◌, append_assoc, arith}
+use Rattle.std.specs.Option.{option_or}
 use Rattle.std.specs.Prelude.{is_some, if◌then◌else◌, map, reverse, option_map}
 use Rattle.std.proofs.lemmas.List.{length-append, length-drop, append-nil, take-append-le, drop-append-le, drop_at, drop_all, reverse-append, map-append}
 use Rattle.bus_frame.specs.declared.header.Header.{Header}
@@ -12,7 +13,7 @@ use Rattle.bus_stream.specs.Stream.{Message, first_taken, taken_in, messages_in,
 use Rattle.bus_policy.specs.Events.{Event}
 use Rattle.bus_proxy.proofs.Fronts.{same}
 use Rattle.bus_proxy.proofs.Arriving.{ended_at}
-use Rattle.bus_proxy.specs.Arrivals.{Pieces, End, other_side, same_side, counted, bytes_of, event_of, arrived, end_at, broken_end, first_of, breach, news, events, end_of, cut_end, bytes_fed, Alike}
+use Rattle.bus_proxy.specs.Arrivals.{Pieces, End, other_side, same_side, counted, bytes_of, event_of, arrived, end_at, broken_end, breach, news, events, end_of, cut_end, bytes_fed, Alike}
 
 -- ---- a stream with more bytes after it
 
@@ -108,7 +109,7 @@ pub equal_sym : (a b : Pieces) → Equal a b → Equal b a
 equal_sym a b p = record { bytes = λ side. sym (p.bytes side); breaches = sym p.breaches; events = sym p.events }
 
 pub end_alike : (a b : Pieces) → Equal a b → end_of a ≡ end_of b
-end_alike a b p = λ i. first_of (p.breaches i) (first_of (cut_end side.Client (p.bytes side.Client i)) (cut_end side.Bus (p.bytes side.Bus i)))
+end_alike a b p = λ i. option_or (p.breaches i) (option_or (cut_end side.Client (p.bytes side.Client i)) (cut_end side.Bus (p.bytes side.Bus i)))
 
 -- a piece more on both
 pub one_piece : (a b : Pieces) (piece : Side × List ℕ) → Equal a b → Equal (piece ∷ a) (piece ∷ b)
@@ -116,7 +117,7 @@ one_piece a b piece p =
     let now : (side : Side) → bytes_of side (piece ∷ a) ≡ bytes_of side (piece ∷ b) = λ side i. p.bytes side i ++ (if same_side side piece.0 then piece.1 else []) in
     record {
       bytes = now;
-      breaches = λ i. first_of (p.breaches i) (broken_end piece.0 (now piece.0 i));
+      breaches = λ i. option_or (p.breaches i) (broken_end piece.0 (now piece.0 i));
       events = λ i. if is_some (p.breaches i) then p.events i else arrived piece.0 (news (p.bytes piece.0 i) (now piece.0 i)) ++ p.events i;
     }
 
@@ -133,18 +134,18 @@ module _ (s : Side) (b x y : List ℕ) where
   grouped : b ++ (x ++ y) ≡ (b ++ x) ++ y
   grouped = sym (append_assoc b x y)
 
-  breach_cut_by : (r : Option FrameRule) → broken_in (b ++ x) ≡ r → broken_end s (b ++ (x ++ y)) ≡ first_of (broken_end s (b ++ x)) (broken_end s ((b ++ x) ++ y))
+  breach_cut_by : (r : Option FrameRule) → broken_in (b ++ x) ≡ r → broken_end s (b ++ (x ++ y)) ≡ option_or (broken_end s (b ++ x)) (broken_end s ((b ++ x) ++ y))
   breach_cut_by None e =
       ap (broken_end s) grouped
-      ∙ sym (ap (λ (r : Option FrameRule). first_of (option_map (end_at s (b ++ x)) r) (broken_end s ((b ++ x) ++ y))) e)
+      ∙ sym (ap (λ (r : Option FrameRule). option_or (option_map (end_at s (b ++ x)) r) (broken_end s ((b ++ x) ++ y))) e)
   breach_cut_by (Some rule) e =
       let kept = (grows (b ++ x) y).stays rule e in
       ap (broken_end s) grouped
       ∙ ap (option_map (end_at s ((b ++ x) ++ y))) kept.1
       ∙ ap (λ (l : List Message). ended_at s (counted (length l)) rule) kept.0
-      ∙ sym (ap (λ (r : Option FrameRule). first_of (option_map (end_at s (b ++ x)) r) (broken_end s ((b ++ x) ++ y))) e)
+      ∙ sym (ap (λ (r : Option FrameRule). option_or (option_map (end_at s (b ++ x)) r) (broken_end s ((b ++ x) ++ y))) e)
 
-  breach_cut : (o : Option End) → first_of o (broken_end s (b ++ (x ++ y))) ≡ first_of (first_of o (broken_end s (b ++ x))) (broken_end s ((b ++ x) ++ y))
+  breach_cut : (o : Option End) → option_or o (broken_end s (b ++ (x ++ y))) ≡ option_or (option_or o (broken_end s (b ++ x))) (broken_end s ((b ++ x) ++ y))
   breach_cut (Some end) = refl
   breach_cut None = breach_cut_by (broken_in (b ++ x)) refl
 
@@ -175,7 +176,7 @@ module _ (s : Side) (b x y : List ℕ) where
 
   events_cut : (o : Option End) (ev : List Event)
       → (if is_some o then ev else arrived s (news b (b ++ (x ++ y))) ++ ev)
-      ≡ (if is_some (first_of o (broken_end s (b ++ x))) then (if is_some o then ev else arrived s (news b (b ++ x)) ++ ev)
+      ≡ (if is_some (option_or o (broken_end s (b ++ x))) then (if is_some o then ev else arrived s (news b (b ++ x)) ++ ev)
       else arrived s (news (b ++ x) ((b ++ x) ++ y)) ++ (if is_some o then ev else arrived s (news b (b ++ x)) ++ ev))
   events_cut (Some end) ev = refl
   events_cut None ev = events_cut_by ev (broken_in (b ++ x)) refl
@@ -209,7 +210,7 @@ cut_in_two side.Bus x y before =
 
 -- ---- a piece without a byte
 
-first_none : (a b : Option End) → first_of a b ≡ None → (a ≡ None) × (b ≡ None)
+first_none : (a b : Option End) → option_or a b ≡ None → (a ≡ None) × (b ≡ None)
 first_none None b e = (refl, e)
 first_none (Some x) b e = absurd cc
 
@@ -240,7 +241,7 @@ no_bytes s before = record {
     same_bytes : bytes_of s ((s, []) ∷ before) ≡ bytes_of s before
     same_bytes = either_nothing (same_side s s) (bytes_of s before)
 
-    breaches : (o : Option End) → breach before ≡ o → first_of o (broken_end s (bytes_of s ((s, []) ∷ before))) ≡ o
+    breaches : (o : Option End) → breach before ≡ o → option_or o (broken_end s (bytes_of s ((s, []) ∷ before))) ≡ o
     breaches (Some end) e = refl
     breaches None e = ap (broken_end s) same_bytes ∙ ap (option_map (end_at s (bytes_of s before))) (sound before s e)
 

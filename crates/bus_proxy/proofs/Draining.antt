@@ -1,11 +1,12 @@
 -- Pieces one after another.
 use Rattle.std.proofs.Common.{◌≡◌, ℕ, ◌+◌, ◌<◌, ◌≤◌, Bool, true, false, List, [], ◌∷◌, ◌++◌, length, take, drop, get_or, Option, Some, None, refl, sym, ap, ◌∙◌}
+use Rattle.std.specs.Option.{option_or}
 use Rattle.std.specs.Prelude.{reverse, is_some, if◌then◌else◌}
 use Rattle.std.proofs.lemmas.List.{take_more, take_all, reverse-append, take-append-drop}
 use Rattle.fp_base.specs.declared.side.Side.{Side}
 use Rattle.fp_base.specs.declared.side.Side.TheVariants as side
 use Rattle.bus_policy.specs.Events.{Event}
-use Rattle.bus_proxy.specs.Arrivals.{Pieces, End, first_of, bytes_of, breach, events, broken_end, cut_end, end_of, news, arrived}
+use Rattle.bus_proxy.specs.Arrivals.{Pieces, End, bytes_of, breach, events, broken_end, cut_end, end_of, news, arrived}
 
 pub next_piece : (pieces : Pieces) (i : ℕ) (d : Side × List ℕ) → i < length pieces → reverse (take (i + 1) pieces) ≡ get_or pieces i d ∷ reverse (take i pieces)
 next_piece pieces i d lt =
@@ -17,7 +18,7 @@ all_pieces pieces i = ap reverse (sym (take-append-drop i pieces)) ∙ reverse-a
 -- after a broken rule nothing comes
 pub breach_stays : (more fed : Pieces) (end : End) → breach fed ≡ Some end → breach (more ++ fed) ≡ Some end
 breach_stays [] fed end e = e
-breach_stays (piece ∷ more) fed end e = ap (λ (o : Option End). first_of o (broken_end piece.0 (bytes_of piece.0 ((piece ∷ more) ++ fed)))) (breach_stays more fed end e)
+breach_stays (piece ∷ more) fed end e = ap (λ (o : Option End). option_or o (broken_end piece.0 (bytes_of piece.0 ((piece ∷ more) ++ fed)))) (breach_stays more fed end e)
 
 pub nothing_comes : (more fed : Pieces) (end : End) → breach fed ≡ Some end → events (more ++ fed) ≡ events fed
 nothing_comes [] fed end e = refl
@@ -28,7 +29,7 @@ nothing_comes (piece ∷ more) fed end e =
 pub end_stays : (more fed : Pieces) (end : End) → breach fed ≡ Some end → end_of (more ++ fed) ≡ Some end
 end_stays more fed end e =
     let all = more ++ fed in
-    ap (λ (o : Option End). first_of o (first_of (cut_end side.Client (bytes_of side.Client all)) (cut_end side.Bus (bytes_of side.Bus all)))) (breach_stays more fed end e)
+    ap (λ (o : Option End). option_or o (option_or (cut_end side.Client (bytes_of side.Client all)) (cut_end side.Bus (bytes_of side.Bus all)))) (breach_stays more fed end e)
 
 -- ---- over the pieces of a recording
 

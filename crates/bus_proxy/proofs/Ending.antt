@@ -1,5 +1,6 @@
 -- How what was fed ends.
 use Rattle.std.proofs.Common.{◌≡◌, ℕ, ◌+◌, ◌<◌, Bool, true, false, ltb, List, [], ◌∷◌, ◌++◌, length, Option, Some, None, refl, sym, ap, ◌∙◌, arith}
+use Rattle.std.specs.Option.{option_or}
 use Rattle.std.specs.Prelude.{if◌then◌else◌, nat_lt}
 use Rattle.std.proofs.lemmas.List.{length-append}
 use Rattle.std.proofs.lemmas.Bool.{ltb-true, lt-ltb, le-ltb}
@@ -10,7 +11,7 @@ use Rattle.fp_base.specs.declared.side.Side.TheVariants as side
 use Rattle.bus_stream.specs.Stream.{Message, joined, messages_in}
 use Rattle.bus_policy.specs.Events.{Event}
 use Rattle.bus_proxy.specs.declared.streams.Streams.{Streams}
-use Rattle.bus_proxy.specs.Arrivals.{Pieces, End, first_of, bytes_of, counted, end_at, breach, events, has_rest, cut_end, end_of}
+use Rattle.bus_proxy.specs.Arrivals.{Pieces, End, bytes_of, counted, end_at, breach, events, has_rest, cut_end, end_of}
 use Rattle.bus_proxy.specs.Streaming.{StreamsAt, FirstRest, stream_of, messages_of}
 use Rattle.bus_proxy.proofs.Arriving.{ended_at}
 use Rattle.bus_proxy.proofs.Feeding.{messages_taken}
@@ -44,15 +45,15 @@ cut_of (Some rest) = Some (rest.0, rest.1, Cut)
 
 pub ends : (s : Streams) (fed : Pieces) (taken : List Event) (rest : Option (Side × ℕ)) → StreamsAt s fed taken → events fed ≡ taken → breach fed ≡ None → FirstRest rest s → end_of fed ≡ cut_of rest
 ends s fed taken None at all sound r =
-    ap (λ (o : Option End). first_of o (first_of (cut_end side.Client (bytes_of side.Client fed)) (cut_end side.Bus (bytes_of side.Bus fed)))) sound
-    ∙ ap (λ (o : Option End). first_of o (cut_end side.Bus (bytes_of side.Bus fed))) (cut_none s fed taken at all side.Client r.0)
+    ap (λ (o : Option End). option_or o (option_or (cut_end side.Client (bytes_of side.Client fed)) (cut_end side.Bus (bytes_of side.Bus fed)))) sound
+    ∙ ap (λ (o : Option End). option_or o (cut_end side.Bus (bytes_of side.Bus fed))) (cut_none s fed taken at all side.Client r.0)
     ∙ cut_none s fed taken at all side.Bus r.1
 ends s fed taken (Some (side.Client, n)) at all sound r =
-    ap (λ (o : Option End). first_of o (first_of (cut_end side.Client (bytes_of side.Client fed)) (cut_end side.Bus (bytes_of side.Bus fed)))) sound
-    ∙ ap (λ (o : Option End). first_of o (cut_end side.Bus (bytes_of side.Bus fed))) (cut_some s fed taken at all side.Client r.0)
+    ap (λ (o : Option End). option_or o (option_or (cut_end side.Client (bytes_of side.Client fed)) (cut_end side.Bus (bytes_of side.Bus fed)))) sound
+    ∙ ap (λ (o : Option End). option_or o (cut_end side.Bus (bytes_of side.Bus fed))) (cut_some s fed taken at all side.Client r.0)
     ∙ ap (λ (k : ℕ). ended_at side.Client k Cut) (sym r.1)
 ends s fed taken (Some (side.Bus, n)) at all sound r =
-    ap (λ (o : Option End). first_of o (first_of (cut_end side.Client (bytes_of side.Client fed)) (cut_end side.Bus (bytes_of side.Bus fed)))) sound
-    ∙ ap (λ (o : Option End). first_of o (cut_end side.Bus (bytes_of side.Bus fed))) (cut_none s fed taken at all side.Client r.0)
+    ap (λ (o : Option End). option_or o (option_or (cut_end side.Client (bytes_of side.Client fed)) (cut_end side.Bus (bytes_of side.Bus fed)))) sound
+    ∙ ap (λ (o : Option End). option_or o (cut_end side.Bus (bytes_of side.Bus fed))) (cut_none s fed taken at all side.Client r.0)
     ∙ cut_some s fed taken at all side.Bus r.1
     ∙ ap (λ (k : ℕ). ended_at side.Bus k Cut) (sym r.2)

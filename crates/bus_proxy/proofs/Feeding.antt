@@ -1,5 +1,6 @@
 -- A piece more is fed, where every message before is taken.
 use Rattle.std.proofs.Common.{◌≡◌, ℕ, Bool, true, false, List, [], ◌∷◌, ◌++◌, length, drop, Option, Some, None, refl, sym, ap, subst, ◌∙◌}
+use Rattle.std.specs.Option.{option_or}
 use Rattle.std.specs.Prelude.{is_some, if◌then◌else◌}
 use Rattle.std.proofs.lemmas.List.{append-nil, drop_at}
 use Rattle.fp_base.specs.declared.side.Side.{Side}
@@ -8,7 +9,7 @@ use Rattle.bus_stream.specs.Stream.{Message, CutterAt, messages_in, broken_in}
 use Rattle.bus_policy.specs.Events.{Event}
 use Rattle.bus_proxy.specs.declared.stream.Stream.{Stream}
 use Rattle.bus_proxy.specs.declared.streams.Streams.{Streams}
-use Rattle.bus_proxy.specs.Arrivals.{Pieces, End, other_side, same_side, bytes_of, event_of, arrived, counted, breach, broken_end, first_of, events, news}
+use Rattle.bus_proxy.specs.Arrivals.{Pieces, End, other_side, same_side, bytes_of, event_of, arrived, counted, breach, broken_end, events, news}
 use Rattle.bus_proxy.specs.Streaming.{StreamAt, StreamsAt, NoneWaits, stream_of, messages_of, Fed}
 use Rattle.bus_proxy.proofs.Fronts.{remainder, more_fed}
 use Rattle.bus_proxy.proofs.Arriving.{none_arrived}
@@ -72,7 +73,7 @@ fed_at old new fed taken to piece at all sound f =
     unbroken (breach fed) _ _ sound
     ∙ ap (λ (l : List Message). arrived to l ++ events fed) (all_news _ _ _ _ (messages_taken old fed taken at all to) (each to).cut)
     ∙ ap (λ (l : List Event). arrived to (messages_in (stream_of new to).cutter) ++ l) all in
-    let broken : breach longer ≡ broken_end to (bytes_of to longer) = ap (λ (o : Option End). first_of o (broken_end to (bytes_of to longer))) sound in
+    let broken : breach longer ≡ broken_end to (bytes_of to longer) = ap (λ (o : Option End). option_or o (broken_end to (bytes_of to longer))) sound in
     record {
       each = each;
       waiting = subst (λ (s : Side). events longer ≡ arrived s (messages_in (stream_of new s).cutter) ++ taken) (sym f.latest) waiting;

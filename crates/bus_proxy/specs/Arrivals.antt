@@ -1,5 +1,6 @@
 -- Which messages arrive, by what was fed: pieces of bytes, each of a side, the latest first.
 use Rattle.std.specs.Prelude.{◌≡◌, ℕ, Bool, true, false, nat_lt, min, if◌then◌else◌, List, [], ◌∷◌, ◌++◌, map, reverse, length, drop, Option, Some, None, is_some, option_map}
+use Rattle.std.specs.Option.{option_or}
 use Rattle.fp_base.specs.declared.side.Side.{Side}
 use Rattle.fp_base.specs.declared.side.Side.TheVariants as side
 use Rattle.fp_base.specs.declared.frame_rule.FrameRule.{FrameRule}
@@ -50,15 +51,11 @@ end_at side bytes rule = (side, counted (length (messages_in bytes)), rule)
 abbrev pub broken_end : Side → List ℕ → Option End
 broken_end side bytes = option_map (end_at side bytes) (broken_in bytes)
 
-abbrev pub first_of : {A : Type 0} → Option A → Option A → Option A
-first_of None later = later
-first_of (Some x) later = Some x
-
 -- the first rule that is broken, whichever side breaks it
 abbrev pub breach : Pieces → Option End
 breach [] = None
 breach (piece ∷ before) =
-    first_of (breach before) (broken_end piece.0 (bytes_of piece.0 (piece ∷ before)))
+    option_or (breach before) (broken_end piece.0 (bytes_of piece.0 (piece ∷ before)))
 
 -- ---- the events
 
@@ -84,8 +81,8 @@ cut_end side bytes = if has_rest bytes then Some (end_at side bytes Cut) else No
 
 -- how the events end: by a broken rule, or by a message that is cut, the client's first, or clean
 abbrev pub end_of : Pieces → Option End
-end_of fed = first_of (breach fed)
-    (first_of (cut_end side.Client (bytes_of side.Client fed))
+end_of fed = option_or (breach fed)
+    (option_or (cut_end side.Client (bytes_of side.Client fed))
     (cut_end side.Bus (bytes_of side.Bus fed)))
 
 -- ---- bytes one by one

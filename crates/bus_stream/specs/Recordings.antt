@@ -4,14 +4,13 @@ use Rattle.std.specs.BTreeSet.{contains_text}
 use Rattle.std.specs.List.{list_any, slice_split}
 use Rattle.std.specs.Str.{bytes_eq}
 use Rattle.bus_frame.specs.Names.{is_unique, is_well_known}
-use Rattle.bus_frame.specs.Steps.{◌>>=◌}
+use Rattle.fp_base.specs.Steps.{◌>>=◌, where_it}
 use Rattle.fp_base.specs.declared.side.Side.{Side}
 use Rattle.fp_base.specs.declared.side.Side.TheVariants as side
 use Rattle.bus_stream.specs.declared.recording.Recording.{Recording}
 use Rattle.bus_stream.specs.declared.recording.RecordError.{RecordError}
 use Rattle.bus_stream.specs.declared.recording.RecordError.TheVariants.{BadRecord, NoMemory}
 use Rattle.bus_stream.specs.declared.recording.Draft.{Draft}
-use Rattle.fp_base.specs.Steps.{where_it}
 use Rattle.fp_base.specs.Parts.{parts_at, hex_in}
 
 abbrev pub nothing_said : Recording

@@ -1,5 +1,6 @@
 -- Objects that no kept commit uses go, and the others stay.
 use Rattle.std.proofs.Common.{◌≡◌, ◌≢◌, ◌⊎◌, inl, inr, ℕ, List, [], ◌∷◌, ◌++◌, Bool, true, false, Option, Some, None, drop, get_or, refl, sym, ◌∙◌, ap, subst, Contains, codes, arith}
+use Rattle.std.specs.Option.{option_or}
 use Rattle.std.specs.Prelude.{is_some}
 use Rattle.std.specs.Str.{bytes_eq}
 use Rattle.std.proofs.lemmas.Bool.{cases_Bool}
@@ -22,7 +23,7 @@ use Rattle.fp_small.proofs.Ordered.{bytes_eq-is}
 use Rattle.fp_small.specs.declared.state.State.{State}
 use Rattle.fp_small.specs.declared.state.RefRow.{RefRow}
 use Rattle.ost_model.specs.declared.object.Object.{Object}
-use Rattle.ost_model.specs.Objects.{Have, Fault, or_else, unless, object_path, object_at, object_fault, name_fault, dir_mode_fault, kind_fault, content_fault, length_fault, mode_fault, digest_fault, digest_of, rule_fault, corrupt, store}
+use Rattle.ost_model.specs.Objects.{Have, Fault, unless, object_path, object_at, object_fault, name_fault, dir_mode_fault, kind_fault, content_fault, length_fault, mode_fault, digest_fault, digest_of, rule_fault, corrupt, store}
 use Rattle.fp_base.specs.Objects.{kind_text}
 use Rattle.ost_model.specs.Order.{Place, In, order}
 use Rattle.ost_model.specs.Stores.{IsStore}
@@ -117,8 +118,8 @@ named_by : (d : List ℕ) (kind : ObjKind) (o : Option Object) → name_fault d 
 named_by d kind None e = absurd (cc e)
 named_by d kind (Some x) e =
     let content = (or_none (kind_fault kind x) (content_fault d kind x) e).1 in
-    let mode = (or_none (length_fault x) (or_else (mode_fault x) (or_else (digest_fault d x) (rule_fault kind x))) content).1 in
-    let digest = (or_none (mode_fault x) (or_else (digest_fault d x) (rule_fault kind x)) mode).1 in
+    let mode = (or_none (length_fault x) (option_or (mode_fault x) (option_or (digest_fault d x) (rule_fault kind x))) content).1 in
+    let digest = (or_none (mode_fault x) (option_or (digest_fault d x) (rule_fault kind x)) mode).1 in
     let same = (or_none (digest_fault d x) (rule_fault kind x) digest).0 in
     record { object = x; is = refl; digest = bytes_eq-is (digest_of x) d (unless_none (bytes_eq (digest_of x) d) (corrupt (digest_of x)) same) }
 

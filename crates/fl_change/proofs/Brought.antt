@@ -1,5 +1,6 @@
 -- The world after an operation that was done.
 use Rattle.std.proofs.Common.{◌≡◌, ◌≢◌, inl, inr, ℕ, List, Option, Some, None, refl, sym, ◌∙◌, ap, subst}
+use Rattle.std.specs.Option.{option_or}
 use Rattle.fp_host.specs.Remote.{Holdings}
 use Rattle.fp_host.specs.View.{View}
 use Rattle.fp_host.specs.Outcome.{shows}
@@ -8,7 +9,7 @@ use Rattle.fp_small.specs.declared.state.State.{State}
 use Rattle.fp_small.specs.declared.op.Op.{Op}
 use Rattle.fp_small.specs.declared.op.Op.TheVariants.{Install, Update, Uninstall, AddPin, DropPin, AddRemote, ModifyRemote, DropRemote, SetOverride, DropOverride, Migrate, Rollback}
 use Rattle.ost_model.specs.declared.object.Object.{Object}
-use Rattle.ost_model.specs.Objects.{Have, or_else, store, supply}
+use Rattle.ost_model.specs.Objects.{Have, store, supply}
 use Rattle.ost_model.specs.Order.{Place, In, order, Agree}
 use Rattle.ost_model.specs.Remotes.{remote}
 use Rattle.ost_model.proofs.Places.{order_same}
@@ -93,7 +94,7 @@ pub kept_objects : (s t : State) {v : View} (w : View) → ((c : List ℕ) → I
 kept_objects s t {v = v} w within rests same = used_same t (store repo (shows v)) (store repo (shows w)) (λ commit kept p inside.
     same p.digest p.kind (kept_digest s rests.opens commit (within commit kept) p inside))
 
-or_first : (a b : Option Object) → a ≢ None → or_else a b ≡ a
+or_first : (a b : Option Object) → a ≢ None → option_or a b ≡ a
 or_first None b some = absurd (some refl)
 or_first (Some x) b some = refl
 

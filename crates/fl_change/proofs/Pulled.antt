@@ -1,5 +1,6 @@
 -- What heads and commits are refused for.
 use Rattle.std.proofs.Common.{◌≡◌, ℕ, Bool, true, false, List, Option, Some, None, option_map, Result, Ok, Err, leb, ◌*◌, length, if◌then◌else◌, refl, subst}
+use Rattle.std.specs.Option.{option_or}
 use Rattle.std.specs.Prelude.{codes}
 use Rattle.fp_base.specs.declared.object.ObjKind.{ObjKind}
 use Rattle.fp_base.specs.declared.object.ObjKind.TheVariants as kinds
@@ -20,7 +21,7 @@ use Rattle.fp_small.specs.declared.op.Op.TheVariants.{Install, Update, Uninstall
 use Rattle.ost_model.specs.Fields.{CommitView, TreeView}
 use Rattle.ost_model.specs.Binding.{binding_in}
 use Rattle.ost_model.specs.Look.{Found, nothing, directory, file_at, entry_in}
-use Rattle.ost_model.specs.Objects.{Have, Fault, too_many, too_deep, missing, too_long, refused_mode, corrupt, malformed, or_else, object_fault}
+use Rattle.ost_model.specs.Objects.{Have, Fault, too_many, too_deep, missing, too_long, refused_mode, corrupt, malformed, object_fault}
 use Rattle.ost_model.specs.Order.{Place, commit_at, tree_at, first_fault}
 use Rattle.ost_head.specs.declared.head.Head.{Head}
 use Rattle.ost_head.specs.Heads.{lists, binding_refused, age_refused, commit_refused, is_nothing, root_refused, no_metadata, meta_refused, lines_refused, metadata_refused, unless_refused, content_in, with_content, metadata_at, head_in, with_tree, with_commit, head_of}
@@ -62,7 +63,7 @@ module _ (P : Refusal → Type 0) where
   ok_of : {A : Type 0} (a : A) → AllIn A P (Ok a)
   ok_of a r is = absurd (cc is)
 
-  pub of_either : (a b : Option Refusal) → AllOf P a → AllOf P b → AllOf P (or_else a b)
+  pub of_either : (a b : Option Refusal) → AllOf P a → AllOf P b → AllOf P (option_or a b)
   of_either None b first second = second
   of_either (Some q) b first second = first
 
@@ -124,7 +125,7 @@ module _ (P : Refusal → Type 0) where
     of_file have name commit time nothing = of_absent name
 
     of_head_in : (have : Have) (name : Ref) (commit : List ℕ) (c : CommitView) (v : TreeView) → AllIn Head P (head_in have name commit since c v)
-    of_head_in have name commit c v = of_unless (or_else (commit_refused name since c) (root_refused commit v)) (metadata_at have name commit c.timestamp (entry_in (codes "metadata") (Some v)))
+    of_head_in have name commit c v = of_unless (option_or (commit_refused name since c) (root_refused commit v)) (metadata_at have name commit c.timestamp (entry_in (codes "metadata") (Some v)))
         (of_either (commit_refused name since c) (root_refused commit v) (of_commit name c) (of_root commit v)) (of_file have name commit c.timestamp (entry_in (codes "metadata") (Some v)))
 
     of_tree : (have : Have) (name : Ref) (commit : List ℕ) (c : CommitView) (o : Option TreeView) → AllIn Head P (with_tree have name commit since c o)

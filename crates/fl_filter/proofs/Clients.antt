@@ -7,12 +7,11 @@ use Rattle.std.specs.Str.{bytes_eq}
 use Rattle.std.proofs.lemmas.Bool.{and_parts}
 use Rattle.fp_base.specs.declared.side.Side.{Side}
 use Rattle.fp_base.specs.declared.side.Side.TheVariants as side
-use Rattle.bus_frame.specs.Steps.{◌>>=◌}
+use Rattle.fp_base.specs.Steps.{◌>>=◌, where_it}
 use Rattle.bus_frame.specs.Names.{is_unique, is_well_known}
 use Rattle.bus_stream.specs.declared.recording.Recording.{Recording}
 use Rattle.bus_stream.specs.declared.recording.RecordError.{RecordError}
 use Rattle.bus_stream.specs.declared.recording.RecordError.TheVariants.{BadRecord, NoMemory}
-use Rattle.fp_base.specs.Steps.{where_it}
 use Rattle.fp_base.specs.Parts.{parts_at, hex_in}
 use Rattle.bus_stream.specs.Recordings.{nothing_said, with_client, with_owner, with_piece, with_line, with_lines, or_bad, push_names, is_owned, recording_of, AnswersRecording}
 

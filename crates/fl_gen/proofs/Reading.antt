@@ -1,5 +1,6 @@
 -- Objects that are what their digests name, read back from where they stand.
 use Rattle.std.proofs.Common.{◌≡◌, ℕ, List, Bool, true, false, Some, None, refl, arith}
+use Rattle.std.specs.Option.{option_or}
 use Rattle.std.specs.Prelude.{leb, bit_and}
 use Rattle.std.proofs.lemmas.Bool.{cond-true, le-leb}
 use Rattle.std.proofs.lemmas.Bool.Decides.{nat_tests}
@@ -10,7 +11,7 @@ use Rattle.fp_host.specs.Paths.{is_link_text}
 use Rattle.ost_model.specs.declared.object.Object.{Object}
 use Rattle.ost_model.specs.declared.object.Object.TheVariants as objects
 use Rattle.ost_model.specs.Contents.{is_permission}
-use Rattle.ost_model.specs.Objects.{Fault, missing, refused_mode, or_else, unless, kind_fault, content_fault, length_fault, mode_fault, digest_fault, rule_fault, name_fault, is_of_kind, object_at}
+use Rattle.ost_model.specs.Objects.{Fault, missing, refused_mode, unless, kind_fault, content_fault, length_fault, mode_fault, digest_fault, rule_fault, name_fault, is_of_kind, object_at}
 use Rattle.ost_model.proofs.Places.{or_none}
 use Rattle.ost_commit.specs.declared.built.BuiltObject.{BuiltObject}
 use Rattle.ost_commit.specs.Objects.{IsNamed}
@@ -44,8 +45,8 @@ permitted : (d : List ℕ) (kind : ObjKind) (mode : ℕ) (bytes : List ℕ) → 
 permitted d kind mode bytes named =
     let o = objects.File mode bytes in
     let content = (or_none (kind_fault kind o) (content_fault d kind o) named).1 in
-    let after = (or_none (length_fault o) (or_else (mode_fault o) (or_else (digest_fault d o) (rule_fault kind o))) content).1 in
-    no_fault (is_permission mode) (refused_mode mode) (or_none (mode_fault o) (or_else (digest_fault d o) (rule_fault kind o)) after).0
+    let after = (or_none (length_fault o) (option_or (mode_fault o) (option_or (digest_fault d o) (rule_fault kind o))) content).1 in
+    no_fault (is_permission mode) (refused_mode mode) (or_none (mode_fault o) (option_or (digest_fault d o) (rule_fault kind o)) after).0
 
 low_bits : (mode : ℕ) → is_permission mode ≡ true → leb mode 4095 ≡ true
 low_bits mode permission =

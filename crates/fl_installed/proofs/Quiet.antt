@@ -1,5 +1,6 @@
 -- Calls that only look, and the store that a host tells.
 use Rattle.std.proofs.Common.{◌≡◌, ◌≤◌, ℕ, List, length, Bool, true, false, leb, Option, Some, None, refl, sym, ◌∙◌, ap, subst}
+use Rattle.std.specs.Option.{option_or}
 use Rattle.std.specs.Prelude.{if◌then◌else◌}
 use Rattle.fp_base.specs.declared.object.ObjKind.TheVariants as kinds
 use Rattle.fp_host.specs.Causes.{IsCaused, IsCounted}
@@ -14,7 +15,7 @@ use Rattle.fp_host.proofs.Ending.{ends_both, ends_looks}
 use Rattle.fp_host.proofs.Framed.{IsTold}
 use Rattle.ost_model.specs.declared.object.Object.{Object}
 use Rattle.ost_model.specs.declared.object.Object.TheVariants as objects
-use Rattle.ost_model.specs.Objects.{Have, object_path, or_else, store, supply}
+use Rattle.ost_model.specs.Objects.{Have, object_path, store, supply}
 use Rattle.ost_model.specs.Remotes.{Stores, Supplies, remote}
 use Rattle.ost_store.specs.Reads.{got_of, object_of, Gets, HasFile}
 use Rattle.ost_store.specs.declared.reading.Got.{Got}
@@ -28,7 +29,7 @@ still_stored {root = root} still s =
 
 -- ---- the store alone
 
-or_alone : {A : Type 0} (o : Option A) → or_else o None ≡ o
+or_alone : {A : Type 0} (o : Option A) → option_or o None ≡ o
 or_alone None = refl
 or_alone (Some a) = refl
 

@@ -1,5 +1,6 @@
 -- A plan says of no ref but its own that it isn't offered.
 use Rattle.std.proofs.Common.{◌≡◌, ℕ, List, [], ◌∷◌, map, Bool, true, false, leb, Option, Some, None, Result, Ok, Err, ap}
+use Rattle.std.specs.Option.{option_or}
 use Rattle.std.specs.Prelude.{option_map, option_to_list, length, codes, if◌then◌else◌, ◌++◌, ◌*◌}
 use Rattle.fp_host.specs.Remote.{Holdings}
 use Rattle.fp_base.specs.declared.object.ObjKind.{ObjKind}
@@ -19,7 +20,7 @@ use Rattle.fl_meta.specs.Metadata.{meta_of, meta_kind}
 use Rattle.fl_extension.specs.declared.point.Point.{Point}
 use Rattle.fl_extension.specs.Found.{has_ref}
 use Rattle.ost_model.specs.Fields.{CommitView, TreeView}
-use Rattle.ost_model.specs.Objects.{Have, Fault, too_many, too_deep, missing, too_long, refused_mode, corrupt, malformed, object_fault, or_else}
+use Rattle.ost_model.specs.Objects.{Have, Fault, too_many, too_deep, missing, too_long, refused_mode, corrupt, malformed, object_fault}
 use Rattle.ost_model.specs.Order.{commit_at, tree_at}
 use Rattle.ost_model.specs.Look.{Found, nothing, directory, file_at, entry_in}
 use Rattle.ost_model.specs.Binding.{binding_in}
@@ -66,7 +67,7 @@ never_unless : {A : Type 0} (refused : Option Refusal) (answer : Result A Refusa
 never_unless None answer before after r n is = after r n is
 never_unless (Some e) answer before after r n is = before r n (cc is)
 
-never_or : (a b : Option Refusal) → NeverSome a → NeverSome b → NeverSome (or_else a b)
+never_or : (a b : Option Refusal) → NeverSome a → NeverSome b → NeverSome (option_or a b)
 never_or None b before after r n is = after r n is
 never_or (Some e) b before after r n is = before r n is
 
@@ -125,7 +126,7 @@ module _ (name : Ref) (commit : List ℕ) where
     module _ (since : Option ℕ) where
       never_in : (c : CommitView) (v : TreeView) → Never (head_in have name commit since c v)
       never_in c v =
-          never_unless (or_else (commit_refused name since c) (root_refused commit v)) (metadata_at have name commit c.timestamp (entry_in (codes "metadata") (Some v)))
+          never_unless (option_or (commit_refused name since c) (root_refused commit v)) (metadata_at have name commit c.timestamp (entry_in (codes "metadata") (Some v)))
           (never_or (commit_refused name since c) (root_refused commit v)
           (never_or (binding_refused name (binding_in c.metadata)) (age_refused name since c.timestamp) (never_binding name (binding_in c.metadata)) (never_age name since c.timestamp))
           (never_root commit v))

@@ -3,7 +3,7 @@
 -- objects.
 use Rattle.std.proofs.Common.{◌≡◌, ◌⊎◌, inl, inr, ℕ, suc, List, [], ◌∷◌, ◌++◌, Bool, true, false, Option, Some, None, if◌then◌else◌, refl, sym, ◌∙◌, ap, subst}
 use Rattle.std.specs.Prelude.{option_and_then}
-use Rattle.std.specs.Option.{option_map_or}
+use Rattle.std.specs.Option.{option_map_or, option_or}
 use Rattle.std.specs.Str.{bytes_eq}
 use Rattle.fp_base.specs.declared.object.ObjKind.TheVariants as kinds
 use Rattle.fp_host.specs.Outcome.{Disk}
@@ -14,7 +14,7 @@ use Rattle.fp_small.specs.declared.state.State.{State}
 use Rattle.fp_small.specs.declared.state.RefRow.{RefRow}
 use Rattle.ost_model.specs.Fields.{DirRow, FileRow, CommitView, TreeView}
 use Rattle.ost_model.specs.Readers.{tree_of, commit_of}
-use Rattle.ost_model.specs.Objects.{Have, Fault, store, or_else, object_fault}
+use Rattle.ost_model.specs.Objects.{Have, Fault, store, object_fault}
 use Rattle.ost_model.specs.Order.{Place, In, each_in, inside, dir_places, file_place, file_places, tree_place, read_as, tree_at, commit_at, below_commit, root_row, commit_place, limited, place_fault, found_at, first_of, order, Agree}
 use Rattle.ost_model.specs.Look.{Found, nothing, directory, file_at, find_dir, find_file, either, entry_in, next, at_root, look, found_places, look_places, look_fault}
 use Rattle.ost_model.specs.Standing.{metadata_name}
@@ -131,8 +131,8 @@ module _ (i j : Have) (commit : List ℕ) (agree : Agree i j (order i commit)) w
   faults_same : (n : ℕ) (ps : List Place) → Agree i j ps → first_of (λ k. place_fault j 0) n ps ≡ first_of (λ k. place_fault i 0) n ps
   faults_same n [] same = refl
   faults_same n (p ∷ ps) same =
-      ap (λ t. or_else (found_at p (limited 0 p (object_fault p.digest p.kind t))) (first_of (λ k. place_fault j 0) (suc n) ps)) (same p (inl refl))
-      ∙ ap (or_else (found_at p (place_fault i 0 p))) (faults_same (suc n) ps (λ q h. same q (inr h)))
+      ap (λ t. option_or (found_at p (limited 0 p (object_fault p.digest p.kind t))) (first_of (λ k. place_fault j 0) (suc n) ps)) (same p (inl refl))
+      ∙ ap (option_or (found_at p (place_fault i 0 p))) (faults_same (suc n) ps (λ q h. same q (inr h)))
 
   places_same : (x : List ℕ) → look_places j commit (x ∷ []) ≡ look_places i commit (x ∷ [])
   places_same x =

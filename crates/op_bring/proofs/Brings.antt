@@ -1,5 +1,6 @@
 -- A commit that is brought: its head read, fetched, and deployed.
 use Rattle.std.proofs.Common.{◌≡◌, ◌≤◌, inl, ℕ, List, Bool, true, Option, Some, None, Result, Ok, Err, refl, sym, ◌∙◌, ap, subst}
+use Rattle.std.specs.Option.{option_or}
 use Rattle.std.specs.Prelude.{option_map}
 use Rattle.fp_base.specs.declared.object.ObjKind.{ObjKind}
 use Rattle.fp_host.specs.Causes.{IsCaused}
@@ -15,7 +16,7 @@ use Rattle.fp_small.specs.declared.refusal.Refusal.{Refusal}
 use Rattle.fp_small.specs.declared.state.State.{State}
 use Rattle.fp_small.specs.declared.state.RefRow.{RefRow}
 use Rattle.fp_small.specs.declared.state.RemoteRow.{RemoteRow}
-use Rattle.ost_model.specs.Objects.{Have, or_else, store}
+use Rattle.ost_model.specs.Objects.{Have, store}
 use Rattle.ost_model.specs.Remotes.{Supplies}
 use Rattle.ost_model.specs.Order.{first_fault}
 use Rattle.ost_head.specs.Refusals.{refusal_of}
@@ -121,7 +122,7 @@ module _ (s : State) (origin : RemoteRow) (name : Ref) (commit : List ℕ) (hold
     unrefused : {u v : View} → AtFetch s origin name commit holds time kept u v → (held : Holdings) → holds ≡ Some held → Opens s u → brought_refusal (supply_at held (Some origin.url) u) name commit ≡ None
     unrefused {u = u} p held told opens =
         let have : Have = supply_at held (Some origin.url) u in
-        ap (λ (o : Option Refusal). or_else o (first_refusal have commit)) (p.head held told).1 ∙ none_first have commit (p.was.fetched held told opens).clean
+        ap (λ (o : Option Refusal). option_or o (first_refusal have commit)) (p.head held told).1 ∙ none_first have commit (p.was.fetched held told opens).clean
 
     pub brings_deploys : {u v w : View} → AtFetch s origin name commit holds time kept u v → Deploys s row v w → Brings s origin name commit holds u w
     brings_deploys {u = u} {w = w} p deploys = record {
@@ -171,11 +172,11 @@ names_down head down = record { names = λ told opens. down.names told.0 told.1 
 
 pub brought_head : (have : Have) (s : State) (name : Ref) (origin commit : List ℕ) (r : Refusal) → head_of have name commit None ≡ Err r → brought have s name origin commit ≡ Err r
 brought_head have s name origin commit r is =
-    ap (λ (h : Result Head Refusal). unless_refused (or_else (refusal_in h) (first_refusal have commit)) (Ok (state_brought have s name origin commit))) is
+    ap (λ (h : Result Head Refusal). unless_refused (option_or (refusal_in h) (first_refusal have commit)) (Ok (state_brought have s name origin commit))) is
 
 brought_first : (have : Have) (s : State) (name : Ref) (origin commit : List ℕ) (h : Head) (first : Option Refusal) → head_of have name commit None ≡ Ok h → first_refusal have commit ≡ first → brought have s name origin commit ≡ unless_refused first (Ok (state_brought have s name origin commit))
 brought_first have s name origin commit h first is at =
-    ap (λ (x : Result Head Refusal). unless_refused (or_else (refusal_in x) (first_refusal have commit)) (Ok (state_brought have s name origin commit))) is
+    ap (λ (x : Result Head Refusal). unless_refused (option_or (refusal_in x) (first_refusal have commit)) (Ok (state_brought have s name origin commit))) is
     ∙ ap (λ (f : Option Refusal). unless_refused f (Ok (state_brought have s name origin commit))) at
 
 pub head_answers : (have : Have) (s : State) (name : Ref) (origin commit : List ℕ) (end : PullEnd) → RefusesBy (λ r. head_of have name commit None ≡ Err r) end → RefusesBy (λ r. brought have s name origin commit ≡ Err r) end

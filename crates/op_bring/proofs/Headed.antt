@@ -1,5 +1,6 @@
 -- A commit whose head is read, and whose objects are stored and laid out, stands.
 use Rattle.std.proofs.Common.{◌≡◌, ◌*◌, ◌++◌, ◌&&◌, ℕ, List, [], ◌∷◌, Bool, true, false, Option, Some, None, Result, Ok, Err, codes, length, refl, sym, ◌∙◌, ap, subst}
+use Rattle.std.specs.Option.{option_or}
 use Rattle.std.specs.Prelude.{if◌then◌else◌, leb}
 use Rattle.fp_base.specs.declared.object.ObjKind.{ObjKind}
 use Rattle.fp_base.specs.declared.object.ObjKind.TheVariants as kinds
@@ -22,7 +23,7 @@ use Rattle.ost_model.specs.declared.object.Object.{Object}
 use Rattle.ost_model.specs.declared.object.Object.TheVariants as objects
 use Rattle.ost_model.specs.Fields.{CommitView, TreeView}
 use Rattle.ost_model.specs.Look.{Found, nothing, directory, file_at, entry_in, next, at_root, look}
-use Rattle.ost_model.specs.Objects.{Have, or_else, object_at, object_path, store}
+use Rattle.ost_model.specs.Objects.{Have, object_at, object_path, store}
 use Rattle.ost_model.specs.Order.{commit_at, tree_at, root_row, order, first_fault, Agree}
 use Rattle.ost_model.specs.Standing.{expected, is_metadata, deploy_name, metadata_name, Stands}
 use Rattle.ost_model.proofs.Looked.{file_reached, look_same}
@@ -116,7 +117,7 @@ head_ok have name commit since {h = h} e =
     by_tree c read None at w = absurd (cc w)
     by_tree c read (Some v) at w =
         let meta = unless_ok (object_refused have c.meta kinds.DirMeta) _ h w in
-        let root = unless_ok (or_else (heads.commit_refused name since c) (heads.root_refused commit v)) _ h meta.1 in
+        let root = unless_ok (option_or (heads.commit_refused name since c) (heads.root_refused commit v)) _ h meta.1 in
         let no = or_none (heads.commit_refused name since c) (heads.root_refused commit v) root.0 in
         let found = metadata_ok have name commit c.timestamp (entry_in (codes "metadata") (Some v)) h root.1 in
         let first : look have commit [] ≡ directory (root_row c) = ap at_root read in

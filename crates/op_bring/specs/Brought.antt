@@ -1,5 +1,6 @@
 -- What bringing a commit makes of a state and of the objects, and what it is refused for.
 use Rattle.std.specs.Prelude.{◌≡◌, ◌≢◌, ℕ, List, true, Option, Some, None, Result, Ok, Err, option_map}
+use Rattle.std.specs.Option.{option_or}
 use Rattle.fp_base.specs.declared.object.ObjKind.{ObjKind}
 use Rattle.fp_host.specs.View.{View}
 use Rattle.fp_host.specs.Outcome.{shows}
@@ -12,7 +13,7 @@ use Rattle.fp_small.specs.declared.state.State.{State}
 use Rattle.fp_small.specs.declared.state.RefRow.{RefRow}
 use Rattle.fp_small.specs.declared.state.Previous.{Previous}
 use Rattle.ost_model.specs.Fields.{CommitView}
-use Rattle.ost_model.specs.Objects.{Have, or_else, store, supply}
+use Rattle.ost_model.specs.Objects.{Have, store, supply}
 use Rattle.ost_model.specs.Order.{Agree, commit_at, order}
 use Rattle.ost_model.specs.Remotes.{remote}
 use Rattle.ost_head.specs.Heads.{head_of, unless_refused}
@@ -30,7 +31,7 @@ refusal_in (Err refusal) = Some refusal
 -- order.
 abbrev pub brought_refusal : Have → Ref → List ℕ → Option Refusal
 brought_refusal have name commit =
-    or_else (refusal_in (head_of have name commit None)) (first_refusal have commit)
+    option_or (refusal_in (head_of have name commit None)) (first_refusal have commit)
 
 -- ---- the state
 

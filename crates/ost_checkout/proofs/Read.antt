@@ -1,5 +1,6 @@
 -- Metadata objects that are read.
 use Rattle.std.proofs.Common.{◌≡◌, inl, inr, ◌*◌, ℕ, Bool, true, false, leb, List, length, Option, Some, None, Result, Ok, Err, if◌then◌else◌, refl, sym, ◌∙◌, ap}
+use Rattle.std.specs.Option.{option_or}
 use Rattle.std.specs.Prelude.{IfOk}
 use Rattle.std.proofs.lemmas.Bool.{cases_Bool}
 use Rattle.fp_host.specs.Paths.{Elements}
@@ -13,7 +14,7 @@ use Rattle.fp_base.specs.declared.rule.Rule.{Rule}
 use Rattle.ost_model.specs.declared.object.Object.{Object}
 use Rattle.ost_model.specs.declared.object.Object.TheVariants as objects
 use Rattle.ost_model.specs.Fields.{CommitView, TreeView}
-use Rattle.ost_model.specs.Objects.{object_fault, name_fault, kind_fault, content_fault, length_fault, mode_fault, digest_fault, rule_fault, dir_mode_fault, or_else, unless, Fault, too_long, may_be_link, store}
+use Rattle.ost_model.specs.Objects.{object_fault, name_fault, kind_fault, content_fault, length_fault, mode_fault, digest_fault, rule_fault, dir_mode_fault, unless, Fault, too_long, may_be_link, store}
 use Rattle.ost_model.specs.Order.{read_as, commit_at}
 use Rattle.ost_model.specs.Readers.{tree_of, tree_read, commit_of, commit_read, if_read}
 use Rattle.ost_model.proofs.Places.{or_none}
@@ -53,7 +54,7 @@ meta_there d kind (Some (objects.Meta bytes)) off good =
     let o = objects.Meta bytes in
     let a = or_none (name_fault d kind (Some o)) (dir_mode_fault kind (Some o)) good in
     let b = or_none (kind_fault kind o) (content_fault d kind o) a.0 in
-    let c = or_none (length_fault o) (or_else (mode_fault o) (or_else (digest_fault d o) (rule_fault kind o))) b.1 in
+    let c = or_none (length_fault o) (option_or (mode_fault o) (option_or (digest_fault d o) (rule_fault kind o))) b.1 in
     (bytes, refl, short_of (leb (length bytes) (16 * 1024 * 1024)) (too_long (length bytes)) c.0)
 meta_there d kind (Some (objects.File mode bytes)) off good =
     let o = objects.File mode bytes in

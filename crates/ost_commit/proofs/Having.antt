@@ -1,5 +1,6 @@
 -- Objects in tables and in one list, and the digests of rows.
 use Rattle.std.proofs.Common.{◌≡◌, ℕ, zero, suc, List, [], ◌∷◌, ◌++◌, map, length, get_or, Bool, true, false, Some, None, refl, sym, ◌∙◌, ap, subst}
+use Rattle.std.specs.Option.{option_or}
 use Rattle.std.specs.Prelude.{if◌then◌else◌, ◌&&◌}
 use Rattle.std.specs.Str.{bytes_eq}
 use Rattle.std.specs.Ordering.{is_eq, nat_cmp}
@@ -12,7 +13,7 @@ use Rattle.ost_model.specs.declared.object.Object.{Object}
 use Rattle.std.proofs.lemmas.Slice.Eq.{bytes_eq-Decides}
 use Rattle.ost_model.specs.declared.object.Object.TheVariants as objects
 use Rattle.ost_model.specs.Contents.{meta_digest}
-use Rattle.ost_model.specs.Objects.{or_else, object_fault}
+use Rattle.ost_model.specs.Objects.{object_fault}
 use Rattle.ost_commit.specs.declared.row.TreeRow.{TreeRow}
 use Rattle.ost_commit.specs.declared.row.TreeRow.TheVariants as row
 use Rattle.ost_commit.specs.declared.built.BuiltObject.{BuiltObject}
@@ -43,12 +44,12 @@ abbrev object_test : List ℕ × Object → List ℕ → Bool
 object_test e d = is_eq (slice_cmp nat_cmp d e.0)
 
 -- what a table has, and then what stands after it
-pub have_table : (kind : ObjKind) (es : List (List ℕ × Object)) (rest : List BuiltObject) (d : List ℕ) → have_of (map (built_of kind) es ++ rest) d kind ≡ or_else (object_in es d) (have_of rest d kind)
+pub have_table : (kind : ObjKind) (es : List (List ℕ × Object)) (rest : List BuiltObject) (d : List ℕ) → have_of (map (built_of kind) es ++ rest) d kind ≡ option_or (object_in es d) (have_of rest d kind)
 have_table kind [] rest d = refl
 have_table kind (e ∷ es) rest d = go (bytes_eq e.0 d && is_kind kind kind) (object_test e d) (and_same (bytes_eq e.0 d) (is_kind kind kind) (same_kind kind) ∙ sym (same_test d e.0)) (have_table kind es rest d)
   where
-    go : (a b : Bool) → a ≡ b → have_of (map (built_of kind) es ++ rest) d kind ≡ or_else (object_in es d) (have_of rest d kind)
-        → (if a then Some e.1 else have_of (map (built_of kind) es ++ rest) d kind) ≡ or_else (if b then Some e.1 else object_in es d) (have_of rest d kind)
+    go : (a b : Bool) → a ≡ b → have_of (map (built_of kind) es ++ rest) d kind ≡ option_or (object_in es d) (have_of rest d kind)
+        → (if a then Some e.1 else have_of (map (built_of kind) es ++ rest) d kind) ≡ option_or (if b then Some e.1 else object_in es d) (have_of rest d kind)
     go true true same h = refl
     go false false same h = h
     go true false same h = absurd (false≢true (sym same))
@@ -141,7 +142,7 @@ table_good kind es rest distinct usable all = go es (at_keys (λ e. object_fault
 pub table_apart : (kind : ObjKind) (es : List (List ℕ × Object)) (rest : List BuiltObject) → AreDistinct es → ((d : List ℕ) → have_of rest d kind ≡ None) → AreApart rest → AreApart (map (built_of kind) es ++ rest)
 table_apart kind [] rest distinct none apart = apart
 table_apart kind (e ∷ es) rest distinct none apart = (
-  have_table kind es rest e.0 ∙ (ap (λ o. or_else o (have_of rest e.0 kind)) (none_new e.0 es distinct.0) ∙ none e.0),
+  have_table kind es rest e.0 ∙ (ap (λ o. option_or o (have_of rest e.0 kind)) (none_new e.0 es distinct.0) ∙ none e.0),
   table_apart kind es rest distinct.1 none apart,
 )
 
@@ -161,11 +162,11 @@ module _ (contents trees : List (List ℕ × Object)) (meta commit : List ℕ) w
   trees_none d = have_other kinds.DirTree kinds.File refl trees last d ∙ last_none kinds.File refl refl d
 
   pub file_have : (d : List ℕ) (o : Object) → object_in contents d ≡ Some o → have_of all d kinds.File ≡ Some o
-  file_have d o h = have_table kinds.File contents (map (built_of kinds.DirTree) trees ++ last) d ∙ ap (λ x. or_else x (have_of (map (built_of kinds.DirTree) trees ++ last) d kinds.File)) h
+  file_have d o h = have_table kinds.File contents (map (built_of kinds.DirTree) trees ++ last) d ∙ ap (λ x. option_or x (have_of (map (built_of kinds.DirTree) trees ++ last) d kinds.File)) h
 
   pub tree_have : (d : List ℕ) (o : Object) → object_in trees d ≡ Some o → have_of all d kinds.DirTree ≡ Some o
   tree_have d o h = have_other kinds.File kinds.DirTree refl contents (map (built_of kinds.DirTree) trees ++ last) d
-      ∙ (have_table kinds.DirTree trees last d ∙ ap (λ x. or_else x (have_of last d kinds.DirTree)) h)
+      ∙ (have_table kinds.DirTree trees last d ∙ ap (λ x. option_or x (have_of last d kinds.DirTree)) h)
 
   pub meta_have : have_of all (meta_digest meta) kinds.DirMeta ≡ Some (objects.Meta meta)
   meta_have = have_other kinds.File kinds.DirMeta refl contents (map (built_of kinds.DirTree) trees ++ last) (meta_digest meta)

@@ -1,5 +1,6 @@
 -- Objects that may be used.
 use Rattle.std.proofs.Common.{◌≡◌, ◌≤◌, ◌*◌, ℕ, List, [], length, Bool, true, false, leb, Option, Some, None, refl, sym, ◌∙◌, ap, subst, arith}
+use Rattle.std.specs.Option.{option_or}
 use Rattle.std.specs.Prelude.{◌&&◌, option_and_then, unwrap_or, Ok}
 use Rattle.std.specs.Str.{bytes_eq}
 use Rattle.std.proofs.lemmas.Bool.{false≢true}
@@ -20,7 +21,7 @@ use Rattle.ost_model.specs.Fields.{CommitView, TreeView, commit_in, tree_in, met
 use Rattle.ost_model.specs.Types.{commit_shape, tree_shape, meta_shape, related_shape}
 use Rattle.ost_object.specs.Views.{tree_at}
 use Rattle.ost_model.specs.Readers.{judged, commit_breaks, tree_breaks, meta_breaks, commit_read, tree_read, meta_read, if_read, if_broken, broken_rule, meta_of}
-use Rattle.ost_model.specs.Objects.{Fault, or_else, unless, missing, too_long, refused_mode, corrupt, length_fault, mode_fault, digest_of, digest_fault, as_malformed, rule_fault, is_of_kind, kind_fault, content_fault, name_fault, dir_bits, dir_mode_fault, object_fault}
+use Rattle.ost_model.specs.Objects.{Fault, unless, missing, too_long, refused_mode, corrupt, length_fault, mode_fault, digest_of, digest_fault, as_malformed, rule_fault, is_of_kind, kind_fault, content_fault, name_fault, dir_bits, dir_mode_fault, object_fault}
 use Rattle.ost_commit.specs.declared.row.TreeRow.{TreeRow}
 use Rattle.ost_commit.specs.declared.row.TreeRow.TheVariants as row
 use Rattle.ost_commit.specs.Refusals.{is_good_row}
@@ -29,14 +30,14 @@ use Rattle.ost_commit.specs.Shows.{plain_meta}
 
 -- ---- faults, one after the other
 
-pub no_fault : (a b : Option Fault) → a ≡ None → b ≡ None → or_else a b ≡ None
-no_fault a b e f = ap (λ x. or_else x b) e ∙ f
+pub no_fault : (a b : Option Fault) → a ≡ None → b ≡ None → option_or a b ≡ None
+no_fault a b e f = ap (λ x. option_or x b) e ∙ f
 
-pub left_none : (a b : Option Fault) → or_else a b ≡ None → a ≡ None
+pub left_none : (a b : Option Fault) → option_or a b ≡ None → a ≡ None
 left_none None b h = refl
 left_none (Some f) b h = h
 
-pub right_none : (a b : Option Fault) → or_else a b ≡ None → b ≡ None
+pub right_none : (a b : Option Fault) → option_or a b ≡ None → b ≡ None
 right_none None b h = h
 right_none (Some f) b h = absurd (cc h)
 
@@ -70,8 +71,8 @@ pub digest_if_good : (d : List ℕ) (kind : ObjKind) (o : Object) → object_fau
 digest_if_good d kind o h =
     let named = named_if_good d kind o h in
     let content = right_none (kind_fault kind o) (content_fault d kind o) named in
-    let rest = right_none (length_fault o) (or_else (mode_fault o) (or_else (digest_fault d o) (rule_fault kind o))) content in
-    let last = right_none (mode_fault o) (or_else (digest_fault d o) (rule_fault kind o)) rest in
+    let rest = right_none (length_fault o) (option_or (mode_fault o) (option_or (digest_fault d o) (rule_fault kind o))) content in
+    let last = right_none (mode_fault o) (option_or (digest_fault d o) (rule_fault kind o)) rest in
     (bytes_eq-Decides (digest_of o) d).0 (passed (bytes_eq (digest_of o) d) (corrupt (digest_of o)) (left_none (digest_fault d o) (rule_fault kind o) last))
 
 -- ---- metadata objects

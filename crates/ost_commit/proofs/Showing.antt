@@ -1,5 +1,6 @@
 -- A commit whose root is shown as it is said: Look finds what is said, and no place of its order has a fault.
 use Rattle.std.proofs.Common.{◌≡◌, ◌⊎◌, inl, inr, ◌≤◌, ◌<◌, ℕ, zero, suc, ◌+◌, List, [], ◌∷◌, ◌++◌, length, Bool, true, false, leb, Option, Some, None, refl, sym, ◌∙◌, ap, subst, arith}
+use Rattle.std.specs.Option.{option_or}
 use Rattle.std.specs.Prelude.{if◌then◌else◌}
 use Rattle.std.specs.Str.{bytes_eq}
 use Rattle.std.proofs.lemmas.Slice.Eq.{bytes_eq-Decides}
@@ -10,7 +11,7 @@ use Rattle.fp_base.specs.declared.object.ObjKind.TheVariants as kinds
 use Rattle.ost_model.specs.declared.object.Object.{Object}
 use Rattle.ost_model.specs.Fields.{DirRow, FileRow, CommitView}
 use Rattle.ost_model.specs.Readers.{tree_of, meta_of, commit_of}
-use Rattle.ost_model.specs.Objects.{Have, too_many, too_deep, object_fault, or_else}
+use Rattle.ost_model.specs.Objects.{Have, too_many, too_deep, object_fault}
 use Rattle.ost_model.specs.Order.{Place, In, each_in, inside, dir_places, file_place, file_places, tree_place, meta_place, read_as, commit_at, below_commit, root_row, order, first_fault, first_of, place_fault, found_at}
 use Rattle.ost_model.specs.Look.{Found, nothing, directory, file_at, find_dir, find_file, either, entry_in, next, at_root, look}
 use Rattle.ost_commit.specs.Rows.{Said, no_entry, a_directory, content}
@@ -151,7 +152,7 @@ module _ (have : Have) (said : Elements → Said) (good : AreGood have) where
   none_first : (n : ℕ) (ps : List Place) → n + length ps ≤ 200000 → ((p : Place) → In ps p → IsGoodPlace have p) → first_of (place_fault have) n ps ≡ None
   none_first n [] few all = refl
   none_first n (p ∷ ps) few all =
-      ap (λ f. or_else (found_at p f) (first_of (place_fault have) (suc n) ps)) (place_good n p (omega (arith, few)) (all p (inl refl)))
+      ap (λ f. option_or (found_at p f) (first_of (place_fault have) (suc n) ps)) (place_good n p (omega (arith, few)) (all p (inl refl)))
       ∙ none_first (suc n) ps (omega (arith, few)) (λ q h. all q (inr h))
 
   pub whole : (commit : List ℕ) (c : CommitView) → commit_at have commit ≡ Some c → Shows have said 65 [] (root_row c) → length (order have commit) ≤ 200000 → first_fault have commit ≡ None

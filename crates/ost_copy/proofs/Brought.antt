@@ -1,5 +1,6 @@
 -- Files and links of the remote that come to the work folder.
 use Rattle.std.proofs.Common.{◌≡◌, inl, inr, ℕ, List, [], length, Bool, true, false, Option, Some, None, Result, Ok, Err, refl, sym, ◌∙◌, ap, subst}
+use Rattle.std.specs.Option.{option_or}
 use Rattle.std.specs.Prelude.{if◌then◌else◌, IfOk, OnOk, IsErrOf}
 use Rattle.std.specs.Result.{IsErrAnd}
 use Rattle.std.proofs.lemmas.Result.{err_from_is_err_and}
@@ -17,7 +18,7 @@ use Rattle.fp_host.proofs.Ending.{ends_on, ends_both, ends_frame, goes_known}
 use Rattle.fp_base.specs.declared.object.ObjKind.TheVariants as kinds
 use Rattle.ost_model.specs.declared.object.Object.{Object}
 use Rattle.ost_model.specs.declared.object.Object.TheVariants as objects
-use Rattle.ost_model.specs.Objects.{Fault, or_else, object_path, object_at, object_fault, name_fault, dir_mode_fault}
+use Rattle.ost_model.specs.Objects.{Fault, object_path, object_at, object_fault, name_fault, dir_mode_fault}
 use Rattle.ost_model.specs.Remotes.{as_spot, remote_at}
 use Rattle.fp_small.proofs.Keeping.{files_stay}
 use Rattle.ost_store.specs.Stage.{Stages, WasStaged, CanStage}
@@ -72,7 +73,7 @@ writing {t = t} {mode = mode} bytes told first known between frame =
 
 -- ---- faults
 
-or_first : (a b : Option Fault) → or_else a b ≡ None → a ≡ None
+or_first : (a b : Option Fault) → option_or a b ≡ None → a ≡ None
 or_first None b none = refl
 or_first (Some f) b none = absurd (cc none)
 

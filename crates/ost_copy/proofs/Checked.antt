@@ -1,5 +1,6 @@
 -- Files and links whose content isn't read, or is read in pieces.
 use Rattle.std.proofs.Common.{◌≡◌, ◌⊎◌, ◌≤◌, ◌<◌, ◌*◌, inl, inr, ℕ, List, length, Bool, true, false, leb, Option, Some, None, refl, sym, ◌∙◌, ap, subst, arith}
+use Rattle.std.specs.Option.{option_or}
 use Rattle.std.specs.Prelude.{if◌then◌else◌}
 use Rattle.std.specs.Str.{bytes_eq}
 use Rattle.std.proofs.lemmas.Bool.{le-leb, lt-leb, false_from_ne_true}
@@ -13,7 +14,7 @@ use Rattle.fp_base.specs.declared.object.ObjKind.TheVariants as kinds
 use Rattle.ost_model.specs.declared.object.Object.{Object}
 use Rattle.ost_model.specs.declared.object.Object.TheVariants as objects
 use Rattle.ost_model.specs.Contents.{is_permission, file_digest, link_digest}
-use Rattle.ost_model.specs.Objects.{Fault, or_else, unless, too_long, refused_mode, corrupt, digest_fault, object_at, object_fault}
+use Rattle.ost_model.specs.Objects.{Fault, unless, too_long, refused_mode, corrupt, digest_fault, object_at, object_fault}
 use Rattle.ost_model.specs.Remotes.{as_spot}
 use Rattle.ost_walk.specs.declared.ends.ObjectFault.{ObjectFault}
 use Rattle.ost_walk.specs.declared.ends.ObjectFault.TheVariants as faults
@@ -37,14 +38,14 @@ refuses d fault f end is has = subst (λ (e : WalkEnd). RefusesBy (IsFaultOf d k
 
 module _ (d : List ℕ) (mode : ℕ) (bytes : List ℕ) where
   of_limits : (b : Bool) → leb (length bytes) (1024 * 1024 * 1024) ≡ b
-      → object_fault d kinds.File (Some (objects.File mode bytes)) ≡ or_else (or_else (unless b (too_long (length bytes))) (or_else (unless (is_permission mode) (refused_mode mode)) (or_else (digest_fault d (objects.File mode bytes)) None))) None
-  of_limits b is = ap (λ (x : Bool). or_else (or_else (unless x (too_long (length bytes))) (or_else (unless (is_permission mode) (refused_mode mode)) (or_else (digest_fault d (objects.File mode bytes)) None))) None) is
+      → object_fault d kinds.File (Some (objects.File mode bytes)) ≡ option_or (option_or (unless b (too_long (length bytes))) (option_or (unless (is_permission mode) (refused_mode mode)) (option_or (digest_fault d (objects.File mode bytes)) None))) None
+  of_limits b is = ap (λ (x : Bool). option_or (option_or (unless x (too_long (length bytes))) (option_or (unless (is_permission mode) (refused_mode mode)) (option_or (digest_fault d (objects.File mode bytes)) None))) None) is
 
-  of_bits : length bytes ≤ 1024 * 1024 * 1024 → (b : Bool) → is_permission mode ≡ b → object_fault d kinds.File (Some (objects.File mode bytes)) ≡ or_else (or_else (unless b (refused_mode mode)) (or_else (digest_fault d (objects.File mode bytes)) None)) None
-  of_bits short b is = of_limits true (le-leb (length bytes) (1024 * 1024 * 1024) short) ∙ ap (λ (x : Bool). or_else (or_else (unless x (refused_mode mode)) (or_else (digest_fault d (objects.File mode bytes)) None)) None) is
+  of_bits : length bytes ≤ 1024 * 1024 * 1024 → (b : Bool) → is_permission mode ≡ b → object_fault d kinds.File (Some (objects.File mode bytes)) ≡ option_or (option_or (unless b (refused_mode mode)) (option_or (digest_fault d (objects.File mode bytes)) None)) None
+  of_bits short b is = of_limits true (le-leb (length bytes) (1024 * 1024 * 1024) short) ∙ ap (λ (x : Bool). option_or (option_or (unless x (refused_mode mode)) (option_or (digest_fault d (objects.File mode bytes)) None)) None) is
 
-  of_digest : (size : ℕ) → length bytes ≤ size → IsWithinLimits mode size → (b : Bool) → bytes_eq (file_digest mode bytes) d ≡ b → object_fault d kinds.File (Some (objects.File mode bytes)) ≡ or_else (or_else (unless b (corrupt (file_digest mode bytes))) None) None
-  of_digest size few limits b is = of_bits (omega (arith, few, limits.short)) true limits.bits ∙ ap (λ (x : Bool). or_else (or_else (unless x (corrupt (file_digest mode bytes))) None) None) is
+  of_digest : (size : ℕ) → length bytes ≤ size → IsWithinLimits mode size → (b : Bool) → bytes_eq (file_digest mode bytes) d ≡ b → object_fault d kinds.File (Some (objects.File mode bytes)) ≡ option_or (option_or (unless b (corrupt (file_digest mode bytes))) None) None
+  of_digest size few limits b is = of_bits (omega (arith, few, limits.short)) true limits.bits ∙ ap (λ (x : Bool). option_or (option_or (unless x (corrupt (file_digest mode bytes))) None) None) is
 
 same_bytes : (a d got : List ℕ) → got ≡ a → got ≡ d → bytes_eq a d ≡ true
 same_bytes a d got is same = (bytes_eq-Decides a d).1 (sym is ∙ same)
@@ -81,8 +82,8 @@ link_there text good = ap (λ b. if b then Some (objects.Link text) else None) g
 pub link_missing : (d text : List ℕ) (end : WalkEnd) → is_link_text text ≡ false → end ≡ refusal d kinds.File faults.Missing → RefusesFile d (object_at kinds.File (points text)) end
 link_missing d text end off is = refuses d (object_fault d kinds.File (object_at kinds.File (points text))) faults.Missing end is (ap (λ b. object_fault d kinds.File (if b then Some (objects.Link text) else None)) off)
 
-of_link : (d text : List ℕ) (b : Bool) → bytes_eq (link_digest text) d ≡ b → object_fault d kinds.File (Some (objects.Link text)) ≡ or_else (or_else (unless b (corrupt (link_digest text))) None) None
-of_link d text b is = ap (λ (x : Bool). or_else (or_else (unless x (corrupt (link_digest text))) None) None) is
+of_link : (d text : List ℕ) (b : Bool) → bytes_eq (link_digest text) d ≡ b → object_fault d kinds.File (Some (objects.Link text)) ≡ option_or (option_or (unless b (corrupt (link_digest text))) None) None
+of_link d text b is = ap (λ (x : Bool). option_or (option_or (unless x (corrupt (link_digest text))) None) None) is
 
 pub link_good : (d text got : List ℕ) → is_link_text text ≡ true → got ≡ link_digest text → got ≡ d → IsGoodLink d text
 link_good d text got good is same = record { may_be = good; good = of_link d text true (same_bytes (link_digest text) d got is same) }

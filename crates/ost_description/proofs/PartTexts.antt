@@ -11,8 +11,7 @@ use Rattle.std.proofs.lemmas.Fmt.{decimal_is_IsNumeral, decimal_nonempty, first_
 use Rattle.hex.specs.Hex.{IsBytes, encode_with, encode_lower, lower_digits, decode_of}
 use Rattle.hex.proofs.HexLemmas.{decode_of-encode_lower, length-encode_with}
 use Rattle.fp_host.specs.Paths.{Elements, is_element, cut, path_text}
-use Rattle.ost_description.specs.Steps.{◌>>=◌}
-use Rattle.fp_base.specs.Steps.{where_it}
+use Rattle.fp_base.specs.Steps.{◌>>=◌, where_it}
 use Rattle.ost_description.specs.Parts.{has_leading_zero, are_digits, number_in, octal_in, mode_in, content_in, path_in, text_in}
 use Rattle.fp_base.specs.Parts.{is_lower_digit, hex_in}
 use Rattle.ost_description.specs.Writing.{mode_text, content_text, IsWritablePath}

@@ -6,8 +6,7 @@ use Rattle.ost_commit.specs.declared.row.TreeRow.{TreeRow}
 use Rattle.ost_commit.specs.declared.row.TreeRow.TheVariants as row
 use Rattle.ost_commit.specs.Refusals.{first_refused}
 use Rattle.ost_description.specs.declared.description.Description.{Description}
-use Rattle.ost_description.specs.Steps.{◌>>=◌}
-use Rattle.fp_base.specs.Steps.{where_it}
+use Rattle.fp_base.specs.Steps.{◌>>=◌, where_it}
 use Rattle.ost_description.specs.Parts.{number_in, mode_in, content_in, path_in, text_in, is_subject}
 use Rattle.fp_base.specs.Parts.{parts_at}
 

@@ -6,9 +6,8 @@ use Rattle.std.specs.Str.{bytes_eq, is_utf8}
 use Rattle.std.specs.Str.Parse.{digits_value}
 use Rattle.fp_host.specs.Paths.{Elements, is_element, cut}
 use Rattle.ost_description.specs.declared.limits.TheConstants.{MOST_SUBJECT_BYTES}
-use Rattle.ost_description.specs.Steps.{◌>>=◌}
+use Rattle.fp_base.specs.Steps.{◌>>=◌, where_it}
 use Rattle.fp_base.specs.Parts.{hex_in}
-use Rattle.fp_base.specs.Steps.{where_it}
 
 -- decimal digits, one or more, without a leading zero
 abbrev pub has_leading_zero : List ℕ → Bool

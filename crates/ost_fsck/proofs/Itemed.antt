@@ -1,5 +1,6 @@
 -- Small objects, which their digests decide.
 use Rattle.std.proofs.Common.{◌≡◌, ◌≤◌, ◌&&◌, ◌*◌, ℕ, List, [], ◌++◌, length, Bool, true, false, not, leb, Option, Some, None, Result, Ok, Err, refl, sym, ◌∙◌, ap, subst, arith, append-nil}
+use Rattle.std.specs.Option.{option_or}
 use Rattle.std.specs.Prelude.{if◌then◌else◌, is_some, IfOk}
 use Rattle.std.specs.Str.{bytes_eq}
 use Rattle.std.proofs.lemmas.Bool.{le-leb, leb-true, both_ways}
@@ -25,7 +26,7 @@ use Rattle.fp_base.specs.declared.object.ObjKind.TheVariants as kinds
 use Rattle.sha2.specs.Sha256.{sha256}
 use Rattle.ost_model.specs.declared.object.Object.TheVariants as objects
 use Rattle.ost_model.specs.Contents.{is_permission, header, link_header, file_digest, link_digest, meta_digest}
-use Rattle.ost_model.specs.Objects.{Fault, too_long, refused_mode, corrupt, or_else, unless, may_be_link, object_at}
+use Rattle.ost_model.specs.Objects.{Fault, too_long, refused_mode, corrupt, unless, may_be_link, object_at}
 use Rattle.par_digest.specs.declared.item.Item.{Item}
 use Rattle.ost_fsck.specs.Judging.{is_true, is_named, keeps_rules, meta_most}
 use Rattle.ost_fsck.specs.Batches.{head_of, small_most, IsItemOf, IsItemIn, IsItemAt, IsFileItem, IsFileItemAt}
@@ -47,14 +48,14 @@ item_of_meta bytes = refl
 
 -- ---- what the digest decides
 
-closed : (c : Bool) (f : Fault) → not (is_some (or_else (unless c f) None)) ≡ c
+closed : (c : Bool) (f : Fault) → not (is_some (option_or (unless c f) None)) ≡ c
 closed true f = refl
 closed false f = refl
 
 file_decides : (d : List ℕ) (mode : ℕ) (bytes : List ℕ) → is_permission mode ≡ true → length bytes ≤ small_most
     → is_true d kinds.File (Some (objects.File mode bytes)) ≡ bytes_eq (file_digest mode bytes) d
 file_decides d mode bytes bits short =
-    let all : Bool → Bool → Bool = λ a b. not (is_some (or_else (unless a (too_long (length bytes))) (or_else (unless b (refused_mode mode)) (or_else (unless (bytes_eq (file_digest mode bytes) d) (corrupt (file_digest mode bytes))) None)))) in
+    let all : Bool → Bool → Bool = λ a b. not (is_some (option_or (unless a (too_long (length bytes))) (option_or (unless b (refused_mode mode)) (option_or (unless (bytes_eq (file_digest mode bytes) d) (corrupt (file_digest mode bytes))) None)))) in
     ap (λ a. all a (is_permission mode)) (le-leb (length bytes) (1024 * 1024 * 1024) (omega (arith, short)))
     ∙ ap (all true) bits
     ∙ closed (bytes_eq (file_digest mode bytes) d) (corrupt (file_digest mode bytes))

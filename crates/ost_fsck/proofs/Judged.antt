@@ -1,5 +1,6 @@
 -- What one path below `objects` is.
 use Rattle.std.proofs.Common.{◌≡◌, ◌≤◌, ◌<◌, ◌&&◌, ℕ, List, length, Bool, true, false, not, leb, Option, Some, None, Result, Ok, Err, refl, sym, ◌∙◌, ap, subst}
+use Rattle.std.specs.Option.{option_or}
 use Rattle.std.specs.Prelude.{if◌then◌else◌, is_some, IfOk}
 use Rattle.std.specs.Str.{bytes_eq}
 use Rattle.std.proofs.lemmas.Bool.{le-leb, lt-leb, leb-true, leb-false, false_from_ne_true, and_parts, and_from}
@@ -17,7 +18,7 @@ use Rattle.ost_model.specs.declared.object.Object.{Object}
 use Rattle.ost_model.specs.declared.object.Object.TheVariants as objects
 use Rattle.ost_model.specs.Contents.{meta_digest}
 use Rattle.ost_model.specs.Readers.{if_broken, broken_rule}
-use Rattle.ost_model.specs.Objects.{Fault, missing, too_long, corrupt, or_else, unless, as_malformed, may_be_link, kind_fault, content_fault, rule_fault, digest_fault, name_fault, object_at, object_fault, object_path, has_good_bits, Named}
+use Rattle.ost_model.specs.Objects.{Fault, missing, too_long, corrupt, unless, as_malformed, may_be_link, kind_fault, content_fault, rule_fault, digest_fault, name_fault, object_at, object_fault, object_path, has_good_bits, Named}
 use Rattle.ost_object.specs.Answers.{Breaks, mapped}
 use Rattle.ost_object.specs.declared.error.ObjectError.{ObjectError}
 use Rattle.ost_object.specs.declared.error.ObjectError.TheVariants as unread
@@ -65,17 +66,17 @@ rule_some (Some rule) = refl
 
 module _ (d : List ℕ) (kind : ObjKind) (bytes : List ℕ) (meta : may_be_link kind ≡ false) where
   of_kind : is_true d kind (Some (objects.Meta bytes)) ≡ not (is_some (content_fault d kind (objects.Meta bytes)))
-  of_kind = ap (λ b. not (is_some (or_else (unless (not b) missing) (content_fault d kind (objects.Meta bytes))))) meta
+  of_kind = ap (λ b. not (is_some (option_or (unless (not b) missing) (content_fault d kind (objects.Meta bytes))))) meta
 
-  of_length : (b : Bool) → leb (length bytes) meta_most ≡ b → is_true d kind (Some (objects.Meta bytes)) ≡ not (is_some (or_else (unless b (too_long (length bytes))) (or_else (digest_fault d (objects.Meta bytes)) (rule_fault kind (objects.Meta bytes)))))
-  of_length b is = of_kind ∙ ap (λ (x : Bool). not (is_some (or_else (unless x (too_long (length bytes))) (or_else (digest_fault d (objects.Meta bytes)) (rule_fault kind (objects.Meta bytes)))))) is
+  of_length : (b : Bool) → leb (length bytes) meta_most ≡ b → is_true d kind (Some (objects.Meta bytes)) ≡ not (is_some (option_or (unless b (too_long (length bytes))) (option_or (digest_fault d (objects.Meta bytes)) (rule_fault kind (objects.Meta bytes)))))
+  of_length b is = of_kind ∙ ap (λ (x : Bool). not (is_some (option_or (unless x (too_long (length bytes))) (option_or (digest_fault d (objects.Meta bytes)) (rule_fault kind (objects.Meta bytes)))))) is
 
   pub long_untrue : meta_most < length bytes → false ≡ is_true d kind (Some (objects.Meta bytes))
   long_untrue more = sym (of_length false (lt-leb (length bytes) meta_most more))
 
   module _ (short : length bytes ≤ meta_most) where
-    of_digest : (b : Bool) → bytes_eq (meta_digest bytes) d ≡ b → is_true d kind (Some (objects.Meta bytes)) ≡ not (is_some (or_else (unless b (corrupt (meta_digest bytes))) (rule_fault kind (objects.Meta bytes))))
-    of_digest b is = of_length true (le-leb (length bytes) meta_most short) ∙ ap (λ (x : Bool). not (is_some (or_else (unless x (corrupt (meta_digest bytes))) (rule_fault kind (objects.Meta bytes))))) is
+    of_digest : (b : Bool) → bytes_eq (meta_digest bytes) d ≡ b → is_true d kind (Some (objects.Meta bytes)) ≡ not (is_some (option_or (unless b (corrupt (meta_digest bytes))) (rule_fault kind (objects.Meta bytes))))
+    of_digest b is = of_length true (le-leb (length bytes) meta_most short) ∙ ap (λ (x : Bool). not (is_some (option_or (unless x (corrupt (meta_digest bytes))) (rule_fault kind (objects.Meta bytes))))) is
 
     pub corrupt_untrue : (got : List ℕ) → got ≡ meta_digest bytes → (got ≡ d → ⊥) → false ≡ is_true d kind (Some (objects.Meta bytes))
     corrupt_untrue digest is off = sym (of_digest false (false_from_ne_true (bytes_eq (meta_digest bytes) d) (λ t. off (is ∙ (bytes_eq-Decides (meta_digest bytes) d).0 t))))
@@ -104,7 +105,7 @@ got_meta bytes (Some (objects.File mode b)) is = absurd (go (leb (length b) meta
 
 module _ (d : List ℕ) (kind : ObjKind) (meta : may_be_link kind ≡ false) where
   no_content : (o : Object) → kind_fault kind o ≡ unless (may_be_link kind) missing → false ≡ is_true d kind (Some o)
-  no_content o by = sym (ap (λ f. not (is_some (or_else f (content_fault d kind o)))) (by ∙ ap (λ b. unless b missing) meta))
+  no_content o by = sym (ap (λ f. not (is_some (option_or f (content_fault d kind o)))) (by ∙ ap (λ b. unless b missing) meta))
 
   -- what isn't got whole isn't the object
   pub not_got : (there : Option Object) (told : Got) → told ≡ got_of meta_most there → ((bytes : List ℕ) → told ≡ got.Meta bytes → ⊥) → false ≡ is_true d kind there
@@ -126,7 +127,7 @@ module _ (d : List ℕ) (kind : ObjKind) (meta : may_be_link kind ≡ false) whe
 
 -- ---- files and links
 
-or_none : (f : Option Fault) → or_else f None ≡ f
+or_none : (f : Option Fault) → option_or f None ≡ f
 or_none None = refl
 or_none (Some f) = refl
 

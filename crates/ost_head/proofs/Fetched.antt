@@ -1,5 +1,6 @@
 -- Objects of a remote.
 use Rattle.std.proofs.Common.{◌≡◌, ◌≤◌, ◌<◌, ◌*◌, ℕ, List, length, Bool, true, false, leb, Option, Some, None, inl, inr, Result, Ok, Err, refl, sym, ◌∙◌, ap, subst, arith}
+use Rattle.std.specs.Option.{option_or}
 use Rattle.std.specs.Prelude.{◌⊎◌, not, if◌then◌else◌}
 use Rattle.std.proofs.lemmas.Bool.{le-leb, lt-leb}
 use Rattle.fp_host.specs.Paths.{Elements, is_link_text}
@@ -12,7 +13,7 @@ use Rattle.fp_base.specs.declared.object.ObjKind.TheVariants as kinds
 use Rattle.ost_model.specs.declared.object.Object.{Object}
 use Rattle.ost_model.specs.declared.object.Object.TheVariants as objects
 use Rattle.ost_model.specs.Contents.{is_permission}
-use Rattle.ost_model.specs.Objects.{Fault, missing, too_long, refused_mode, or_else, unless, may_be_link, digest_fault, mode_fault, rule_fault, content_fault, dir_mode_fault, object_at, object_fault}
+use Rattle.ost_model.specs.Objects.{Fault, missing, too_long, refused_mode, unless, may_be_link, digest_fault, mode_fault, rule_fault, content_fault, dir_mode_fault, object_at, object_fault}
 use Rattle.ost_model.specs.Remotes.{as_spot}
 use Rattle.ost_walk.specs.declared.ends.ObjectFault.TheVariants as faults
 use Rattle.ost_walk.specs.declared.ends.WalkEnd.{WalkEnd}
@@ -32,21 +33,21 @@ held_meta kinds.File meta id mode bytes = absurd (cc meta)
 pub long_fault : (d : List ℕ) (kind : ObjKind) (bytes : List ℕ) → may_be_link kind ≡ false → 16 * 1024 * 1024 < length bytes → object_fault d kind (Some (objects.Meta bytes)) ≡ Some (too_long (length bytes))
 long_fault d kind bytes meta long =
     let o = objects.Meta bytes in
-    ap (λ b. or_else (or_else (unless (not b) missing) (content_fault d kind o)) (dir_mode_fault kind (Some o))) meta
-    ∙ ap (λ b. or_else (or_else (unless b (too_long (length bytes))) (or_else (digest_fault d o) (rule_fault kind o))) (dir_mode_fault kind (Some o))) (lt-leb (length bytes) (16 * 1024 * 1024) long)
+    ap (λ b. option_or (option_or (unless (not b) missing) (content_fault d kind o)) (dir_mode_fault kind (Some o))) meta
+    ∙ ap (λ b. option_or (option_or (unless b (too_long (length bytes))) (option_or (digest_fault d o) (rule_fault kind o))) (dir_mode_fault kind (Some o))) (lt-leb (length bytes) (16 * 1024 * 1024) long)
 
 -- ---- the faults of a file before its digest
 
 pub long_file : (d : List ℕ) (mode : ℕ) (bytes : List ℕ) → 1024 * 1024 * 1024 < length bytes → object_fault d kinds.File (Some (objects.File mode bytes)) ≡ Some (too_long (length bytes))
 long_file d mode bytes long =
     let o = objects.File mode bytes in
-    ap (λ b. or_else (or_else (unless b (too_long (length bytes))) (or_else (mode_fault o) (or_else (digest_fault d o) None))) None) (lt-leb (length bytes) (1024 * 1024 * 1024) long)
+    ap (λ b. option_or (option_or (unless b (too_long (length bytes))) (option_or (mode_fault o) (option_or (digest_fault d o) None))) None) (lt-leb (length bytes) (1024 * 1024 * 1024) long)
 
 pub moded_file : (d : List ℕ) (mode : ℕ) (bytes : List ℕ) → length bytes ≤ 1024 * 1024 * 1024 → is_permission mode ≡ false → object_fault d kinds.File (Some (objects.File mode bytes)) ≡ Some (refused_mode mode)
 moded_file d mode bytes short off =
     let o = objects.File mode bytes in
-    ap (λ b. or_else (or_else (unless b (too_long (length bytes))) (or_else (mode_fault o) (or_else (digest_fault d o) None))) None) (le-leb (length bytes) (1024 * 1024 * 1024) short)
-    ∙ ap (λ b. or_else (or_else (unless b (refused_mode mode)) (or_else (digest_fault d o) None)) None) off
+    ap (λ b. option_or (option_or (unless b (too_long (length bytes))) (option_or (mode_fault o) (option_or (digest_fault d o) None))) None) (le-leb (length bytes) (1024 * 1024 * 1024) short)
+    ∙ ap (λ b. option_or (option_or (unless b (refused_mode mode)) (option_or (digest_fault d o) None)) None) off
 
 -- ---- what a node tells
 

@@ -1,5 +1,6 @@
 -- Objects that are judged.
 use Rattle.std.proofs.Common.{◌≡◌, ◌≤◌, ◌<◌, ◌*◌, ℕ, List, length, Bool, true, false, leb, Option, Some, None, Result, Ok, Err, refl, sym, ◌∙◌, ap, subst, arith}
+use Rattle.std.specs.Option.{option_or}
 use Rattle.std.specs.Str.{bytes_eq}
 use Rattle.std.proofs.lemmas.Bool.{le-leb, lt-leb, false_from_ne_true}
 use Rattle.std.proofs.lemmas.Slice.Eq.{bytes_eq-Decides}
@@ -11,7 +12,7 @@ use Rattle.ost_model.specs.declared.object.Object.TheVariants as objects
 use Rattle.ost_model.specs.Contents.{is_permission}
 use Rattle.ost_model.specs.Fields.{CommitView}
 use Rattle.ost_model.specs.Readers.{if_broken}
-use Rattle.ost_model.specs.Objects.{Fault, missing, corrupt, refused_mode, or_else, unless, as_malformed, is_of_kind, kind_fault, length_fault, mode_fault, digest_fault, digest_of, rule_fault, content_fault, dir_mode_fault, object_fault}
+use Rattle.ost_model.specs.Objects.{Fault, missing, corrupt, refused_mode, unless, as_malformed, is_of_kind, kind_fault, length_fault, mode_fault, digest_fault, digest_of, rule_fault, content_fault, dir_mode_fault, object_fault}
 use Rattle.ost_object.specs.declared.error.ObjectError.{ObjectError}
 use Rattle.ost_object.specs.declared.error.ObjectError.TheVariants as unread
 use Rattle.ost_object.specs.Answers.{Breaks, mapped}
@@ -24,11 +25,11 @@ use Rattle.ost_walk.specs.declared.ends.WalkEnd.TheVariants as ends
 use Rattle.ost_walk.specs.Ends.{RefusesBy, EndsBy, IsFaultOf, fault_of, refusal, unread_end}
 use Rattle.ost_head.specs.Objects.{IsFit, Checks, rules_fault}
 
-or_nothing : (f : Option Fault) → or_else f None ≡ f
+or_nothing : (f : Option Fault) → option_or f None ≡ f
 or_nothing None = refl
 or_nothing (Some f) = refl
 
-or_twice : (f g h : Option Fault) → or_else (or_else f g) h ≡ or_else f (or_else g h)
+or_twice : (f g h : Option Fault) → option_or (option_or f g) h ≡ option_or f (option_or g h)
 or_twice None g h = refl
 or_twice (Some f) g h = refl
 
@@ -47,11 +48,11 @@ bits_kept (objects.Link text) keepable = refl
 
 module _ (d : List ℕ) (kind : ObjKind) (o : Object) (fit : IsFit kind o) where
   -- its faults are those of its digest and of its rules
-  fit_fault : object_fault d kind (Some o) ≡ or_else (digest_fault d o) (rules_fault kind o)
+  fit_fault : object_fault d kind (Some o) ≡ option_or (digest_fault d o) (rules_fault kind o)
   fit_fault =
-      ap (λ b. or_else (or_else (unless b missing) (content_fault d kind o)) (dir_mode_fault kind (Some o))) fit.kind_is
-      ∙ ap (λ f. or_else (or_else f (or_else (mode_fault o) (or_else (digest_fault d o) (rule_fault kind o)))) (dir_mode_fault kind (Some o))) fit.short
-      ∙ ap (λ f. or_else (or_else f (or_else (digest_fault d o) (rule_fault kind o))) (dir_mode_fault kind (Some o))) (bits_kept o fit.keepable)
+      ap (λ b. option_or (option_or (unless b missing) (content_fault d kind o)) (dir_mode_fault kind (Some o))) fit.kind_is
+      ∙ ap (λ f. option_or (option_or f (option_or (mode_fault o) (option_or (digest_fault d o) (rule_fault kind o)))) (dir_mode_fault kind (Some o))) fit.short
+      ∙ ap (λ f. option_or (option_or f (option_or (digest_fault d o) (rule_fault kind o))) (dir_mode_fault kind (Some o))) (bits_kept o fit.keepable)
       ∙ or_twice (digest_fault d o) (rule_fault kind o) (dir_mode_fault kind (Some o))
 
   -- its digest is another
@@ -59,13 +60,13 @@ module _ (d : List ℕ) (kind : ObjKind) (o : Object) (fit : IsFit kind o) where
   other_digest A got end is off ended =
       let different : bytes_eq (digest_of o) d ≡ false = false_from_ne_true (bytes_eq (digest_of o) d) (λ t. off (is ∙ (bytes_eq-Decides (digest_of o) d).0 t)) in
       refuses d kind (object_fault d kind (Some o)) (faults.Corrupt got) end ended
-      (fit_fault ∙ ap (λ b. or_else (unless b (corrupt (digest_of o))) (rules_fault kind o)) different ∙ ap (λ (x : List ℕ). Some (corrupt x)) (sym is))
+      (fit_fault ∙ ap (λ b. option_or (unless b (corrupt (digest_of o))) (rules_fault kind o)) different ∙ ap (λ (x : List ℕ). Some (corrupt x)) (sym is))
 
   -- or it is the one that the digest names, and its rules decide
   pub own_digest : {A : Type 0} (got : List ℕ) (r : Result A WalkEnd) → got ≡ digest_of o → got ≡ d → EndsBy (λ a. rules_fault kind o ≡ None) (IsFaultOf d kind (rules_fault kind o)) r → Checks d kind o r
   own_digest got r is same tells =
       let own : bytes_eq (digest_of o) d ≡ true = (bytes_eq-Decides (digest_of o) d).1 (sym is ∙ same) in
-      by_rules r (fit_fault ∙ ap (λ b. or_else (unless b (corrupt (digest_of o))) (rules_fault kind o)) own) tells
+      by_rules r (fit_fault ∙ ap (λ b. option_or (unless b (corrupt (digest_of o))) (rules_fault kind o)) own) tells
     where
       by_rules : {A : Type 0} (s : Result A WalkEnd) → object_fault d kind (Some o) ≡ rules_fault kind o → EndsBy (λ a. rules_fault kind o ≡ None) (IsFaultOf d kind (rules_fault kind o)) s → Checks d kind o s
       by_rules (Ok a) e t = e ∙ t
@@ -81,10 +82,10 @@ mapped_err : (read : Result CommitView Rule) (rule : Rule) → mapped root_in re
 mapped_err (Ok v) rule is = absurd (cc is)
 mapped_err (Err other) rule is = let same : other ≡ rule = cc is in ap (λ (r : Rule). Some r) same
 
-pub commit_reads : (read : Result CommitView Rule) (root : List ℕ × List ℕ) → mapped root_in read ≡ Ok root → or_else (as_malformed (if_broken read)) None ≡ None
-commit_reads read root is = ap (λ f. or_else (as_malformed f) None) (mapped_ok read root is)
+pub commit_reads : (read : Result CommitView Rule) (root : List ℕ × List ℕ) → mapped root_in read ≡ Ok root → option_or (as_malformed (if_broken read)) None ≡ None
+commit_reads read root is = ap (λ f. option_or (as_malformed f) None) (mapped_ok read root is)
 
 pub commit_breaks : (d : List ℕ) (read : Result CommitView Rule) (error : ObjectError) → Breaks error (mapped root_in read)
-    → RefusesBy (IsFaultOf d kinds.Commit (or_else (as_malformed (if_broken read)) None)) (unread_end d kinds.Commit error)
-commit_breaks d read (unread.Malformed rule) broken = record { digest = refl; kind_is = refl; fault_is = ap (λ f. or_else (as_malformed f) None) (mapped_err read rule broken) }
+    → RefusesBy (IsFaultOf d kinds.Commit (option_or (as_malformed (if_broken read)) None)) (unread_end d kinds.Commit error)
+commit_breaks d read (unread.Malformed rule) broken = record { digest = refl; kind_is = refl; fault_is = ap (λ f. option_or (as_malformed f) None) (mapped_err read rule broken) }
 commit_breaks d read unread.NoMemory broken = tt

@@ -1,5 +1,6 @@
 -- The head of a ref: its commit, checked as far as an installer has to know it.
 use Rattle.std.specs.Prelude.{◌≡◌, ℕ, Bool, true, false, List, [], ◌∷◌, length, codes, leb, Option, Some, None, Result, Ok, Err, if◌then◌else◌}
+use Rattle.std.specs.Option.{option_or}
 use Rattle.std.specs.List.{list_any}
 use Rattle.std.specs.Str.{bytes_eq}
 use Rattle.fp_base.specs.declared.object.ObjKind.TheVariants as kinds
@@ -19,7 +20,7 @@ use Rattle.ost_model.specs.declared.limits.TheConstants.{MOST_METADATA_FILE_BYTE
 use Rattle.ost_model.specs.declared.object.Object.{Object}
 use Rattle.ost_model.specs.declared.object.Object.TheVariants as objects
 use Rattle.ost_model.specs.Fields.{CommitView, TreeView}
-use Rattle.ost_model.specs.Objects.{Have, or_else}
+use Rattle.ost_model.specs.Objects.{Have}
 use Rattle.ost_model.specs.Order.{commit_at, tree_at}
 use Rattle.ost_model.specs.Look.{Found, nothing, directory, file_at, entry_in}
 use Rattle.ost_model.specs.Binding.{binding_in}
@@ -45,7 +46,7 @@ age_refused name (Some have) offered =
 
 abbrev pub commit_refused : Ref → Option ℕ → CommitView → Option Refusal
 commit_refused name since c =
-    or_else (binding_refused name (binding_in c.metadata)) (age_refused name since c.timestamp)
+    option_or (binding_refused name (binding_in c.metadata)) (age_refused name since c.timestamp)
 
 -- ---- the root
 
@@ -112,7 +113,7 @@ metadata_at have name commit time nothing = Err (no_metadata name)
 
 abbrev pub head_in : Have → Ref → List ℕ → Option ℕ → CommitView → TreeView → Result Head Refusal
 head_in have name commit since c v = unless_refused
-    (or_else (commit_refused name since c) (root_refused commit v))
+    (option_or (commit_refused name since c) (root_refused commit v))
     (metadata_at have name commit c.timestamp (entry_in (codes "metadata") (Some v)))
 
 abbrev pub with_tree : Have → Ref → List ℕ → Option ℕ → CommitView → Option TreeView

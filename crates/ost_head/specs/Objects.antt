@@ -1,9 +1,10 @@
 -- Objects that are read and judged.
 use Rattle.std.specs.Prelude.{◌≡◌, ⊤, ℕ, List, true, Option, Some, None, Result, Ok, Err}
+use Rattle.std.specs.Option.{option_or}
 use Rattle.fp_base.specs.declared.object.ObjKind.{ObjKind}
 use Rattle.ost_model.specs.declared.object.Object.{Object}
 use Rattle.ost_model.specs.declared.object.Object.TheVariants as objects
-use Rattle.ost_model.specs.Objects.{Fault, or_else, is_of_kind, length_fault, rule_fault, dir_mode_fault, object_fault}
+use Rattle.ost_model.specs.Objects.{Fault, is_of_kind, length_fault, rule_fault, dir_mode_fault, object_fault}
 use Rattle.ost_store.specs.Stage.{IsKeepable}
 use Rattle.ost_walk.specs.declared.ends.WalkFault.{WalkFault}
 use Rattle.ost_walk.specs.declared.ends.WalkEnd.{WalkEnd}
@@ -56,7 +57,7 @@ JudgesIfThere d kind there (Err end) = RefusesBy (IsFaultThere d kind there) end
 
 -- the rules of the kind, and a directory's permission bits
 abbrev pub rules_fault : ObjKind → Object → Option Fault
-rules_fault kind object = or_else (rule_fault kind object) (dir_mode_fault kind (Some object))
+rules_fault kind object = option_or (rule_fault kind object) (dir_mode_fault kind (Some object))
 
 abbrev pub ChecksRules : {A : Type 0} → List ℕ → ObjKind → List ℕ → Result A WalkEnd → Type 0
 ChecksRules d kind bytes result = EndsBy (λ a. rules_fault kind (objects.Meta bytes) ≡ None)

@@ -1,7 +1,8 @@
 //! The head of a ref: its commit, checked as far as an installer has to know it.
 ghost use Rattle.std.specs.Prelude.{◌≡◌, Some, IfOk, codes};
+ghost use Rattle.std.specs.Option.{option_or};
 ghost use Rattle.fp_small.specs.Places.{repo};
-ghost use Rattle.ost_model.specs.Objects.{Have, or_else};
+ghost use Rattle.ost_model.specs.Objects.{Have};
 ghost use Rattle.ost_model.specs.Look.{entry_in, file_at};
 ghost use Rattle.ost_model.specs.Remotes.{Supplies};
 ghost use Rattle.ost_object.specs.Views.{commit_view, tree_view};
@@ -116,7 +117,7 @@ fn refuse_early(
     since: Option<u64>,
     root: &Root,
 ) -> Result<Option<Refusal>, AllocError>
-    ensures { IfOk result (λ r. r ≡ or_else (commit_refused name.now since
+    ensures { IfOk result (λ r. r ≡ option_or (commit_refused name.now since
         (commit_view root.now.commit))
         (root_refused commit.now (tree_view root.now.tree))) }
 {

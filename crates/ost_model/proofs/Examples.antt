@@ -1,5 +1,6 @@
 -- Worked rows, closed by computing.
 use Rattle.std.proofs.Common.{◌≡◌, ℕ, List, [], ◌∷◌, length, Bool, true, false, leb, Option, Some, None, Ok, Err, refl, ap}
+use Rattle.std.specs.Option.{option_or}
 use Rattle.std.specs.Prelude.{codes, replicate, map}
 use Rattle.gv_value.specs.declared.basic.Basic.TheVariants as basics
 use Rattle.gv_value.specs.Shape.{Shape}
@@ -20,7 +21,7 @@ use Rattle.sha2.specs.Sha256.{sha256, digest_bytes, hash_after, compress, rounds
 use Rattle.ost_model.specs.declared.object.Object.{Object}
 use Rattle.ost_model.specs.declared.object.Object.TheVariants as objects
 use Rattle.ost_model.specs.Contents.{is_permission, meta_digest}
-use Rattle.ost_model.specs.Objects.{Fault, too_many, too_deep, too_long, missing, corrupt, malformed, refused_mode, unless, or_else, object_at, length_fault, mode_fault, digest_fault, name_fault, dir_mode_fault, supply, has_good_bits}
+use Rattle.ost_model.specs.Objects.{Fault, too_many, too_deep, too_long, missing, corrupt, malformed, refused_mode, unless, object_at, length_fault, mode_fault, digest_fault, name_fault, dir_mode_fault, supply, has_good_bits}
 use Rattle.ost_model.specs.Order.{Place, limited}
 use Rattle.ost_model.specs.Remotes.{remote_at, remote}
 use Rattle.ost_model.specs.Used.{object_text}
@@ -215,10 +216,10 @@ module _ (d : List ℕ) (kind : ObjKind) (fault : Option Fault) where
 -- a file that is too long comes before its bits, and its bits before its digest
 module _ (d bytes : List ℕ) where
   too_long_first : length bytes ≡ 1073741825 → name_fault d kinds.File (Some (objects.File 0x1FF bytes)) ≡ Some (too_long 1073741825)
-  too_long_first is = ap (λ n. or_else (unless (leb n 1073741824) (too_long n)) (or_else (mode_fault (objects.File 0x1FF bytes)) (or_else (digest_fault d (objects.File 0x1FF bytes)) None))) is
+  too_long_first is = ap (λ n. option_or (unless (leb n 1073741824) (too_long n)) (option_or (mode_fault (objects.File 0x1FF bytes)) (option_or (digest_fault d (objects.File 0x1FF bytes)) None))) is
 
   bits_second : length bytes ≡ 3 → name_fault d kinds.File (Some (objects.File 0x1FF bytes)) ≡ Some (refused_mode 0x1FF)
-  bits_second is = ap (λ n. or_else (unless (leb n 1073741824) (too_long n)) (or_else (mode_fault (objects.File 0x1FF bytes)) (or_else (digest_fault d (objects.File 0x1FF bytes)) None))) is
+  bits_second is = ap (λ n. option_or (unless (leb n 1073741824) (too_long n)) (option_or (mode_fault (objects.File 0x1FF bytes)) (option_or (digest_fault d (objects.File 0x1FF bytes)) None))) is
 
 -- the digest of no bytes, which comes before the rule that they break
 abbrev no_bytes : List ℕ

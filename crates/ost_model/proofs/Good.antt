@@ -1,5 +1,6 @@
 -- Objects without a fault.
 use Rattle.std.proofs.Common.{◌≡◌, ℕ, suc, List, [], ◌∷◌, Bool, true, false, leb, if◌then◌else◌, Option, Some, None, Result, Ok, Err, refl, ◌∙◌, ap}
+use Rattle.std.specs.Option.{option_or}
 use Rattle.fp_base.specs.declared.object.ObjKind.TheVariants as kinds
 use Rattle.fp_base.specs.declared.object.ObjKind.{ObjKind}
 use Rattle.fp_base.specs.declared.rule.Rule.{Rule}
@@ -7,7 +8,7 @@ use Rattle.ost_model.specs.declared.object.Object.{Object}
 use Rattle.ost_model.specs.declared.object.Object.TheVariants as objects
 use Rattle.ost_model.specs.Fields.{CommitView, TreeView}
 use Rattle.ost_model.specs.Readers.{commit_read, commit_of, tree_read, tree_of, if_read, if_broken}
-use Rattle.ost_model.specs.Objects.{Have, Fault, or_else, as_malformed, kind_fault, content_fault, length_fault, mode_fault, digest_fault, rule_fault, name_fault, dir_mode_fault, object_fault}
+use Rattle.ost_model.specs.Objects.{Have, Fault, as_malformed, kind_fault, content_fault, length_fault, mode_fault, digest_fault, rule_fault, name_fault, dir_mode_fault, object_fault}
 use Rattle.ost_model.specs.Order.{Place, read_as, place_fault, walk_fault, of_metadata, found_at, first_of}
 use Rattle.ost_model.proofs.Places.{or_none, found_none}
 
@@ -62,5 +63,5 @@ pub walks_none : (have : Have) (n : ℕ) (ps : List Place) → first_of (place_f
 walks_none have n [] none = refl
 walks_none have n (p ∷ ps) none =
     let both = or_none (found_at p (place_fault have n p)) (first_of (place_fault have) (suc n) ps) none in
-    ap (λ f. or_else f (first_of (walk_fault have) (suc n) ps)) (found_of_none p (walk_fault have n p) (walk_none have n p (found_none p (place_fault have n p) both.0)))
+    ap (λ f. option_or f (first_of (walk_fault have) (suc n) ps)) (found_of_none p (walk_fault have n p) (walk_none have n p (found_none p (place_fault have n p) both.0)))
     ∙ walks_none have (suc n) ps both.1

@@ -1,5 +1,6 @@
 -- What Look finds stands in the order, where no place has a fault.
 use Rattle.std.proofs.Common.{◌≡◌, ◌⊎◌, inl, inr, ℕ, zero, suc, ◌+◌, List, [], ◌∷◌, length, Bool, true, false, leb, Option, Some, None, refl, sym, ◌∙◌, ap, subst, arith}
+use Rattle.std.specs.Option.{option_or}
 use Rattle.std.specs.Prelude.{if◌then◌else◌}
 use Rattle.std.specs.Str.{bytes_eq}
 use Rattle.std.proofs.lemmas.Bool.{false≢true}
@@ -7,7 +8,7 @@ use Rattle.fp_host.specs.Paths.{Elements}
 use Rattle.fp_base.specs.declared.object.ObjKind.TheVariants as kinds
 use Rattle.ost_model.specs.Fields.{DirRow, FileRow, CommitView, TreeView}
 use Rattle.ost_model.specs.Readers.{tree_of, commit_of}
-use Rattle.ost_model.specs.Objects.{Have, too_deep, or_else, object_fault}
+use Rattle.ost_model.specs.Objects.{Have, too_deep, object_fault}
 use Rattle.ost_model.specs.Order.{Place, In, inside, dir_places, file_place, file_places, tree_place, read_as, tree_at, commit_at, below_commit, root_row, commit_place, place_fault, found_at, first_of, order, first_fault, Agree}
 use Rattle.ost_model.specs.Look.{Found, nothing, directory, file_at, find_dir, find_file, either, entry_in, next, at_root, look, found_places, look_places, look_fault, Reached, FileReached}
 use Rattle.ost_model.proofs.Places.{in_left, in_right, in_each, faultless}
@@ -150,7 +151,7 @@ module _ (have : Have) (commit : List ℕ) (none : first_fault have commit ≡ N
   no_fault_in : (n depth : ℕ) (f : Found) → ((e : DirRow) → f ≡ directory e → In (order have commit) (tree_place depth e)) → first_of (λ k. place_fault have 0) n (found_places depth f) ≡ None
   no_fault_in n depth nothing within = refl
   no_fault_in n depth (file_at d) within = refl
-  no_fault_in n depth (directory e) within = ap (λ f. or_else (found_at (tree_place depth e) f) None) (faultless_at (tree_place depth e) (within e refl))
+  no_fault_in n depth (directory e) within = ap (λ f. option_or (found_at (tree_place depth e) f) None) (faultless_at (tree_place depth e) (within e refl))
 
   found_within : (rest : Elements) (e : DirRow) → look have commit rest ≡ directory e → In (order have commit) (tree_place (length rest) e)
   found_within rest e found =
@@ -159,9 +160,9 @@ module _ (have : Have) (commit : List ℕ) (none : first_fault have commit ≡ N
 
   pub no_fault_on_path : (path : Elements) → look_fault have commit path ≡ None
   no_fault_on_path [] =
-      ap (λ f. or_else (found_at (commit_place commit) f) (first_of (λ k. place_fault have 0) 1 (found_places 0 (look have commit [])))) (faultless_at (commit_place commit) (inl refl))
+      ap (λ f. option_or (found_at (commit_place commit) f) (first_of (λ k. place_fault have 0) 1 (found_places 0 (look have commit [])))) (faultless_at (commit_place commit) (inl refl))
       ∙ no_fault_in 1 0 (look have commit []) (found_within [])
   no_fault_on_path (x ∷ up) =
       first_append (λ k. place_fault have 0) 0 (look_places have commit up) (found_places (length (x ∷ up)) (look have commit (x ∷ up)))
-      ∙ ap (λ f. or_else f (first_of (λ k. place_fault have 0) (0 + length (look_places have commit up)) (found_places (length (x ∷ up)) (look have commit (x ∷ up))))) (no_fault_on_path up)
+      ∙ ap (λ f. option_or f (first_of (λ k. place_fault have 0) (0 + length (look_places have commit up)) (found_places (length (x ∷ up)) (look have commit (x ∷ up))))) (no_fault_on_path up)
       ∙ no_fault_in (0 + length (look_places have commit up)) (length (x ∷ up)) (look have commit (x ∷ up)) (found_within (x ∷ up))

@@ -1,7 +1,8 @@
 -- A walk with a work list meets the order, and the first fault.
 use Rattle.std.proofs.Common.{◌≡◌, ◌≤◌, ◌-◌, ℕ, zero, suc, ◌+◌, List, [], ◌∷◌, ◌++◌, Option, Some, None, refl, sym, ◌∙◌, ap, append_assoc, append-nil, length, arith}
+use Rattle.std.specs.Option.{option_or}
 use Rattle.ost_model.specs.Fields.{DirRow, TreeView}
-use Rattle.ost_model.specs.Objects.{Have, Fault, or_else}
+use Rattle.ost_model.specs.Objects.{Have, Fault}
 use Rattle.ost_model.specs.Order.{Place, each_in, inside, dir_places, tree_at, order, first_of, found_at}
 use Rattle.ost_model.specs.Walk.{Open, open_row, open_at, open_places, pending, opened, heads, own_places, Walked}
 
@@ -48,14 +49,14 @@ as_read have o v left low reads =
 -- ---- the first fault
 
 -- the first of two lists of places, one after the other
-pub first_append : (test : ℕ → Place → Option Fault) (n : ℕ) (xs ys : List Place) → first_of test n (xs ++ ys) ≡ or_else (first_of test n xs) (first_of test (n + length xs) ys)
+pub first_append : (test : ℕ → Place → Option Fault) (n : ℕ) (xs ys : List Place) → first_of test n (xs ++ ys) ≡ option_or (first_of test n xs) (first_of test (n + length xs) ys)
 first_append test n [] ys = ap (λ k. first_of test k ys) (omega arith)
 first_append test n (x ∷ xs) ys = go (found_at x (test n x)) (first_append test (suc n) xs ys)
   where
-    go : (f : Option (Place × Fault)) → first_of test (suc n) (xs ++ ys) ≡ or_else (first_of test (suc n) xs) (first_of test (suc n + length xs) ys)
-        → or_else f (first_of test (suc n) (xs ++ ys)) ≡ or_else (or_else f (first_of test (suc n) xs)) (first_of test (n + length (x ∷ xs)) ys)
+    go : (f : Option (Place × Fault)) → first_of test (suc n) (xs ++ ys) ≡ option_or (first_of test (suc n) xs) (first_of test (suc n + length xs) ys)
+        → option_or f (first_of test (suc n) (xs ++ ys)) ≡ option_or (option_or f (first_of test (suc n) xs)) (first_of test (n + length (x ∷ xs)) ys)
     go (Some f) e = refl
-    go None e = e ∙ ap (λ k. or_else (first_of test (suc n) xs) (first_of test k ys)) (omega arith)
+    go None e = e ∙ ap (λ k. option_or (first_of test (suc n) xs) (first_of test k ys)) (omega arith)
 
 plus : (l : List Place) → 0 + length l ≡ length l
 plus l = omega arith
@@ -68,7 +69,7 @@ module _ {have : Have} {test : ℕ → Place → Option Fault} {commit : List �
       → tree_at have o.tree ≡ Some v → first_of test (length done) (own_places o v) ≡ None → Walked have test commit (done ++ own_places o v) (opened (suc o.depth) v.dirs ++ left)
   walked_dir {done = done} {left = left} o v w low reads clean = record {
     same = w.same ∙ ap (λ l. done ++ l) (as_read have o v left low reads) ∙ sym (append_assoc done (own_places o v) (pending have (opened (suc o.depth) v.dirs ++ left)));
-    clean = first_append test 0 done (own_places o v) ∙ ap (λ f. or_else f (first_of test (0 + length done) (own_places o v))) w.clean ∙ ap (λ k. first_of test k (own_places o v)) (plus done) ∙ clean;
+    clean = first_append test 0 done (own_places o v) ∙ ap (λ f. option_or f (first_of test (0 + length done) (own_places o v))) w.clean ∙ ap (λ k. first_of test k (own_places o v)) (plus done) ∙ clean;
   }
 
   -- the end: what is done is the order, and it has no fault
@@ -79,5 +80,5 @@ module _ {have : Have} {test : ℕ → Place → Option Fault} {commit : List �
   pub walked_fault : {done : List Place} {left : List Open} {p : Place} {f : Fault} (next more : List Place) → Walked have test commit done left → pending have left ≡ next ++ more
       → first_of test (length done) next ≡ Some (p, f) → first_of test 0 (order have commit) ≡ Some (p, f)
   walked_fault {done = done} {left = left} next more w splits found =
-      ap (first_of test 0) (w.same ∙ ap (λ l. done ++ l) splits) ∙ first_append test 0 done (next ++ more) ∙ ap (λ f. or_else f (first_of test (0 + length done) (next ++ more))) w.clean
-      ∙ ap (λ k. first_of test k (next ++ more)) (plus done) ∙ first_append test (length done) next more ∙ ap (λ f. or_else f (first_of test (length done + length next) more)) found
+      ap (first_of test 0) (w.same ∙ ap (λ l. done ++ l) splits) ∙ first_append test 0 done (next ++ more) ∙ ap (λ f. option_or f (first_of test (0 + length done) (next ++ more))) w.clean
+      ∙ ap (λ k. first_of test k (next ++ more)) (plus done) ∙ first_append test (length done) next more ∙ ap (λ f. option_or f (first_of test (length done + length next) more)) found

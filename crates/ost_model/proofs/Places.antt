@@ -1,9 +1,10 @@
 -- Places of an order, and what keeps an order the same.
 use Rattle.std.proofs.Common.{◌≡◌, inl, inr, ℕ, zero, suc, List, [], ◌∷◌, ◌++◌, Bool, true, false, leb, Option, Some, None, refl, sym, ◌∙◌, ap, subst}
+use Rattle.std.specs.Option.{option_or}
 use Rattle.std.specs.Prelude.{if◌then◌else◌}
 use Rattle.ost_model.specs.Fields.{DirRow, CommitView, TreeView}
 use Rattle.ost_model.specs.Readers.{tree_of, commit_of}
-use Rattle.ost_model.specs.Objects.{Have, Fault, too_many, too_deep, or_else, object_fault}
+use Rattle.ost_model.specs.Objects.{Have, Fault, too_many, too_deep, object_fault}
 use Rattle.ost_model.specs.Order.{Place, In, each_in, inside, dir_places, file_places, tree_place, meta_place, read_as, tree_at, commit_at, below_commit, root_row, commit_place, order, limited, place_fault, found_at, first_of, first_fault, Agree}
 
 pub in_left : {A : Type 0} (xs ys : List A) (a : A) → In xs a → In (xs ++ ys) a
@@ -46,13 +47,13 @@ order_same i j commit agree = ap (λ l. commit_place commit ∷ l) (ap (below_co
 pub faults_same : (i j : Have) (n : ℕ) (ps : List Place) → Agree i j ps → first_of (place_fault j) n ps ≡ first_of (place_fault i) n ps
 faults_same i j n [] agree = refl
 faults_same i j n (p ∷ ps) agree =
-    ap (λ t. or_else (found_at p (limited n p (object_fault p.digest p.kind t))) (first_of (place_fault j) (suc n) ps)) (agree p (inl refl))
-    ∙ ap (or_else (found_at p (place_fault i n p))) (faults_same i j (suc n) ps (λ q h. agree q (inr h)))
+    ap (λ t. option_or (found_at p (limited n p (object_fault p.digest p.kind t))) (first_of (place_fault j) (suc n) ps)) (agree p (inl refl))
+    ∙ ap (option_or (found_at p (place_fault i n p))) (faults_same i j (suc n) ps (λ q h. agree q (inr h)))
 
 pub first_same : (i j : Have) (commit : List ℕ) → Agree i j (order i commit) → first_fault j commit ≡ first_fault i commit
 first_same i j commit agree = ap (first_of (place_fault j) 0) (order_same i j commit agree) ∙ faults_same i j 0 (order i commit) agree
 
-pub or_none : {A : Type 0} (a b : Option A) → or_else a b ≡ None → (a ≡ None) × (b ≡ None)
+pub or_none : {A : Type 0} (a b : Option A) → option_or a b ≡ None → (a ≡ None) × (b ≡ None)
 or_none None b e = (refl, e)
 or_none (Some a) b e = absurd (cc e)
 

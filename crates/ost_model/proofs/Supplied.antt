@@ -1,5 +1,6 @@
 -- The sample commit, offered by a remote.
 use Rattle.std.proofs.Common.{◌≡◌, inl, inr, ℕ, List, [], ◌∷◌, Option, Some, None, if◌then◌else◌, refl, ◌∙◌, ap, subst}
+use Rattle.std.specs.Option.{option_or}
 use Rattle.fp_host.specs.Paths.{Elements, path_eq}
 use Rattle.fp_host.specs.Moments.{Moments}
 use Rattle.fp_host.specs.Outcome.{shows}
@@ -8,7 +9,7 @@ use Rattle.fp_name.specs.Hex.{hex}
 use Rattle.fp_base.specs.declared.object.ObjKind.{ObjKind}
 use Rattle.fp_base.specs.declared.object.ObjKind.TheVariants as kinds
 use Rattle.ost_model.specs.declared.object.Object.{Object}
-use Rattle.ost_model.specs.Objects.{Have, or_else, object_path, store, supply}
+use Rattle.ost_model.specs.Objects.{Have, object_path, store, supply}
 use Rattle.ost_model.specs.Order.{Place, In, first_fault}
 use Rattle.ost_model.specs.Remotes.{remote, remote_at}
 use Rattle.ost_model.proofs.Places.{first_same}
@@ -53,7 +54,7 @@ module _ (m : Moments) (url : List ℕ) (none : (d : List ℕ) (kind : ObjKind) 
 
   -- what the store lacks is the remote's
   from_remote : (d : List ℕ) (kind : ObjKind) → supply (store [] (shows m.now)) (remote offered (Some url)) d kind ≡ remote_at offered url d kind
-  from_remote d kind = ap (λ (o : Option Object). or_else o (remote_at offered url d kind)) (none d kind)
+  from_remote d kind = ap (λ (o : Option Object). option_or o (remote_at offered url d kind)) (none d kind)
 
   agrees : (p : Place) → In (place commit kinds.Commit 0 ∷ place tree kinds.DirTree 0 ∷ place meta kinds.DirMeta 0 ∷ place empty_file kinds.File 0 ∷ place empty_tree kinds.DirTree 1 ∷ place meta kinds.DirMeta 1 ∷ []) p
       → supply (store [] (shows m.now)) (remote offered (Some url)) p.digest p.kind ≡ have p.digest p.kind

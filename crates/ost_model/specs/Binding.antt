@@ -1,5 +1,6 @@
 -- The refs that a commit is bound to.
 use Rattle.std.specs.Prelude.{ℕ, Bool, true, false, List, Option, Some, None, option_and_then, if◌then◌else◌}
+use Rattle.std.specs.Option.{option_or}
 use Rattle.std.specs.Str.{bytes_eq}
 use Rattle.gv_value.specs.declared.basic.Basic.TheVariants as basics
 use Rattle.gv_value.specs.Shape.{Shape}
@@ -20,14 +21,10 @@ abbrev pub named_in : List ℕ → Tree → Option Tree
 named_in name (Tree.entry key v) = if is_named name key then Some v else None
 named_in name _ = None
 
-abbrev pub later : {A : Type 0} → Option A → Option A → Option A
-later (Some b) a = Some b
-later None a = a
-
 -- the value of the last entry of this name
 abbrev pub last_named : List ℕ → Trees → Option Tree
 last_named name no_trees = None
-last_named name (tree v vs) = later (last_named name vs) (named_in name v)
+last_named name (tree v vs) = option_or (last_named name vs) (named_in name v)
 
 abbrev pub is_text : Shape → Bool
 is_text (Shape.basic basics.Str) = true

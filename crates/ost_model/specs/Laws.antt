@@ -1,5 +1,6 @@
 -- What holds of all stores, commits and disks.
 use Rattle.std.specs.Prelude.{◌≡◌, ◌⊎◌, true, ℕ, suc, List, [], ◌∷◌, ◌++◌, ◌+◌, ◌≤◌, length, Bool, Option, Some, None}
+use Rattle.std.specs.Option.{option_or}
 use Rattle.fp_host.specs.Paths.{Elements}
 use Rattle.fp_name.specs.Hex.{is_digest}
 use Rattle.fp_host.specs.Outcome.{Disk, gone, shows}
@@ -9,7 +10,7 @@ use Rattle.fp_base.specs.declared.object.ObjKind.{ObjKind}
 use Rattle.fp_base.specs.declared.object.ObjKind.TheVariants as kinds
 use Rattle.ost_model.specs.declared.limits.TheConstants.{MOST_LEVELS}
 use Rattle.ost_model.specs.Fields.{DirRow, TreeView, CommitView}
-use Rattle.ost_model.specs.Objects.{Have, Fault, Named, object_path, object_fault, or_else, store, supply}
+use Rattle.ost_model.specs.Objects.{Have, Fault, Named, object_path, object_fault, store, supply}
 use Rattle.ost_model.specs.Order.{Place, Agree, order, first_fault, first_walk_fault, first_of, tree_at, commit_at}
 use Rattle.ost_model.specs.Look.{look, look_fault, directory, file_at, Reached, FileReached}
 use Rattle.ost_model.specs.Standing.{Stands, SameBelow, SameObjects}
@@ -103,7 +104,7 @@ GoodCommitsAreRead =
 -- the first fault of two lists, one after the other
 abbrev pub FirstOfTwo : Type 0
 FirstOfTwo = (test : ℕ → Place → Option Fault) (n : ℕ) (xs ys : List Place)
-    → first_of test n (xs ++ ys) ≡ or_else (first_of test n xs) (first_of test (n + length xs) ys)
+    → first_of test n (xs ++ ys) ≡ option_or (first_of test n xs) (first_of test (n + length xs) ys)
 
 -- all metadata objects of an order that has no fault are without one
 abbrev pub WalkFaultsAreFaults : Type 0

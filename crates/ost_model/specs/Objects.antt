@@ -1,5 +1,6 @@
 -- Objects of a store, and what is wrong with one.
 use Rattle.std.specs.Prelude.{◌≡◌, ℕ, List, ◌∷◌, ◌++◌, ◌%◌, length, take, drop, Bool, true, false, not, leb, if◌then◌else◌, Option, Some, None, codes}
+use Rattle.std.specs.Option.{option_or}
 use Rattle.std.specs.Str.{bytes_eq}
 use Rattle.fp_name.specs.Hex.{hex}
 use Rattle.fp_host.specs.Paths.{Elements, is_link_text}
@@ -63,14 +64,9 @@ pub data Fault : Type 0 where
   corrupt : List ℕ → Fault
   malformed : Rule → Fault
 
--- the first that there is
-abbrev pub or_else : {A : Type 0} → Option A → Option A → Option A
-or_else None b = b
-or_else (Some a) b = Some a
-
 -- Supply: an object is the store's where the store has it, else the remote's.
 abbrev pub supply : Have → Have → Have
-supply own remote d kind = or_else (own d kind) (remote d kind)
+supply own remote d kind = option_or (own d kind) (remote d kind)
 
 abbrev pub unless : Bool → Fault → Option Fault
 unless true f = None
@@ -112,14 +108,14 @@ kind_fault kind object = unless (is_of_kind kind object) missing
 
 -- what keeps an object of the kind from being the one that its digest names
 abbrev pub content_fault : List ℕ → ObjKind → Object → Option Fault
-content_fault d kind object = or_else (length_fault object)
-    (or_else (mode_fault object) (or_else (digest_fault d object) (rule_fault kind object)))
+content_fault d kind object = option_or (length_fault object)
+    (option_or (mode_fault object) (option_or (digest_fault d object) (rule_fault kind object)))
 
 -- what keeps an object from being the one that its digest names, in the order in which it is looked
 -- for
 abbrev pub name_fault : List ℕ → ObjKind → Option Object → Option Fault
 name_fault d kind None = Some missing
-name_fault d kind (Some object) = or_else (kind_fault kind object) (content_fault d kind object)
+name_fault d kind (Some object) = option_or (kind_fault kind object) (content_fault d kind object)
 
 abbrev pub dir_bits : Option MetaView → Option Fault
 dir_bits None = None
@@ -131,7 +127,7 @@ dir_mode_fault kind object = None
 
 -- the same of an object that is to be used: a directory's permission bits are within 0775 too
 abbrev pub object_fault : List ℕ → ObjKind → Option Object → Option Fault
-object_fault d kind object = or_else (name_fault d kind object) (dir_mode_fault kind object)
+object_fault d kind object = option_or (name_fault d kind object) (dir_mode_fault kind object)
 
 abbrev pub has_good_bits : Spot → Bool
 has_good_bits (holds id mode bytes) = is_permission mode

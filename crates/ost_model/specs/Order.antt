@@ -1,5 +1,6 @@
 -- The objects of a commit in order, with repeats, and the first of them that has a fault.
 use Rattle.std.specs.Prelude.{◌≡◌, ◌⊎◌, ℕ, zero, suc, List, [], ◌∷◌, ◌++◌, leb, if◌then◌else◌, Option, Some, None}
+use Rattle.std.specs.Option.{option_or}
 use Rattle.fp_base.specs.declared.object.ObjKind.{ObjKind}
 use Rattle.fp_base.specs.declared.object.ObjKind.TheVariants as kinds
 use Rattle.ost_model.specs.declared.limits.TheConstants.{MOST_OBJECTS, MOST_LEVELS}
@@ -7,7 +8,7 @@ use Rattle.ost_model.specs.declared.object.Object.{Object}
 use Rattle.ost_model.specs.declared.object.Object.TheVariants as objects
 use Rattle.ost_model.specs.Fields.{DirRow, FileRow, CommitView, TreeView}
 use Rattle.ost_model.specs.Readers.{commit_of, tree_of}
-use Rattle.ost_model.specs.Objects.{Have, Fault, too_many, too_deep, or_else, object_fault}
+use Rattle.ost_model.specs.Objects.{Have, Fault, too_many, too_deep, object_fault}
 
 -- a place of the order: an object, and how far below the root its directory is
 pub record Place : Type 0 where
@@ -92,7 +93,7 @@ found_at p (Some f) = Some (p, f)
 -- the first fault that a test finds, with its place; n places stand before these
 abbrev pub first_of : (ℕ → Place → Option Fault) → ℕ → List Place → Option (Place × Fault)
 first_of test n [] = None
-first_of test n (p ∷ ps) = or_else (found_at p (test n p)) (first_of test (suc n) ps)
+first_of test n (p ∷ ps) = option_or (found_at p (test n p)) (first_of test (suc n) ps)
 
 -- FirstFault
 abbrev pub first_fault : Have → List ℕ → Option (Place × Fault)

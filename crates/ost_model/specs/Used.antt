@@ -1,9 +1,10 @@
 -- The objects that commits use.
 use Rattle.std.specs.Prelude.{◌≡◌, ◌↔◌, ℕ, List, [], ◌∷◌, map, true, Option, None, Contains}
+use Rattle.std.specs.Option.{option_or}
 use Rattle.fp_host.specs.Paths.{path_text}
 use Rattle.fp_host.specs.Reads.{is_ascending}
 use Rattle.fp_base.specs.declared.object.ObjKind.{ObjKind}
-use Rattle.ost_model.specs.Objects.{Have, Fault, or_else, object_path}
+use Rattle.ost_model.specs.Objects.{Have, Fault, object_path}
 use Rattle.ost_model.specs.Order.{Place, In, order, first_walk_fault}
 
 -- Used: the object stands in the order of one of the commits
@@ -28,4 +29,4 @@ pub record ListsUsed (have : Have) (commits : List (List ℕ))
 abbrev pub used_fault : Have → List (List ℕ) → Option (Place × Fault)
 used_fault have [] = None
 used_fault have (commit ∷ commits) =
-    or_else (first_walk_fault have commit) (used_fault have commits)
+    option_or (first_walk_fault have commit) (used_fault have commits)

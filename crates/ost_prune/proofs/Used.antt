@@ -1,5 +1,6 @@
 -- The texts of the objects that commits use.
 use Rattle.std.proofs.Common.{◌≡◌, inl, inr, ◌<◌, ◌+◌, ℕ, suc, Bool, true, false, ◌||◌, cond, List, [], ◌∷◌, ◌++◌, take, get_or, length, Option, None, refl, sym, ◌∙◌, ap, subst, Contains, arith}
+use Rattle.std.specs.Option.{option_or}
 use Rattle.std.specs.Prelude.{IsErrOf, Err}
 use Rattle.std.specs.List.{list_any}
 use Rattle.std.specs.Str.{bytes_eq}
@@ -17,7 +18,7 @@ use Rattle.fp_host.specs.declared.host.HostEnd.{HostEnd}
 use Rattle.fp_host.specs.declared.host.HostEnd.TheVariants as host_ends
 use Rattle.fp_host.proofs.Goes.{knowing}
 use Rattle.fp_base.specs.declared.object.ObjKind.{ObjKind}
-use Rattle.ost_model.specs.Objects.{Have, or_else, store}
+use Rattle.ost_model.specs.Objects.{Have, store}
 use Rattle.ost_model.specs.Order.{order, first_fault}
 use Rattle.ost_model.specs.Used.{used_fault}
 use Rattle.ost_model.proofs.Stores.{one_name}
@@ -114,7 +115,7 @@ used_texts_of root keep v objects has list texts = record {
 pub none_faulty : (have : Have) (keep : List (List ℕ)) → ((commit : List ℕ) → Contains keep commit → first_fault have commit ≡ None) → used_fault have keep ≡ None
 none_faulty have [] whole = refl
 none_faulty have (commit ∷ keep) whole =
-    ap (λ f. or_else f (used_fault have keep)) (walks_none have 0 (order have commit) (whole commit (in_first commit keep)))
+    ap (λ f. option_or f (used_fault have keep)) (walks_none have 0 (order have commit) (whole commit (in_first commit keep)))
     ∙ none_faulty have keep (λ c h. whole c (in_rest commit keep c h))
 
 -- ---- over the moments

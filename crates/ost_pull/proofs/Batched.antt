@@ -1,5 +1,6 @@
 -- Batches of objects.
 use Rattle.std.proofs.Common.{◌≡◌, ◌⊎◌, ◌<◌, ◌+◌, inl, inr, ℕ, suc, List, [], ◌∷◌, ◌++◌, get_or, length, true, false, Bool, zero, Option, Some, None, refl, sym, ◌∙◌, ap, subst, arith}
+use Rattle.std.specs.Option.{option_or}
 use Rattle.std.specs.Prelude.{is_some, IfOk, IfSome, Result, Ok, Err}
 use Rattle.std.proofs.lemmas.List.{length-append, append-nil, get_or_append_left, get_or_push, get_or_read, get_or_default, get_or-map}
 use Rattle.fp_host.specs.Paths.{Elements}
@@ -16,7 +17,7 @@ use Rattle.fp_base.specs.declared.object.ObjKind.{ObjKind}
 use Rattle.par_digest.specs.declared.item.Item.{Item}
 use Rattle.par_digest.specs.Digests.{item_digest, item_digests}
 use Rattle.ost_model.specs.declared.object.Object.{Object}
-use Rattle.ost_model.specs.Objects.{Have, object_fault, or_else, store, digest_of}
+use Rattle.ost_model.specs.Objects.{Have, object_fault, store, digest_of}
 use Rattle.ost_model.specs.Remotes.{Supplies, remote_at}
 use Rattle.ost_store.specs.Reads.{IsThere}
 use Rattle.ost_walk.specs.declared.ends.WalkEnd.{WalkEnd}
@@ -174,7 +175,7 @@ digest_at items digests place item got low are is got_is =
 -- an object that the store lacks is the remote's
 pub new_is : {root : Elements} {url : List ℕ} {told : Option Moments} {holds : Option Holdings} {have : Have} (d : List ℕ) (kind : ObjKind) (object : Object) → Supplies root (Some url) told holds have → IsNew root url told holds d kind object → have d kind ≡ Some object
 new_is {url = url} d kind object s new =
-    ap (λ (f : Have). f d kind) s.is ∙ ap (λ (x : Option Object). or_else x (remote_at s.held url d kind)) (new.none.is s.moments s.told_is) ∙ new.there.is s.held s.holdings_are
+    ap (λ (f : Have). f d kind) s.is ∙ ap (λ (x : Option Object). option_or x (remote_at s.held url d kind)) (new.none.is s.moments s.told_is) ∙ new.there.is s.held s.holdings_are
 
 pub new_good : {root : Elements} {url : List ℕ} {told : Option Moments} {holds : Option Holdings} {have : Have} (d : List ℕ) (kind : ObjKind) (object : Object) → Supplies root (Some url) told holds have → IsNew root url told holds d kind object → object_fault d kind (Some object) ≡ None → IsGood have d kind
 new_good d kind object s new good = record { good = ap (object_fault d kind) (new_is d kind object s new) ∙ good }

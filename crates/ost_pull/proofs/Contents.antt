@@ -1,5 +1,6 @@
 -- Files and links of the remote that are kept in the work folder.
 use Rattle.std.proofs.Common.{◌≡◌, inl, inr, ℕ, List, true, Option, Some, None, Result, Ok, Err, refl, sym, ◌∙◌, ap, subst}
+use Rattle.std.specs.Option.{option_or}
 use Rattle.std.specs.Prelude.{IsErrOf}
 use Rattle.std.specs.Result.{IsErrAnd}
 use Rattle.std.proofs.lemmas.Result.{err_from_is_err_and}
@@ -19,7 +20,7 @@ use Rattle.fp_name.specs.Hex.{is_digest}
 use Rattle.fp_base.specs.declared.object.ObjKind.{ObjKind}
 use Rattle.fp_base.specs.declared.object.ObjKind.TheVariants as kinds
 use Rattle.ost_model.specs.declared.object.Object.{Object}
-use Rattle.ost_model.specs.Objects.{Fault, or_else, object_path, object_fault, name_fault, dir_mode_fault}
+use Rattle.ost_model.specs.Objects.{Fault, object_path, object_fault, name_fault, dir_mode_fault}
 use Rattle.ost_model.specs.Order.{In}
 use Rattle.ost_model.specs.Remotes.{remote_at}
 use Rattle.ost_walk.specs.declared.ends.WalkEnd.{WalkEnd}
@@ -59,7 +60,7 @@ works_bring t p d good at told inner so_far =
 -- ---- what is kept already
 
 pub good_of_named : (d : List ℕ) (object : Object) → name_fault d kinds.File (Some object) ≡ None → object_fault d kinds.File (Some object) ≡ None
-good_of_named d object named = ap (λ (f : Option Fault). or_else f (dir_mode_fault kinds.File (Some object))) named
+good_of_named d object named = ap (λ (f : Option Fault). option_or f (dir_mode_fault kinds.File (Some object))) named
 
 pub kept_good : {t : Elements} {url : List ℕ} {holds : Option Holdings} {kept : List (List ℕ × ObjKind)} {v : View} (d : List ℕ) (held : Holdings) → holds ≡ Some held → AreKept t url holds kept v → In kept (d, kinds.File)
     → object_fault d kinds.File (remote_at held url d kinds.File) ≡ None

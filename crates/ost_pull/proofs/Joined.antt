@@ -1,5 +1,6 @@
 -- Batches that are taken one after another.
 use Rattle.std.proofs.Common.{◌≡◌, ◌⊎◌, ◌≤◌, inl, inr, ℕ, List, [], ◌∷◌, ◌++◌, take, drop, Option, Some, None, sym, ◌∙◌, ap, subst}
+use Rattle.std.specs.Option.{option_or}
 use Rattle.std.specs.List.{between}
 use Rattle.std.proofs.lemmas.List.{take-append-drop, take-take}
 use Rattle.std.proofs.lemmas.List.Edits.{split_between}
@@ -7,7 +8,7 @@ use Rattle.std.proofs.lemmas.Slice.{between_is}
 use Rattle.fp_host.specs.Paths.{Elements}
 use Rattle.fp_host.specs.View.{View, IsTree}
 use Rattle.fp_host.specs.Remote.{Holdings}
-use Rattle.ost_model.specs.Objects.{Have, or_else}
+use Rattle.ost_model.specs.Objects.{Have}
 use Rattle.ost_model.specs.Order.{In}
 use Rattle.ost_walk.specs.declared.ends.WalkEnd.{WalkEnd}
 use Rattle.ost_walk.specs.declared.ends.WalkEnd.TheVariants as ends
@@ -83,15 +84,15 @@ module _ (objects : List Named) (i j : ℕ) (le : i ≤ j) (start before after :
 module _ (have : Have) (objects : List Named) (i j : ℕ) (le : i ≤ j) (so_far : first_bad have (take i objects) ≡ None) where
   pub good_more : first_bad have (between i j objects) ≡ None → first_bad have (take j objects) ≡ None
   good_more next =
-      ap (first_bad have) (up_to objects i j le) ∙ bad_append have (take i objects) (between i j objects) ∙ ap (λ f. or_else f (first_bad have (between i j objects))) so_far ∙ next
+      ap (first_bad have) (up_to objects i j le) ∙ bad_append have (take i objects) (between i j objects) ∙ ap (λ f. option_or f (first_bad have (between i j objects))) so_far ∙ next
 
   pub bad_more : (end : WalkEnd) → RefusesBy (λ w. first_bad have (between i j objects) ≡ Some (told_fault w)) end → RefusesBy (λ w. first_bad have objects ≡ Some (told_fault w)) end
   bad_more (ends.Refused w) is =
       ap (first_bad have) (split_between objects i j le)
       ∙ bad_append have (take i objects) (between i j objects ++ drop j objects)
-      ∙ ap (λ f. or_else f (first_bad have (between i j objects ++ drop j objects))) so_far
+      ∙ ap (λ f. option_or f (first_bad have (between i j objects ++ drop j objects))) so_far
       ∙ bad_append have (between i j objects) (drop j objects)
-      ∙ ap (λ f. or_else f (first_bad have (drop j objects))) is
+      ∙ ap (λ f. option_or f (first_bad have (drop j objects))) is
   bad_more ends.HostFault is = tt
   bad_more ends.RemoteFault is = tt
   bad_more ends.NoMemory is = tt

@@ -1,5 +1,6 @@
 -- Small objects of a remote that are read whole.
 use Rattle.std.proofs.Common.{◌≡◌, ◌≤◌, ◌*◌, ◌++◌, ℕ, List, [], length, true, false, Option, Some, None, refl, sym, ◌∙◌, ap, subst, arith}
+use Rattle.std.specs.Option.{option_or}
 use Rattle.std.specs.Prelude.{not, if◌then◌else◌, IfOk, IfSome, Result, Ok, Err}
 use Rattle.std.specs.Str.{bytes_eq}
 use Rattle.std.proofs.lemmas.Bool.{le-leb}
@@ -15,7 +16,7 @@ use Rattle.fp_base.specs.declared.object.ObjKind.TheVariants as kinds
 use Rattle.ost_model.specs.declared.object.Object.{Object}
 use Rattle.ost_model.specs.declared.object.Object.TheVariants as objects
 use Rattle.ost_model.specs.Contents.{is_permission, header, link_header, file_digest, link_digest, meta_digest}
-use Rattle.ost_model.specs.Objects.{Fault, missing, too_long, refused_mode, corrupt, or_else, unless, as_malformed, may_be_link, digest_of, digest_fault, mode_fault, rule_fault, content_fault, dir_mode_fault, object_at, object_path, object_fault}
+use Rattle.ost_model.specs.Objects.{Fault, missing, too_long, refused_mode, corrupt, unless, as_malformed, may_be_link, digest_of, digest_fault, mode_fault, rule_fault, content_fault, dir_mode_fault, object_at, object_path, object_fault}
 use Rattle.fp_base.specs.declared.rule.Rule.{Rule}
 use Rattle.ost_model.specs.Fields.{CommitView}
 use Rattle.ost_model.specs.Readers.{commit_read, if_broken}
@@ -101,14 +102,14 @@ meta_item bytes head h = ap (λ x. sha256 (x ++ bytes)) h
 
 -- ---- it is good
 
-read_whole : (read : Result CommitView Rule) (root : List ℕ × List ℕ) → mapped root_in read ≡ Ok root → or_else (as_malformed (if_broken read)) None ≡ None
+read_whole : (read : Result CommitView Rule) (root : List ℕ × List ℕ) → mapped root_in read ≡ Ok root → option_or (as_malformed (if_broken read)) None ≡ None
 read_whole (Ok v) root is = refl
 read_whole (Err rule) root is = absurd (cc is)
 
 pub commit_keeps : (bytes : List ℕ) (root : List ℕ × List ℕ) → mapped root_in (commit_read bytes) ≡ Ok root → rules_fault kinds.Commit (objects.Meta bytes) ≡ None
 commit_keeps bytes root is = read_whole (commit_read bytes) root is
 
-or_twice : (f g h : Option Fault) → or_else (or_else f g) h ≡ or_else f (or_else g h)
+or_twice : (f g h : Option Fault) → option_or (option_or f g) h ≡ option_or f (option_or g h)
 or_twice None g h = refl
 or_twice (Some f) g h = refl
 
@@ -118,14 +119,14 @@ bits_kept (objects.File mode bytes) keepable = ap (λ b. unless b (refused_mode 
 bits_kept (objects.Link text) keepable = refl
 
 -- the faults of an object that is fit are those of its digest and of its rules
-fit_fault : (d : List ℕ) (kind : ObjKind) (o : Object) → IsFit kind o → object_fault d kind (Some o) ≡ or_else (digest_fault d o) (rules_fault kind o)
+fit_fault : (d : List ℕ) (kind : ObjKind) (o : Object) → IsFit kind o → object_fault d kind (Some o) ≡ option_or (digest_fault d o) (rules_fault kind o)
 fit_fault d kind o fit =
-    ap (λ b. or_else (or_else (unless b missing) (content_fault d kind o)) (dir_mode_fault kind (Some o))) fit.kind_is
-    ∙ ap (λ f. or_else (or_else f (or_else (mode_fault o) (or_else (digest_fault d o) (rule_fault kind o)))) (dir_mode_fault kind (Some o))) fit.short
-    ∙ ap (λ f. or_else (or_else f (or_else (digest_fault d o) (rule_fault kind o))) (dir_mode_fault kind (Some o))) (bits_kept o fit.keepable)
+    ap (λ b. option_or (option_or (unless b missing) (content_fault d kind o)) (dir_mode_fault kind (Some o))) fit.kind_is
+    ∙ ap (λ f. option_or (option_or f (option_or (mode_fault o) (option_or (digest_fault d o) (rule_fault kind o)))) (dir_mode_fault kind (Some o))) fit.short
+    ∙ ap (λ f. option_or (option_or f (option_or (digest_fault d o) (rule_fault kind o))) (dir_mode_fault kind (Some o))) (bits_kept o fit.keepable)
     ∙ or_twice (digest_fault d o) (rule_fault kind o) (dir_mode_fault kind (Some o))
 
 pub good_by_rules : (d : List ℕ) (kind : ObjKind) (o : Object) (got : List ℕ) → IsFit kind o → got ≡ digest_of o → got ≡ d → rules_fault kind o ≡ None → object_fault d kind (Some o) ≡ None
 good_by_rules d kind o got fit is same rules =
     let own : bytes_eq (digest_of o) d ≡ true = (bytes_eq-Decides (digest_of o) d).1 (sym is ∙ same) in
-    fit_fault d kind o fit ∙ ap (λ b. or_else (unless b (corrupt (digest_of o))) (rules_fault kind o)) own ∙ rules
+    fit_fault d kind o fit ∙ ap (λ b. option_or (unless b (corrupt (digest_of o))) (rules_fault kind o)) own ∙ rules

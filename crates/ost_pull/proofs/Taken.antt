@@ -1,5 +1,6 @@
 -- Objects that are taken one by one.
 use Rattle.std.proofs.Common.{◌≡◌, ◌⊎◌, ◌<◌, ◌≤◌, ◌+◌, inl, inr, ℕ, suc, List, [], ◌∷◌, ◌++◌, take, drop, get_or, length, true, Option, Some, None, Result, Ok, Err, refl, sym, ◌∙◌, ap, subst, arith}
+use Rattle.std.specs.Option.{option_or}
 use Rattle.std.specs.Prelude.{IsErrOf, OnOk, option_map}
 use Rattle.std.proofs.Math.Seq.{take-suc, take-length, drop-cons}
 use Rattle.std.proofs.lemmas.List.{take-append-drop}
@@ -21,7 +22,7 @@ use Rattle.fp_name.specs.Hex.{is_digest}
 use Rattle.fp_base.specs.declared.object.ObjKind.{ObjKind}
 use Rattle.fp_base.specs.declared.object.ObjKind.TheVariants as kinds
 use Rattle.ost_model.specs.declared.object.Object.{Object}
-use Rattle.ost_model.specs.Objects.{Have, Fault, object_path, object_fault, store, supply, or_else}
+use Rattle.ost_model.specs.Objects.{Have, Fault, object_path, object_fault, store, supply}
 use Rattle.ost_model.specs.Order.{Place, In, first_fault}
 use Rattle.ost_model.specs.Remotes.{Supplies, remote, remote_at}
 use Rattle.ost_store.specs.Stage.{IsKeepable}
@@ -125,15 +126,15 @@ content_taken {root = root} {t = t} {url = url} {holds = holds} d kept good stil
 
 -- ---- what a file or link is judged by
 
-have_is : {root : Elements} {url : List ℕ} {told : Option Moments} {holds : Option Holdings} {have : Have} (d : List ℕ) (s : Supplies root (Some url) told holds have) → have d kinds.File ≡ or_else (store root (shows s.moments.now) d kinds.File) (remote_at s.held url d kinds.File)
+have_is : {root : Elements} {url : List ℕ} {told : Option Moments} {holds : Option Holdings} {have : Have} (d : List ℕ) (s : Supplies root (Some url) told holds have) → have d kinds.File ≡ option_or (store root (shows s.moments.now) d kinds.File) (remote_at s.held url d kinds.File)
 have_is d s = ap (λ (f : Have). f d kinds.File) s.is
 
 module _ {root : Elements} {url : List ℕ} {told : Option Moments} {holds : Option Holdings} {have : Have} (d : List ℕ) (s : Supplies root (Some url) told holds have) where
   own_is : (object : Object) → store root (shows s.moments.now) d kinds.File ≡ Some object → have d kinds.File ≡ Some object
-  own_is object is = have_is d s ∙ ap (λ (o : Option Object). or_else o (remote_at s.held url d kinds.File)) is
+  own_is object is = have_is d s ∙ ap (λ (o : Option Object). option_or o (remote_at s.held url d kinds.File)) is
 
   remote_is : store root (shows s.moments.now) d kinds.File ≡ None → have d kinds.File ≡ remote_at s.held url d kinds.File
-  remote_is none = have_is d s ∙ ap (λ (o : Option Object). or_else o (remote_at s.held url d kinds.File)) none
+  remote_is none = have_is d s ∙ ap (λ (o : Option Object). option_or o (remote_at s.held url d kinds.File)) none
 
   pub content_good : IsGoodThere d (store root (shows s.moments.now) d kinds.File) → IsGood have d kinds.File
   content_good there = record { good = ap (object_fault d kinds.File) (own_is there.object there.is) ∙ there.good }
@@ -196,15 +197,15 @@ good_of d kind object is good = record { good = ap (object_fault d kind) is ∙ 
 
 -- ---- one after another
 
-or_assoc : {A : Type 0} (a b c : Option A) → or_else (or_else a b) c ≡ or_else a (or_else b c)
+or_assoc : {A : Type 0} (a b c : Option A) → option_or (option_or a b) c ≡ option_or a (option_or b c)
 or_assoc None b c = refl
 or_assoc (Some x) b c = refl
 
-pub bad_append : (have : Have) (xs ys : List Named) → first_bad have (xs ++ ys) ≡ or_else (first_bad have xs) (first_bad have ys)
+pub bad_append : (have : Have) (xs ys : List Named) → first_bad have (xs ++ ys) ≡ option_or (first_bad have xs) (first_bad have ys)
 bad_append have [] ys = refl
 bad_append have (o ∷ xs) ys =
     let f = found_in o (object_fault o.0 o.1 (have o.0 o.1)) in
-    ap (or_else f) (bad_append have xs ys) ∙ sym (or_assoc f (first_bad have xs) (first_bad have ys))
+    ap (option_or f) (bad_append have xs ys) ∙ sym (or_assoc f (first_bad have xs) (first_bad have ys))
 
 next_is : (objects : List Named) (i : ℕ) (o : Named) → i < length objects → o ≡ get_or objects i o → take (i + 1) objects ≡ take i objects ++ o ∷ []
 next_is objects i o low is =
@@ -255,10 +256,10 @@ module _ (objects : List Named) (i : ℕ) (o : Named) (low : i < length objects)
   ]
 
 module _ (have : Have) (objects : List Named) (i : ℕ) (o : Named) (low : i < length objects) (is : o ≡ get_or objects i o) (so_far : first_bad have (take i objects) ≡ None) where
-  first_of_rest : (f : Option Fault) → own_fault have o.0 o.1 ≡ f → (rest : List Named) → first_bad have (take i objects ++ o ∷ rest) ≡ or_else (found_in o f) (first_bad have rest)
+  first_of_rest : (f : Option Fault) → own_fault have o.0 o.1 ≡ f → (rest : List Named) → first_bad have (take i objects ++ o ∷ rest) ≡ option_or (found_in o f) (first_bad have rest)
   first_of_rest f here rest =
-      bad_append have (take i objects) (o ∷ rest) ∙ ap (λ g. or_else g (first_bad have (o ∷ rest))) so_far
-      ∙ ap (λ g. or_else (found_in o g) (first_bad have rest)) here
+      bad_append have (take i objects) (o ∷ rest) ∙ ap (λ g. option_or g (first_bad have (o ∷ rest))) so_far
+      ∙ ap (λ g. option_or (found_in o g) (first_bad have rest)) here
 
   pub next_good : IsGood have o.0 o.1 → first_bad have (take (i + 1) objects) ≡ None
   next_good here = ap (first_bad have) (next_is objects i o low is) ∙ first_of_rest None here.good []
@@ -299,10 +300,10 @@ still_supplied {root = root} {url = url} still same s =
       is = s.is ∙ ap (λ (v : View). supply (store root (shows v)) (remote s.held url)) (sym n.3.0);
     }
 
-pub first_of_both : {A : Type 0} (a b : Option A) (x : A) → a ≡ Some x → or_else a b ≡ Some x
-first_of_both a b x is = ap (λ o. or_else o b) is
+pub first_of_both : {A : Type 0} (a b : Option A) (x : A) → a ≡ Some x → option_or a b ≡ Some x
+first_of_both a b x is = ap (λ o. option_or o b) is
 
-pub bad_first : (bad other : Option (Named × Fault)) (end : WalkEnd) → RefusesBy (λ w. bad ≡ Some (told_fault w)) end → RefusesBy (λ w. or_else bad other ≡ Some (told_fault w)) end
+pub bad_first : (bad other : Option (Named × Fault)) (end : WalkEnd) → RefusesBy (λ w. bad ≡ Some (told_fault w)) end → RefusesBy (λ w. option_or bad other ≡ Some (told_fault w)) end
 bad_first bad other (ends.Refused w) is = first_of_both bad other (told_fault w) is
 bad_first bad other ends.HostFault is = tt
 bad_first bad other ends.RemoteFault is = tt
@@ -319,10 +320,10 @@ placed_supplies {root = root} {at = at} {told = told} {holds = holds} {have = ha
 
 -- what a survey tells is the first fault of the commit
 pub survey_judged : {have : Have} {commit : List ℕ} {A : Type 0} (s : Survey) (r : Result A WalkEnd) → IsSurvey have commit s
-    → EndsBy (λ _. (first_bad have s.objects ≡ None) × (s.fault ≡ None)) (λ w. or_else (first_bad have s.objects) (option_map told_fault s.fault) ≡ Some (told_fault w)) r
+    → EndsBy (λ _. (first_bad have s.objects ≡ None) × (s.fault ≡ None)) (λ w. option_or (first_bad have s.objects) (option_map told_fault s.fault) ≡ Some (told_fault w)) r
     → EndsBy (λ _. first_fault have commit ≡ None) (λ w. first_named have commit ≡ Some (told_fault w)) r
 survey_judged {have = have} {commit = commit} s (Ok a) is none =
-    unnamed (first_fault have commit) (is.first ∙ ap (λ f. or_else f (option_map told_fault s.fault)) none.0 ∙ ap (option_map told_fault) none.1)
+    unnamed (first_fault have commit) (is.first ∙ ap (λ f. option_or f (option_map told_fault s.fault)) none.0 ∙ ap (option_map told_fault) none.1)
 survey_judged s (Err (ends.Refused w)) is found = is.first ∙ found
 survey_judged s (Err ends.HostFault) is found = tt
 survey_judged s (Err ends.RemoteFault) is found = tt

@@ -1,5 +1,6 @@
 -- A commit that is pulled.
 use Rattle.std.proofs.Common.{◌≡◌, ◌≢◌, inl, inr, ℕ, List, [], ◌∷◌, get_or, map, true, Option, Some, None, Err, refl, sym, ◌∙◌, ap, subst, Contains}
+use Rattle.std.specs.Option.{option_or}
 use Rattle.std.specs.Prelude.{IsErrOf, option_map, if◌then◌else◌}
 use Rattle.fp_host.specs.Paths.{Elements, Slot, absent, dir, file, link}
 use Rattle.fp_host.specs.View.{View, Inode, IsTree}
@@ -22,7 +23,7 @@ use Rattle.fp_base.specs.declared.object.ObjKind.{ObjKind}
 use Rattle.fp_base.specs.declared.object.ObjKind.TheVariants as kinds
 use Rattle.ost_model.specs.declared.object.Object.{Object}
 use Rattle.ost_model.specs.declared.object.Object.TheVariants as objects
-use Rattle.ost_model.specs.Objects.{Have, Fault, object_path, object_at, store, supply, or_else, name_fault, Named as NamedAs}
+use Rattle.ost_model.specs.Objects.{Have, Fault, object_path, object_at, store, supply, name_fault, Named as NamedAs}
 use Rattle.ost_model.specs.Order.{Place, In, order, first_fault}
 use Rattle.ost_model.specs.Stores.{objects_folder}
 use Rattle.ost_model.specs.Remotes.{Supplies, remote, remote_at}
@@ -76,7 +77,7 @@ held_object d kinds.DirMeta t (objects.Link text) v tree held good = absurd (cc 
 
 -- ---- what is stored in the end
 
-own_first : {A : Type 0} (own other : Option A) → own ≢ None → or_else own other ≡ own
+own_first : {A : Type 0} (own other : Option A) → own ≢ None → option_or own other ≡ own
 own_first None other some = absurd (some refl)
 own_first (Some a) other some = refl
 
@@ -105,7 +106,7 @@ module _ {root t : Elements} (apart : IsApart root t) {url : List ℕ} {holds : 
   from_remote o has =
       let k = taken.are.each o has in
       ap (object_at o.1) (was.places.came o has) ∙ held_object o.0 o.1 (object_path t o.0 o.1) k.object v tree_v k.held k.named ∙ sym (k.there.is held holdings_are)
-      ∙ sym (ap (λ own. or_else own (remote_at held url o.0 o.1)) (sym (works_object root t apart works o.0 o.1 tree_u tree_v) ∙ taken.new o has)) ∙ sym (ap (λ (h : Have). h o.0 o.1) have_is)
+      ∙ sym (ap (λ own. option_or own (remote_at held url o.0 o.1)) (sym (works_object root t apart works o.0 o.1 tree_u tree_v) ∙ taken.new o has)) ∙ sym (ap (λ (h : Have). h o.0 o.1) have_is)
 
   stored : (o : Named) → IsCovered root kept v o → store root (shows w) o.0 o.1 ≡ have o.0 o.1
   stored o c = elim c.there [ inl there ↦ from_store o c.digits there | inr has ↦ from_remote o has ]

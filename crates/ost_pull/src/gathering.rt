@@ -1,9 +1,10 @@
 //! All that a store lacks of a commit, gathered in the work folder.
 ghost use Rattle.std.specs.Prelude.{◌≡◌, None, Some, [], IfOk, OnOk, IsErrOf, option_map};
+ghost use Rattle.std.specs.Option.{option_or};
 ghost use Rattle.fp_host.specs.Causes.{IsCaused};
 ghost use Rattle.fp_host.specs.Frame.{AtEnd};
 ghost use Rattle.fp_host.specs.Moments.{Always};
-ghost use Rattle.ost_model.specs.Objects.{Have, or_else};
+ghost use Rattle.ost_model.specs.Objects.{Have};
 ghost use Rattle.ost_model.specs.Order.{first_fault};
 ghost use Rattle.ost_model.specs.Remotes.{Supplies};
 ghost use Rattle.ost_walk.specs.Ends.{EndsBy, IsRemotes};
@@ -62,7 +63,7 @@ fn take_surveyed<H: Host, R: Remotes, G: Gate + Sync>(
         → AreTakenNow root.now work.now url.now (R.holds remotes.old) kept.old.items
         (H.moments host.old)
         → EndsBy (λ _. (first_bad have survey.now.objects ≡ None) × (survey.now.fault ≡ None))
-        (λ w. or_else (first_bad have survey.now.objects) (option_map told_fault survey.now.fault)
+        (λ w. option_or (first_bad have survey.now.objects) (option_map told_fault survey.now.fault)
         ≡ Some (told_fault w)) result }
     ensures fault_has_cause { IsCaused (IsErrOf result WalkEnd.HostFault) (H.moments host.old)
         (AreOpen work.now) (H.faults host.old) (H.faults host.new) }

@@ -1,5 +1,6 @@
 -- A staged object is ready to be placed after a sync.
 use Rattle.std.proofs.Common.{◌≡◌, inl, ℕ, List, Bool, true, false, Option, Some, None, refl, sym, ◌∙◌, ap, subst}
+use Rattle.std.specs.Option.{option_or}
 use Rattle.std.specs.Prelude.{if◌then◌else◌}
 use Rattle.std.proofs.lemmas.Bool.{false≢true}
 use Rattle.fp_host.specs.Paths.{Elements, Slot, absent, dir, file, link, is_link_text}
@@ -12,17 +13,17 @@ use Rattle.fp_base.specs.declared.object.ObjKind.TheVariants as kinds
 use Rattle.ost_model.specs.declared.object.Object.{Object}
 use Rattle.ost_model.specs.declared.object.Object.TheVariants as objects
 use Rattle.ost_model.specs.Contents.{is_permission}
-use Rattle.ost_model.specs.Objects.{Fault, name_fault, kind_fault, content_fault, length_fault, mode_fault, digest_fault, rule_fault, or_else, unless, Named, refused_mode}
+use Rattle.ost_model.specs.Objects.{Fault, name_fault, kind_fault, content_fault, length_fault, mode_fault, digest_fault, rule_fault, unless, Named, refused_mode}
 use Rattle.ost_store.specs.Stage.{IsFileOf, IsHeld}
 use Rattle.ost_store.specs.Place.{IsReadyAs}
 
 -- ---- what names an object
 
-first_none : {A : Type 0} (a b : Option A) → or_else a b ≡ None → a ≡ None
+first_none : {A : Type 0} (a b : Option A) → option_or a b ≡ None → a ≡ None
 first_none None b none = refl
 first_none (Some x) b none = absurd (cc none)
 
-second_none : {A : Type 0} (a b : Option A) → or_else a b ≡ None → b ≡ None
+second_none : {A : Type 0} (a b : Option A) → option_or a b ≡ None → b ≡ None
 second_none None b none = none
 second_none (Some x) b none = absurd (cc none)
 
@@ -34,8 +35,8 @@ file_bits : (d : List ℕ) (kind : ObjKind) (mode : ℕ) (bytes : List ℕ) → 
 file_bits d kind mode bytes good =
     let o = objects.File mode bytes in
     let of_kind = second_none (kind_fault kind o) (content_fault d kind o) good in
-    let after = second_none (length_fault o) (or_else (mode_fault o) (or_else (digest_fault d o) (rule_fault kind o))) of_kind in
-    kept (is_permission mode) (refused_mode mode) (first_none (mode_fault o) (or_else (digest_fault d o) (rule_fault kind o)) after)
+    let after = second_none (length_fault o) (option_or (mode_fault o) (option_or (digest_fault d o) (rule_fault kind o))) of_kind in
+    kept (is_permission mode) (refused_mode mode) (first_none (mode_fault o) (option_or (digest_fault d o) (rule_fault kind o)) after)
 
 named_file : (d : List ℕ) (kind : ObjKind) (id mode : ℕ) (bytes : List ℕ) → name_fault d kind (Some (objects.File mode bytes)) ≡ None → Named d kind (holds id mode bytes)
 named_file d kinds.File id mode bytes good = record { bits = file_bits d kinds.File mode bytes good; good = good }

@@ -1,5 +1,6 @@
 -- What is fetched of one object.
 use Rattle.std.proofs.Common.{◌≡◌, ◌≤◌, ◌<◌, ◌*◌, ℕ, List, [], length, Bool, true, false, leb, if◌then◌else◌, Option, Some, None, Result, Err, refl, sym, ◌∙◌, ap, subst, arith}
+use Rattle.std.specs.Option.{option_or}
 use Rattle.std.specs.Prelude.{not}
 use Rattle.std.specs.Str.{bytes_eq}
 use Rattle.std.proofs.lemmas.Bool.{le-leb, lt-leb, false_from_ne_true}
@@ -16,7 +17,7 @@ use Rattle.fp_base.specs.declared.object.ObjKind.{ObjKind}
 use Rattle.fp_base.specs.declared.object.ObjKind.TheVariants as kinds
 use Rattle.ost_model.specs.declared.object.Object.{Object}
 use Rattle.ost_model.specs.declared.object.Object.TheVariants as objects
-use Rattle.ost_model.specs.Objects.{Have, may_be_link, store, missing, too_long, corrupt, or_else, unless, content_fault, digest_fault, rule_fault, dir_mode_fault, object_path, object_at, object_fault}
+use Rattle.ost_model.specs.Objects.{Have, may_be_link, store, missing, too_long, corrupt, unless, content_fault, digest_fault, rule_fault, dir_mode_fault, object_path, object_at, object_fault}
 use Rattle.ost_store.specs.Reads.{got_of, Gets}
 use Rattle.ost_store.specs.declared.reading.Got.{Got}
 use Rattle.ost_store.specs.declared.reading.Got.TheVariants as got
@@ -43,19 +44,19 @@ held_meta kinds.File meta id mode bytes = absurd (cc meta)
 
 -- the faults of a metadata object's bytes
 of_kind : (d : List ℕ) (kind : ObjKind) (bytes : List ℕ) → may_be_link kind ≡ false
-    → object_fault d kind (Some (objects.Meta bytes)) ≡ or_else (content_fault d kind (objects.Meta bytes)) (dir_mode_fault kind (Some (objects.Meta bytes)))
-of_kind d kind bytes meta = ap (λ b. or_else (or_else (unless (not b) missing) (content_fault d kind (objects.Meta bytes))) (dir_mode_fault kind (Some (objects.Meta bytes)))) meta
+    → object_fault d kind (Some (objects.Meta bytes)) ≡ option_or (content_fault d kind (objects.Meta bytes)) (dir_mode_fault kind (Some (objects.Meta bytes)))
+of_kind d kind bytes meta = ap (λ b. option_or (option_or (unless (not b) missing) (content_fault d kind (objects.Meta bytes))) (dir_mode_fault kind (Some (objects.Meta bytes)))) meta
 
 pub long_fault : (d : List ℕ) (kind : ObjKind) (bytes : List ℕ) → may_be_link kind ≡ false → 16 * 1024 * 1024 < length bytes → object_fault d kind (Some (objects.Meta bytes)) ≡ Some (too_long (length bytes))
 long_fault d kind bytes meta long =
     of_kind d kind bytes meta
-    ∙ ap (λ b. or_else (or_else (unless b (too_long (length bytes))) (or_else (digest_fault d (objects.Meta bytes)) (rule_fault kind (objects.Meta bytes)))) (dir_mode_fault kind (Some (objects.Meta bytes)))) (lt-leb (length bytes) (16 * 1024 * 1024) long)
+    ∙ ap (λ b. option_or (option_or (unless b (too_long (length bytes))) (option_or (digest_fault d (objects.Meta bytes)) (rule_fault kind (objects.Meta bytes)))) (dir_mode_fault kind (Some (objects.Meta bytes)))) (lt-leb (length bytes) (16 * 1024 * 1024) long)
 
 corrupt_fault : (d : List ℕ) (kind : ObjKind) (bytes : List ℕ) → may_be_link kind ≡ false → leb (length bytes) (16 * 1024 * 1024) ≡ true → bytes_eq (meta_digest bytes) d ≡ false
     → object_fault d kind (Some (objects.Meta bytes)) ≡ Some (corrupt (meta_digest bytes))
 corrupt_fault d kind bytes meta short off =
     of_kind d kind bytes meta
-    ∙ (λ i. or_else (or_else (unless (short i) (too_long (length bytes))) (or_else (unless (off i) (corrupt (meta_digest bytes))) (rule_fault kind (objects.Meta bytes)))) (dir_mode_fault kind (Some (objects.Meta bytes))))
+    ∙ (λ i. option_or (option_or (unless (short i) (too_long (length bytes))) (option_or (unless (off i) (corrupt (meta_digest bytes))) (rule_fault kind (objects.Meta bytes)))) (dir_mode_fault kind (Some (objects.Meta bytes))))
 
 -- the digest of the bytes is another
 pub other_digest : (d : List ℕ) (kind : ObjKind) (bytes got : List ℕ) {end : WalkEnd} → may_be_link kind ≡ false → got ≡ meta_digest bytes → (got ≡ d → ⊥) → end ≡ refusal d kind (faults.Corrupt got)
@@ -172,10 +173,10 @@ module _ {root : Elements} {url : Option (List ℕ)} {told : Option Moments} {ho
   own_is ends = (ends.goes.told s.moments s.told_is).3.is
 
   have_own : (o : Object) → own ≡ Some o → have d kind ≡ Some o
-  have_own o e = ap (λ (h : Have). h d kind) s.is ∙ ap (λ x. or_else x (remote s.held url d kind)) e
+  have_own o e = ap (λ (h : Have). h d kind) s.is ∙ ap (λ x. option_or x (remote s.held url d kind)) e
 
   have_remote : own ≡ None → have d kind ≡ remote s.held url d kind
-  have_remote e = ap (λ (h : Have). h d kind) s.is ∙ ap (λ x. or_else x (remote s.held url d kind)) e
+  have_remote e = ap (λ (h : Have). h d kind) s.is ∙ ap (λ x. option_or x (remote s.held url d kind)) e
 
   -- the store has it
   pub store_has : {told' : Option Moments} {most : ℕ} {told_is : Got} (bytes : List ℕ) (result : Result (List ℕ) WalkEnd) → AtEnd (λ u w. Gets root d kind most u told_is) told told' → told_is ≡ got.Meta bytes

@@ -1,11 +1,12 @@
 -- One path, followed name by name.
 use Rattle.std.proofs.Common.{◌≡◌, ◌+◌, ◌-◌, ◌<◌, ◌≤◌, ℕ, zero, suc, List, [], ◌∷◌, ◌++◌, take, drop, length, Option, Some, None, refl, sym, ◌∙◌, ap, subst, arith}
+use Rattle.std.specs.Option.{option_or}
 use Rattle.std.specs.Prelude.{option_map}
 use Rattle.std.proofs.lemmas.List.{take-append-drop, length-drop}
 use Rattle.fp_host.specs.Paths.{Elements}
 use Rattle.fp_base.specs.declared.object.ObjKind.TheVariants as kinds
 use Rattle.ost_model.specs.Fields.{DirRow, FileRow, TreeView}
-use Rattle.ost_model.specs.Objects.{Have, Fault, or_else}
+use Rattle.ost_model.specs.Objects.{Have, Fault}
 use Rattle.ost_model.specs.Order.{Place, commit_place, tree_place, place_fault, walk_fault, first_of, found_at, tree_at, root_row}
 use Rattle.ost_model.specs.Look.{Found, nothing, directory, file_at, find_dir, find_file, either, entry_in, next, at_root, look, found_places, look_places, look_fault}
 use Rattle.ost_model.proofs.Pending.{first_append}
@@ -33,7 +34,7 @@ module _ (have : Have) (commit : List ℕ) where
   longer : (x : List ℕ) (up : Elements) (found : Place × Fault) → look_fault have commit up ≡ Some found → look_fault have commit (x ∷ up) ≡ Some found
   longer x up found is =
       let rest = found_places (length (x ∷ up)) (look have commit (x ∷ up)) in
-      first_append (read_fault have) 0 (look_places have commit up) rest ∙ ap (λ f. or_else f (first_of (read_fault have) (0 + length (look_places have commit up)) rest)) is
+      first_append (read_fault have) 0 (look_places have commit up) rest ∙ ap (λ f. option_or f (first_of (read_fault have) (0 + length (look_places have commit up)) rest)) is
 
   longer_by : (rest up : Elements) (found : Place × Fault) → look_fault have commit up ≡ Some found → look_fault have commit (rest ++ up) ≡ Some found
   longer_by [] up found is = is
@@ -61,7 +62,7 @@ module _ (have : Have) (commit : List ℕ) where
     root_fault : look_fault have commit [] ≡ first_of (read_fault have) 1 (tree_of dir ∷ [])
     root_fault =
         ap (λ f. first_of (read_fault have) 0 (commit_place commit ∷ found_places 0 f)) root_is
-        ∙ ap (λ f. or_else (found_at (commit_place commit) f) (first_of (read_fault have) 1 (tree_place 0 (root_row root.view) ∷ []))) root.good
+        ∙ ap (λ f. option_or (found_at (commit_place commit) f) (first_of (read_fault have) 1 (tree_place 0 (root_row root.view) ∷ []))) root.good
         ∙ ap (λ (p : Place). first_of (read_fault have) 1 (p ∷ [])) (sym root_place)
 
     pub at_start : (view : TreeView) → IsTree have 0 dir view → IsDirAt have commit [] view 0
@@ -70,7 +71,7 @@ module _ (have : Have) (commit : List ℕ) where
       is = root_is;
       read = ap (λ (d : Dir). tree_at have d.tree) (sym root.is) ∙ tree.read;
       deep = refl;
-      clean = root_fault ∙ ap (λ f. or_else (found_at (tree_of dir) f) None) tree.good;
+      clean = root_fault ∙ ap (λ f. option_or (found_at (tree_of dir) f) None) tree.good;
     }
 
     pub root_refused : (end : WalkEnd) → RefusesBy (IsFaultOf dir.tree kinds.DirTree (walk_fault have 0 (tree_of dir))) end → RefusesBy (IsFirst (look_fault have commit [])) end
@@ -86,7 +87,7 @@ module _ (have : Have) (commit : List ℕ) where
       → look_fault have commit (x ∷ up) ≡ first_of (read_fault have) (length (look_places have commit up)) (found_places (length (x ∷ up)) f)
   next_fault x up f clean is =
       let rest = found_places (length (x ∷ up)) (look have commit (x ∷ up)) in
-      first_append (read_fault have) 0 (look_places have commit up) rest ∙ ap (λ g. or_else g (first_of (read_fault have) (0 + length (look_places have commit up)) rest)) clean
+      first_append (read_fault have) 0 (look_places have commit up) rest ∙ ap (λ g. option_or g (first_of (read_fault have) (0 + length (look_places have commit up)) rest)) clean
       ∙ ap (λ (n : ℕ). first_of (read_fault have) n rest) (plus (length (look_places have commit up))) ∙ ap (λ g. first_of (read_fault have) (length (look_places have commit up)) (found_places (length (x ∷ up)) g)) is
     where
       plus : (n : ℕ) → 0 + n ≡ n
@@ -140,7 +141,7 @@ module _ (have : Have) (commit : List ℕ) where
         is = dir_is;
         read = ap (λ (d : Dir). tree_at have d.tree) (sym row_of.2) ∙ tree.read;
         deep = long;
-        clean = dir_fault ∙ ap (λ f. or_else (found_at (tree_of dir) f) None) tree.good;
+        clean = dir_fault ∙ ap (λ f. option_or (found_at (tree_of dir) f) None) tree.good;
       }
 
       pub dir_refused : (end : WalkEnd) → RefusesBy (IsFaultOf dir.tree kinds.DirTree (walk_fault have 0 (tree_of dir))) end → RefusesBy (IsFirst (look_fault have commit (x ∷ up))) end

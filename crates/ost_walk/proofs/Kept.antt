@@ -1,5 +1,6 @@
 -- Objects by the texts of their paths.
 use Rattle.std.proofs.Common.{◌≡◌, ◌⊎◌, inl, inr, ◌<◌, ◌+◌, ℕ, suc, true, List, [], ◌∷◌, ◌++◌, map, take, drop, get_or, length, Option, Some, None, refl, sym, ◌∙◌, ap, subst, Contains, arith}
+use Rattle.std.specs.Option.{option_or}
 use Rattle.std.specs.Prelude.{String, string_bytes, ◌↔◌}
 use Rattle.std.specs.declared.cmp.Ordering.{Ordering}
 use Rattle.std.specs.declared.cmp.Ordering.TheVariants.{Less, Equal, Greater}
@@ -19,7 +20,7 @@ use Rattle.std.proofs.lemmas.Slice.Eq.{bytes_eq-Decides}
 use Rattle.fp_host.specs.Paths.{elements_of}
 use Rattle.fp_host.specs.Reads.{comes_first, is_ascending}
 use Rattle.fp_base.specs.declared.object.ObjKind.{ObjKind}
-use Rattle.ost_model.specs.Objects.{Have, or_else}
+use Rattle.ost_model.specs.Objects.{Have}
 use Rattle.ost_model.specs.Order.{Place, In, order, first_walk_fault}
 use Rattle.ost_model.specs.Used.{object_text, used_fault}
 use Rattle.ost_model.proofs.Stores.{one_name}
@@ -125,13 +126,13 @@ from_places [] p is = absurd is
 from_places (q ∷ ps) p (inl same) = subst (λ (r : Place). Contains (place_name q ∷ map place_name ps) (place_name r)) same (in_first (place_name q) (map place_name ps))
 from_places (q ∷ ps) p (inr later) = in_rest (place_name q) (map place_name ps) (place_name p) (from_places ps p later)
 
-or_twice : {A : Type 0} (f g h : Option A) → or_else f (or_else g h) ≡ or_else (or_else f g) h
+or_twice : {A : Type 0} (f g h : Option A) → option_or f (option_or g h) ≡ option_or (option_or f g) h
 or_twice None g h = refl
 or_twice (Some a) g h = refl
 
-used_append : (have : Have) (xs ys : List (List ℕ)) → used_fault have (xs ++ ys) ≡ or_else (used_fault have xs) (used_fault have ys)
+used_append : (have : Have) (xs ys : List (List ℕ)) → used_fault have (xs ++ ys) ≡ option_or (used_fault have xs) (used_fault have ys)
 used_append have [] ys = refl
-used_append have (x ∷ xs) ys = ap (or_else (first_walk_fault have x)) (used_append have xs ys) ∙ or_twice (first_walk_fault have x) (used_fault have xs) (used_fault have ys)
+used_append have (x ∷ xs) ys = ap (option_or (first_walk_fault have x)) (used_append have xs ys) ∙ or_twice (first_walk_fault have x) (used_fault have xs) (used_fault have ys)
 
 pub none_used : {Z : Type 0} (have : Have) (es : List (String Z × Object)) → es ≡ [] → AreUsed have [] es
 none_used have es none = subst (AreUsed have []) (sym none) (record { keyed = tt; each = λ o. (λ has. absurd (in_none o has), λ is. absurd (in_none is.commit is.kept)); clean = refl })
@@ -155,7 +156,7 @@ one_used have commits commit es fs so_far puts = record {
               (from_places (order have commit) u.place (subst (λ (c : List ℕ). In (order have c) u.place) (sym same) u.within))))
         ]),
       );
-  clean = used_append have commits (commit ∷ []) ∙ ap (λ f. or_else f (used_fault have (commit ∷ []))) so_far.clean ∙ ap (λ f. or_else f None) puts.order.good;
+  clean = used_append have commits (commit ∷ []) ∙ ap (λ f. option_or f (used_fault have (commit ∷ []))) so_far.clean ∙ ap (λ f. option_or f None) puts.order.good;
 }
 
 -- the first fault of a commit after others that have none
@@ -163,7 +164,7 @@ pub used_refused : {Z : Type 0} (have : Have) (before more : List (List ℕ)) (c
     → RefusesBy (IsFirst (used_fault have (before ++ commit ∷ more))) end
 used_refused have before more commit es (ends.Refused w) so_far is = record {
   depth = is.depth;
-  is = used_append have before (commit ∷ more) ∙ ap (λ f. or_else f (used_fault have (commit ∷ more))) so_far.clean ∙ ap (λ f. or_else f (used_fault have more)) is.is;
+  is = used_append have before (commit ∷ more) ∙ ap (λ f. option_or f (used_fault have (commit ∷ more))) so_far.clean ∙ ap (λ f. option_or f (used_fault have more)) is.is;
 }
 used_refused have before more commit es ends.HostFault so_far is = tt
 used_refused have before more commit es ends.RemoteFault so_far is = tt

@@ -1,5 +1,6 @@
 -- The files of a directory, put in order one by one.
 use Rattle.std.proofs.Common.{◌≡◌, ◌<◌, ◌+◌, ℕ, suc, List, [], ◌∷◌, ◌++◌, take, drop, get_or, length, map, Bool, true, false, leb, if◌then◌else◌, Option, Some, None, refl, sym, ◌∙◌, ap, subst, arith, append_assoc, append-nil, length-append}
+use Rattle.std.specs.Option.{option_or}
 use Rattle.std.proofs.Math.Seq.{take-suc, take-length, drop-cons}
 use Rattle.std.proofs.lemmas.List.{map-append, length-map, take-append-drop}
 use Rattle.std.proofs.lemmas.Bool.{leb-false}
@@ -7,7 +8,7 @@ use Rattle.fp_base.specs.declared.object.ObjKind.{ObjKind}
 use Rattle.fp_base.specs.declared.object.ObjKind.TheVariants as kinds
 use Rattle.ost_model.specs.Fields.{FileRow}
 use Rattle.std.specs.Prelude.{Result, Err, option_map}
-use Rattle.ost_model.specs.Objects.{Have, Fault, or_else, object_fault, too_many, too_deep}
+use Rattle.ost_model.specs.Objects.{Have, Fault, object_fault, too_many, too_deep}
 use Rattle.ost_model.specs.Order.{Place, file_place, file_places, first_of, found_at, place_fault, walk_fault, limited}
 use Rattle.ost_model.proofs.Pending.{first_append}
 use Rattle.ost_object.specs.declared.dirtree.FileEntry.{FileEntry}
@@ -64,10 +65,10 @@ places_append depth [] ys = refl
 places_append depth (x ∷ xs) ys = ap (λ l. file_place depth x ∷ l) (places_append depth xs ys)
 
 pub first_one : (test : ℕ → Place → Option Fault) (n : ℕ) (p : Place) (ps : List Place) → test n p ≡ None → first_of test n (p ∷ ps) ≡ first_of test (suc n) ps
-first_one test n p ps none = ap (λ f. or_else (found_at p f) (first_of test (suc n) ps)) none
+first_one test n p ps none = ap (λ f. option_or (found_at p f) (first_of test (suc n) ps)) none
 
 pub first_found : (test : ℕ → Place → Option Fault) (n : ℕ) (p : Place) (ps : List Place) (f : Fault) → test n p ≡ Some f → first_of test n (p ∷ ps) ≡ Some (p, f)
-first_found test n p ps f some = ap (λ g. or_else (found_at p g) (first_of test (suc n) ps)) some
+first_found test n p ps f some = ap (λ g. option_or (found_at p g) (first_of test (suc n) ps)) some
 
 module _ {have : Have} {depth : ℕ} {rows : List FileRow} {done done' : List (List ℕ × ObjKind)} (so_far : AreListed have depth rows done done') where
   long : length done' ≡ length done + length (file_places depth rows)
@@ -77,7 +78,7 @@ module _ {have : Have} {depth : ℕ} {rows : List FileRow} {done done' : List (L
   pub first_after : (more : List FileRow) → first_of (walk_fault have) (length done) (file_places depth (rows ++ more)) ≡ first_of (walk_fault have) (length done') (file_places depth more)
   first_after more =
       ap (first_of (walk_fault have) (length done)) (places_append depth rows more) ∙ first_append (walk_fault have) (length done) (file_places depth rows) (file_places depth more)
-      ∙ ap (λ f. or_else f (first_of (walk_fault have) (length done + length (file_places depth rows)) (file_places depth more))) so_far.good
+      ∙ ap (λ f. option_or f (first_of (walk_fault have) (length done + length (file_places depth rows)) (file_places depth more))) so_far.good
       ∙ ap (λ (n : ℕ). first_of (walk_fault have) n (file_places depth more)) (sym long)
 
   -- one file more
@@ -108,11 +109,11 @@ module _ {have : Have} {depth : ℕ} {rows : List FileRow} {done done' : List (L
     front = ap (map place_name) (places_append depth rows (f ∷ more)) ∙ map-append place_name (file_places depth rows) (file_places depth (f ∷ more));
     named = ap (λ l. option_map named_fault (first_of (place_fault have) (length done) l)) (places_append depth rows (f ∷ more))
         ∙ named_append have (length done) (length done') (file_places depth rows) (file_places depth (f ∷ more)) long so_far.good
-        ∙ ap (λ found. or_else (first_bad have (map place_name (file_places depth rows))) (option_map named_fault found))
+        ∙ ap (λ found. option_or (first_bad have (map place_name (file_places depth rows))) (option_map named_fault found))
         (first_found (place_fault have) (length done') (file_place depth f) (file_places depth more) (fault_of w.fault)
         (past_limits (length done') (file_place depth f) (object_fault f.digest kinds.File (have f.digest kinds.File)) w.fault is.limit_is))
-        ∙ ap (λ (d : List ℕ). or_else (first_bad have (map place_name (file_places depth rows))) (Some ((d, kinds.File), fault_of w.fault))) (sym is.digest)
-        ∙ ap (λ (k : ObjKind). or_else (first_bad have (map place_name (file_places depth rows))) (Some ((w.digest, k), fault_of w.fault))) (sym is.kind_is);
+        ∙ ap (λ (d : List ℕ). option_or (first_bad have (map place_name (file_places depth rows))) (Some ((d, kinds.File), fault_of w.fault))) (sym is.digest)
+        ∙ ap (λ (k : ObjKind). option_or (first_bad have (map place_name (file_places depth rows))) (Some ((w.digest, k), fault_of w.fault))) (sym is.kind_is);
   }
 
 -- ---- over a list of entries

@@ -1,12 +1,13 @@
 -- Calls that only look, one after another.
 use Rattle.std.proofs.Common.{◌≡◌, ℕ, List, Option, Some, None, Result, Ok, Err, refl, sym, ap, subst, ◌∙◌, arith}
+use Rattle.std.specs.Option.{option_or}
 use Rattle.fp_host.specs.Paths.{Elements}
 use Rattle.fp_host.specs.View.{View}
 use Rattle.fp_host.specs.Outcome.{shows}
 use Rattle.fp_host.specs.Moments.{Moments, Rose}
 use Rattle.fp_host.specs.Frame.{Unchanged}
 use Rattle.fp_host.specs.Remote.{Holdings, nothing}
-use Rattle.ost_model.specs.Objects.{Have, store, supply, or_else}
+use Rattle.ost_model.specs.Objects.{Have, store, supply}
 use Rattle.fp_host.proofs.Cause.{Rose-later}
 use Rattle.fp_host.proofs.Framed.{IsTold}
 use Rattle.fp_host.proofs.Looking.{looks_start, looks_within}
@@ -78,7 +79,7 @@ supplied {root = root} {url = url} looks s =
 
 -- ---- the store alone
 
-or_alone : {A : Type 0} (o : Option A) → or_else o None ≡ o
+or_alone : {A : Type 0} (o : Option A) → option_or o None ≡ o
 or_alone None = refl
 or_alone (Some a) = refl
 

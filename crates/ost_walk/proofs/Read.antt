@@ -1,12 +1,13 @@
 -- What is read of an object that its digest names.
 use Rattle.std.proofs.Common.{◌≡◌, ℕ, List, length, Bool, true, Option, Some, None, Result, Ok, Err, refl, sym, ◌∙◌, ap}
+use Rattle.std.specs.Option.{option_or}
 use Rattle.std.specs.Str.{bytes_eq}
 use Rattle.fp_base.specs.declared.object.ObjKind.TheVariants as kinds
 use Rattle.fp_base.specs.declared.rule.Rule.{Rule}
 use Rattle.ost_model.specs.Contents.{meta_digest}
 use Rattle.ost_model.specs.Fields.{CommitView}
 use Rattle.ost_model.specs.Readers.{commit_read, if_broken, if_read}
-use Rattle.ost_model.specs.Objects.{Have, Fault, too_long, corrupt, or_else, unless, as_malformed, object_fault}
+use Rattle.ost_model.specs.Objects.{Have, Fault, too_long, corrupt, unless, as_malformed, object_fault}
 use Rattle.ost_model.specs.Order.{read_as}
 use Rattle.ost_model.specs.Readers.{commit_of}
 use Rattle.ost_walk.specs.declared.dirs.Dir.{Dir}
@@ -19,7 +20,7 @@ use Rattle.ost_walk.specs.Ends.{RefusesBy, IsFaultOf, unread_end}
 use Rattle.ost_walk.specs.Steps.{IsNamed, IsRoot, dir_of}
 
 abbrev judge : (d bytes : List ℕ) → Bool → Bool → Result CommitView Rule → Option Fault
-judge d bytes short named read = or_else (or_else (unless short (too_long (length bytes))) (or_else (unless named (corrupt (meta_digest bytes))) (as_malformed (if_broken read)))) None
+judge d bytes short named read = option_or (option_or (unless short (too_long (length bytes))) (option_or (unless named (corrupt (meta_digest bytes))) (as_malformed (if_broken read)))) None
 
 root_is : {d bytes : List ℕ} (object : Option Object) (read : Result CommitView Rule) → IsNamed d object bytes → commit_read bytes ≡ read
     → object_fault d kinds.Commit object ≡ as_malformed (if_broken read)
@@ -27,7 +28,7 @@ root_is {d = d} {bytes = bytes} object read n is =
     ap (object_fault d kinds.Commit) n.there ∙ ap (λ b. judge d bytes b (bytes_eq (meta_digest bytes) d) (commit_read bytes)) n.short
     ∙ ap (λ b. judge d bytes true b (commit_read bytes)) n.named ∙ ap (λ r. judge d bytes true true r) is ∙ or_nothing (as_malformed (if_broken read))
   where
-    or_nothing : (f : Option Fault) → or_else f None ≡ f
+    or_nothing : (f : Option Fault) → option_or f None ≡ f
     or_nothing None = refl
     or_nothing (Some f) = refl
 

@@ -1,10 +1,11 @@
 -- The first fault of an order, from what a walk over metadata objects finds.
 use Rattle.std.proofs.Common.{◌≡◌, ◌+◌, ℕ, suc, List, [], ◌∷◌, ◌++◌, map, Bool, true, false, leb, if◌then◌else◌, length, Option, Some, None, Result, Ok, Err, refl, sym, ◌∙◌, ap, subst, append_assoc, append-nil, arith}
+use Rattle.std.specs.Option.{option_or}
 use Rattle.std.specs.Prelude.{option_map}
 use Rattle.std.proofs.lemmas.List.{map-append}
 use Rattle.fp_base.specs.declared.object.ObjKind.{ObjKind}
 use Rattle.fp_base.specs.declared.object.ObjKind.TheVariants as kinds
-use Rattle.ost_model.specs.Objects.{Have, Fault, too_many, too_deep, or_else, object_fault}
+use Rattle.ost_model.specs.Objects.{Have, Fault, too_many, too_deep, object_fault}
 use Rattle.ost_model.specs.Order.{Place, order, first_of, found_at, first_fault, first_walk_fault, place_fault, walk_fault, limited, of_metadata, commit_place, below_commit, commit_at}
 use Rattle.ost_model.specs.Walk.{open_places, heads}
 use Rattle.ost_model.proofs.Places.{or_none, found_none}
@@ -27,20 +28,20 @@ Named = Object × Fault
 
 -- ---- options
 
-or_assoc : {A : Type 0} (a b c : Option A) → or_else (or_else a b) c ≡ or_else a (or_else b c)
+or_assoc : {A : Type 0} (a b c : Option A) → option_or (option_or a b) c ≡ option_or a (option_or b c)
 or_assoc None b c = refl
 or_assoc (Some x) b c = refl
 
-or_alone : {A : Type 0} (o : Option A) → or_else o None ≡ o
+or_alone : {A : Type 0} (o : Option A) → option_or o None ≡ o
 or_alone None = refl
 or_alone (Some a) = refl
 
 -- what is said after a value plays no part
-or_some : {A : Type 0} (a : Option A) (x : A) (c : Option A) → or_else (or_else a (Some x)) c ≡ or_else a (Some x)
+or_some : {A : Type 0} (a : Option A) (x : A) (c : Option A) → option_or (option_or a (Some x)) c ≡ option_or a (Some x)
 or_some None x c = refl
 or_some (Some y) x c = refl
 
-named_or : (a b : Option (Place × Fault)) → option_map named_fault (or_else a b) ≡ or_else (option_map named_fault a) (option_map named_fault b)
+named_or : (a b : Option (Place × Fault)) → option_map named_fault (option_or a b) ≡ option_or (option_map named_fault a) (option_map named_fault b)
 named_or None b = refl
 named_or (Some f) b = refl
 
@@ -50,11 +51,11 @@ named_found p (Some f) = refl
 
 -- ---- objects
 
-pub bad_append : (have : Have) (xs ys : List Object) → first_bad have (xs ++ ys) ≡ or_else (first_bad have xs) (first_bad have ys)
+pub bad_append : (have : Have) (xs ys : List Object) → first_bad have (xs ++ ys) ≡ option_or (first_bad have xs) (first_bad have ys)
 bad_append have [] ys = refl
 bad_append have (o ∷ xs) ys =
     let f = found_in o (object_fault o.0 o.1 (have o.0 o.1)) in
-    ap (or_else f) (bad_append have xs ys) ∙ sym (or_assoc f (first_bad have xs) (first_bad have ys))
+    ap (option_or f) (bad_append have xs ys) ∙ sym (or_assoc f (first_bad have xs) (first_bad have ys))
 
 within : (many deep : Bool) (f g : Option Fault) → (if many then Some too_many else (if deep then Some too_deep else g)) ≡ None → (if many then Some too_many else (if deep then Some too_deep else f)) ≡ f
 within true deep f g none = absurd (cc none)
@@ -72,16 +73,16 @@ clean_bad have n (p ∷ ps) none =
     let both = or_none (found_at p (walk_fault have n p)) (first_of (walk_fault have) (suc n) ps) none in
     let own = own_place have n p (found_none p (walk_fault have n p) both.0) in
     named_or (found_at p (place_fault have n p)) (first_of (place_fault have) (suc n) ps)
-    ∙ ap (λ (f : Option Named). or_else f (option_map named_fault (first_of (place_fault have) (suc n) ps))) (named_found p (place_fault have n p) ∙ ap (found_in (place_name p)) own)
-    ∙ ap (or_else (found_in (place_name p) (own_fault have p.digest p.kind))) (clean_bad have (suc n) ps both.1)
+    ∙ ap (λ (f : Option Named). option_or f (option_map named_fault (first_of (place_fault have) (suc n) ps))) (named_found p (place_fault have n p) ∙ ap (found_in (place_name p)) own)
+    ∙ ap (option_or (found_in (place_name p) (own_fault have p.digest p.kind))) (clean_bad have (suc n) ps both.1)
 
 -- the first fault of two lists of places, of which the walk finds none in the first
 pub named_append : (have : Have) (n m : ℕ) (ps qs : List Place) → m ≡ n + length ps → first_of (walk_fault have) n ps ≡ None
-    → option_map named_fault (first_of (place_fault have) n (ps ++ qs)) ≡ or_else (first_bad have (map place_name ps)) (option_map named_fault (first_of (place_fault have) m qs))
+    → option_map named_fault (first_of (place_fault have) n (ps ++ qs)) ≡ option_or (first_bad have (map place_name ps)) (option_map named_fault (first_of (place_fault have) m qs))
 named_append have n m ps qs at none =
     ap (option_map named_fault) (first_append (place_fault have) n ps qs) ∙ named_or (first_of (place_fault have) n ps) (first_of (place_fault have) (n + length ps) qs)
-    ∙ ap (λ (f : Option Named). or_else f (option_map named_fault (first_of (place_fault have) (n + length ps) qs))) (clean_bad have n ps none)
-    ∙ ap (λ (k : ℕ). or_else (first_bad have (map place_name ps)) (option_map named_fault (first_of (place_fault have) k qs))) (sym at)
+    ∙ ap (λ (f : Option Named). option_or f (option_map named_fault (first_of (place_fault have) (n + length ps) qs))) (clean_bad have n ps none)
+    ∙ ap (λ (k : ℕ). option_or (first_bad have (map place_name ps)) (option_map named_fault (first_of (place_fault have) k qs))) (sym at)
 
 named_first : (found : Option (Place × Fault)) (w : WalkFault) → IsFirst found w → option_map named_fault found ≡ Some (told_fault w)
 named_first found w is = ap (option_map named_fault) is.is
@@ -97,7 +98,7 @@ stops_before {have = have} {n = n} {ps = ps} {w = w} more is s = record {
   names = s.names;
   front = map-append place_name ps more ∙ ap (λ (l : List Object). l ++ map place_name more) s.front ∙ append_assoc s.new s.rest (map place_name more);
   named = ap (option_map named_fault) (first_append (place_fault have) n ps more) ∙ named_or (first_of (place_fault have) n ps) (first_of (place_fault have) (n + length ps) more)
-      ∙ ap (λ (f : Option Named). or_else f (option_map named_fault (first_of (place_fault have) (n + length ps) more))) s.named
+      ∙ ap (λ (f : Option Named). option_or f (option_map named_fault (first_of (place_fault have) (n + length ps) more))) s.named
       ∙ or_some (first_bad have s.new) (told_fault w) (option_map named_fault (first_of (place_fault have) (n + length ps) more));
 }
 
@@ -110,9 +111,9 @@ stops_after {have = have} {n = n} {m = m} ps {qs = qs} {done = done} {w = w} at 
   rest = s.rest;
   names = s.names ∙ ap (λ (l : List Object). l ++ s.new) first ∙ append_assoc done (map place_name ps) s.new;
   front = map-append place_name ps qs ∙ ap (λ (l : List Object). map place_name ps ++ l) s.front ∙ sym (append_assoc (map place_name ps) s.new s.rest);
-  named = named_append have n m ps qs at none ∙ ap (or_else (first_bad have (map place_name ps))) s.named
+  named = named_append have n m ps qs at none ∙ ap (option_or (first_bad have (map place_name ps))) s.named
       ∙ sym (or_assoc (first_bad have (map place_name ps)) (first_bad have s.new) (Some (told_fault w)))
-      ∙ ap (λ (f : Option Named). or_else f (Some (told_fault w))) (sym (bad_append have (map place_name ps) s.new));
+      ∙ ap (λ (f : Option Named). option_or f (Some (told_fault w))) (sym (bad_append have (map place_name ps) s.new));
 }
 
 -- ---- a directory whose dirtree or dirmeta has the fault
@@ -131,7 +132,7 @@ heads_stop have n dir done w first is =
       front = refl;
       named = ap (λ l. option_map named_fault (first_of (place_fault have) n l)) split.1 ∙ ap (option_map named_fault) (first_append (place_fault have) n (heads (open_of dir)) split.0)
           ∙ named_or (first_of (place_fault have) n (heads (open_of dir))) (first_of (place_fault have) (n + 2) split.0)
-          ∙ ap (λ (f : Option Named). or_else f (option_map named_fault (first_of (place_fault have) (n + 2) split.0))) (heads_named have n dir w is);
+          ∙ ap (λ (f : Option Named). option_or f (option_map named_fault (first_of (place_fault have) (n + 2) split.0))) (heads_named have n dir w is);
     }
 
 -- ---- the commit
@@ -169,7 +170,7 @@ commit_stops have commit (ends.Refused w) is first = record {
   is_first = first;
   rest = map place_name (order have commit);
   front = refl;
-  named = ap (λ f. option_map named_fault (or_else (found_at (commit_place commit) f) (first_of (place_fault have) 1 (below_commit have (commit_at have commit))))) is.fault_is
+  named = ap (λ f. option_map named_fault (option_or (found_at (commit_place commit) f) (first_of (place_fault have) 1 (below_commit have (commit_at have commit))))) is.fault_is
       ∙ ap (λ (d : List ℕ). Some ((d, kinds.Commit), fault_of w.fault)) (sym is.digest) ∙ ap (λ (k : ObjKind). Some ((w.digest, k), fault_of w.fault)) (sym is.kind_is);
 }
 commit_stops have commit ends.HostFault is first = tt

@@ -1,11 +1,12 @@
 -- A directory that is walked.
 use Rattle.std.proofs.Common.{◌≡◌, ◌≤◌, ◌+◌, ℕ, suc, List, [], ◌∷◌, ◌++◌, length, map, Option, Some, None, refl, sym, ◌∙◌, ap, subst, append_assoc, append-nil, length-append, arith}
+use Rattle.std.specs.Option.{option_or}
 use Rattle.std.specs.Prelude.{reverse, option_map}
 use Rattle.std.proofs.lemmas.List.{map-append, length-map, reverse-append, reverse-reverse}
 use Rattle.fp_base.specs.declared.object.ObjKind.{ObjKind}
 use Rattle.fp_base.specs.declared.object.ObjKind.TheVariants as kinds
 use Rattle.ost_model.specs.Fields.{DirRow, TreeView}
-use Rattle.ost_model.specs.Objects.{Have, or_else}
+use Rattle.ost_model.specs.Objects.{Have}
 use Rattle.ost_model.specs.Order.{Place, found_at, commit_place, below_commit, commit_at, file_places, order, first_of, first_walk_fault, place_fault, walk_fault}
 use Rattle.ost_model.specs.Walk.{Open, open_at, open_places, pending, opened, heads, own_places, Walked}
 use Rattle.ost_model.proofs.Pending.{first_append, with_heads, as_read, walked_dir, walked_fault}
@@ -24,7 +25,7 @@ use Rattle.ost_walk.specs.Steps.{AreListed, IsRoot, own_fault, IsOpened, IsWalke
 
 module _ (have : Have) (n : ℕ) (dir : Dir) where
   -- the first fault after the two first places
-  heads_then : (ps : List Place) → first_of (walk_fault have) n (heads (open_of dir) ++ ps) ≡ or_else (heads_fault have n dir) (first_of (walk_fault have) (n + 2) ps)
+  heads_then : (ps : List Place) → first_of (walk_fault have) n (heads (open_of dir) ++ ps) ≡ option_or (heads_fault have n dir) (first_of (walk_fault have) (n + 2) ps)
   heads_then ps = first_append (walk_fault have) n (heads (open_of dir)) ps
 
   -- a fault of the two is the first of the directory
@@ -33,7 +34,7 @@ module _ (have : Have) (n : ℕ) (dir : Dir) where
       let split = with_heads have (open_of dir) in
       heads_stop have n dir done w (record {
         depth = is.depth;
-        is = ap (first_of (walk_fault have) n) split.1 ∙ heads_then split.0 ∙ ap (λ f. or_else f (first_of (walk_fault have) (n + 2) split.0)) is.is;
+        is = ap (first_of (walk_fault have) n) split.1 ∙ heads_then split.0 ∙ ap (λ f. option_or f (first_of (walk_fault have) (n + 2) split.0)) is.is;
       }) is
   heads_first done ends.HostFault is = tt
   heads_first done ends.RemoteFault is = tt
@@ -50,10 +51,10 @@ module _ (have : Have) (n : ℕ) (dir : Dir) where
     pub files_first : (m : ℕ) (done done' done'' : List (List ℕ × ObjKind)) (end : WalkEnd) → m ≡ n + 2 → done' ≡ done ++ heads_of dir → RefusesBy (StopsAmong have m (file_places dir.depth view.files) done' done'') end
         → RefusesBy (StopsAmong have n (open_places have (open_of dir)) done done'') end
     files_first m done done' done'' (ends.Refused w) at first s =
-        let in_files = stops_before below (record { depth = s.is_first.depth; is = first_append (walk_fault have) m (file_places dir.depth view.files) below ∙ ap (λ f. or_else f (first_of (walk_fault have) (m + length (file_places dir.depth view.files)) below)) s.is_first.is }) s in
+        let in_files = stops_before below (record { depth = s.is_first.depth; is = first_append (walk_fault have) m (file_places dir.depth view.files) below ∙ ap (λ f. option_or f (first_of (walk_fault have) (m + length (file_places dir.depth view.files)) below)) s.is_first.is }) s in
         subst (λ l. StopsAmong have n l done done'' w) (sym all_places) (stops_after (heads (open_of dir)) at is_opened.good first (record {
           depth = in_files.is_first.depth;
-          is = heads_then (file_places dir.depth view.files ++ below) ∙ ap (λ f. or_else f (first_of (walk_fault have) (n + 2) (file_places dir.depth view.files ++ below))) is_opened.good
+          is = heads_then (file_places dir.depth view.files ++ below) ∙ ap (λ f. option_or f (first_of (walk_fault have) (n + 2) (file_places dir.depth view.files ++ below))) is_opened.good
               ∙ ap (λ (k : ℕ). first_of (walk_fault have) k (file_places dir.depth view.files ++ below)) (sym at) ∙ in_files.is_first.is;
         }) in_files)
     files_first m done done' done'' ends.HostFault at first s = tt
@@ -80,7 +81,7 @@ is_walked have dir view k {done = done} {done' = done'} {done'' = done''} {left 
   view = view;
   low = low;
   read = is.read;
-  good = heads_then have (length done) dir (file_places dir.depth view.files) ∙ ap (λ f. or_else f (first_of (walk_fault have) (length done + 2) (file_places dir.depth view.files))) is.good
+  good = heads_then have (length done) dir (file_places dir.depth view.files) ∙ ap (λ f. option_or f (first_of (walk_fault have) (length done + 2) (file_places dir.depth view.files))) is.good
       ∙ ap (λ (n : ℕ). first_of (walk_fault have) n (file_places dir.depth view.files)) (sym (ap (λ (l : List (List ℕ × ObjKind)). length l) first ∙ length-append done (heads_of dir))) ∙ files.good;
   names = files.names ∙ ap (λ (l : List (List ℕ × ObjKind)). l ++ map place_name (file_places dir.depth view.files)) first ∙ append_assoc done (heads_of dir) (map place_name (file_places dir.depth view.files));
   next = dirs_added k view.dirs left left' dirs ∙ ap (λ (m : ℕ). opened m view.dirs ++ opens left) next;
@@ -116,13 +117,13 @@ module _ {have : Have} {commit : List ℕ} {done : List (List ℕ × ObjKind)} (
         depth = s.is_first.depth;
         is = walked_fault places more way.walked (ap (pending have) next_is) (ap (λ (n : ℕ). first_of (walk_fault have) n places) placed ∙ s.is_first.is);
       } in
-      let here = stops_before more (record { depth = s.is_first.depth; is = first_append (walk_fault have) (length done) places more ∙ ap (λ f. or_else f (first_of (walk_fault have) (length done + length places) more)) s.is_first.is }) s in
+      let here = stops_before more (record { depth = s.is_first.depth; is = first_append (walk_fault have) (length done) places more ∙ ap (λ f. option_or f (first_of (walk_fault have) (length done + length places) more)) s.is_first.is }) s in
       let all = stops_after way.places {done = []} (omega (arith, placed)) way.walked.clean way.names (record { depth = first.depth; is = ap (first_of (walk_fault have) 0) (sym same) ∙ first.is }) here in
       record {
         is_first = first;
         rest = all.rest;
         front = ap (map place_name) same ∙ all.front ∙ ap (λ (l : List (List ℕ × ObjKind)). l ++ all.rest) (sym all.names);
-        named = ap (λ l. option_map named_fault (first_of (place_fault have) 0 l)) same ∙ all.named ∙ ap (λ (l : List (List ℕ × ObjKind)). or_else (first_bad have l) (Some (told_fault w))) (sym all.names);
+        named = ap (λ l. option_map named_fault (first_of (place_fault have) 0 l)) same ∙ all.named ∙ ap (λ (l : List (List ℕ × ObjKind)). option_or (first_bad have l) (Some (told_fault w))) (sym all.names);
       }
   fault_found done' ends.HostFault is = tt
   fault_found done' ends.RemoteFault is = tt
@@ -136,7 +137,7 @@ at_start {have = have} {commit = commit} dir root = record {
   walked = record {
     same = ap (λ c. commit_place commit ∷ below_commit have c) root.read ∙ ap (λ (d : Dir). commit_place commit ∷ open_places have (open_of d)) (sym root.is)
         ∙ ap (λ l. commit_place commit ∷ l) (sym (append-nil (open_places have (open_of dir))));
-    clean = ap (λ f. or_else (found_at (commit_place commit) f) None) root.good;
+    clean = ap (λ f. option_or (found_at (commit_place commit) f) None) root.good;
   };
 }
 

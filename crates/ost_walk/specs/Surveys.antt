@@ -1,7 +1,8 @@
 -- What can be told of an order without its content objects.
 use Rattle.std.specs.Prelude.{◌≡◌, ◌*◌, ℕ, List, [], ◌∷◌, ◌++◌, map, Option, Some, None, Result, Ok, Err, option_map}
+use Rattle.std.specs.Option.{option_or}
 use Rattle.fp_base.specs.declared.object.ObjKind.{ObjKind}
-use Rattle.ost_model.specs.Objects.{Have, Fault, or_else, object_fault}
+use Rattle.ost_model.specs.Objects.{Have, Fault, object_fault}
 use Rattle.ost_model.specs.Order.{Place, order, first_of, place_fault, walk_fault, first_fault, first_walk_fault}
 use Rattle.ost_walk.specs.declared.ends.WalkFault.{WalkFault}
 use Rattle.ost_walk.specs.declared.ends.WalkEnd.{WalkEnd}
@@ -26,7 +27,7 @@ found_in o (Some f) = Some (o, f)
 abbrev pub first_bad : Have → List (List ℕ × ObjKind) → Option ((List ℕ × ObjKind) × Fault)
 first_bad have [] = None
 first_bad have (o ∷ os) =
-    or_else (found_in o (object_fault o.0 o.1 (have o.0 o.1))) (first_bad have os)
+    option_or (found_in o (object_fault o.0 o.1 (have o.0 o.1))) (first_bad have os)
 
 -- the fault that a walk tells
 abbrev pub told_fault : WalkFault → (List ℕ × ObjKind) × Fault
@@ -45,7 +46,7 @@ pub record IsSurvey (have : Have) (commit : List ℕ) (s : Survey) : Type 0 wher
   pub rest : List (List ℕ × ObjKind)
   pub front : map place_name (order have commit) ≡ s.objects ++ rest
   pub whole : s.fault ≡ None → s.objects ≡ map place_name (order have commit)
-  pub first : first_named have commit ≡ or_else (first_bad have s.objects)
+  pub first : first_named have commit ≡ option_or (first_bad have s.objects)
       (option_map told_fault s.fault)
 
 -- ---- where a walk stops
@@ -60,7 +61,7 @@ pub record StopsAmong (have : Have) (n : ℕ) (places : List Place)
   pub names : done' ≡ done ++ new
   pub front : map place_name places ≡ new ++ rest
   pub named : option_map named_fault (first_of (place_fault have) n places)
-      ≡ or_else (first_bad have new) (Some (told_fault w))
+      ≡ option_or (first_bad have new) (Some (told_fault w))
 
 -- the walk of the commit stops so, with these objects in order
 pub record StopsIn (have : Have) (commit : List ℕ) (done : List (List ℕ × ObjKind))
@@ -68,7 +69,7 @@ pub record StopsIn (have : Have) (commit : List ℕ) (done : List (List ℕ × O
   pub is_first : IsFirst (first_walk_fault have commit) w
   pub rest : List (List ℕ × ObjKind)
   pub front : map place_name (order have commit) ≡ done ++ rest
-  pub named : first_named have commit ≡ or_else (first_bad have done) (Some (told_fault w))
+  pub named : first_named have commit ≡ option_or (first_bad have done) (Some (told_fault w))
 
 -- what is told where a walk ends so, with these objects in order
 abbrev pub stopped_at : List (List ℕ × ObjKind) → WalkEnd → Result Survey WalkEnd
