@@ -1,11 +1,12 @@
 -- What the directories of a commit hold.
-use Rattle.std.specs.Prelude.{ℕ, List, [], length, leb, Bool, true, false, Option, Some, None, option_and_then, option_map, if◌then◌else◌}
+use Rattle.std.specs.Prelude.{ℕ, List, [], Bool, true, false, Option, Some, None, option_and_then, option_map}
 use Rattle.fp_host.specs.Paths.{Elements}
 use Rattle.ost_model.specs.declared.object.Object.{Object}
 use Rattle.ost_model.specs.declared.object.Object.TheVariants as objects
 use Rattle.ost_model.specs.Fields.{CommitView, FileRow, DirRow, TreeView}
 use Rattle.ost_model.specs.Objects.{Have}
 use Rattle.ost_model.specs.Order.{tree_at}
+use Rattle.ost_store.specs.Reads.{content_within}
 use Rattle.fl_export.specs.declared.contents.TheConstants.{MOST_BYTES}
 use Rattle.ost_model.specs.Look.{Found, nothing, directory, file_at, find_dir, look, next}
 
@@ -57,11 +58,5 @@ is_file (Some (objects.Meta bytes)) = false
 is_file None = false
 
 -- the content of a file of at most 1 MiB
-abbrev pub if_short : List ℕ → Option (List ℕ)
-if_short bytes = if leb (length bytes) MOST_BYTES then Some bytes else None
-
 abbrev pub short_content : Option Object → Option (List ℕ)
-short_content (Some (objects.File mode bytes)) = if_short bytes
-short_content (Some (objects.Link text)) = None
-short_content (Some (objects.Meta bytes)) = None
-short_content None = None
+short_content object = content_within MOST_BYTES object

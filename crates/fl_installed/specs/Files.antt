@@ -1,15 +1,15 @@
 -- The file `metadata` of a commit.
-use Rattle.std.specs.Prelude.{ℕ, List, [], length, leb, Option, Some, None, unwrap_or, option_and_then, Result, Ok, Err, if◌then◌else◌}
+use Rattle.std.specs.Prelude.{ℕ, List, [], Option, Some, None, unwrap_or, option_and_then, Result, Ok, Err}
 use Rattle.fp_base.specs.declared.object.ObjKind.TheVariants as kinds
 use Rattle.fp_host.specs.declared.host.HostEnd.{HostEnd}
 use Rattle.fp_host.specs.declared.host.HostEnd.TheVariants as host_ends
 use Rattle.ost_model.specs.declared.limits.TheConstants.{MOST_METADATA_FILE_BYTES}
 use Rattle.ost_model.specs.declared.object.Object.{Object}
-use Rattle.ost_model.specs.declared.object.Object.TheVariants as objects
 use Rattle.ost_model.specs.Objects.{Have, Fault}
 use Rattle.ost_model.specs.Order.{Place}
 use Rattle.ost_model.specs.Look.{look, look_fault}
 use Rattle.ost_model.specs.Standing.{metadata_name}
+use Rattle.ost_store.specs.Reads.{content_within}
 use Rattle.ost_walk.specs.declared.ends.WalkEnd.{WalkEnd}
 use Rattle.ost_walk.specs.declared.ends.WalkEnd.TheVariants as walks
 use Rattle.ost_walk.specs.declared.found.Found.{Found}
@@ -40,16 +40,9 @@ unfoldable pub metadata_digest : Have → List ℕ → Option (List ℕ)
 metadata_digest have commit =
     unless_faulty (look_fault have commit metadata_name) (file_in (look have commit metadata_name))
 
--- at most 1 MiB
-abbrev pub if_short : List ℕ → Option (List ℕ)
-if_short bytes = if leb (length bytes) MOST_METADATA_FILE_BYTES then Some bytes else None
-
 -- the content of a file of at most 1 MiB
 abbrev pub short_content : Option Object → Option (List ℕ)
-short_content None = None
-short_content (Some (objects.File mode bytes)) = if_short bytes
-short_content (Some (objects.Link text)) = None
-short_content (Some (objects.Meta bytes)) = None
+short_content object = content_within MOST_METADATA_FILE_BYTES object
 
 -- The file `metadata` of a commit, where it is a file of at most 1 MiB. Whether its content has its
 -- digest isn't asked.

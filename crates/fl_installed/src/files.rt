@@ -1,27 +1,23 @@
 //! The file `metadata` of a commit.
-ghost use Rattle.std.specs.Prelude.{◌≡◌, ◌∷◌, [], ℕ, List, length, None, Some, IfOk, IsErrOf};
+ghost use Rattle.std.specs.Prelude.{◌≡◌, None, IfOk, IsErrOf};
 ghost use Rattle.fp_base.specs.declared.object.ObjKind.TheVariants as kinds;
-ghost use Rattle.fp_host.specs.Causes.{IsCaused, IsCounted};
+ghost use Rattle.fp_host.specs.Causes.{IsCounted};
 ghost use Rattle.fp_host.specs.Frame.{Unchanged};
-ghost use Rattle.fp_host.specs.Moments.{Moments};
-ghost use Rattle.fp_host.specs.Outcome.{shows};
 ghost use Rattle.fp_small.specs.Places.{repo};
-ghost use Rattle.ost_model.specs.declared.object.Object.TheVariants as objects;
 ghost use Rattle.ost_model.specs.Look.{look_fault};
-ghost use Rattle.ost_model.specs.Objects.{Have, store};
+ghost use Rattle.ost_model.specs.Objects.{Have};
 ghost use Rattle.ost_model.specs.Remotes.{Stores};
-ghost use Rattle.ost_store.specs.Reads.{HasFile};
 ghost use Rattle.ost_walk.specs.Ends.{EndsBy, IsFirst};
 ghost use Rattle.ost_walk.specs.Looked.{IsFound};
 ghost use Rattle.fl_installed.specs.Files as spec;
 
 use crate::places::{metadata_path, store_alone};
-use fp_base::{Blob, ObjKind};
+use fp_base::Blob;
 use fp_host::{Host, HostEnd, NoRemotes, Path};
 use fp_name::Digest;
 use fp_small::repo_path;
 use ost_model::MOST_METADATA_FILE_BYTES;
-use ost_store::{Got, get, read_piece};
+use ost_store::read_within;
 use ost_walk::{Found, Places, WalkEnd, look};
 use std::alloc::Global;
 
@@ -86,28 +82,6 @@ fn find_metadata<H: Host>(
     digest_in(look_there(alloc, host, &places, commit, &path))
 }
 
-/// The content of a file of the store of this size.
-fn read_bytes<H: Host>(
-    alloc: Global,
-    host: &mut H,
-    root: &Path,
-    digest: &Digest,
-    size: u64,
-) -> Result<Option<Blob>, HostEnd>
-    ensures unchanged { Unchanged (H.moments host.old) (H.moments host.new) }
-    ensures tells { (m : Moments) → H.moments host.old ≡ Some m
-        → (mode : ℕ) (content : List ℕ)
-        → store root.now (shows m.now) digest.now kinds.File ≡ Some (objects.File mode content)
-        → length content ≡ size → IfOk result (λ bytes. bytes ≡ Some content) }
-    ensures fault_has_cause { IsCaused (IsErrOf result HostEnd.Fault) (H.moments host.old)
-        (HasFile root.now digest.now) (H.faults host.old) (H.faults host.new) }
-{
-    let mut bytes = vec![in alloc; 0u8; size as usize]?;
-    let count = read_piece(alloc, host, root, digest, 0, &mut bytes)?;
-    bytes.truncate(count);
-    Ok(Some(Blob::from_vec(bytes)))
-}
-
 /// The content of a file of the store, where it has at most 1 MiB.
 fn read_short<H: Host>(
     alloc: Global,
@@ -121,17 +95,7 @@ fn read_short<H: Host>(
         (H.moments host.old) (H.faults host.old) (H.faults host.new) }
 {
     let root = repo_path(alloc)?;
-    match get(
-        alloc,
-        host,
-        &root,
-        digest,
-        ObjKind::File,
-        MOST_METADATA_FILE_BYTES,
-    )? {
-        Got::File { size, .. } => read_bytes(alloc, host, &root, digest, size),
-        _ => Ok(None),
-    }
+    read_within(alloc, host, &root, digest, MOST_METADATA_FILE_BYTES)
 }
 
 /// The file `metadata` in the root of a commit, as the installation's store has it, where it is a

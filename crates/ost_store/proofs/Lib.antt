@@ -12,3 +12,4 @@ pub mod Said
 pub mod Staying
 mod Samples
 pub mod Creating
+mod Contents

@@ -58,3 +58,13 @@ pub record ReadsPiece (root : Elements) (d : List ℕ) (at : ℕ) (into : List �
     (n : ℕ) : Type 0 where
   pub file : HasFile root d v
   pub came : CameFrom file.bytes at into n
+
+-- the content of a file of at most this number of bytes
+abbrev pub if_within : ℕ → List ℕ → Option (List ℕ)
+if_within most bytes = if leb (length bytes) most then Some bytes else None
+
+abbrev pub content_within : ℕ → Option Object → Option (List ℕ)
+content_within most None = None
+content_within most (Some (objects.File mode bytes)) = if_within most bytes
+content_within most (Some (objects.Link text)) = None
+content_within most (Some (objects.Meta bytes)) = None

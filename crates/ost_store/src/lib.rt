@@ -13,5 +13,5 @@ mod walking;
 pub use listing::names;
 pub use naming::{object_named, path_of};
 pub use placing::{place, place_from, remove};
-pub use reading::{Got, get, has, read_piece};
+pub use reading::{Got, get, has, read_piece, read_sized, read_within};
 pub use staging::{stage, stage_file, stage_piece};

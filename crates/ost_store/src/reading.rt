@@ -1,10 +1,14 @@
 //! Objects that are looked up and read.
-ghost use Rattle.std.specs.Prelude.{◌≡◌, ◌≤◌, length, IfOk, IsErrOf};
+ghost use Rattle.std.specs.Prelude.{◌≡◌, ◌≤◌, ℕ, List, length, Some, IfOk, IsErrOf};
 ghost use Rattle.fp_host.specs.Causes.{IsCaused, IsCounted};
 ghost use Rattle.fp_host.specs.Frame.{AtEnd, Unchanged};
+ghost use Rattle.fp_host.specs.Moments.{Moments};
+ghost use Rattle.fp_host.specs.Outcome.{shows};
 ghost use Rattle.fp_base.specs.declared.object.ObjKind.TheVariants as kinds;
-ghost use Rattle.ost_model.specs.Objects.{may_be_link};
-ghost use Rattle.ost_store.specs.Reads.{IsThere, IsGotOf, Gets, GetsAt, ReadsPiece, HasFile};
+ghost use Rattle.ost_model.specs.declared.object.Object.TheVariants as objects;
+ghost use Rattle.ost_model.specs.Objects.{Have, may_be_link, store};
+ghost use Rattle.ost_model.specs.Remotes.{Stores};
+ghost use Rattle.ost_store.specs.Reads.{IsThere, IsGotOf, Gets, GetsAt, ReadsPiece, HasFile, content_within};
 
 use crate::naming::path_of;
 use fp_base::{Blob, ObjKind, Text};
@@ -138,4 +142,49 @@ pub fn read_piece<H: Host>(
 {
     let path = path_of(alloc, root, digest, ObjKind::File)?;
     Ok(host.read_at(&path, at, into)?)
+}
+
+/// The content of a `file` object that is there as a file of this size. It is for a size within a
+/// limit, since as much memory is taken.
+pub fn read_sized<H: Host>(
+    alloc: Global,
+    host: &mut H,
+    root: &Path,
+    digest: &Digest,
+    size: u64,
+) -> Result<Blob, HostEnd>
+    ensures unchanged { Unchanged (H.moments host.old) (H.moments host.new) }
+    ensures short { IfOk result (λ bytes. length bytes ≤ size) }
+    ensures tells { (m : Moments) → H.moments host.old ≡ Some m
+        → (mode : ℕ) (content : List ℕ)
+        → store root.now (shows m.now) digest.now kinds.File ≡ Some (objects.File mode content)
+        → length content ≡ size → IfOk result (λ bytes. bytes ≡ content) }
+    ensures fault_has_cause { IsCaused (IsErrOf result HostEnd.Fault) (H.moments host.old)
+        (HasFile root.now digest.now) (H.faults host.old) (H.faults host.new) }
+{
+    let mut bytes = vec![in alloc; 0u8; size as usize]?;
+    let count = read_piece(alloc, host, root, digest, 0, &mut bytes)?;
+    bytes.truncate(count);
+    Ok(Blob::from_vec(bytes))
+}
+
+/// The content of a `file` object of the store in this folder, where it is a file of at most `most`
+/// bytes. Whether its name is true isn't looked at.
+pub fn read_within<H: Host>(
+    alloc: Global,
+    host: &mut H,
+    root: &Path,
+    digest: &Digest,
+    most: u64,
+) -> Result<Option<Blob>, HostEnd>
+    ensures unchanged { Unchanged (H.moments host.old) (H.moments host.new) }
+    ensures tells { (have : Have) → Stores root.now (H.moments host.old) have
+        → IfOk result (λ bytes. bytes ≡ content_within most (have digest.now kinds.File)) }
+    ensures fault_has_cause { IsCounted (IsErrOf result HostEnd.Fault)
+        (H.moments host.old) (H.faults host.old) (H.faults host.new) }
+{
+    match get(alloc, host, root, digest, ObjKind::File, most)? {
+        Got::File { size, .. } => Ok(Some(read_sized(alloc, host, root, digest, size)?)),
+        _ => Ok(None),
+    }
 }

@@ -1,5 +1,5 @@
 use Rattle.fp_host.proofs.Cause.{same_fault}
-use Rattle.fl_export.proofs.contents.read_bytes.Goals as goal
+use Rattle.ost_store.proofs.reading.read_sized.Goals as goal
 
 pub returns-in_err-count-clause-fault_has_cause : goal.returns-in_err-count-clause-fault_has_cause
 returns-in_err-count-clause-fault_has_cause g c = record {
