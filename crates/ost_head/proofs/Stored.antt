@@ -1,5 +1,5 @@
 -- Objects of the store.
-use Rattle.std.proofs.Common.{◌≡◌, ◌≤◌, ℕ, List, length, Bool, true, false, leb, Option, Some, None, Result, Ok, Err, IsErrOf, arith, refl, sym, ◌∙◌, ap, subst}
+use Rattle.std.proofs.Common.{◌≡◌, ◌≤◌, ℕ, List, length, Bool, true, false, leb, Option, Some, None, Result, Err, IsErrOf, arith, refl, sym, ◌∙◌, ap, subst}
 use Rattle.std.specs.Prelude.{if◌then◌else◌}
 use Rattle.fp_host.specs.Paths.{Elements, is_link_text}
 use Rattle.fp_host.specs.Outcome.{Spot, gone, folder, holds, points, shows}
@@ -103,13 +103,4 @@ piece_caused T U C end r ended cause = record {
 }
   where
     same : ◌≡◌ {A = Result U WalkEnd} (Err r) (Err walks.HostFault) → r ≡ walks.HostFault
-    same e = cc e
-
-pub passed_caused : (T U : Type 0) (C : View → Type 0) {a : Option Moments} {f g : ℕ} (end : WalkEnd) → IsCaused (IsErrOf {T = T} (Err end) walks.HostFault) a C f g → IsCaused (IsErrOf {T = U} (Err end) walks.HostFault) a C f g
-passed_caused T U C end cause = record {
-  later = cause.later;
-  fault = λ e m at has. cause.fault (same e) m at has;
-}
-  where
-    same : ◌≡◌ {A = Result U WalkEnd} (Err end) (Err walks.HostFault) → ◌≡◌ {A = Result T WalkEnd} (Err end) (Err walks.HostFault)
     same e = cc e

@@ -1,5 +1,5 @@
 //! Objects of the store.
-ghost use Rattle.std.specs.Prelude.{◌≡◌, ◌≤◌, ℕ, List, length, true, false, IfOk, IsErrOf, Some};
+ghost use Rattle.std.specs.Prelude.{◌≡◌, true, false, IfOk, IsErrOf, Some};
 ghost use Rattle.fp_base.specs.declared.object.ObjKind.TheVariants as kinds;
 ghost use Rattle.fp_host.specs.Paths.{is_link_text};
 ghost use Rattle.fp_host.specs.Causes.{IsCaused, IsCounted};
@@ -7,12 +7,11 @@ ghost use Rattle.fp_host.specs.Frame.{Unchanged};
 ghost use Rattle.fp_host.specs.Moments.{Moments};
 ghost use Rattle.fp_host.specs.Outcome.{shows};
 ghost use Rattle.ost_model.specs.declared.object.Object.TheVariants as objects;
-ghost use Rattle.ost_model.specs.Objects.{may_be_link, object_path, store};
-ghost use Rattle.ost_store.specs.Reads.{HasFile, object_of};
+ghost use Rattle.ost_model.specs.Objects.{may_be_link, store};
+ghost use Rattle.ost_store.specs.Reads.{HasFile};
 ghost use Rattle.ost_walk.specs.Ends.{NoFault};
 ghost use Rattle.ost_head.specs.Objects.{IsFitIfThere, IsGoodIfThere, JudgesIfThere, ReadsIfThere};
 ghost use Rattle.ost_head.specs.Stored.{IsFileOf};
-ghost use Rattle.ost_walk.specs.declared.ends.WalkFault.{WalkFault};
 
 use crate::judging::check;
 use fp_base::{Blob, ObjKind, Text};
@@ -20,38 +19,9 @@ use fp_host::{Host, Path, is_link_text};
 use fp_name::Digest;
 use ost_content::is_permission;
 use ost_model::{MOST_FILE_BYTES, MOST_METADATA_OBJECT_BYTES, Object};
-use ost_store::{Got, get, read_piece};
+use ost_store::{Got, get, read_sized};
 use ost_walk::{ObjectFault, WalkEnd, refused};
 use std::alloc::Global;
-
-/// The content of a file of the store of this size.
-fn read_bytes<H: Host>(
-    alloc: Global,
-    host: &mut H,
-    root: &Path,
-    digest: &Digest,
-    size: u64,
-) -> Result<Blob, WalkEnd>
-    ensures unchanged { Unchanged (H.moments host.old) (H.moments host.new) }
-    ensures short { IfOk result (λ bytes. length bytes ≤ size) }
-    ensures tells { (m : Moments) → H.moments host.old ≡ Some m
-        → (mode : ℕ) (content : List ℕ) → store root.now (shows m.now) digest.now kinds.File
-        ≡ Some (objects.File mode content)
-        → length content ≡ size → IfOk result (λ bytes. bytes ≡ content) }
-    ensures refuses { (w : WalkFault) → IsErrOf result (WalkEnd.Refused w) → ⊥ }
-    ensures fault_has_cause { IsCaused (IsErrOf result WalkEnd.HostFault) (H.moments host.old)
-        (HasFile root.now digest.now) (H.faults host.old) (H.faults host.new) }
-    ensures remote { IsErrOf result WalkEnd.RemoteFault → ⊥ }
-{
-    let mut bytes = vec![in alloc; 0u8; size as usize]?;
-    match read_piece(alloc, host, root, digest, 0, &mut bytes) {
-        Ok(count) => {
-            bytes.truncate(count);
-            Ok(Blob::from_vec(bytes))
-        }
-        Err(end) => Err(WalkEnd::from(end)),
-    }
-}
 
 /// A file of the store with these permission bits and of this size.
 fn read_file<H: Host>(
@@ -78,9 +48,9 @@ fn read_file<H: Host>(
     if !is_permission(mode) {
         return Err(refused(digest, ObjKind::File, ObjectFault::RefusedMode(mode)));
     }
-    match read_bytes(alloc, host, root, digest, size) {
+    match read_sized(alloc, host, root, digest, size) {
         Ok(bytes) => Ok(Some(Object::File { mode, bytes })),
-        Err(end) => Err(end),
+        Err(end) => Err(WalkEnd::from(end)),
     }
 }
 
