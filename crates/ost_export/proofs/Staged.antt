@@ -11,38 +11,17 @@ use Rattle.ost_model.specs.declared.object.Object.TheVariants as objects
 use Rattle.ost_model.specs.Objects.{Have, object_path, name_fault}
 use Rattle.ost_model.specs.Order.{In}
 use Rattle.ost_model.proofs.Stores.{one_name}
+use Rattle.ost_model.proofs.Once.{in_push, in_last, in_cases, once_push}
 use Rattle.ost_store.specs.Gathers.{Gathers}
 use Rattle.ost_store.specs.Stage.{Stages, WasStaged, IsHeld, CanStage}
 use Rattle.ost_store.proofs.Staying.{staged_stays, held_stays, staged_held}
 use Rattle.ost_commit.specs.declared.built.BuiltObject.{BuiltObject}
 use Rattle.ost_store.specs.ObjectNames.{IsObjectName, AreOpen}
-use Rattle.ost_export.specs.Staging.{Named, name_of, IsOnce, IsStagedObject, AreStaged, IsAbsentSaid, IsLacking, StagesOne, IsIn, CanStageOne}
+use Rattle.ost_export.specs.Staging.{Named, name_of, IsStagedObject, AreStaged, IsAbsentSaid, IsLacking, StagesOne, IsIn, CanStageOne}
 use Rattle.ost_export.proofs.Paths.{not_both}
 use Rattle.ost_export.proofs.Works.{above_object}
 
 -- ---- lists of objects
-
-pub in_push : {A : Type 0} (os : List A) (o p : A) → In os p → In (os ++ o ∷ []) p
-in_push [] o p has = absurd has
-in_push (x ∷ os) o p (inl is) = inl is
-in_push (x ∷ os) o p (inr has) = inr (in_push os o p has)
-
-pub in_last : {A : Type 0} (os : List A) (o : A) → In (os ++ o ∷ []) o
-in_last [] o = inl refl
-in_last (x ∷ os) o = inr (in_last os o)
-
-pub in_cases : {A : Type 0} (os : List A) (o p : A) → In (os ++ o ∷ []) p → In os p ⊎ (o ≡ p)
-in_cases [] o p (inl is) = inr is
-in_cases [] o p (inr none) = absurd none
-in_cases (x ∷ os) o p (inl is) = inl (inl is)
-in_cases (x ∷ os) o p (inr has) = elim (in_cases os o p has) [ inl h ↦ inl (inr h) | inr is ↦ inr is ]
-
-once_push : (os : List Named) (o : Named) → IsOnce os → (In os o → ⊥) → IsOnce (os ++ o ∷ [])
-once_push [] o once new = (λ none. none, tt)
-once_push (x ∷ os) o once new = (
-  λ has. elim (in_cases os o x has) [ inl h ↦ once.0 h | inr is ↦ new (inl (sym is)) ],
-  once_push os o once.1 (λ h. new (inr h)),
-)
 
 -- ---- one object more
 

@@ -9,11 +9,11 @@ use Rattle.fp_base.specs.declared.object.ObjKind.{ObjKind}
 use Rattle.fp_small.specs.Clear.{IsWithin, IsCleared, CanClear}
 use Rattle.ost_model.specs.declared.object.Object.{Object}
 use Rattle.ost_model.specs.Objects.{Have, object_path, object_at, Named as IsNamedAt}
-use Rattle.ost_model.specs.Order.{In}
+use Rattle.ost_model.specs.Order.{In, IsOnce}
 use Rattle.ost_store.specs.Place.{IsReadyAs}
 use Rattle.ost_store.specs.Stays.{Stays}
 use Rattle.ost_store.specs.ObjectNames.{AreOpen, IsAboveObject}
-use Rattle.ost_export.specs.Staging.{Named, IsOnce, AreStaged}
+use Rattle.ost_export.specs.Staging.{Named, AreStaged}
 
 -- this object, and no other, under its true name
 pub record IsTheObject (d : List ℕ) (kind : ObjKind) (object : Object) (spot : Spot) : Type 0 where

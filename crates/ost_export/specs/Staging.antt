@@ -1,5 +1,5 @@
 -- Objects that are staged in a work folder, laid out as those of a store.
-use Rattle.std.specs.Prelude.{◌≡◌, ◌⊎◌, ℕ, List, [], ◌∷◌, true, false, Bool, Some, None}
+use Rattle.std.specs.Prelude.{◌≡◌, ◌⊎◌, ℕ, List, ◌∷◌, true, false, Bool, Some, None}
 use Rattle.std.specs.List.{AllByRecursion}
 use Rattle.fp_host.specs.Paths.{Elements, Slot, absent, dir}
 use Rattle.fp_host.specs.View.{View}
@@ -12,7 +12,7 @@ use Rattle.fp_small.specs.Files.{KeepsFiles}
 use Rattle.fp_small.specs.Places.{tmp, new_name}
 use Rattle.ost_model.specs.declared.object.Object.{Object}
 use Rattle.ost_model.specs.Objects.{Have, object_path, name_fault}
-use Rattle.ost_model.specs.Order.{In}
+use Rattle.ost_model.specs.Order.{In, IsOnce}
 use Rattle.ost_store.specs.Gathers.{Gathers}
 use Rattle.ost_store.specs.ObjectNames.{IsObjectName, IsAboveObject, AreOpen}
 use Rattle.ost_store.specs.Stage.{IsHeld, IsKeepable}
@@ -44,11 +44,6 @@ WorksName t q e = IsObjectName t q ⊎ (IsAboveObject t q × (e ≡ dir))
 pub record Works (t : Elements) (u w : View) : Type 0 where
   pub keeps : Keeps (WorksAt t) (WorksName t) (IsWithin t) u w
   pub files : KeepsFiles u w
-
--- no object comes twice
-abbrev pub IsOnce : List Named → Type 0
-IsOnce [] = Unit {0}
-IsOnce (o ∷ os) = (In os o → ⊥) × IsOnce os
 
 -- the folder keeps the object of these, which is the one that its digest names
 pub record IsStagedObject (have : Have) (t : Elements) (o : Named) (v : View) : Type 0 where

@@ -8,3 +8,4 @@ mod Rows
 mod Examples
 pub mod Sample
 pub mod Supplied
+pub mod Once

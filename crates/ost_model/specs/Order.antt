@@ -20,6 +20,11 @@ abbrev pub In : {A : Type 0} → List A → A → Type 0
 In [] a = ⊥
 In (x ∷ xs) a = (x ≡ a) ⊎ In xs a
 
+-- nothing comes twice
+abbrev pub IsOnce : {A : Type 0} → List A → Type 0
+IsOnce [] = Unit {0}
+IsOnce (x ∷ xs) = (In xs x → ⊥) × IsOnce xs
+
 abbrev pub each_in : {A B : Type 0} → (A → List B) → List A → List B
 each_in f [] = []
 each_in f (x ∷ xs) = f x ++ each_in f xs

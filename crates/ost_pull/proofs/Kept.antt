@@ -28,12 +28,13 @@ use Rattle.ost_model.specs.declared.object.Object.TheVariants as objects
 use Rattle.ost_model.specs.Objects.{object_path, name_fault}
 use Rattle.ost_model.specs.Order.{In}
 use Rattle.ost_model.proofs.Stores.{one_name}
+use Rattle.ost_model.proofs.Once.{in_push, in_last, in_cases, once_push}
 use Rattle.ost_store.specs.Stage.{Stages, WasStaged, IsHeld, IsStaged, CanStage}
 use Rattle.ost_store.proofs.Staying.{staged_stays, held_stays}
 use Rattle.ost_head.specs.Found.{RemoteHas}
 use Rattle.ost_pull.proofs.Gathered.{gathered_same, gathered_staged}
 use Rattle.ost_store.specs.ObjectNames.{IsAboveObject}
-use Rattle.ost_pull.specs.Work.{Works, IsKept, IsOnce, AreKept, KeepsOne, CanKeep}
+use Rattle.ost_pull.specs.Work.{Works, IsKept, AreKept, KeepsOne, CanKeep}
 
 -- ---- work in the folder
 
@@ -126,28 +127,6 @@ works_sync told call = begins told (makes_goes call) (λ u w tree step. synced_w
 
 abbrev pub Named : Type 0
 Named = List ℕ × ObjKind
-
-pub in_push : (os : List Named) (o p : Named) → In os p → In (os ++ o ∷ []) p
-in_push [] o p has = absurd has
-in_push (x ∷ os) o p (inl is) = inl is
-in_push (x ∷ os) o p (inr has) = inr (in_push os o p has)
-
-pub in_last : (os : List Named) (o : Named) → In (os ++ o ∷ []) o
-in_last [] o = inl refl
-in_last (x ∷ os) o = inr (in_last os o)
-
-pub in_cases : (os : List Named) (o p : Named) → In (os ++ o ∷ []) p → In os p ⊎ (o ≡ p)
-in_cases [] o p (inl is) = inr is
-in_cases [] o p (inr none) = absurd none
-in_cases (x ∷ os) o p (inl is) = inl (inl is)
-in_cases (x ∷ os) o p (inr has) = elim (in_cases os o p has) [ inl h ↦ inl (inr h) | inr is ↦ inr is ]
-
-once_push : (os : List Named) (o : Named) → IsOnce os → (In os o → ⊥) → IsOnce (os ++ o ∷ [])
-once_push [] o once new = (λ none. none, tt)
-once_push (x ∷ os) o once new = (
-  λ has. elim (in_cases os o x has) [ inl h ↦ once.0 h | inr is ↦ new (inl (sym is)) ],
-  once_push os o once.1 (λ h. new (inr h)),
-)
 
 -- ---- an object that is kept already
 

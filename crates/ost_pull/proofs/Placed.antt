@@ -15,7 +15,7 @@ use Rattle.fp_small.proofs.Sharing.{shares_refl, shares_empty, shares_on}
 use Rattle.fp_name.specs.Hex.{is_digest}
 use Rattle.fp_base.specs.declared.object.ObjKind.{ObjKind}
 use Rattle.ost_model.specs.Objects.{object_path}
-use Rattle.ost_model.specs.Order.{In}
+use Rattle.ost_model.specs.Order.{In, IsOnce}
 use Rattle.ost_model.proofs.Stores.{one_name}
 use Rattle.ost_store.specs.Place.{Places, WasPlaced, IsReadyAs, CanPlace}
 use Rattle.ost_store.specs.Stays.{Stays}
@@ -23,9 +23,9 @@ use Rattle.ost_store.proofs.Staying.{placed_stays, placed_there, shown_stays, re
 use Rattle.ost_pull.proofs.Given.{named_given}
 use Rattle.ost_pull.specs.Pulls.{IsApart, Pulls}
 use Rattle.ost_pull.specs.Placing.{IsReadyIn, AreReady, AreLacking, CanPlaceAll, CameTo, WasPut, PlacesAll, PlacesSome, PullsReady}
-use Rattle.ost_pull.specs.Work.{IsOnce}
 use Rattle.ost_pull.proofs.Apart.{off_object, above_on}
-use Rattle.ost_pull.proofs.Kept.{Named, in_push, in_cases, in_last, below_work, above_object}
+use Rattle.ost_pull.proofs.Kept.{Named, below_work, above_object}
+use Rattle.ost_model.proofs.Once.{in_push, in_last, in_cases, once_front}
 use Rattle.ost_pull.proofs.Pulled.{pulls_on, pulls_open}
 
 -- ---- names that stay
@@ -35,14 +35,6 @@ stays_on first second = record { name = second.name ∙ first.name; row = λ id 
 
 pub stays_same : {q : Elements} {v : View} → Stays q v v
 stays_same = record { name = refl; row = λ id f is some. some }
-
-pub once_front : (os : List Named) (o : Named) → IsOnce (os ++ o ∷ []) → IsOnce os × (In os o → ⊥)
-once_front [] o once = (tt, λ none. none)
-once_front (x ∷ os) o once =
-    let rest = once_front os o once.1 in (
-      (λ has. once.0 (in_push os o x has), rest.0),
-      λ has. elim has [ inl is ↦ once.0 (subst (In (os ++ o ∷ [])) (sym is) (in_last os o)) | inr h ↦ rest.1 h ],
-    )
 
 not_in_itself : (root : Elements) (d e : List ℕ) (k m : ObjKind) → is_digest d ≡ true → is_digest e ≡ true → ((e ≡ d) × (m ≡ k) → ⊥) → IsWithin (object_path root e m) (object_path root d k) → ⊥
 not_in_itself root d e k m of_d of_e off (inl same) = let one = one_name root d e k m of_d of_e same in off (sym one.0, sym one.1)

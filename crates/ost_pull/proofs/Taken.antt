@@ -43,7 +43,8 @@ use Rattle.ost_store.specs.ObjectNames.{AreOpen}
 use Rattle.ost_pull.specs.Work.{Works, Gathered, KeepsOne, Adds, CanKeep}
 use Rattle.ost_pull.proofs.Apart.{works_object}
 use Rattle.ost_pull.proofs.Gathered.{gathered_same, gathered_on}
-use Rattle.ost_pull.proofs.Kept.{Named, in_push, in_cases, in_last, below_work, above_work, above_object}
+use Rattle.ost_pull.proofs.Kept.{Named, below_work, above_work, above_object}
+use Rattle.ost_model.proofs.Once.{in_push, in_last, in_cases}
 
 -- ---- ends
 

@@ -12,12 +12,11 @@ use Rattle.fp_small.specs.Files.{KeepsFiles}
 use Rattle.fp_small.specs.Shares.{Shares}
 use Rattle.fp_small.specs.declared.limits.TheConstants.{MOST_ELEMENTS}
 use Rattle.ost_model.specs.Objects.{object_path}
-use Rattle.ost_model.specs.Order.{In}
+use Rattle.ost_model.specs.Order.{In, IsOnce}
 use Rattle.ost_model.specs.Stores.{objects_folder}
 use Rattle.ost_store.specs.Place.{IsReadyAs, LeavesStore}
 use Rattle.ost_store.specs.Stays.{Stays}
 use Rattle.ost_store.specs.ObjectNames.{AreOpen}
-use Rattle.ost_pull.specs.Work.{IsOnce}
 use Rattle.ost_pull.specs.Takes.{AreTaken}
 use Rattle.ost_pull.specs.Pulls.{Pulls}
 

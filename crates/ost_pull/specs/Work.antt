@@ -13,7 +13,7 @@ use Rattle.fp_small.specs.Files.{KeepsFiles}
 use Rattle.fp_small.specs.Folders.{ancestors, AreFree}
 use Rattle.ost_model.specs.declared.object.Object.{Object}
 use Rattle.ost_model.specs.Objects.{object_path, name_fault}
-use Rattle.ost_model.specs.Order.{In}
+use Rattle.ost_model.specs.Order.{In, IsOnce}
 use Rattle.ost_store.specs.Gathers.{Gathers}
 use Rattle.ost_store.specs.ObjectNames.{IsObjectName, IsAboveObject}
 use Rattle.ost_store.specs.Stage.{IsHeld, IsKeepable}
@@ -52,11 +52,6 @@ pub record IsKept (t : Elements) (url : List ℕ) (holds : Option Holdings) (o :
   pub held : IsHeld (object_path t o.0 o.1) object v
   pub named : name_fault o.0 o.1 (Some object) ≡ None
   pub there : RemoteHas url holds o.0 o.1 object
-
--- no object comes twice
-abbrev pub IsOnce : List (List ℕ × ObjKind) → Type 0
-IsOnce [] = Unit {0}
-IsOnce (o ∷ os) = (In os o → ⊥) × IsOnce os
 
 -- it keeps these objects, each once, and no other
 pub record AreKept (t : Elements) (url : List ℕ) (holds : Option Holdings)
