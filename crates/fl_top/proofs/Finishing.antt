@@ -31,7 +31,7 @@ use Rattle.fp_small.specs.declared.op.Op.{Op}
 use Rattle.fl_top.specs.Runs.{Runs, Ran, Told, RunsBy, RanBy, IsGiven, IsGivenTo, Looks, MakesNone, IsChange, IsReady, Serves, HasCauses, MayAnswer, WasTaken}
 use Rattle.fl_top.specs.RunsOver.{RunsOver, LooksOver, EndedOver, LookedOver, RunsOn, EndedOn, RanOn, Ended, Closed, IsGivenBy, IsClosedBy, MadeWhere, Takes, TakenBy}
 use Rattle.fl_change.specs.Says.{Says, Refuses}
-use Rattle.fl_top.specs.Status.{only_looks, changes_state, reads_input, asks_remotes, IsAnswered, IsOfWords}
+use Rattle.fl_top.specs.Status.{only_looks, changes_state, reads_input, IsAnswered, IsOfWords}
 use Rattle.fl_change.specs.declared.end.RunEnd.{RunEnd}
 use Rattle.fl_change.specs.declared.end.RunEnd.TheVariants as run
 use Rattle.fl_top.specs.declared.command_end.CommandEnd.{CommandEnd}
@@ -131,17 +131,16 @@ ready_for command f given u shown changes late is may = elim may [
   | inr at_once ↦ absurd (over_late f late shown (subst (λ (a : Answer). IsAtOnce a.refusal) (sym is) at_once))
 ]
 
--- what the remotes hold is told, where they are asked
-holds_told : (command : Command) (t : Told) (given : Given) → asks_remotes command ≡ true → IsGivenTo command t given → t.holds ≡ Some given.held
-holds_told command t given asks gave = elim gave.held [
-  | inl none ↦ absurd (let both : true ≡ false = sym asks ∙ none in cc both)
+-- what the remotes hold is told, where the state may change
+holds_told : (command : Command) (t : Told) (given : Given) → changes_state command ≡ true → IsGivenTo command t given → t.holds ≡ Some given.held
+holds_told command t given changes gave = elim gave.held [
+  | inl none ↦ absurd (let both : true ≡ false = sym changes ∙ none in cc both)
   | inr told ↦ told
 ]
 
 -- what is known of a command that changes something, by these operations
 pub record IsChanging (command : Command) (t : Told) (May : Op → Type 0) (f : Holdings → World → Answer) : Type 0 where
   pub changes : changes_state command ≡ true
-  pub asks : asks_remotes command ≡ true
   pub late : IsLate f
   pub is : IsAnswer command t f
   pub may : (op : Op) → May op → OpsBy command t.left op
@@ -151,12 +150,12 @@ runs_change command t May f u w known p = record {
   runs = λ given gave shown counts may.
       let is = known.is given gave in
       subst (λ (x : Answer). Runs x u w) (is shown)
-      (p.runs (ready_for command (f given.held) given u shown known.changes (known.late given.held) (is shown) may) given.held (holds_told command t given known.asks gave) shown (counts_for command (f given.held) given u shown is counts));
+      (p.runs (ready_for command (f given.held) given u shown known.changes (known.late given.held) (is shown) may) given.held (holds_told command t given known.changes gave) shown (counts_for command (f given.held) given u shown is counts));
   changes = λ ready. alter_to known.may (p.changes (λ asks. ready (asks_to known.may asks)));
   rests = λ change given gave shown counts may.
       let is = known.is given gave in
       subst (λ (x : Answer). StaysAtRest x u w) (is shown)
-      (p.rests (ready_for command (f given.held) given u shown known.changes (known.late given.held) (is shown) may) given.held (holds_told command t given known.asks gave) shown (counts_for command (f given.held) given u shown is counts));
+      (p.rests (ready_for command (f given.held) given u shown known.changes (known.late given.held) (is shown) may) given.held (holds_told command t given known.changes gave) shown (counts_for command (f given.held) given u shown is counts));
   untouched = λ why. elim why [ inl looks ↦ absurd (let both : true ≡ false = sym looks ∙ looks_not command known.changes in cc both) | inr none ↦ p.untouched none.1 ];
 }
 
@@ -166,7 +165,7 @@ ended_change command t May f r s u w known close give q = record {
   ended = λ given gave shown counts may.
       let is = known.is given gave in
       subst (λ (x : Answer). Closed given.held x s u w) (is shown) (close given.held (over (f given.held) shown)
-      (q.ended (ready_for command (f given.held) given u shown known.changes (known.late given.held) (is shown) may) given.held (holds_told command t given known.asks gave) shown (counts_for command (f given.held) given u shown is counts)));
+      (q.ended (ready_for command (f given.held) given u shown known.changes (known.late given.held) (is shown) may) given.held (holds_told command t given known.changes gave) shown (counts_for command (f given.held) given u shown is counts)));
   given = λ given gave by. counts_same (answer_over command given) (over (f given.held)) (shows u) (λ r. sym (known.is given gave r)) (q.given given.held (give by));
   made = made_where s command t.left u w (made_none command t.left u w known.changes);
 }
@@ -385,7 +384,6 @@ batch_answers t bytes changes whole is given gave shown = ap (λ (x : Result (Li
 pub batch_changes : (t : Told) (bytes : List ℕ) (changes : List Change) → IsWhole t.left bytes → batch_of bytes ≡ Ok changes → IsChanging Batch t (MayDo changes) (changing changes)
 batch_changes t bytes changes whole is = record {
   changes = refl;
-  asks = refl;
   late = changing_late changes;
   is = batch_answers t bytes changes whole is;
   may = λ op may. (changes, record { bytes = bytes; whole = whole; read = is }, may);
@@ -393,11 +391,11 @@ batch_changes t bytes changes whole is = record {
 
 -- one change
 pub change_changes : (t : Told) (change : Change) → IsChanging (Changing change) t (MayDo (change ∷ [])) (changing (change ∷ []))
-change_changes t change = record { changes = refl; asks = refl; late = changing_late (change ∷ []); is = λ given gave shown. refl; may = λ op may. may }
+change_changes t change = record { changes = refl; late = changing_late (change ∷ []); is = λ given gave shown. refl; may = λ op may. may }
 
 -- an exercise
 pub exercise_changing : (t : Told) (apps : ℕ) → IsChanging (Exercising apps) t (MayDo (exercise_changes apps)) (exercising apps)
-exercise_changing t apps = record { changes = refl; asks = refl; late = exercising_late apps; is = λ given gave shown. refl; may = λ op may. may }
+exercise_changing t apps = record { changes = refl; late = exercising_late apps; is = λ given gave shown. refl; may = λ op may. may }
 
 -- ---- what it takes of the input
 

@@ -25,7 +25,7 @@ use Rattle.fl_change.specs.Changes.{IsUntouched, HasText}
 use Rattle.fl_change.specs.Created.{CreatesInTurn}
 use Rattle.fl_top.specs.Fsck.{Finds, IsListable}
 use Rattle.fl_top.specs.Exports.{Alters, OnlyRests, StaysAtRest}
-use Rattle.fl_top.specs.Status.{status_at, IsAnswered, only_looks, changes_state, makes_remote, reads_input, asks_remotes, checks_store}
+use Rattle.fl_top.specs.Status.{status_at, IsAnswered, only_looks, changes_state, makes_remote, reads_input, checks_store}
 use Rattle.fl_change.specs.Performs.{Printed, AsksBy}
 use Rattle.fp_small.specs.declared.op.Op.{Op}
 use Rattle.op_bring.specs.Bringing.{AreTold}
@@ -157,11 +157,12 @@ IsMadeOf (Exporting remote name) left digest =
     (bytes : List ℕ) → left ≡ Some bytes → IsCommitOf name bytes digest
 
 -- The command is given this: as its input all that is left, where it reads the input; what the
--- remotes hold, where it asks them; what is found in the store, where it looks at that; and the
--- digest of the commit that the input describes, where it makes one. Else it may be given any.
+-- remotes hold, where it may change the state; what is found in the store, where it looks at that;
+-- and the digest of the commit that the input describes, where it makes one. Else it may be given
+-- any.
 pub record IsGivenTo (command : Command) (t : Told) (given : Given) : Type 0 where
   pub input : (reads_input command ≡ false) ⊎ (t.left ≡ Some given.input)
-  pub held : (asks_remotes command ≡ false) ⊎ (t.holds ≡ Some given.held)
+  pub held : (changes_state command ≡ false) ⊎ (t.holds ≡ Some given.held)
   pub report : (checks_store command ≡ false) ⊎ IsFoundAt t.moments given.report
   pub commit : IsMadeOf command t.left given.commit
 

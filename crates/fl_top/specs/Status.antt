@@ -26,7 +26,8 @@ only_looks Fsck = true
 only_looks (Exporting remote name) = false
 only_looks (Exercising apps) = false
 
--- it may change the installation's state
+-- it may change the installation's state, and what it does may depend on what remotes hold: those
+-- of the run, or those that are made for an exercise
 abbrev pub changes_state : Command → Bool
 changes_state (Changing change) = true
 changes_state (Listed listing) = false
@@ -57,18 +58,6 @@ reads_input Batch = true
 reads_input Fsck = false
 reads_input (Exporting remote name) = true
 reads_input (Exercising apps) = false
-
--- what it does may depend on what remotes hold: those of the run, or those that are made for an
--- exercise
-abbrev pub asks_remotes : Command → Bool
-asks_remotes (Changing change) = true
-asks_remotes (Listed listing) = false
-asks_remotes (Showing thing) = false
-asks_remotes (Filtering source) = false
-asks_remotes Batch = true
-asks_remotes Fsck = false
-asks_remotes (Exporting remote name) = false
-asks_remotes (Exercising apps) = true
 
 -- it looks at each object of the store
 abbrev pub checks_store : Command → Bool
