@@ -1,20 +1,15 @@
 -- Which runtimes are unused.
-use Rattle.std.specs.Prelude.{Bool, false, not, ◌&&◌, ◌||◌, List, filter, slice_get, Option, option_and_then}
+use Rattle.std.specs.Prelude.{Bool, not, ◌&&◌, ◌||◌, List, filter, slice_get, Option, option_and_then}
 use Rattle.std.specs.List.{list_any}
-use Rattle.std.specs.Option.{option_map_or}
-use Rattle.std.specs.Str.{bytes_eq}
-use Rattle.fp_name.specs.Refs.{Ref, ref_text}
+use Rattle.fp_name.specs.Refs.{Ref}
 use Rattle.fp_name.specs.Pins.{pin_matches}
 use Rattle.fp_name.specs.declared.kind.RefKind.TheVariants.{App, Runtime}
 use Rattle.fp_small.specs.declared.state.State.{State}
 use Rattle.fl_meta.specs.declared.meta.Meta.{Meta}
 use Rattle.fl_extension.specs.declared.point.Point.{Point}
 use Rattle.fl_extension.specs.Found.{found}
+use Rattle.fl_installed.specs.Users.{is_name}
 use Rattle.fl_plan.specs.Targets.{is_kind, names_of}
-
--- it is this ref
-abbrev pub is_name : Ref → Option Ref → Bool
-is_name name other = option_map_or (λ o. bytes_eq (ref_text o) (ref_text name)) other false
 
 -- an application's metadata names the runtime
 abbrev pub is_named : List (Ref × Meta) → Ref → Bool

@@ -1,5 +1,6 @@
 //! Which runtimes are unused.
 ghost use Rattle.std.specs.Prelude.{◌≡◌, [], IfOk};
+ghost use Rattle.fl_installed.specs.Users.{is_name};
 ghost use Rattle.fl_plan.specs.Unused as spec;
 
 use crate::updating::same_kind;
@@ -12,7 +13,7 @@ use std::alloc::{AllocError, Global};
 
 /// Whether the metadata names the runtime.
 fn names_runtime(meta: &Meta, name: &RefName) -> bool
-    ensures { result ≡ spec.is_name name.now meta.now.runtime }
+    ensures { result ≡ is_name name.now meta.now.runtime }
 {
     match &meta.runtime {
         Some(runtime) => *runtime == *name,
@@ -43,7 +44,7 @@ fn is_needed(state: &State, metas: &[(RefName, Meta)], name: &RefName) -> bool
 
 /// Whether the point finds the ref.
 fn finds(state: &State, point: &Point, name: &RefName) -> bool
-    ensures { result ≡ spec.is_name name.now (spec.found_at state.now point.now) }
+    ensures { result ≡ is_name name.now (spec.found_at state.now point.now) }
 {
     match found(point, state) {
         Some(place) => match point.candidates.as_slice().get(place) {
