@@ -1,5 +1,5 @@
 -- Which candidate of an extension point is installed.
-use Rattle.std.specs.Prelude.{ℕ, Bool, Option}
+use Rattle.std.specs.Prelude.{ℕ, Bool, Option, option_and_then, slice_get}
 use Rattle.std.specs.List.{list_any, position}
 use Rattle.std.specs.Str.{bytes_eq}
 use Rattle.fp_name.specs.Refs.{Ref, ref_text}
@@ -13,3 +13,7 @@ has_ref state r = list_any (λ row. bytes_eq (ref_text row.name) (ref_text r)) s
 -- the place of the first candidate that the state has
 abbrev pub found : Point → State → Option ℕ
 found point state = position (has_ref state) point.candidates
+
+-- the ref that is found for a point
+abbrev pub found_ref : State → Point → Option Ref
+found_ref state point = option_and_then (slice_get point.candidates) (found point state)

@@ -1,6 +1,7 @@
 //! The candidate of a point that is installed.
 
 ghost use Rattle.std.specs.Prelude.{◌≡◌};
+ghost use Rattle.std.specs.Option.{option_copied};
 ghost use Rattle.fl_extension.specs.Found as spec;
 
 use crate::point::Point;
@@ -20,4 +21,12 @@ pub fn found(point: &Point, state: &State) -> Option<usize>
 {
     let mut candidates = point.candidates.as_slice().iter();
     candidates.position(|name| has_ref(state, name))
+}
+
+/// The ref that is found for a point.
+pub fn found_ref<'a>(state: &State, point: &'a Point) -> Option<&'a RefName>
+    ensures { option_copied result ≡ spec.found_ref state.now point.now }
+{
+    let place = found(point, state)?;
+    point.candidates.as_slice().get(place)
 }

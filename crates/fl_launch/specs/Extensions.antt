@@ -1,5 +1,5 @@
 -- The extensions that a launch names: of each extension point, the candidate that is found.
-use Rattle.std.specs.Prelude.{ℕ, List, [], ◌∷◌, ◌++◌, fold, Option, option_and_then, codes, slice_get}
+use Rattle.std.specs.Prelude.{ℕ, List, [], ◌∷◌, ◌++◌, fold, Option, codes}
 use Rattle.std.specs.List.{find, flat_map}
 use Rattle.std.specs.Option.{option_map_or}
 use Rattle.std.specs.BTreeSet.{insert_key}
@@ -11,7 +11,7 @@ use Rattle.fp_name.specs.Refs.{Ref, ref_text}
 use Rattle.fp_small.specs.declared.state.RefRow.{RefRow}
 use Rattle.fp_small.specs.declared.state.State.{State}
 use Rattle.fl_extension.specs.declared.point.Point.{Point}
-use Rattle.fl_extension.specs.Found.{found}
+use Rattle.fl_extension.specs.Found.{found_ref}
 
 -- the row of a ref, and the text of its commit
 abbrev pub row_of : State → Ref → Option RefRow
@@ -19,10 +19,6 @@ row_of state r = find (λ row. bytes_eq (ref_text row.name) (ref_text r)) state.
 
 abbrev pub commit_of : State → Ref → List ℕ
 commit_of state r = option_map_or (λ row. hex row.commit) (row_of state r) []
-
--- the ref that is found for a point
-abbrev pub found_ref : State → Point → Option Ref
-found_ref state point = option_and_then (slice_get point.candidates) (found point state)
 
 -- `NAME=COMMIT;`, where one is found
 abbrev pub extension_with : State → List ℕ → Ref → List ℕ

@@ -4,7 +4,7 @@ ghost use Rattle.std.specs.Prelude.{◌≡◌, ◌++◌, IfOk, OnOk, string_byte
 ghost use Rattle.std.specs.Option.{option_copied};
 ghost use Rattle.fl_launch.specs.Extensions as spec;
 
-use fl_extension::{Point, found};
+use fl_extension::{Point, found_ref};
 use fp_base::Text;
 use fp_name::RefName;
 use fp_small::{RefRow, State};
@@ -26,14 +26,6 @@ pub(crate) fn commit_of(alloc: Global, state: &State, name: &RefName) -> Result<
         Some(row) => row.commit.write(alloc),
         None => Text::from_str(alloc, ""),
     }
-}
-
-/// The ref that is found for a point.
-pub(crate) fn found_ref<'a>(state: &State, point: &'a Point) -> Option<&'a RefName>
-    ensures { option_copied result ≡ spec.found_ref state.now point.now }
-{
-    let place = found(point, state)?;
-    point.candidates.as_slice().get(place)
 }
 
 /// Adds the extension of a point, where one is found.

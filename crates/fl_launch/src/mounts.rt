@@ -4,9 +4,8 @@ ghost use Rattle.std.specs.Prelude.{◌≡◌, ◌++◌, IfOk, OnOk, string_byte
 ghost use Rattle.fl_launch.specs.Extensions as extensions;
 ghost use Rattle.fl_launch.specs.Launch as spec;
 
-use crate::extensions::found_ref;
 use crate::writing::push_header;
-use fl_extension::Point;
+use fl_extension::{Point, found_ref};
 use fp_base::Text;
 use fp_name::RefName;
 use fp_small::State;

@@ -1,5 +1,5 @@
 -- Which runtimes are unused.
-use Rattle.std.specs.Prelude.{Bool, not, ◌&&◌, ◌||◌, List, filter, slice_get, Option, option_and_then}
+use Rattle.std.specs.Prelude.{Bool, not, ◌&&◌, ◌||◌, List, filter}
 use Rattle.std.specs.List.{list_any}
 use Rattle.fp_name.specs.Refs.{Ref}
 use Rattle.fp_name.specs.Pins.{pin_matches}
@@ -7,7 +7,7 @@ use Rattle.fp_name.specs.declared.kind.RefKind.TheVariants.{App, Runtime}
 use Rattle.fp_small.specs.declared.state.State.{State}
 use Rattle.fl_meta.specs.declared.meta.Meta.{Meta}
 use Rattle.fl_extension.specs.declared.point.Point.{Point}
-use Rattle.fl_extension.specs.Found.{found}
+use Rattle.fl_extension.specs.Found.{found_ref}
 use Rattle.fl_installed.specs.Users.{is_name}
 use Rattle.fl_plan.specs.Targets.{is_kind, names_of}
 
@@ -22,12 +22,8 @@ is_pinned state name = list_any (λ pin. pin_matches pin name) state.pins
 abbrev pub is_needed : State → List (Ref × Meta) → Ref → Bool
 is_needed state metas name = is_named metas name || is_pinned state name
 
--- the ref that the point finds
-abbrev pub found_at : State → Point → Option Ref
-found_at state point = option_and_then (slice_get point.candidates) (found point state)
-
 abbrev pub one_finds : State → Ref → List Point → Bool
-one_finds state name points = list_any (λ point. is_name name (found_at state point)) points
+one_finds state name points = list_any (λ point. is_name name (found_ref state point)) points
 
 -- what the points of an application, or of a runtime that is needed, find is kept
 abbrev pub is_owner : State → List (Ref × Meta) → Ref → Bool

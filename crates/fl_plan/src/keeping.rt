@@ -1,5 +1,6 @@
 //! Which runtimes are unused.
 ghost use Rattle.std.specs.Prelude.{◌≡◌, [], IfOk};
+ghost use Rattle.fl_extension.specs.Found.{found_ref};
 ghost use Rattle.fl_installed.specs.Users.{is_name};
 ghost use Rattle.fl_plan.specs.Unused as spec;
 
@@ -44,7 +45,7 @@ fn is_needed(state: &State, metas: &[(RefName, Meta)], name: &RefName) -> bool
 
 /// Whether the point finds the ref.
 fn finds(state: &State, point: &Point, name: &RefName) -> bool
-    ensures { result ≡ is_name name.now (spec.found_at state.now point.now) }
+    ensures { result ≡ is_name name.now (found_ref state.now point.now) }
 {
     match found(point, state) {
         Some(place) => match point.candidates.as_slice().get(place) {
