@@ -5,7 +5,7 @@ ghost use Rattle.fl_installed.specs.Users.{is_name};
 ghost use Rattle.fl_plan.specs.Unused as spec;
 
 use crate::updating::same_kind;
-use fl_extension::{Point, found};
+use fl_extension::{Point, found_ref};
 use fl_meta::Meta;
 use fp_base::Items;
 use fp_name::{RefKind, RefName};
@@ -47,11 +47,8 @@ fn is_needed(state: &State, metas: &[(RefName, Meta)], name: &RefName) -> bool
 fn finds(state: &State, point: &Point, name: &RefName) -> bool
     ensures { result ≡ is_name name.now (found_ref state.now point.now) }
 {
-    match found(point, state) {
-        Some(place) => match point.candidates.as_slice().get(place) {
-            Some(candidate) => *candidate == *name,
-            None => false,
-        },
+    match found_ref(state, point) {
+        Some(candidate) => *candidate == *name,
         None => false,
     }
 }
