@@ -3,6 +3,22 @@ use fp_realacts::{Act, tell};
 use fp_reallog::Kind;
 use fp_realplay::{Made, Part, Step};
 use fp_realroot::Access;
+use std::thread::Threads;
+
+/// Whether the parts are as they say over a root in a folder, and also where the system is watched
+/// as a command is.
+fn tell_both<T: Threads + Sync>(
+    rt: &HostRuntime,
+    threads: &T,
+    place: (&str, &str),
+    kind: Kind<'_>,
+    parts: &[Part<'_>],
+) -> bool {
+    let (folder, root) = place;
+    let plain = [Act::Logged(Access::Change, root, parts)];
+    let watched = [Act::Watched(Access::Change, root, parts)];
+    tell(rt, threads, folder, kind, &plain) && tell(rt, threads, folder, kind, &watched)
+}
 
 /// Calls, and what the system is asked for each.
 const ASKED: [(Step<'static>, &str); 24] = [
@@ -128,15 +144,6 @@ const WAITING: [(Step<'static>, &str); 14] = [
     ),
 ];
 
-const ASKING: [Act<'static>; 1] = [Act::Logged(Access::Change, "order/root", &[Part::Ask(&ASKED)])];
-
-/// The system is asked the same where it is watched.
-const WATCHING: [Act<'static>; 1] = [Act::Watched(
-    Access::Change,
-    "order/root",
-    &[Part::Ask(&ASKED)],
-)];
-
 const DATING: [Act<'static>; 1] = [Act::Logged(
     Access::Change,
     "date/root",
@@ -170,8 +177,8 @@ const FAILURES: [(&str, usize, bool); 11] = [
 fn what_the_system_fails_at_is_not_done(rt: HostRuntime) {
     for (fails, at, syncs) in &FAILURES {
         let parts = [Part::Stop(&CHANGES, *at, *syncs)];
-        let acts = [Act::Logged(Access::Change, "fails/root", &parts)];
-        assert!(rt; tell(&rt, &rt, "fails", Kind::Failing(fails), &acts));
+        let kind = Kind::Failing(fails);
+        assert!(rt; tell_both(&rt, &rt, ("fails", "fails/root"), kind, &parts));
     }
 }
 
@@ -285,8 +292,8 @@ const BARE: [Act<'static>; 2] = [
     Act::Logged(Access::Change, "bare/root", &[Part::Ask(&CHANGED)]),
 ];
 
-/// What is looked at: the root, and what isn't known to be there or absent. A file that was written while it had two names is looked
-/// at again.
+/// What is looked at: the root, and what isn't known to be there or absent. A file that was written
+/// while it had two names is looked at again.
 const LOOKS: [(Step<'static>, &str); 27] = [
     (
         Step::Stat("none"),
@@ -332,8 +339,15 @@ const LOOKING: [Act<'static>; 1] = [Act::Logged(
 
 #[test]
 fn the_system_is_asked_in_order(rt: HostRuntime) {
-    assert!(rt; tell(&rt, &rt, "order", Kind::Plain, &ASKING));
-    assert!(rt; tell(&rt, &rt, "order", Kind::Plain, &WATCHING));
+    assert!(rt;
+        tell_both(
+            &rt,
+            &rt,
+            ("order", "order/root"),
+            Kind::Plain,
+            &[Part::Ask(&ASKED)]
+        )
+    );
     assert!(rt; tell(&rt, &rt, "date", Kind::Plain, &DATING));
     assert!(rt; tell(&rt, &rt, "left", Kind::Plain, &LEFT));
     assert!(rt; tell(&rt, &rt, "left", Kind::Plain, &MARKED));
@@ -348,9 +362,10 @@ fn what_stands_there_is_synced(rt: HostRuntime) {
     assert!(rt; tell(&rt, &rt, "bare", Kind::Plain, &BARE));
 }
 
-/// How many files are made, and the sync that fails. Where 192 files are open beside the one that is written, they are synced before
-/// the next one is created, and the sync makes the others last. They are synced by their names, up to the first that fails: before
-/// f150 are f00 to f09, six of two figures from f10 on, and the fifty of f100 to f149.
+/// How many files are made, and the sync that fails. Where 192 files are open beside the one that
+/// is written, they are synced before the next one is created, and the sync makes the others last.
+/// They are synced by their names, up to the first that fails: before f150 are f00 to f09, six of
+/// two figures from f10 on, and the fifty of f100 to f149.
 const MANY: [(u32, &str, (usize, usize, bool)); 4] = [
     (60, "", (0, 60, true)),
     (60, "sync many/root/f47", (0, 48, false)),
@@ -362,7 +377,7 @@ const MANY: [(u32, &str, (usize, usize, bool)); 4] = [
 fn many_files_are_synced(rt: HostRuntime) {
     for (count, fails, want) in &MANY {
         let parts = [Part::Many(*count, want)];
-        let acts = [Act::Logged(Access::Change, "many/root", &parts)];
-        assert!(rt; tell(&rt, &rt, "many", Kind::Failing(fails), &acts));
+        let kind = Kind::Failing(fails);
+        assert!(rt; tell_both(&rt, &rt, ("many", "many/root"), kind, &parts));
     }
 }

@@ -1,7 +1,7 @@
 //! Syncs of many things at once, by several threads.
 use fp_progress::{Progress, Watched};
 use fp_realfiles::{Failure, Syncer, Unsynced, sync_by_threads};
-use fp_reallog::{Kind, Log, Logged};
+use fp_reallog::{Kind, Log};
 use fp_realroot::System;
 use fp_system::{Call, Cause};
 use std::alloc::{AllocError, Global};
@@ -136,68 +136,108 @@ const DEVICE: &str = "/dev/null";
 
 const GONE: &str = "/dev/null/none";
 
-/// How many stand before the device in a list.
-const BEFORE: [usize; 4] = [0, 1, 40, 2500];
+/// How many stand before the device in a list, and after it.
+const PLACES: [(usize, usize); 7] = [
+    (0, 0),
+    (1, 0),
+    (0, 1),
+    (40, 0),
+    (0, 40),
+    (2500, 0),
+    (1200, 1300),
+];
 
-fn list_paths(alloc: Global, before: usize) -> Result<Vec<&'static str>, AllocError> {
-    let mut paths = Vec::new(alloc);
-    for _ in 0..before {
-        paths.push(GONE)?;
+/// A list of this one, and others before it and after.
+fn list_around<I: Copy>(
+    alloc: Global,
+    one: I,
+    other: I,
+    place: (usize, usize),
+) -> Result<Vec<I>, AllocError> {
+    let (before, after) = place;
+    let mut list = Vec::new(alloc);
+    for i in 0..before.saturating_add(after).saturating_add(1) {
+        list.push(if i == before { one } else { other })?;
     }
-    paths.push(DEVICE)?;
-    Ok(paths)
+    Ok(list)
 }
 
-/// Whether the system finds that the last of the paths cannot be synced.
+/// Whether the system finds which of the paths cannot be synced.
 fn fails_by_path<R: System, T: Threads + Sync>(
     system: &R,
     threads: &T,
     alloc: Global,
-    before: usize,
+    place: (usize, usize),
 ) -> bool {
-    match list_paths(alloc, before) {
+    match list_around(alloc, DEVICE, GONE, place) {
         Ok(paths) => {
             let met = system.sync_paths(threads, paths.as_slice());
-            is_met(met, Some((before, Call::Sync)))
+            is_met(met, Some((place.0, Call::Sync)))
         }
         Err(_) => false,
     }
 }
 
-fn all_fail_by_path<R: System, T: Threads + Sync>(system: &R, threads: &T, log: &Log<'_>) {
-    for before in &BEFORE {
-        let fails = fails_by_path(system, threads, log.alloc, *before);
-        log.demand(fails, *before, "the paths");
+/// Whether the system finds which of the open files cannot be synced.
+fn fails_by_file<R: System, T: Threads + Sync>(
+    system: &R,
+    threads: &T,
+    alloc: Global,
+    place: (usize, usize),
+) -> bool {
+    match (fs::open(system, DEVICE), fs::open(system, ".")) {
+        (Ok(device), Ok(folder)) => {
+            fails_at(
+                system,
+                threads,
+                list_around(alloc, &device, &folder, place),
+                place.0,
+            )
+        }
+        _ => false,
+    }
+}
+
+/// Whether the system finds that the open file at this place cannot be synced.
+fn fails_at<R: System, T: Threads + Sync>(
+    system: &R,
+    threads: &T,
+    files: Result<Vec<&R::File>, AllocError>,
+    place: usize,
+) -> bool {
+    match files {
+        Ok(files) => {
+            let met = system.sync_files(threads, files.as_slice());
+            is_met(met, Some((place, Call::Sync)))
+        }
+        Err(_) => false,
+    }
+}
+
+fn all_fail<R: System, T: Threads + Sync>(system: &R, threads: &T, log: &Log<'_>) {
+    for (i, place) in (&PLACES).iter().enumerate() {
+        let fails = fails_by_path(system, threads, log.alloc, *place);
+        log.demand(fails, i, "the paths");
+        let fails = fails_by_file(system, threads, log.alloc, *place);
+        log.demand(fails, i, "the open files");
     }
 }
 
 fn all_fail_watched<T: Threads + Sync>(rt: &HostRuntime, threads: &T, log: &Log<'_>) {
-    let logged = Logged { rt, log };
-    let progress = Progress::new(&logged, false);
-    let system = Watched::host(&logged, &progress);
-    all_fail_by_path(&system, threads, log);
+    let progress = Progress::new(rt, false);
+    all_fail(&Watched::host(rt, &progress), threads, log);
 }
 
 #[test]
-fn paths_are_synced(rt: HostRuntime) {
+fn what_cannot_be_synced_is_found(rt: HostRuntime) {
     let log = Log::new(rt.alloc(), Kind::Plain);
-    all_fail_by_path(&rt, &rt, &log);
-    all_fail_watched(&rt, &rt, &log);
+    all_fail(&rt, &rt, &log);
     assert!(rt; log.all_held(&rt));
 }
 
-/// Whether the system finds that an open file cannot be synced.
-fn fails_by_file<R: System, T: Threads + Sync>(system: &R, threads: &T) -> bool {
-    match fs::open(system, DEVICE) {
-        Ok(device) => {
-            let met = system.sync_files(threads, &[&device]);
-            is_met(met, Some((0, Call::Sync)))
-        }
-        Err(_) => false,
-    }
-}
-
 #[test]
-fn open_files_are_synced(rt: HostRuntime) {
-    assert!(rt; fails_by_file(&rt, &rt));
+fn what_cannot_be_synced_is_found_where_syncs_are_counted(rt: HostRuntime) {
+    let log = Log::new(rt.alloc(), Kind::Plain);
+    all_fail_watched(&rt, &rt, &log);
+    assert!(rt; log.all_held(&rt));
 }
