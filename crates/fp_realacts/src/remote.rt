@@ -8,9 +8,11 @@ use std::alloc::Global;
 /// A folder as a remote, and other urls.
 #[derive(Clone, Copy)]
 pub struct Remote<'a> {
+    /// Its path from the current folder.
     pub folder: &'a str,
     /// A path, what stands there, and how many bytes it has from the seventh on.
     pub holds: &'a [(&'a str, &'a str, usize)],
+    /// Urls at which each call fails.
     pub urls: &'a [&'a str],
     /// How often a call failed, and what was refused last, where that is told.
     pub told: (u64, &'a str),

@@ -14,6 +14,7 @@ use std::time::{SystemTime, UNIX_EPOCH};
 /// What is done in a folder, and what is to come of it.
 #[derive(Clone, Copy)]
 pub enum Act<'a> {
+    /// What is made there.
     Make(&'a [Made<'a>]),
     /// What a host over a folder is opened for, the folder, what is asked of it, how often a call
     /// failed, and what was refused last, where that is told.
@@ -22,12 +23,15 @@ pub enum Act<'a> {
     Logged(Access, &'a str, &'a [Part<'a>]),
     /// The same, watched as a command is.
     Watched(Access, &'a str, &'a [Part<'a>]),
+    /// What is asked of a folder as a remote.
     Remote(Remote<'a>),
     /// Nobody holds the lock.
     Free(&'a str),
     /// The permission bits of a file.
     Bits(&'a str, u32),
+    /// The text of a file.
     Text(&'a str, &'a str),
+    /// Nothing stands there.
     Absent(&'a str),
     /// Whether a file is dated the start of 1970, or later.
     Dated(&'a str, bool),

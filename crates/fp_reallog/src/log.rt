@@ -7,6 +7,7 @@ use std::io;
 /// What is other than in the system below it.
 #[derive(Clone, Copy)]
 pub enum Kind<'a> {
+    /// Nothing.
     Plain,
     /// This line fails. Nothing of that call is done.
     Failing(&'a str),
@@ -19,6 +20,7 @@ pub enum Kind<'a> {
 /// The lines since they were read last, and the first row of a table that didn't hold.
 #[derive(Drop)]
 pub struct Log<'a> {
+    /// What memory is asked for.
     pub alloc: Global,
     lines: Cell<String>,
     kind: Kind<'a>,
@@ -27,6 +29,7 @@ pub struct Log<'a> {
 }
 
 impl<'a> Log<'a> {
+    /// Nothing is noted yet, and all holds.
     pub fn new(alloc: Global, kind: Kind<'a>) -> Self {
         Log {
             alloc,

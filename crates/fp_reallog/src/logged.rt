@@ -15,7 +15,9 @@ use std::time::{Clock, Duration};
 /// A system that notes what it is asked to change.
 #[derive(Drop)]
 pub struct Logged<'a> {
+    /// The system below it.
     pub rt: &'a HostRuntime,
+    /// Where it notes.
     pub log: &'a Log<'a>,
 }
 

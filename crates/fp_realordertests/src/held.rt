@@ -4,8 +4,8 @@ use fp_reallog::Kind;
 use fp_realplay::{Made, Part, Step};
 use fp_realroot::Access;
 
-/// What a host is opened for, its call, and whether others could look then, and change. What is printed holds no lock, so that an
-/// input may be waited for. Afterwards nobody holds the lock.
+/// What a host is opened for, its call, and whether others could look then, and change. What is
+/// printed holds no lock, so that an input may be waited for. Afterwards nobody holds the lock.
 const FREE: [Act<'static>; 6] = [
     Act::Run(
         Access::Change,

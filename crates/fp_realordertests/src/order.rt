@@ -144,6 +144,8 @@ const WAITING: [(Step<'static>, &str); 14] = [
     ),
 ];
 
+const ASKING: [Part<'static>; 1] = [Part::Ask(&ASKED)];
+
 const DATING: [Act<'static>; 1] = [Act::Logged(
     Access::Change,
     "date/root",
@@ -339,15 +341,7 @@ const LOOKING: [Act<'static>; 1] = [Act::Logged(
 
 #[test]
 fn the_system_is_asked_in_order(rt: HostRuntime) {
-    assert!(rt;
-        tell_both(
-            &rt,
-            &rt,
-            ("order", "order/root"),
-            Kind::Plain,
-            &[Part::Ask(&ASKED)]
-        )
-    );
+    assert!(rt; tell_both(&rt, &rt, ("order", "order/root"), Kind::Plain, &ASKING));
     assert!(rt; tell(&rt, &rt, "date", Kind::Plain, &DATING));
     assert!(rt; tell(&rt, &rt, "left", Kind::Plain, &LEFT));
     assert!(rt; tell(&rt, &rt, "left", Kind::Plain, &MARKED));

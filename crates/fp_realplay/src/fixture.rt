@@ -16,6 +16,7 @@ pub enum Made<'a> {
     File(&'a str, &'a str),
     /// Its text, and its path.
     Link(&'a str, &'a str),
+    /// The path of a file or folder, and the permission bits that it gets.
     Bits(&'a str, u32),
 }
 
@@ -28,6 +29,7 @@ fn make(rt: &HostRuntime, made: Made<'_>) -> io::Result<()> {
     }
 }
 
+/// Makes all of it, one after another, and notes what cannot be made.
 pub fn make_all(rt: &HostRuntime, log: &Log<'_>, made: &[Made<'_>]) {
     for (i, one) in made.iter().enumerate() {
         log.demand(make(rt, *one).is_ok(), i, "what stands before");

@@ -4,8 +4,8 @@ use fp_reallog::Kind;
 use fp_realplay::{Made, Part, Step};
 use fp_realroot::Access;
 
-/// A folder `links` with a root whose `repo` leads to the folder `outside` beside it, and that is itself reached by the
-/// symlink `way`.
+/// A folder `links` with a root whose `repo` leads to the folder `outside` beside it, and that is
+/// itself reached by the symlink `way`.
 const LINKS: [Made<'static>; 5] = [
     Made::Folder("links/root/d"),
     Made::Folder("links/outside/tmp"),
@@ -41,7 +41,8 @@ const SWAPPED: [Step<'static>; 6] = [
     Step::ReadLink("d"),
 ];
 
-/// No call follows the symlink, and each is a fault; nor is a symlink followed that the host put in the place of a folder.
+/// No call follows the symlink, and each is a fault; nor is a symlink followed that the host put in
+/// the place of a folder.
 const FOLLOWING: [Act<'static>; 4] = [
     Act::Make(&LINKS),
     Act::Run(
