@@ -216,3 +216,15 @@ fn are_folded(rt: &impl Abort, alloc: Global, count: usize) -> bool {
 fn many_layers(rt: HostRuntime) {
     assert!(rt; are_folded(&rt, rt.alloc(), 300));
 }
+
+/// How many permissions this number of layers with one variable each grant.
+fn count_of_layers(rt: &impl Abort, alloc: Global, layers: usize) -> usize {
+    let layer = long_layer(rt, alloc, 1, "1");
+    let many = vec![in alloc; &layer; layers].expect(rt, "memory");
+    grants(rt, alloc, &many).as_slice().len()
+}
+
+#[test]
+fn a_layer_of_many(rt: HostRuntime) {
+    assert!(rt; count_of_layers(&rt, rt.alloc(), 1_100) == 1);
+}

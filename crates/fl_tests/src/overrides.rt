@@ -182,7 +182,7 @@ fn is_kept(rt: &impl Abort, alloc: Global, old: &str, new: &str) -> bool {
 
 #[test]
 fn many_are_changed(rt: HostRuntime) {
-    let old = many_variables(&rt, rt.alloc(), 300, "1");
-    let new = many_variables(&rt, rt.alloc(), 300, "2");
+    let old = many_variables(&rt, rt.alloc(), 1_100, "1");
+    let new = many_variables(&rt, rt.alloc(), 1_100, "2");
     assert!(rt; is_kept(&rt, rt.alloc(), &old, &new));
 }
