@@ -64,17 +64,27 @@ fn digits_of(built: &Result<Built, BuildError>) -> Result<[u8; 64], BuildError> 
     }
 }
 
+/// The same of these rows, with this subject.
+fn digits_with(
+    rt: &(impl Abort + Threads + Sync),
+    alloc: Global,
+    rows: &[TreeRow],
+    subject: &str,
+) -> Result<[u8; 64], BuildError> {
+    let name = RefName::parse(alloc, b"app/org.example.App/x86_64/stable").expect(rt, "a ref");
+    let built = commit_tree(rt, alloc, rows, &name, subject, 1_700_000_000);
+    let digits = digits_of(&built);
+    drop(built);
+    digits
+}
+
 /// The same of these rows.
 fn digits(
     rt: &(impl Abort + Threads + Sync),
     alloc: Global,
     rows: &[TreeRow],
 ) -> Result<[u8; 64], BuildError> {
-    let name = RefName::parse(alloc, b"app/org.example.App/x86_64/stable").expect(rt, "a ref");
-    let built = commit_tree(rt, alloc, rows, &name, "subject", 1_700_000_000);
-    let digits = digits_of(&built);
-    drop(built);
-    digits
+    digits_with(rt, alloc, rows, "subject")
 }
 
 /// `ostree commit --no-xattrs --owner-uid=0 --owner-gid=0 --timestamp=@1700000000` gives this digest.
@@ -110,6 +120,14 @@ fn many_rows(rt: &impl Abort, alloc: Global) -> Vec<TreeRow> {
 fn many_as_ostree(rt: HostRuntime) {
     let found = digits(&rt, rt.alloc(), &many_rows(&rt, rt.alloc()));
     assert!(rt; found == Ok(MANY));
+}
+
+/// The commit of no file whose subject is 100 KiB of the letter s, spelled by the format of OSTree's objects, has this digest.
+#[test]
+fn long_subject(rt: HostRuntime) {
+    let subject = "s".repeat(rt.alloc(), 100 << 10).expect(&rt, "memory");
+    let found = digits_with(&rt, rt.alloc(), &[], &subject);
+    assert!(rt; found == Ok(*b"d41cbb9c9e826cb838eb0066f695c818d6e67016ce718fb26fd06350065180e4"));
 }
 
 #[test]
