@@ -222,9 +222,27 @@ const DEEP: &[Step] = &[
     ),
 ];
 
-/// Below a branch nothing is looked for: what stands there takes no call.
+/// The same where these branches are files.
+const FILES: &[Step] = &[
+    Step::RefWrite(HEAD),
+    Step::RefWrite(REMOTE),
+    Step::File(
+        "repo/refs/heads/app/org.x.Editor/x86_64/beta",
+        0o644,
+        Content::Bytes(b""),
+    ),
+    Step::File(
+        "repo/refs/remotes/lab/app/org.x.Editor/x86_64/beta",
+        0o644,
+        Content::Bytes(b""),
+    ),
+];
+
+/// Below a branch nothing is looked for: what stands there takes no call, and a folder takes no
+/// more of them than a file.
 #[test]
 fn what_is_below_a_branch_takes_no_call(rt: HostRuntime) {
     let calls = calls_after(&rt, rt.alloc(), FLAT);
     assert!(rt; calls > 0 && calls == calls_after(&rt, rt.alloc(), DEEP));
+    assert!(rt; calls == calls_after(&rt, rt.alloc(), FILES));
 }
