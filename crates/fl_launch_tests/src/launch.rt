@@ -273,11 +273,12 @@ fn plain_text(
     app: &Meta,
     runtime: &Meta,
     words: &Layer,
+    command: &str,
 ) -> Option<String> {
     if !names_runtime(app) {
         return None;
     }
-    let launch = launch(alloc, state, name, app, runtime, words, Some("sh"));
+    let launch = launch(alloc, state, name, app, runtime, words, Some(command));
     Some(launch.expect(rt, "memory").text.into_string())
 }
 
@@ -292,12 +293,13 @@ fn text_without_points(
     alloc: Global,
     state: &State,
     options: &str,
+    command: &str,
 ) -> Option<String> {
     let name = ref_name(rt, alloc, APP);
     let app = meta_of(rt, alloc, USUAL, MetaKind::App);
     let runtime = meta_of(rt, alloc, PLATFORM, MetaKind::Runtime);
     let words = options_of(rt, alloc, options);
-    let text = plain_text(rt, alloc, state, &name, &app, &runtime, &words);
+    let text = plain_text(rt, alloc, state, &name, &app, &runtime, &words, command);
     drop(app);
     drop(runtime);
     text
@@ -311,7 +313,7 @@ fn is_plain(text: &str) -> bool {
 #[test]
 fn plain_launch(rt: HostRuntime) {
     let state = state_of(&rt, rt.alloc(), &WITH_LOCALE);
-    let text = text_without_points(&rt, rt.alloc(), &state, "");
+    let text = text_without_points(&rt, rt.alloc(), &state, "", "sh");
     drop(state);
     assert!(rt; is_plain(&text.expect(&rt, "a runtime")));
 }
@@ -326,9 +328,20 @@ fn has_among(text: &str, count: usize, first: &str, last: &str) -> bool {
 fn many_variables(rt: HostRuntime) {
     let state = state_of(&rt, rt.alloc(), &BARE);
     let options = many(&rt, rt.alloc(), 1_100, "--env=V", "=x ");
-    let text = text_without_points(&rt, rt.alloc(), &state, &options).expect(&rt, "a runtime");
+    let text = text_without_points(&rt, rt.alloc(), &state, &options, "sh");
+    let text = text.expect(&rt, "a runtime");
     drop(state);
     assert!(rt; has_among(&text, 1_121, "\nV0=x\n", "\nV1099=x\n"));
+}
+
+/// A command of 100 KiB stands in the text.
+#[test]
+fn long_command(rt: HostRuntime) {
+    let command = "c".repeat(rt.alloc(), 100 << 10).expect(&rt, "memory");
+    let state = state_of(&rt, rt.alloc(), &BARE);
+    let text = text_without_points(&rt, rt.alloc(), &state, "", &command);
+    drop(state);
+    assert!(rt; text.expect(&rt, "a runtime").contains(command.as_str()));
 }
 
 /// Whether the launch with these points and refs has so many lines, and mounts the extensions of the
@@ -428,4 +441,24 @@ fn policies(rt: HostRuntime) {
     let launch = launch_of(&rt, rt.alloc(), &MUCH);
     assert!(rt; has_session(&rt, rt.alloc(), &launch) && has_system(&rt, rt.alloc(), &launch));
     drop(launch);
+}
+
+/// How many rules a launch with these options has on the session bus, and on the system bus.
+fn count_rules(rt: &impl Abort, alloc: Global, options: &str) -> (usize, usize) {
+    let launch = launch_of(rt, alloc, &Given { options, ..BARE });
+    let id = AppId::parse(alloc, b"org.x.App").expect(rt, "an ID");
+    let session = policy_of(alloc, &launch, &id).expect(rt, "memory");
+    let system = policy_of_system(alloc, &launch).expect(rt, "memory");
+    drop(launch);
+    (session.rules().len(), system.rules().len())
+}
+
+/// 1,100 names on each bus, besides the three rules of the usual launch on the session bus.
+#[test]
+fn many_policy_rules(rt: HostRuntime) {
+    let session = many(&rt, rt.alloc(), 1_100, "--talk-name=org.x.N", " ");
+    let system = many(&rt, rt.alloc(), 1_100, "--system-talk-name=org.x.N", " ");
+    let options = [session.as_str(), system.as_str()].concat(rt.alloc());
+    let options = options.expect(&rt, "memory");
+    assert!(rt; count_rules(&rt, rt.alloc(), &options) == (1_103, 1_100));
 }

@@ -6,6 +6,8 @@ mod extension;
 #[cfg(test)]
 mod given;
 #[cfg(test)]
+mod installed;
+#[cfg(test)]
 mod launch;
 #[cfg(test)]
 mod long;

@@ -5,12 +5,13 @@ use crate::extension::{many, state_of};
 use crate::given::{key_file, ref_name};
 use dep_switch::put_override;
 use fl_export::rewrite;
+use fl_extension::Point;
 use fl_installed::{meta_said, points_in, runtime_named};
-use fl_meta::Meta;
-use fl_plan::unused;
-use fp_base::{Blob, Text};
+use fl_meta::{Meta, MetaKind};
+use fl_plan::{targets, unused, unused_extended};
+use fp_base::{Blob, Items, Text};
 use fp_name::RefName;
-use fp_small::OverrideRow;
+use fp_small::{OverrideRow, State};
 use std::alloc::Global;
 use std::panic::Expect;
 use std::process::Abort;
@@ -103,18 +104,57 @@ fn long_desktop_file(rt: HostRuntime) {
     assert!(rt; becomes(&rt, rt.alloc(), &desktop(&rt, rt.alloc(), "run %U"), &want));
 }
 
-/// How many runtimes of these refs are unused where no application is installed.
-fn count_unused(rt: &impl Abort, alloc: Global, refs: &str) -> usize {
+/// Metadata of this many applications, which need a runtime that isn't installed.
+fn metas_of(rt: &impl Abort, alloc: Global, count: u32) -> Vec<(RefName, Meta)> {
+    let file = key_file(rt, alloc, "[Application]\nruntime=org.x.Q/x86_64/1\n");
+    let mut metas = Vec::new(alloc);
+    for _ in 0..count {
+        let meta = Meta::read(alloc, &file, MetaKind::App).expect(rt, "metadata");
+        metas
+            .push((ref_name(rt, alloc, APP), meta))
+            .expect(rt, "memory");
+    }
+    metas
+}
+
+/// No points of this many applications.
+fn points_of(rt: &impl Abort, alloc: Global, count: u32) -> Vec<(RefName, Items<Point>)> {
+    let mut points = Vec::new(alloc);
+    for _ in 0..count {
+        let none = (ref_name(rt, alloc, APP), Items::new(alloc));
+        points.push(none).expect(rt, "memory");
+    }
+    points
+}
+
+/// How many runtimes are unused of a state, without points and with them, and how many an update
+/// of all is of.
+fn counts(rt: &impl Abort, alloc: Global, state: &State, others: u32) -> [usize; 3] {
+    let metas = metas_of(rt, alloc, others);
+    let points = points_of(rt, alloc, others);
+    let plain = unused(alloc, state, &metas).expect(rt, "memory");
+    let extended = unused_extended(alloc, state, &metas, &points).expect(rt, "memory");
+    let targets = targets(alloc, state, None).expect(rt, "memory");
+    drop(metas);
+    [
+        plain.as_slice().len(),
+        extended.as_slice().len(),
+        targets.as_slice().len(),
+    ]
+}
+
+/// The same of a state with these refs.
+fn counts_of(rt: &impl Abort, alloc: Global, refs: &str, others: u32) -> [usize; 3] {
     let state = state_of(rt, alloc, refs);
-    let names = unused(alloc, &state, &[]).expect(rt, "memory");
+    let counts = counts(rt, alloc, &state, others);
     drop(state);
-    names.as_slice().len()
+    counts
 }
 
 #[test]
 fn many_unused(rt: HostRuntime) {
     let refs = many(&rt, rt.alloc(), 1_100, "runtime/org.x.P", "/x86_64/1 ");
-    assert!(rt; count_unused(&rt, rt.alloc(), &refs) == 1_100);
+    assert!(rt; counts_of(&rt, rt.alloc(), &refs, 1_100) == [1_100; 3]);
 }
 
 /// Puts an override without a permission.

@@ -1,9 +1,9 @@
-//! Lists of 1,100 words: options, commands, and rules of a filter.
+//! Lists of 1,100 words, and words of 100 KiB: options, commands, and rules of a filter.
 
 use crate::launch::is_rule;
 use bus_policy::PolicyRule;
 use fl_meta::{Mention, PermList};
-use fl_options::{last_command, layer_of};
+use fl_options::{is_launch_option, is_option, last_command, layer_of, option_layer};
 use fl_rules::policy_of;
 use fp_base::Text;
 use std::alloc::{AllocError, Global};
@@ -67,4 +67,47 @@ fn many_rules(rt: HostRuntime) {
     let rules = words(&rt, rt.alloc(), "--see=org.x.N");
     let policy = policy_of(rt.alloc(), &rules).expect(&rt, "memory");
     assert!(rt; are_rules(policy.rules(), "org.x.N0=see", "org.x.N1099=see"));
+}
+
+/// A word with this head, and 100 KiB after it.
+fn long_word(rt: &impl Abort, alloc: Global, head: &str) -> Text {
+    let rest = "/e".repeat(alloc, 50 << 10).expect(rt, "memory");
+    Text::from_string([head, &rest].concat(alloc).expect(rt, "memory"))
+}
+
+/// Whether a word is one option, and one of a launch.
+fn is_one_option(rt: &impl Abort, alloc: Global, word: &str) -> bool {
+    is_option(alloc, word).expect(rt, "memory")
+        && is_launch_option(alloc, word).expect(rt, "memory")
+        && option_layer(alloc, word).expect(rt, "memory").len() == 1
+}
+
+/// How long the command is that a word names.
+fn command_length(rt: &impl Abort, alloc: Global, word: Text) -> usize {
+    match last_command(alloc, &[word]).expect(rt, "memory") {
+        Some(command) => command.as_str().len(),
+        None => 0,
+    }
+}
+
+/// Whether a word is one rule.
+fn is_one_rule(rt: &impl Abort, alloc: Global, word: Text) -> bool {
+    let is_so = fl_rules::is_rule(alloc, word.as_str()).expect(rt, "memory");
+    let policy = policy_of(alloc, &[word]).expect(rt, "memory");
+    is_so && policy.rules().len() == 1
+}
+
+#[test]
+fn long_words(rt: HostRuntime) {
+    let option = long_word(&rt, rt.alloc(), "--env=A=");
+    assert!(rt; is_one_option(&rt, rt.alloc(), option.as_str()));
+    let command = long_word(&rt, rt.alloc(), "--command=");
+    assert!(rt; command_length(&rt, rt.alloc(), command) == 100 << 10);
+    assert!(rt;
+        is_one_rule(
+            &rt,
+            rt.alloc(),
+            long_word(&rt, rt.alloc(), "--call=org.x=*@")
+        )
+    );
 }

@@ -1,0 +1,138 @@
+//! A state of 1,100 refs over a host that holds nothing: what is asked of each ref comes to its end.
+
+use crate::extension::{many, state_of};
+use crate::given::ref_name;
+use dep_switch::RetirePlan;
+use fl_export::{refresh, wanted};
+use fl_installed::{first_user, metas, points};
+use fl_plan::resolve_runtime;
+use fl_sandbox::{launch_in, parts_in};
+use fp_base::Text;
+use fp_memhost::{MemHost, MemRemotes};
+use fp_name::{RefName, RemoteName};
+use fp_small::State;
+use std::alloc::Global;
+use std::panic::Expect;
+use std::process::Abort;
+
+/// The last of the refs.
+const LAST: &str = "app/org.x.A1099/x86_64/1";
+
+/// A state of 1,100 applications.
+fn many_applications(rt: &impl Abort, alloc: Global) -> State {
+    let refs = many(rt, alloc, 1_100, "app/org.x.A", "/x86_64/1 ");
+    state_of(rt, alloc, &refs)
+}
+
+/// An empty host.
+fn new_host(rt: &impl Abort, alloc: Global) -> MemHost {
+    MemHost::new(alloc).expect(rt, "memory")
+}
+
+/// How many refs have metadata, how many are told with their points, and how many files are exported.
+fn counts(rt: &impl Abort, alloc: Global, host: &mut MemHost, state: &State) -> [usize; 3] {
+    let metas = metas(alloc, host, state).expect(rt, "metadata");
+    let points = points(alloc, host, state).expect(rt, "points");
+    let rows = wanted(alloc, host, state).expect(rt, "exports");
+    [
+        metas.as_slice().len(),
+        points.as_slice().len(),
+        rows.as_slice().len(),
+    ]
+}
+
+/// Whether no ref is found to need this one, and the exported files are brought in step.
+fn is_idle(
+    rt: &impl Abort,
+    alloc: Global,
+    host: &mut MemHost,
+    state: &State,
+    name: &RefName,
+) -> bool {
+    let user = first_user(alloc, host, state, name).expect(rt, "an answer");
+    refresh(alloc, host, state).expect(rt, "refreshed");
+    user.is_none()
+}
+
+#[test]
+fn nothing_is_found(rt: HostRuntime) {
+    let alloc = rt.alloc();
+    let state = many_applications(&rt, alloc);
+    let mut host = new_host(&rt, alloc);
+    let name = ref_name(&rt, alloc, LAST);
+    let counts = counts(&rt, alloc, &mut host, &state);
+    let is_idle = is_idle(&rt, alloc, &mut host, &state, &name);
+    drop(state);
+    drop(host);
+    assert!(rt; counts == [0, 1_100, 0] && is_idle);
+}
+
+/// As many options.
+fn options(rt: &impl Abort, alloc: Global) -> Vec<Text> {
+    let mut words = Vec::new(alloc);
+    for _ in 0..1_100 {
+        let word = Text::from_str(alloc, "--share=ipc").expect(rt, "memory");
+        words.push(word).expect(rt, "memory");
+    }
+    words
+}
+
+/// Whether an application whose commit is not there is refused, for what it consists of and for a launch.
+fn is_refused(
+    rt: &impl Abort,
+    alloc: Global,
+    host: &mut MemHost,
+    state: &State,
+    name: &RefName,
+) -> bool {
+    let options = options(rt, alloc);
+    let launch = launch_in(alloc, host, state, name, &options).expect(rt, "an answer");
+    let parts = parts_in(alloc, host, state, name).expect(rt, "an answer");
+    let is_so = launch.is_err() && parts.is_err();
+    drop(launch);
+    drop(parts);
+    is_so
+}
+
+#[test]
+fn a_launch_is_refused(rt: HostRuntime) {
+    let alloc = rt.alloc();
+    let state = many_applications(&rt, alloc);
+    let mut host = new_host(&rt, alloc);
+    let name = ref_name(&rt, alloc, LAST);
+    let is_so = is_refused(&rt, alloc, &mut host, &state, &name);
+    drop(state);
+    drop(host);
+    assert!(rt; is_so);
+}
+
+/// Whether a ref that is installed needs no install.
+fn is_there(rt: &impl Abort, alloc: Global, state: &State, name: &RefName) -> bool {
+    let mut host = new_host(rt, alloc);
+    let mut remotes = MemRemotes::new(alloc).expect(rt, "memory");
+    let lab = RemoteName::parse(alloc, b"lab").expect(rt, "a remote");
+    let op = resolve_runtime(alloc, &mut host, &mut remotes, state, &lab, name);
+    let is_so = matches!(&op, Ok(None));
+    drop(op);
+    drop(host);
+    drop(remotes);
+    is_so
+}
+
+/// Whether a ref that is installed can be taken away.
+fn can_go(alloc: Global, state: &State, name: &RefName) -> bool {
+    let plan = RetirePlan::new(alloc, state, name);
+    let is_so = plan.is_ok();
+    drop(plan);
+    is_so
+}
+
+#[test]
+fn the_last_ref_is_there(rt: HostRuntime) {
+    let state = many_applications(&rt, rt.alloc());
+    let name = ref_name(&rt, rt.alloc(), LAST);
+    let is_there = is_there(&rt, rt.alloc(), &state, &name);
+    let can_go = can_go(rt.alloc(), &state, &name);
+    drop(state);
+    assert!(rt; is_there && can_go);
+}
