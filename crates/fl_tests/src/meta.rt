@@ -494,6 +494,20 @@ fn permissions(rt: HostRuntime) {
     );
 }
 
+/// Metadata that keeps a folder of this name.
+fn keeping(rt: &impl Abort, alloc: Global, name: &str) -> String {
+    let head = "[Application]\nruntime=org.x.Platform/x86_64/1\n[Context]\npersistent=";
+    [head, name, "\n"].concat(alloc).expect(rt, "memory")
+}
+
+/// A name of 100 KiB.
+#[test]
+fn long_permission(rt: HostRuntime) {
+    let name = long_name(&rt, rt.alloc(), 100 << 10, "");
+    let text = keeping(&rt, rt.alloc(), &name);
+    assert!(rt; is_before(&rt, rt.alloc(), &name, "b") && copies_mentions(&rt, rt.alloc(), &text));
+}
+
 /// Adds a text with the numbers from 0, one after another, each with a head and a tail.
 fn put_many(rt: &impl Abort, text: &mut String, count: usize, head: &str, tail: &str) {
     for number in 0..count {

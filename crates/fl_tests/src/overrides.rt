@@ -186,3 +186,18 @@ fn many_are_changed(rt: HostRuntime) {
     let new = many_variables(&rt, rt.alloc(), 1_100, "2");
     assert!(rt; is_kept(&rt, rt.alloc(), &old, &new));
 }
+
+/// A folder whose name has 100 KiB, and a variable whose text has.
+#[test]
+fn long_texts_are_kept(rt: HostRuntime) {
+    let long = "n".repeat(rt.alloc(), 100 << 10).expect(&rt, "memory");
+    let lines = [
+        "[Context]\npersistent=",
+        &long,
+        ";\n[Environment]\nA=",
+        &long,
+        "\n",
+    ];
+    let text = lines.concat(rt.alloc()).expect(&rt, "memory");
+    assert!(rt; is_kept(&rt, rt.alloc(), &text, &text));
+}
