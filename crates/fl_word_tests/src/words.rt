@@ -1,6 +1,6 @@
 //! Words of command lines.
 
-use crate::rows::agree_on_words;
+use crate::rows::{agree, agree_on_words};
 use fl_words::{Change, Command, Listing, PolicySource, Shown, ValueType, WordsError, read_words};
 use fp_base::Text;
 use fp_name::NameError;
@@ -532,11 +532,25 @@ fn longest_remote(rt: HostRuntime) {
     assert!(rt; is_remote(&rt, rt.alloc(), &name, &url));
 }
 
-/// A word of a mebibyte is bad, and so is the second of 1,100.
+/// Words after which stands a name or a number, each of another kind.
+const NAMED: [&str; 5] = ["pin", "exercise", "uninstall", "remote-delete", "override"];
+
+/// A word of a mebibyte is bad, whatever it has to be, and so is the second of 1,100.
 #[test]
 fn long_words(rt: HostRuntime) {
     let long = many(&rt, rt.alloc(), "a", 1 << 20);
-    assert!(rt; read_as(&rt, rt.alloc(), &["pin", &long], "bad words at 1"));
+    for first in &NAMED {
+        let is_so = read_as(&rt, rt.alloc(), &[*first, &long], "bad words at 1");
+        agree(&rt, first, is_so);
+    }
+    assert!(rt;
+        read_as(
+            &rt,
+            rt.alloc(),
+            &["remote-add", "lab", &long],
+            "bad words at 2"
+        )
+    );
     assert!(rt; read_as(&rt, rt.alloc(), &["list"; 1_100], "bad words at 1"));
 }
 
