@@ -384,6 +384,16 @@ fn faults(rt: HostRuntime) {
     }
 }
 
+/// A runtime whose name has 100 KiB is none.
+#[test]
+fn long_runtime(rt: HostRuntime) {
+    let name = long_name(&rt, rt.alloc(), 100 << 10, "/x86_64/1");
+    let text = ["[Application]\nruntime=", &name].concat(rt.alloc());
+    let text = text.expect(&rt, "memory");
+    let is_so = breaks(&rt, rt.alloc(), &text, MetaKind::App, MetaRule::Runtime);
+    assert!(rt; is_so);
+}
+
 /// Texts, and whether each is a pattern of bus names.
 const PATTERNS: [(&str, bool); 28] = [
     ("org.foo", true),
