@@ -30,18 +30,22 @@ pub fn has_folder(scene: &Scene, path: &Path) -> bool
     }
 }
 
+/// Whether a folder can be made at the path: nothing stands there, and a folder above it.
 pub fn can_make_dir(scene: &Scene, path: &Path) -> bool
     ensures { IsTrue result ↔ Can (makes_dir path.now) (seen scene.now) }
 {
     has_folder(scene, path) && entry(&scene.names, path.text()).is_none()
 }
 
+/// Whether a file can be made at the path, as a folder could be, with these permission bits, which
+/// are at most 0o7777.
 pub fn can_create(scene: &Scene, path: &Path, mode: u32) -> bool
     ensures { IsTrue result ↔ CanCreate path.now mode (seen scene.now) }
 {
     can_make_dir(scene, path) && mode <= PERMISSION_BITS
 }
 
+/// Whether bytes can be appended at the path: a file stands there, created since the last sync.
 pub fn can_append(scene: &Scene, path: &Path) -> bool
     ensures { IsTrue result ↔ Can (appends path.now []) (seen scene.now) }
 {
@@ -51,18 +55,23 @@ pub fn can_append(scene: &Scene, path: &Path) -> bool
     }
 }
 
+/// Whether a hard link can be made: a file stands at the first path, nothing at the second, and a
+/// folder above that.
 pub fn can_link(scene: &Scene, from: &Path, to: &Path) -> bool
     ensures { IsTrue result ↔ Can (links from.now to.now) (seen scene.now) }
 {
     matches!(entry(&scene.names, from.text()), Some(Entry::File(_))) && can_make_dir(scene, to)
 }
 
+/// Whether a symlink with this text can be made at the path, as a folder could be: the text is one
+/// of a link.
 pub fn can_symlink(scene: &Scene, text: &str, path: &Path) -> bool
     ensures { IsTrue result ↔ Can (makes_link text.now path.now) (seen scene.now) }
 {
     is_link_text(text) && can_make_dir(scene, path)
 }
 
+/// Whether the path can be unlinked: a file or a symlink stands there.
 pub fn can_unlink(scene: &Scene, path: &Path) -> bool
     ensures { IsTrue result ↔ Can (unlinks path.now) (seen scene.now) }
 {
@@ -84,6 +93,8 @@ fn are_apart(from: Option<&Entry>, to: Option<&Entry>) -> bool
     }
 }
 
+/// Whether a file or a symlink can be moved from one path to the other: a folder stands above the
+/// other, none at it, and it is neither the same path nor a hard link of the same file.
 pub fn can_rename(scene: &Scene, from: &Path, to: &Path) -> bool
     ensures { IsTrue result ↔ Can (renames from.now to.now) (seen scene.now) }
 {

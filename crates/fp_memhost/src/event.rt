@@ -10,15 +10,25 @@ use std::alloc::Global;
 /// A change of the host.
 #[derive(Drop)]
 pub enum Event {
+    /// A folder is made.
     MakeDir(Path),
+    /// An empty file is made, with these permission bits and this id.
     Create { path: Path, mode: u32, id: u64 },
+    /// Bytes are added at the end of the file at the path.
     Append { path: Path, bytes: Blob },
+    /// A hard link, `to`, of the file at `from` is made.
     Link { from: Path, to: Path },
+    /// A symlink with this text is made.
     Symlink { text: Text, path: Path },
+    /// What stands at `from` moves to `to`, in the place of a file or a symlink there.
     Rename { from: Path, to: Path },
+    /// A file or a symlink goes away.
     Unlink(Path),
+    /// An empty folder goes away.
     RemoveDir(Path),
+    /// What stands lasts from now on.
     Sync,
+    /// Bytes are printed.
     Say(Blob),
 }
 
@@ -26,19 +36,24 @@ pub enum Event {
 /// stood, and may come about at a stop.
 #[derive(Drop)]
 pub struct Noted {
+    /// The number of the call, from 0.
     pub call: u64,
+    /// Whether the change was made.
     pub is_done: bool,
+    /// The change.
     pub event: Event,
 }
 
 // Each of these copies what the change needs, and gives nothing where there is no memory for it.
 impl Event {
+    /// A folder is made at the path.
     pub fn make_dir(path: &Path) -> Option<Self>
         ensures { IfSome result (λ e. change_of e ≡ makes_dir path.now) }
     {
         Some(Event::MakeDir(path.copy().ok()?))
     }
 
+    /// An empty file is made at the path, with these permission bits and this id.
     pub fn create(path: &Path, mode: u32, id: u64) -> Option<Self>
         ensures { IfSome result (λ e. change_of e ≡ creates path.now mode id) }
     {
@@ -46,6 +61,7 @@ impl Event {
         Some(Event::Create { path, mode, id })
     }
 
+    /// The bytes are added to the file at the path.
     pub fn append(alloc: Global, path: &Path, bytes: &[u8]) -> Option<Self>
         ensures { IfSome result (λ e. change_of e ≡ appends path.now bytes.now) }
     {
@@ -54,6 +70,7 @@ impl Event {
         Some(Event::Append { path, bytes })
     }
 
+    /// A hard link, `to`, of the file at `from` is made.
     pub fn link(from: &Path, to: &Path) -> Option<Self>
         ensures { IfSome result (λ e. change_of e ≡ links from.now to.now) }
     {
@@ -62,6 +79,7 @@ impl Event {
         Some(Event::Link { from, to })
     }
 
+    /// A symlink with this text is made at the path.
     pub fn symlink(alloc: Global, text: &str, path: &Path) -> Option<Self>
         ensures { IfSome result (λ e. change_of e ≡ makes_link text.now path.now) }
     {
@@ -70,6 +88,7 @@ impl Event {
         Some(Event::Symlink { text, path })
     }
 
+    /// What stands at `from` moves to `to`.
     pub fn rename(from: &Path, to: &Path) -> Option<Self>
         ensures { IfSome result (λ e. change_of e ≡ renames from.now to.now) }
     {
@@ -78,18 +97,21 @@ impl Event {
         Some(Event::Rename { from, to })
     }
 
+    /// The file or symlink at the path goes away.
     pub fn unlink(path: &Path) -> Option<Self>
         ensures { IfSome result (λ e. change_of e ≡ unlinks path.now) }
     {
         Some(Event::Unlink(path.copy().ok()?))
     }
 
+    /// The empty folder at the path goes away.
     pub fn remove_dir(path: &Path) -> Option<Self>
         ensures { IfSome result (λ e. change_of e ≡ removes_dir path.now) }
     {
         Some(Event::RemoveDir(path.copy().ok()?))
     }
 
+    /// The piece is printed.
     pub fn say(alloc: Global, piece: &[u8]) -> Option<Self>
         ensures { IfSome result (λ e. change_of e ≡ says piece.now) }
     {

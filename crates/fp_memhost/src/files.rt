@@ -10,9 +10,13 @@ use std::alloc::AllocError;
 /// sync.
 #[derive(Drop)]
 pub struct Content {
+    /// No other file has it.
     pub id: u64,
+    /// The permission bits.
     pub mode: u32,
+    /// The whole content.
     pub bytes: Vec<u8>,
+    /// Whether it was created since the last sync.
     pub is_new: bool,
 }
 

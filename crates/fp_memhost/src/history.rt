@@ -20,9 +20,13 @@ use std::alloc::{AllocError, Global};
 /// What stood at the start, what was done since then, in order, and what stands now.
 #[derive(Drop)]
 pub struct History {
+    /// What stood at the start.
     pub start: Image,
+    /// What stands now.
     pub scene: Scene,
+    /// What was done since then, in order.
     pub log: Vec<Noted>,
+    /// How many calls were made since then.
     pub calls: u64,
     ghost agrees: { seen scene ≡ view_now (opened start) log.items },
     ghost numbered: { IsNumbered calls log.items },

@@ -12,8 +12,11 @@ use fp_host::{Entry, PERMISSION_BITS, Path, is_link_text};
 /// A file of an image, by its id: its permission bits and its bytes.
 #[derive(Debug, Drop)]
 pub struct FileRow {
+    /// Names speak of the file by it.
     pub id: u64,
+    /// The permission bits.
     pub mode: u32,
+    /// The whole content.
     pub bytes: Blob,
 }
 
@@ -21,7 +24,9 @@ pub struct FileRow {
 /// twice, the first counts.
 #[derive(Drop)]
 pub struct Image {
+    /// Each path at which something stands, and what.
     pub names: Items<(Path, Entry)>,
+    /// The files that the names speak of.
     pub files: Items<FileRow>,
 }
 
@@ -31,7 +36,9 @@ pub struct Image {
 /// counts.
 #[derive(Drop)]
 pub struct Choice {
+    /// Names, each with the number of the entry that it takes.
     pub names: Items<(Path, u64)>,
+    /// Files by their ids, each with the bytes that it has.
     pub files: Items<(u64, Blob)>,
 }
 

@@ -13,8 +13,11 @@ use std::mem;
 /// A name: what it holds, and what it held since the last sync, the oldest first.
 #[derive(Drop)]
 pub struct Name {
+    /// The whole path.
     pub path: Path,
+    /// What it holds now, or nothing.
     pub entry: Option<Entry>,
+    /// What a stop may bring back, the oldest first.
     pub earlier: Vec<Option<Entry>>,
 }
 

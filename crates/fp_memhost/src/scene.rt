@@ -13,9 +13,13 @@ use std::alloc::{AllocError, Global};
 /// The names, the files, what was printed, and what was put at which name, the oldest first.
 #[derive(Drop)]
 pub struct Scene {
+    /// The names, ascending by their texts.
     pub names: Vec<Name>,
+    /// The files, each once.
     pub files: Vec<Content>,
+    /// All bytes that were printed.
     pub printed: Vec<u8>,
+    /// What was put at which name, the oldest first.
     pub stood: Vec<Stood>,
     ghost ascending: { IsAscending names.items },
 }

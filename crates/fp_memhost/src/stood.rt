@@ -11,7 +11,9 @@ use std::alloc::AllocError;
 /// A name, and what was put there.
 #[derive(Drop)]
 pub struct Stood {
+    /// The name.
     pub path: Path,
+    /// What was put there, or nothing where it went away.
     pub entry: Option<Entry>,
 }
 

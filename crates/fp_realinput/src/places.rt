@@ -35,6 +35,7 @@ impl<R: Files> Drop for Places<'_, R> {
 }
 
 impl<'a, R: Files> Places<'a, R> {
+    /// No folder was looked at yet, and no file read.
     pub fn new(rt: &'a R, alloc: Global) -> Self {
         Places {
             rt,
@@ -46,6 +47,7 @@ impl<'a, R: Files> Places<'a, R> {
         }
     }
 
+    /// The allocator of what is kept.
     pub fn alloc(&self) -> Global {
         self.alloc
     }
@@ -59,6 +61,8 @@ impl<'a, R: Files> Places<'a, R> {
         }
     }
 
+    /// What stands at the path of the remote at the url: absent where a folder above it is. It errs
+    /// where the url is none of a folder or the system fails.
     pub fn node(&mut self, alloc: Global, url: &str, path: &Path) -> Result<Node, Cause>
         ensures bits { IfOk result HasNodeBits }
     {
@@ -69,6 +73,8 @@ impl<'a, R: Files> Places<'a, R> {
         }
     }
 
+    /// Reads from this place on of the file at the path, counted in bytes from 0. Answers how many
+    /// bytes came: 0 where the file ends or a folder above it is absent. It errs as `node` does.
     pub fn read_at(
         &mut self,
         url: &str,

@@ -91,11 +91,14 @@ impl<'a, 'b, R: System> FolderStage<'a, 'b, R> {
         })
     }
 
+    /// Puts something there, with the folders above it. Answers whether that was done.
     pub fn give(&mut self, given: &Fixture, bytes: &[u8]) -> Result<bool, AllocError> {
         let answer = give(self.alloc, &mut self.host, given, bytes);
         Ok(unless_fault(answer)?.is_some())
     }
 
+    /// Runs a command over these remotes, which are laid out beside the installation first. Its
+    /// input fails at the call with this number, counted from 0. It errs only without memory.
     pub fn run<P: Program, T: Threads + Sync>(
         &mut self,
         program: &P,
@@ -122,6 +125,7 @@ impl<'a, 'b, R: System> FolderStage<'a, 'b, R> {
         })
     }
 
+    /// Looks at what stands at a path. It errs only without memory.
     pub fn find(&mut self, path: &str) -> Result<PathState, AllocError> {
         let answer = find(self.alloc, &mut self.host, path);
         Ok(unless_fault(answer)?.unwrap_or(PathState::Other))

@@ -137,11 +137,14 @@ impl MemStage {
         Ok(MemStage { alloc, host })
     }
 
+    /// Puts something there, with the folders above it. Answers whether that was done.
     pub fn give(&mut self, given: &Fixture, bytes: &[u8]) -> Result<bool, AllocError> {
         let answer = give(self.alloc, &mut self.host, given, bytes);
         Ok(unless_fault(answer)?.is_some())
     }
 
+    /// Runs a command over these remotes, with the failure that it names. Its input fails at the
+    /// call with this number, counted from 0. It errs only without memory.
     pub fn run<P: Program, T: Threads + Sync>(
         &mut self,
         program: &P,
@@ -164,6 +167,7 @@ impl MemStage {
         ran_since(self.alloc, &self.host, status, start, calls)
     }
 
+    /// Looks at what stands at a path. It errs only without memory.
     pub fn find(&mut self, path: &str) -> Result<PathState, AllocError> {
         let answer = find(self.alloc, &mut self.host, path);
         Ok(unless_fault(answer)?.unwrap_or(PathState::Other))

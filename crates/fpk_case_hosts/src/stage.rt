@@ -13,7 +13,9 @@ use std::thread::Threads;
 /// How a command ended.
 #[derive(Drop)]
 pub struct Ending {
+    /// The exit status.
     pub status: u8,
+    /// What it printed.
     pub printed: Vec<u8>,
     /// How many calls of the host it made, where they are counted.
     pub calls: Option<u64>,
@@ -26,8 +28,11 @@ pub struct Ending {
 pub enum PathState {
     /// Hard links of one file have one id.
     File { id: u64, mode: u32, bytes: Vec<u8> },
+    /// A folder, whatever is in it.
     Folder,
+    /// A symlink with this text.
     Link { text: String },
+    /// Not even a symlink.
     Nothing,
     /// What can't be looked at.
     Other,
@@ -35,7 +40,9 @@ pub enum PathState {
 
 /// Where a case is played.
 pub enum Stage<'a, 'b, R: Files> {
+    /// Over the host in memory.
     Memory(MemStage),
+    /// Over a real folder.
     Folder(FolderStage<'a, 'b, R>),
 }
 
@@ -131,6 +138,7 @@ fn give_at<H: Host>(
     Ok(())
 }
 
+/// Makes a file of these bytes at a path where nothing stands, unsynced. It errs as the host does.
 pub fn give_file<H: Host>(
     host: &mut H,
     path: &Path,

@@ -14,6 +14,7 @@ use std::alloc::{AllocError, Global};
 /// A host in memory, and notes of the files that its calls make. Each call is that of the host.
 #[derive(Drop)]
 pub struct NotedHost {
+    /// The host. What is asked of it alone isn't noted.
     pub host: MemHost,
     notes: Notes,
     /// Whether there was no memory for a note.

@@ -11,7 +11,9 @@ use std::thread::Threads;
 /// After how many lines a moment is, or may be.
 #[derive(Clone, Copy, PartialEq)]
 pub struct Lines {
+    /// The least number.
     pub first: usize,
+    /// The greatest number.
     pub last: usize,
 }
 
@@ -49,6 +51,7 @@ pub struct Judge<'a> {
 }
 
 impl<'a> Judge<'a> {
+    /// No moment was judged yet.
     pub fn new(alloc: Global, wares: &'a Wares, states: &'a [State]) -> Self {
         Judge {
             alloc,

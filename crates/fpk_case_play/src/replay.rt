@@ -11,6 +11,7 @@ use std::thread::Threads;
 /// What fails while the commands of a case run.
 #[derive(Clone, Copy)]
 pub enum Trouble {
+    /// No call fails.
     Nothing,
     /// A call of the host, counted from 0 where the stops begin.
     Host(Failure),
@@ -22,6 +23,7 @@ pub enum Trouble {
 /// Where the stops of a case begin: at its line `from here`, or at its first command.
 #[derive(Drop)]
 pub struct Start<'a> {
+    /// The case itself.
     pub case: &'a Case,
     /// The place of the step.
     at: usize,

@@ -15,12 +15,14 @@ const NEXT: [&str; 2] = ["pin", "app/org.x.Next/*/*"];
 /// What an installation shows.
 #[derive(PartialEq, Drop)]
 pub struct State {
+    /// What the lists print, one after another.
     pub text: Vec<u8>,
     /// Whether there is a file `config`, which the old layout hasn't.
     pub has_config: bool,
 }
 
 impl State {
+    /// The same once more. It errs only without memory.
     pub fn copy(&self) -> Result<State, AllocError> {
         Ok(State {
             text: self.text.clone()?,

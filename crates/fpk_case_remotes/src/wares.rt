@@ -18,17 +18,24 @@ use std::thread::Threads;
 /// What stands at a path of a remote.
 #[derive(Drop)]
 pub enum Ware {
+    /// A file with these permission bits.
     File { mode: u32, bytes: Vec<u8> },
+    /// A symlink with this text.
     Link { text: String },
+    /// A folder.
     Folder,
+    /// Not even a symlink.
     Nothing,
 }
 
 /// A path of a remote, with what stands there.
 #[derive(Drop)]
 pub struct RemotePath {
+    /// Where the remote is.
     pub url: String,
+    /// The path below that url.
     pub path: String,
+    /// What stands at the path.
     pub ware: Ware,
 }
 
@@ -36,6 +43,7 @@ pub struct RemotePath {
 #[derive(Drop)]
 pub struct MadeCommit {
     label: String,
+    /// The commit and all its objects.
     pub built: Built,
     files: Vec<(String, Digest)>,
     /// What it was made of.

@@ -30,6 +30,7 @@ impl<R> Drop for Capture<'_, R> {
 }
 
 impl<'a, R> Capture<'a, R> {
+    /// Nothing was printed yet.
     pub fn new(rt: &'a R, alloc: Global) -> Self {
         Capture {
             rt,

@@ -10,10 +10,12 @@ pub struct Unsynced<F> {
 }
 
 impl<F> Unsynced<F> {
+    /// The file, whose syncs do nothing from now on.
     pub fn new(file: F) -> Self {
         Unsynced { file }
     }
 
+    /// The file itself.
     pub fn inner(&self) -> &F {
         &self.file
     }

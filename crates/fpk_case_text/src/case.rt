@@ -7,6 +7,7 @@ use fp_base::ObjKind;
 pub struct Case {
     /// The number of its first line, from 1.
     pub line: u64,
+    /// What the case shows.
     pub name: String,
     /// What is given and expected, in turn.
     pub steps: Vec<Step>,
@@ -19,6 +20,7 @@ pub struct Case {
 pub struct Step {
     /// The number of its line, from 1.
     pub line: u64,
+    /// What the line says.
     pub action: Action,
     /// What is indented below it, each line with a newline.
     pub content: Vec<u8>,
@@ -40,6 +42,7 @@ impl Step {
 /// What a step does or expects.
 #[derive(Drop)]
 pub enum Action {
+    /// Something is put somewhere.
     Give(Fixture),
     /// What follows is about the remote at this url.
     BeginRemote { url: String },
@@ -49,16 +52,20 @@ pub enum Action {
     Offer { name: String, label: String },
     /// An object of the remote is broken.
     Break { object: ObjectWords, harm: Harm },
+    /// A command is run.
     Run(Command),
     /// What was done so far is on the disk: stops and failures are tried from here on.
     FromHere,
+    /// Something is to stand at a path now.
     Expect(Expected),
 }
 
 /// What is to stand at a path.
 #[derive(Drop)]
 pub struct Expected {
+    /// The path in the installation.
     pub path: String,
+    /// What is to stand there.
     pub what: What,
 }
 
@@ -67,11 +74,13 @@ pub struct Expected {
 pub enum What {
     /// A file with these permission bits.
     File { mode: u32 },
+    /// A folder, whatever is in it.
     Folder,
     /// A symlink with this text.
     Link { text: String },
     /// The file that stands at this path too.
     HardLink { file: String },
+    /// Not even a symlink.
     Nothing,
 }
 
@@ -80,6 +89,7 @@ pub enum What {
 pub struct CommitLine {
     /// What it is called in the case.
     pub label: String,
+    /// The ref.
     pub name: String,
     /// In seconds since 1970.
     pub time: u64,
@@ -125,10 +135,12 @@ pub enum Owner {
 }
 
 impl Owner {
+    /// Whether it is the installation.
     pub fn is_installation(self) -> bool {
         matches!(self, Owner::Installation)
     }
 
+    /// Whether it is the remote itself.
     pub fn is_remote(self) -> bool {
         matches!(self, Owner::Remote)
     }
@@ -137,8 +149,11 @@ impl Owner {
 /// What is put somewhere.
 #[derive(Drop)]
 pub struct Fixture {
+    /// What it is given to.
     pub owner: Owner,
+    /// The path in what it is given to.
     pub path: String,
+    /// What it is. The content of a file is that of its step.
     pub kind: FixtureKind,
 }
 
@@ -147,6 +162,7 @@ pub struct Fixture {
 pub enum FixtureKind {
     /// A file with these permission bits.
     File { mode: u32 },
+    /// A folder with nothing in it.
     Folder,
     /// A symlink with this text.
     Link { text: String },
@@ -157,10 +173,13 @@ pub enum FixtureKind {
 /// A command. What it is to print is the content of its step.
 #[derive(Drop)]
 pub struct Command {
+    /// The words after the name of the program.
     pub words: Vec<String>,
+    /// All bytes of its input.
     pub input: Vec<u8>,
     /// How the input comes, where that matters.
     pub pieces: Option<Pieces>,
+    /// The exit status that it is to have.
     pub status: u8,
     /// The call of the host that fails, counted from 0 at this command.
     pub failure: Option<Failure>,
@@ -172,14 +191,18 @@ pub struct Command {
 /// it or finds its end.
 #[derive(Clone, Copy)]
 pub struct Pieces {
+    /// The most bytes of a piece.
     pub size: usize,
+    /// The most calls that take it and find its end.
     pub calls: u64,
 }
 
 /// A call of the host that fails.
 #[derive(Clone, Copy)]
 pub struct Failure {
+    /// Its number, counted from 0 at the command.
     pub call: u64,
+    /// Whether what it asks for is done all the same.
     pub is_done: bool,
 }
 
@@ -220,5 +243,6 @@ pub struct Stops {
 pub struct ShownText {
     /// The number of its line, from 1.
     pub line: u64,
+    /// What the lists print, with names in braces.
     pub text: Vec<u8>,
 }

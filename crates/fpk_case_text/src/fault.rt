@@ -6,19 +6,33 @@ use std::fmt;
 /// Why a line of a case can't be read.
 #[derive(Clone, Copy, Debug)]
 pub enum CaseError {
+    /// No kind of line begins so.
     NoKind,
+    /// No case has begun, or the text has none.
     NoCase,
+    /// An indented line has no line above it.
     NoStep,
+    /// A line about a command has none above it.
     NoCommand,
+    /// A line `shown` has no line `stops` above it.
     NoStops,
+    /// A word is no number, or too great.
     NoNumber,
+    /// What follows a path is no permission bits.
     NoMode,
+    /// The text is no pairs of hexadecimal digits.
     NoHex,
+    /// Two words are wanted.
     OneWord,
+    /// The words name no object.
     NoObject,
+    /// The words name no way to break an object.
     NoHarm,
+    /// A line about a remote has none above it.
     NoRemote,
+    /// A hard link is given to a remote or a commit.
     NotInstallation,
+    /// There was no memory.
     NoMemory,
 }
 

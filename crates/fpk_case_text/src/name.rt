@@ -8,7 +8,9 @@ use std::alloc::Global;
 /// An object of a commit, as it is or as it is broken.
 #[derive(Drop)]
 pub struct Name {
+    /// The object as it is.
     pub object: ObjectWords,
+    /// How it is broken, if it is.
     pub harm: Option<Harm>,
 }
 

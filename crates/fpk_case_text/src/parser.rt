@@ -21,6 +21,7 @@ pub struct Parser {
 }
 
 impl Parser {
+    /// No line was taken yet.
     pub fn new(alloc: Global) -> Self {
         Parser {
             alloc,
@@ -34,6 +35,7 @@ impl Parser {
         self.line
     }
 
+    /// The cases so far, in order.
     pub fn into_cases(self) -> Vec<Case> {
         let Parser {
             alloc: _,

@@ -78,7 +78,9 @@ pub enum Sign {
 /// A line without its sign.
 #[derive(Clone, Copy)]
 pub struct Line<'a> {
+    /// What kind of line it is.
     pub sign: Sign,
+    /// What follows the sign.
     pub text: &'a str,
 }
 

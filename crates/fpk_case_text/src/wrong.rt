@@ -4,7 +4,9 @@ use std::alloc::{AllocError, Global};
 /// What isn't as the line with this number says.
 #[derive(Drop)]
 pub struct Wrong {
+    /// The number of the line, from 1.
     pub line: u64,
+    /// What isn't so.
     pub text: String,
 }
 
