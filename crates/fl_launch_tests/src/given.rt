@@ -7,10 +7,12 @@ use std::alloc::Global;
 use std::panic::Expect;
 use std::process::Abort;
 
+/// The ref of the text.
 pub fn ref_name(rt: &impl Abort, alloc: Global, text: &str) -> RefName {
     RefName::parse(alloc, text.as_bytes()).expect(rt, "a ref")
 }
 
+/// The key file of the text.
 pub fn key_file(rt: &impl Abort, alloc: Global, text: &str) -> KeyFile {
     KeyFile::parse(alloc, text.as_bytes()).expect(rt, "a key file")
 }

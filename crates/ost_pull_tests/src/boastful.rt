@@ -11,7 +11,9 @@ const SIZE: u64 = 1_073_741_825;
 /// A remote that holds what another one does, but for a file that it says to have this size. It tells nothing.
 #[derive(Drop)]
 pub struct Boastful {
+    /// The other one.
     pub held: MemRemotes,
+    /// The path of the file, at every url.
     pub file: Path,
 }
 

@@ -9,7 +9,9 @@ use std::alloc::Global;
 /// first, which of them give another first byte.
 #[derive(Drop)]
 pub struct Fickle {
+    /// The other one.
     pub held: MemRemotes,
+    /// The bits, that of the next read lowest.
     pub changed: u64,
 }
 

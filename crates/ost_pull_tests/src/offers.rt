@@ -27,6 +27,7 @@ pub fn path(rt: &impl Abort, alloc: Global, text: &str) -> Path {
     Path::parse(alloc, text).expect(rt, "a path")
 }
 
+/// These bytes.
 pub fn blob(rt: &impl Abort, alloc: Global, bytes: &[u8]) -> Blob {
     Blob::from_slice(alloc, bytes).expect(rt, "memory")
 }

@@ -6,6 +6,7 @@ use std::process::Abort;
 
 /// A piece of an object.
 pub enum Piece {
+    /// These bytes.
     Bytes(&'static [u8]),
     /// A byte that comes so often.
     Times(u8, usize),
@@ -22,6 +23,7 @@ pub const ROWS: u32 = 1_100;
 /// binding to the rows' refs, the rows' objects, and 100 KiB of the letter t twice.
 pub const COMMIT: &str = "3eaabaf16a1bab4a65de8ab73503cdb23689fdcde8e33bd7fdd9291e9e51d15e.commit";
 
+/// What the commit is made of.
 pub const COMMIT_PIECES: &[Piece] = &[
     Piece::Bytes(b"a\0\0\0\0\0\0\0"),
     Piece::Times(7, 100 << 10),
@@ -56,6 +58,7 @@ const TWO_DIGESTS: &[u8] =
 /// The same of a dirtree with the rows' files and the rows' directories.
 pub const TREE: &str = "e7e48ebee378fd66087e8333d4611cdcd3cd4307c180900e28f10878182f41a7.dirtree";
 
+/// What the dirtree is made of.
 pub const TREE_PIECES: &[Piece] = &[
     Piece::Rows("f", ONE_DIGEST),
     Piece::Ends(39, 2),

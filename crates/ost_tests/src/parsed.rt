@@ -12,10 +12,12 @@ pub fn decoded(rt: &impl Abort, alloc: Global, digits: &str) -> Vec<u8> {
     hex::decode(alloc, digits).expect(rt, "digits")
 }
 
+/// The path of the text.
 pub fn path_of(rt: &impl Abort, alloc: Global, text: &str) -> Path {
     Path::parse(alloc, text).expect(rt, "a path")
 }
 
+/// The digest of hexadecimal digits.
 pub fn digest_of(rt: &impl Abort, digits: &str) -> Digest {
     Digest::parse(digits.as_bytes()).expect(rt, "a digest")
 }

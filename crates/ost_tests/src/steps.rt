@@ -15,18 +15,23 @@ use std::process::Abort;
 /// How a step ends that changes something.
 pub type Done = Result<(), HostEnd>;
 
+/// It is done.
 pub const DONE: Done = Ok(());
 
+/// A call of the host fails.
 pub const FAULT: Done = Err(HostEnd::Fault);
 
 /// Bytes as they are, or one that comes so often.
 pub enum Content {
+    /// These bytes.
     Bytes(&'static [u8]),
+    /// The byte, and how often it comes.
     Times(u8, usize),
 }
 
 /// What an object is made of.
 pub enum Made {
+    /// The bytes of a metadata object.
     Meta(Content),
     /// A file's permission bits and its content.
     File(u32, Content),
@@ -36,9 +41,11 @@ pub enum Made {
 
 /// What the store has of an object.
 pub enum Want {
+    /// Nothing.
     Absent,
     /// It has so many bytes, more than were allowed.
     TooLong(u64),
+    /// The whole object.
     Made(Made),
 }
 
@@ -50,7 +57,9 @@ pub type Place = (&'static str, &'static str);
 
 /// What a ref says.
 pub enum Said {
+    /// Nothing stands at its place.
     Absent,
+    /// What stands there is no digest.
     Bad,
     /// The digest that is written.
     Written,
@@ -66,7 +75,9 @@ pub enum Step {
     Piece(Content),
     /// What is staged there gets the name.
     Place(Name, Done),
+    /// The object goes away.
     Remove(Name, Done),
+    /// What was done lasts.
     Sync,
     /// A folder is made.
     Folder(&'static str),
@@ -94,6 +105,7 @@ pub enum Step {
     Many(&'static str, usize, &'static str),
     /// The digest is written at the ref's place.
     RefWrite(Place),
+    /// The ref goes away.
     RefDrop(Place),
     /// What the ref says.
     Ref(Place, Said),
@@ -111,6 +123,7 @@ fn bytes_of(rt: &impl Abort, alloc: Global, content: &Content) -> Vec<u8> {
     }
 }
 
+/// The bytes of the content.
 pub fn blob_of(rt: &impl Abort, alloc: Global, content: &Content) -> Blob {
     Blob::from_vec(bytes_of(rt, alloc, content))
 }
