@@ -1,7 +1,7 @@
 //! How a command ends where it isn't done.
 ghost use Rattle.std.specs.Prelude.{◌≡◌};
 
-use crate::input::InputEnd;
+use crate::input::{InputEnd, TOO_LONG_INPUT};
 use fl_change::RunEnd;
 use fl_make::MakeEnd;
 use fl_words::BatchError;
@@ -60,7 +60,7 @@ impl From<InputEnd> for CommandEnd {
         match end {
             InputEnd::TooLong => CommandEnd::Refused(Refusal::Limit {
                 what: What::Input,
-                number: 67_108_865,
+                number: TOO_LONG_INPUT,
             }),
             InputEnd::Fault => CommandEnd::InputFault,
             InputEnd::NoMemory => CommandEnd::NoMemory,

@@ -30,6 +30,9 @@ impl From<AllocError> for InputEnd {
 /// The most bytes that the input may have.
 const MOST_INPUT: usize = 64 * 1024 * 1024;
 
+/// The number that the refusal of more bytes tells.
+pub(crate) const TOO_LONG_INPUT: u64 = MOST_INPUT as u64 + 1;
+
 /// All bytes that are left, at most 64 MiB. `TooLong` comes only where there are more, and `Fault`
 /// only where the source failed.
 pub(crate) fn read_input<I: Source>(alloc: Global, input: &mut I) -> Result<Blob, InputEnd>
