@@ -362,6 +362,21 @@ fn many_candidates(rt: HostRuntime) {
     assert!(rt; is_found(&rt, alloc, &versions, &refs, Some(299)));
 }
 
+/// A version of 100 KiB is left out, and the next one is found.
+#[test]
+fn long_version(rt: HostRuntime) {
+    let version = "v".repeat(rt.alloc(), 100 << 10).expect(&rt, "memory");
+    let versions = joined(&rt, rt.alloc(), &[&version, ";1"]);
+    let is_so = is_found(
+        &rt,
+        rt.alloc(),
+        &versions,
+        "runtime/org.x.E/x86_64/1",
+        Some(0),
+    );
+    assert!(rt; is_so);
+}
+
 /// The groups of this many points.
 pub fn many_groups(rt: &impl Abort, alloc: Global, count: u32) -> String {
     many(rt, alloc, count, "[Extension org.x.E", "]\ndirectory=e\n")

@@ -134,10 +134,15 @@ pub fn many(rt: &(impl Abort + Threads + Sync), alloc: Global) -> Built {
     commit(rt, alloc, &many_rows(rt, alloc))
 }
 
+/// Puts the node at the path of the remote with this url.
+fn put_at(rt: &impl Abort, remotes: &mut MemRemotes, url: &str, place: &Path, node: MemNode) {
+    assert!(rt; remotes.can_put(url, place, &node));
+    remotes.put(url, place, node).expect(rt, "memory");
+}
+
 /// Puts the node at the path of the remote.
 pub fn put(rt: &impl Abort, remotes: &mut MemRemotes, place: &Path, node: MemNode) {
-    assert!(rt; remotes.can_put(URL, place, &node));
-    remotes.put(URL, place, node).expect(rt, "memory");
+    put_at(rt, remotes, URL, place, node);
 }
 
 /// The path of an object at the remote.
@@ -165,12 +170,17 @@ pub fn empty(rt: &impl Abort, alloc: Global) -> MemRemotes {
     MemRemotes::new(alloc).expect(rt, "memory")
 }
 
-/// A remote with the commit.
-pub fn offered(rt: &impl Abort, alloc: Global, built: &Built) -> MemRemotes {
+/// A remote with this url and the commit.
+pub fn offered_at(rt: &impl Abort, alloc: Global, url: &str, built: &Built) -> MemRemotes {
     let mut remotes = empty(rt, alloc);
     for object in built.objects.as_slice() {
         let at = place(rt, alloc, &object.digest, object.kind);
-        put(rt, &mut remotes, &at, node_of(rt, &object.object));
+        put_at(rt, &mut remotes, url, &at, node_of(rt, &object.object));
     }
     remotes
+}
+
+/// A remote with the commit.
+pub fn offered(rt: &impl Abort, alloc: Global, built: &Built) -> MemRemotes {
+    offered_at(rt, alloc, URL, built)
 }

@@ -2,8 +2,8 @@
 
 use crate::fickle::Fickle;
 use crate::offers::{
-    SCRIPT, URL, bare, blob, empty, few, letter, many, node_of, offered, path, place, put, text,
-    zeros,
+    SCRIPT, URL, bare, big, blob, empty, few, letter, many, node_of, offered, offered_at, path,
+    place, put, text, zeros,
 };
 use crate::rows::agree_at;
 use fl_lines::refusal_line;
@@ -54,6 +54,25 @@ pub fn end_line(rt: &impl Abort, alloc: Global, end: PullEnd) -> Text {
     line.expect(rt, "memory")
 }
 
+/// Pulls the commit from this url. The text says why that wasn't done, or nothing.
+fn pull_from<R: Remotes>(
+    rt: &(impl Abort + Threads + Sync),
+    alloc: Global,
+    host: &mut MemHost,
+    remotes: &mut R,
+    url: &str,
+    commit: &Digest,
+) -> Text {
+    pulls_can_be_done();
+    let root = Path::root(alloc).child("repo").expect(rt, "a path");
+    let tmp = root.child("tmp").expect(rt, "a path");
+    let work = tmp.child("pull").expect(rt, "a path");
+    match pull(rt, alloc, host, remotes, &root, url, commit, &work) {
+        Ok(()) => Text::from_str(alloc, "").expect(rt, "memory"),
+        Err(end) => end_line(rt, alloc, end),
+    }
+}
+
 /// Pulls the commit. The text says why that wasn't done, or nothing.
 pub fn pull_into<R: Remotes>(
     rt: &(impl Abort + Threads + Sync),
@@ -62,14 +81,7 @@ pub fn pull_into<R: Remotes>(
     remotes: &mut R,
     commit: &Digest,
 ) -> Text {
-    pulls_can_be_done();
-    let root = Path::root(alloc).child("repo").expect(rt, "a path");
-    let tmp = root.child("tmp").expect(rt, "a path");
-    let work = tmp.child("pull").expect(rt, "a path");
-    match pull(rt, alloc, host, remotes, &root, URL, commit, &work) {
-        Ok(()) => Text::from_str(alloc, "").expect(rt, "memory"),
-        Err(end) => end_line(rt, alloc, end),
-    }
+    pull_from(rt, alloc, host, remotes, URL, commit)
 }
 
 /// The files and links below `objects`, one a line. The folder of the pull has to be gone.
@@ -130,6 +142,31 @@ pub fn objects_of(rt: &(impl Abort + Threads + Sync), alloc: Global, built: &Bui
     let end = pull_offered(rt, alloc, &mut host, built, &[]);
     assert!(rt; end.as_str().is_empty());
     stored(rt, alloc, &mut host)
+}
+
+/// What the store has after a pull of the commit from this url.
+fn stored_from(
+    rt: &(impl Abort + Threads + Sync),
+    alloc: Global,
+    url: &str,
+    built: Built,
+) -> String {
+    let mut remotes = offered_at(rt, alloc, url, &built);
+    let mut host = new_host(rt, alloc);
+    let end = pull_from(rt, alloc, &mut host, &mut remotes, url, &built.commit);
+    drop(built);
+    assert!(rt; end.as_str().is_empty());
+    stored(rt, alloc, &mut host)
+}
+
+/// From a url of 1,100 bytes come the few files, and a file in pieces with the three objects above it.
+#[test]
+fn a_long_url_is_pulled_from(rt: HostRuntime) {
+    let alloc = rt.alloc();
+    let url = "u".repeat(alloc, 1_100).expect(&rt, "memory");
+    let few = stored_from(&rt, alloc, &url, few(&rt, alloc));
+    let big = stored_from(&rt, alloc, &url, big(&rt, alloc, 300_000));
+    assert!(rt; few.as_str() == FEW_OBJECTS && big.lines().count() == 4);
 }
 
 #[test]
