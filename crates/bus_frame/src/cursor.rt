@@ -10,7 +10,9 @@ use std::str;
 /// A place in a message, counted from the message's first byte, and the bytes from there on.
 #[derive(Clone, Copy)]
 pub struct Cursor<'a> {
+    /// How many bytes of the message stand before the place.
     pub at: usize,
+    /// The bytes from there on.
     pub rest: &'a [u8],
     ghost fits: { at + length rest.now < 2 ^ 64 },
 }

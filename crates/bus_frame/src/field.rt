@@ -24,7 +24,9 @@ pub enum RawContent<'a> {
 /// A field, whatever its code.
 #[derive(Clone, Copy)]
 pub struct RawField<'a> {
+    /// What the field is, by a number of the D-Bus specification.
     pub code: u8,
+    /// Its value.
     pub content: RawContent<'a>,
 }
 

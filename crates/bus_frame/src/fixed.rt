@@ -12,12 +12,19 @@ use fp_base::FrameRule;
 /// The fixed part: byte order, message type, flags, protocol version, and three numbers.
 #[derive(Clone, Copy)]
 pub struct Fixed {
+    /// The letter of the byte order.
     pub order: u8,
+    /// The number of the message type.
     pub kind: u8,
+    /// The flags.
     pub flags: Flags,
+    /// The version of the protocol.
     pub version: u8,
+    /// How many bytes the body has.
     pub body_len: u32,
+    /// The number by which a reply names the message.
     pub serial: u32,
+    /// How many bytes the fields of the header have.
     pub array_len: u32,
 }
 

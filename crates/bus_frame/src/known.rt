@@ -14,24 +14,38 @@ use fp_base::FrameRule;
 /// The known fields, lent from the message.
 #[derive(Clone, Copy)]
 pub struct RawKnown<'a> {
+    /// The object.
     pub path: Option<&'a str>,
+    /// The interface of the member.
     pub interface: Option<&'a str>,
+    /// The method or the signal.
     pub member: Option<&'a str>,
+    /// The name of an error.
     pub error_name: Option<&'a str>,
+    /// The serial of the message that this is the reply to.
     pub reply_serial: Option<u32>,
+    /// The bus name that it goes to.
     pub destination: Option<&'a str>,
+    /// The bus name that it comes from.
     pub sender: Option<&'a str>,
+    /// The types of the body.
     pub signature: Option<&'a str>,
+    /// How many file descriptors go with it.
     pub unix_fds: Option<u32>,
 }
 
 /// Which texts a field may have.
 #[derive(Clone, Copy)]
 pub enum Grammar {
+    /// The path of an object.
     Path,
+    /// The name of an interface or of an error.
     Interface,
+    /// The name of a method or a signal.
     Member,
+    /// The name of a connection.
     Bus,
+    /// The types of a value.
     Signature,
 }
 

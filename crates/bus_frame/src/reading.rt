@@ -81,8 +81,11 @@ fn copied(alloc: Global, text: Option<&str>) -> Result<Option<Text>, AllocError>
 /// The member that a message is about.
 #[derive(Drop)]
 pub struct Target {
+    /// The object.
     pub path: Option<Text>,
+    /// The interface of the member.
     pub interface: Option<Text>,
+    /// The method or the signal.
     pub member: Option<Text>,
 }
 
@@ -101,7 +104,9 @@ fn target_of(alloc: Global, known: &RawKnown<'_>) -> Result<Target, AllocError>
 /// The bus names of those between whom a message goes.
 #[derive(Drop)]
 pub struct Parties {
+    /// To whom it goes.
     pub destination: Option<Text>,
+    /// From whom it comes.
     pub sender: Option<Text>,
 }
 

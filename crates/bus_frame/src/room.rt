@@ -7,8 +7,11 @@ use crate::limits::{MOST_ARRAYS, MOST_CONTAINERS, MOST_STRUCTS};
 /// How many containers may still be opened: of any kind, and of them arrays and structs.
 #[derive(Clone, Copy)]
 pub struct Room {
+    /// Those of any kind.
     pub containers: u8,
+    /// The arrays among them.
     pub arrays: u8,
+    /// The structs among them.
     pub structs: u8,
 }
 

@@ -10,6 +10,7 @@ use std::alloc::{AllocError, Global};
 /// A name of at most 255 bytes.
 #[derive(Drop)]
 pub struct Name {
+    /// The name as it is written.
     pub text: Text,
     ghost short: { length text ≤ MOST_NAME_BYTES },
 }

@@ -24,7 +24,9 @@ use std::hash::BuildHasher;
 #[derive(Drop)]
 pub struct Judge<S: BuildHasher> {
     alloc: Global,
+    /// What is known of the messages so far.
     pub watch: Watch<S>,
+    /// The name, once it is known.
     pub client: Option<Name>,
 }
 

@@ -21,11 +21,14 @@ pub enum Arrival {
 /// A stream of messages and how many of them were taken.
 #[derive(Drop)]
 pub struct Stream {
+    /// What was fed and is no whole message yet.
     pub cutter: Cutter,
+    /// How many messages were taken.
     pub count: u64,
 }
 
 impl Stream {
+    /// Nothing was fed and taken yet. It errs only without memory.
     pub fn new(alloc: Global) -> Result<Self, AllocError>
         ensures { IfOk result (λ s. (s.cutter ≡ []) × (s.count ≡ 0)) }
     {

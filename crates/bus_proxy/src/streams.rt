@@ -13,8 +13,11 @@ use std::alloc::{AllocError, Global};
 /// The streams of both sides, and which was fed last.
 #[derive(Drop)]
 pub struct Streams {
+    /// The stream of the client.
     pub client: Stream,
+    /// The stream of the bus.
     pub bus: Stream,
+    /// The side that was fed last.
     pub latest: Side,
 }
 

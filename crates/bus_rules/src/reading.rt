@@ -13,22 +13,29 @@ use std::alloc::{AllocError, Global};
 /// What a text says of methods or signals.
 #[derive(Clone, Copy)]
 pub enum RawMembers<'a> {
+    /// All of them.
     All,
+    /// Those of this interface.
     Of(&'a str),
+    /// The one of this interface, by its name.
     One(&'a str, &'a str),
 }
 
 /// What a text says of objects.
 #[derive(Clone, Copy)]
 pub enum RawObjects<'a> {
+    /// The object at this path.
     At(&'a str),
+    /// The object at this path and those below it.
     Below(&'a str),
 }
 
 /// A rule, lent from its text.
 #[derive(Clone, Copy)]
 pub struct RawRule<'a> {
+    /// The methods or signals, where the rule names some.
     pub members: Option<RawMembers<'a>>,
+    /// The objects, where the rule names some.
     pub objects: Option<RawObjects<'a>>,
 }
 

@@ -55,9 +55,13 @@ impl From<AllocError> for RecordError {
 /// What the lines so far say.
 #[derive(Drop)]
 pub struct Draft {
+    /// The name of the client, where a line gives it.
     pub client: Option<Text>,
+    /// The names whose owners were given.
     pub owned: BTreeSet<String>,
+    /// Names, each with its owner, in the order of the lines.
     pub owners: Vec<(Text, Text)>,
+    /// The pieces, each with the side that it comes from, in the order of the lines.
     pub pieces: Vec<(Side, Blob)>,
 }
 

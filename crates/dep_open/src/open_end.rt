@@ -11,6 +11,7 @@ pub enum OpenEnd {
     Damaged(Path),
     /// A call of the host failed.
     Fault,
+    /// There was no memory.
     NoMemory,
 }
 

@@ -24,6 +24,7 @@ use std::fmt;
 pub enum RetireError {
     /// The ref isn't deployed.
     NotThere,
+    /// There was no memory.
     NoMemory,
 }
 

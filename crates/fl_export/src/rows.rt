@@ -15,7 +15,10 @@ pub enum ExportWhat {
 /// A path below the folder `exports`, by the application that exports it.
 #[derive(Debug, Drop)]
 pub struct ExportRow {
+    /// The path below the folder.
     pub path: Path,
+    /// The ref of the application.
     pub name: RefName,
+    /// What stands at the path.
     pub what: ExportWhat,
 }

@@ -34,6 +34,7 @@ pub fn meta_kind(kind: RefKind) -> MetaKind
 /// The metadata of an application or a runtime, after flatpak-metadata(5).
 #[derive(Drop)]
 pub struct Meta {
+    /// Whether it is that of an application or of a runtime.
     pub kind: MetaKind,
     /// The runtime of an application.
     pub runtime: Option<RefName>,

@@ -48,7 +48,9 @@ pub enum PermList {
 /// What a sandbox may be granted: a name in a list.
 #[derive(Debug, Drop)]
 pub struct Permission {
+    /// The list.
     pub list: PermList,
+    /// The name in it.
     pub name: Text,
 }
 
@@ -80,7 +82,9 @@ pub enum Value {
 /// One mention of a permission.
 #[derive(Debug, Drop)]
 pub struct Mention {
+    /// The permission.
     pub permission: Permission,
+    /// What is said of it.
     pub value: Value,
 }
 

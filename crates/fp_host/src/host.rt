@@ -38,6 +38,7 @@ impl Error for HostError {}
 /// What a name holds, apart from nothing.
 #[derive(Debug, Drop)]
 pub enum Entry {
+    /// A folder.
     Dir,
     /// A file by its id. Names with one id are hard links of one file.
     File(u64),
@@ -203,6 +204,7 @@ pub trait Host {
 pub enum HostEnd {
     /// A call of the host failed, or the host was not as this function's condition asks.
     Fault,
+    /// There was no memory.
     NoMemory,
 }
 

@@ -15,6 +15,7 @@ use std::marker::Model;
 pub enum PathError {
     /// An element is empty, longer than 255 bytes, `.` or `..`, or has a slash or a zero byte.
     Bad,
+    /// There was no memory.
     NoMemory,
 }
 

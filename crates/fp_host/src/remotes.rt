@@ -12,7 +12,9 @@ use std::fmt;
 /// What stands at a path of a remote.
 #[derive(Debug, Drop)]
 pub enum Node {
+    /// Nothing.
     Absent,
+    /// A folder.
     Dir,
     /// The permission bits, at most 0o7777, and the number of bytes.
     File { mode: u32, size: u64 },
@@ -23,7 +25,9 @@ pub enum Node {
 /// Why a remote could not be read.
 #[derive(Clone, Copy, Debug, PartialEq, Eq)]
 pub enum RemoteError {
+    /// A call failed.
     Failed,
+    /// There was no memory.
     NoMemory,
 }
 

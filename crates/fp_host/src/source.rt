@@ -10,6 +10,7 @@ pub enum Taken {
     Took(usize),
     /// Nothing is left.
     End,
+    /// The call failed.
     Failed,
 }
 

@@ -10,14 +10,18 @@ use std::alloc::{AllocError, Global};
 /// A key and its value.
 #[derive(Drop)]
 pub struct Pair {
+    /// What stands before the sign `=`.
     pub key: Text,
+    /// What stands after it.
     pub value: Text,
 }
 
 /// A group of a key file: its name, and its pairs in order.
 #[derive(Drop)]
 pub struct Group {
+    /// What stands between the brackets.
     pub name: Text,
+    /// The pairs, in the order of the file.
     pub pairs: Items<Pair>,
 }
 

@@ -15,9 +15,13 @@ use std::alloc::{AllocError, Global};
 /// KIND/ID/ARCH/BRANCH, whatever stands in the last three.
 #[derive(Clone, Copy)]
 pub struct Parts<'a> {
+    /// An application or a runtime.
     pub kind: RefKind,
+    /// The second part.
     pub id: &'a str,
+    /// The third part.
     pub arch: &'a str,
+    /// The last part.
     pub branch: &'a str,
 }
 

@@ -33,6 +33,7 @@ pub fn child_at(body: &[u8], at: usize, align: u64, end: usize) -> Result<&[u8],
 /// A container's children, and its offsets.
 #[derive(Clone, Copy)]
 pub struct Frame<'a> {
+    /// The children, one after the other, without the offsets.
     pub body: &'a [u8],
     /// The offsets, one after the other.
     pub table: &'a [u8],

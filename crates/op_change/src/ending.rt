@@ -11,7 +11,9 @@ pub enum ApplyEnd {
     Refused(Refusal),
     /// A call of the host failed.
     Fault,
+    /// A call of the remotes failed.
     RemoteFault,
+    /// There was no memory.
     NoMemory,
 }
 

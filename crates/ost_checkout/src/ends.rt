@@ -10,6 +10,7 @@ pub enum CheckoutEnd {
     ReservedName,
     /// A call of the host failed, or the host was not as the condition asks.
     Fault,
+    /// There was no memory.
     NoMemory,
 }
 

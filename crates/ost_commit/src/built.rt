@@ -13,15 +13,20 @@ use std::fmt;
 /// An object, with the digest that names it.
 #[derive(Drop)]
 pub struct BuiltObject {
+    /// The digest of the object.
     pub digest: Digest,
+    /// The kind of the object.
     pub kind: ObjKind,
+    /// The object itself.
     pub object: Object,
 }
 
 /// A commit and all its objects, each once.
 #[derive(Drop)]
 pub struct Built {
+    /// The digest of the commit.
     pub commit: Digest,
+    /// All its objects, each once.
     pub objects: Items<BuiltObject>,
 }
 

@@ -12,8 +12,11 @@ use std::alloc::{AllocError, AllocFailed};
 pub enum PullEnd {
     /// What the remote or the store holds is refused.
     Refused(Refusal),
+    /// A call of the host failed.
     HostFault,
+    /// A call of the remotes failed.
     RemoteFault,
+    /// There was no memory.
     NoMemory,
 }
 

@@ -29,6 +29,7 @@ use std::alloc::{AllocError, Global};
 /// The head of a ref.
 #[derive(Drop)]
 pub struct Head {
+    /// The digest of the commit.
     pub commit: Digest,
     /// In seconds since 1970.
     pub timestamp: u64,

@@ -29,17 +29,24 @@ pub enum ObjectFault {
 /// The first object of an order that has a fault.
 #[derive(Clone, Copy)]
 pub struct WalkFault {
+    /// The digest of the object.
     pub digest: Digest,
+    /// The kind of the object.
     pub kind: ObjKind,
+    /// What is wrong with it.
     pub fault: ObjectFault,
 }
 
 /// How a walk ends where it can't go on.
 #[derive(Clone, Copy)]
 pub enum WalkEnd {
+    /// An object has this fault.
     Refused(WalkFault),
+    /// A call of the host failed.
     HostFault,
+    /// A call of the remotes failed.
     RemoteFault,
+    /// There was no memory.
     NoMemory,
 }
 

@@ -7,6 +7,8 @@ use fp_name::Digest;
 /// a limit, and that fault. Where there is none, it is the whole order.
 #[derive(Drop)]
 pub struct Survey {
+    /// The digests and kinds, in order.
     pub objects: Items<(Digest, ObjKind)>,
+    /// The first fault, if there is one.
     pub fault: Option<WalkFault>,
 }
