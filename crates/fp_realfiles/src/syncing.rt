@@ -13,14 +13,18 @@ use std::thread::{Threads, join};
 /// What could not be made to last, and why.
 #[derive(Clone, Copy)]
 pub struct Unsynced {
+    /// What was asked of the system.
     pub call: Call,
+    /// Why the system refused it.
     pub cause: Cause,
 }
 
 /// The same with the place of its path in a list.
 #[derive(Clone, Copy)]
 pub struct Failure {
+    /// The place of the path, from 0.
     pub place: usize,
+    /// What could not be done, and why.
     pub unsynced: Unsynced,
 }
 
@@ -32,6 +36,7 @@ const LEAST: usize = 32;
 
 /// What makes something last, and answers why it could not. What is gone is left out.
 pub trait Syncer<I> {
+    /// Makes it last. Answers why it could not, and nothing where it lasts or is gone.
     fn sync_one(&self, item: &I) -> Option<Unsynced>;
 }
 

@@ -20,6 +20,7 @@ impl<T: Threads> Threads for Team<T> {}
 unsafe impl<T> Sync for Team<T> {}
 
 impl<T: Threads> Team<T> {
+    /// The leave of this handle to start threads.
     pub fn of(_handle: &T) -> Self {
         Team {
             handle: PhantomData,

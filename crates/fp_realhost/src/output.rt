@@ -27,12 +27,14 @@ impl<'a, O> Model for Output<'a, O> {
 }
 
 impl<'a, O> Output<'a, O> {
+    /// Nothing was printed yet.
     pub fn new(out: &'a O) -> Self {
         Output { out, printed: 0 }
     }
 }
 
 impl<O: Print> Output<'_, O> {
+    /// Prints the whole piece. It errs where the system refuses it; then some of it may be printed.
     pub fn print(&mut self, piece: &[u8]) -> Result<(), Cause>
         ensures printed { OnOk result (self.new ≡ many_more self.old (length piece.now)) }
     {

@@ -11,10 +11,15 @@ use std::marker::Model;
 /// sync. Contracts see whether nothing waits.
 #[derive(Drop)]
 pub struct Notes {
+    /// The folders that were looked at.
     pub folders: Folders,
+    /// The files that were looked at.
     pub files: FoundFiles,
+    /// What was made.
     pub made: Made,
+    /// The folders in which no permission bit is taken away.
     pub grants: Grants,
+    /// What waits for a sync.
     pub touched: Touched,
     // Whether a file got a second name that may still be written.
     is_linked: bool,

@@ -8,19 +8,33 @@ use std::alloc::Global;
 /// A call, on paths of one element or two.
 #[derive(Clone, Copy)]
 pub enum Step<'a> {
+    /// A folder is made at the path.
     MakeDir(&'a str),
+    /// An empty file is made at the path, with these permission bits.
     Create(&'a str, u32),
+    /// The file at the path gets this text, too.
     Append(&'a str, &'a str),
+    /// The file at the first path gets the second one, too.
     Link(&'a str, &'a str),
+    /// A symlink with this text is made at the path.
     Symlink(&'a str, &'a str),
+    /// What is at the first path moves to the second.
     Rename(&'a str, &'a str),
+    /// The file or symlink at the path goes away.
     Unlink(&'a str),
+    /// The empty folder at the path goes away.
     RemoveDir(&'a str),
+    /// What was done is to last.
     Sync,
+    /// The text is printed.
     Say(&'a str),
+    /// What stands at the path.
     Stat(&'a str),
+    /// What the file at the path holds.
     Read(&'a str),
+    /// The text of the symlink at the path.
     ReadLink(&'a str),
+    /// The names in the folder at the path.
     List(&'a str),
 }
 

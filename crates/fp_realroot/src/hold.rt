@@ -42,6 +42,7 @@ impl<F: Write + Seek + OpenFile + Drop> Hold<F> {
         }
     }
 
+    /// Whether there is a mark: a change may be unsynced.
     pub fn is_marked(&self) -> bool {
         self.is_marked
     }

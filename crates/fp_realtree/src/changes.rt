@@ -20,12 +20,17 @@ const STORED: &str = "repo/objects/";
 /// A change at one path.
 #[derive(Clone, Copy)]
 pub enum Change<'a> {
+    /// A folder is made.
     MakeDir,
     /// With these permission bits.
     Create(u32),
+    /// These bytes are added to the file.
     Append(&'a [u8]),
+    /// A symlink with this text is made.
     Symlink(&'a str),
+    /// A file or a symlink goes away.
     Unlink,
+    /// An empty folder goes away.
     RemoveDir,
 }
 

@@ -34,6 +34,7 @@ fn check_file<R: Files>(rt: &R, at: &str, made: &Made) -> Result<(), Cause> {
     }
 }
 
+/// Makes a symlink with this text, and notes it. It errs where the system refuses it.
 pub fn symlink<R: Files>(rt: &R, text: &str, at: &str, notes: &mut Notes) -> Result<(), Cause> {
     match known(unix::fs::symlink(rt, text, at)) {
         Ok(()) => {
@@ -89,6 +90,7 @@ fn no_leaf(kind: Kind) -> Cause {
     }
 }
 
+/// Takes an empty folder away, and notes it. It errs where the system refuses it.
 pub fn remove_folder<R: Files>(rt: &R, at: &str, notes: &mut Notes) -> Result<(), Cause> {
     match known(fs::remove_dir(rt, at)) {
         Ok(()) => {

@@ -34,6 +34,7 @@ impl<F: Drop> Drop for Writer<F> {
 }
 
 impl<F: Drop> Writer<F> {
+    /// No file is open, and no object was dated.
     pub fn nothing(alloc: Global) -> Self {
         Writer {
             alloc,

@@ -15,6 +15,7 @@ pub enum Cause {
     Number(i32),
     /// An error that has no number.
     Kind(ErrorKind),
+    /// There was no memory.
     NoMemory,
     /// More than the permission bits were asked for.
     BadBits,
@@ -24,11 +25,17 @@ pub enum Cause {
     BadName,
     /// No path of a remote's url.
     BadUrl,
+    /// The root, where that may not be.
     IsRoot,
+    /// What is neither a file, a folder nor a symlink.
     IsOther,
+    /// A symlink in the place of a folder.
     IsSymlink,
+    /// It is no regular file.
     NoFile,
+    /// It is neither a regular file nor a symlink.
     NoLeaf,
+    /// Both paths are names of one file.
     OneFile,
     /// A folder stands where a file or symlink is to go.
     InTheWay,

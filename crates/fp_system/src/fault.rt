@@ -12,23 +12,37 @@ use std::marker::Model;
 /// What an adapter asked of the system.
 #[derive(Clone, Copy, Debug, PartialEq, Eq)]
 pub enum Call {
+    /// Looking at what stands at a path.
     Stat,
+    /// Listing a folder.
     List,
+    /// Reading a file.
     Read,
+    /// Reading the text of a symlink.
     ReadLink,
+    /// Making a folder.
     MakeDir,
+    /// Making a file.
     Create,
+    /// Adding bytes to a file.
     Append,
+    /// Making a hard link.
     Link,
+    /// Making a symlink.
     Symlink,
+    /// Moving a file or a symlink.
     Rename,
+    /// Taking a file or a symlink away.
     Unlink,
+    /// Taking an empty folder away.
     RemoveDir,
     /// Finding or making the root folder.
     Enter,
     /// Opening a file or folder that is to be synced.
     Open,
+    /// Making what was done last.
     Sync,
+    /// Printing.
     Say,
     /// Finding the folder that the url of a remote names.
     Locate,
@@ -70,9 +84,11 @@ impl fmt::Display for Call {
 /// error 28)`.
 #[derive(Debug, Drop)]
 pub struct SystemError {
+    /// What was asked.
     pub call: Call,
     /// The path, where the call has one and there was memory to keep it.
     pub path: Option<Text>,
+    /// Why it was refused.
     pub cause: Cause,
 }
 

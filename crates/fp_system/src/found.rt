@@ -15,8 +15,11 @@ use std::rt::Files;
 pub enum Kind {
     /// Nothing: the name is missing, or stands below a file.
     Absent,
+    /// A folder.
     Dir,
+    /// A file.
     File,
+    /// A symlink.
     Link,
     /// A socket, a pipe or a device.
     Other,
@@ -25,8 +28,10 @@ pub enum Kind {
 /// What stands at a path. Where nothing does, all numbers are 0.
 #[derive(Clone, Copy)]
 pub struct Found {
+    /// What kind of thing it is.
     pub kind: Kind,
     mode: u32,
+    /// The number of bytes of a file.
     pub size: u64,
     // The numbers of the inode and of its device.
     id: u64,
@@ -64,6 +69,7 @@ impl Found {
         self.id == other.id && self.device == other.device
     }
 
+    /// Its permission bits, without those of its type.
     pub fn permission_bits(&self) -> u32
         ensures { result ≤ PERMISSION_BITS }
     {

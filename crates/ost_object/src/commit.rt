@@ -9,10 +9,13 @@ use fp_name::Digest;
 pub struct Commit {
     /// The bytes of a value of type `a{sv}`.
     pub metadata: Blob,
+    /// The commit before it, if there was one.
     pub parent: Option<Digest>,
     /// The bytes of a value of type `a(say)`.
     pub related: Blob,
+    /// What its author calls it.
     pub subject: Text,
+    /// What its author says of it.
     pub body: Text,
     /// Seconds since the beginning of 1970.
     pub timestamp: u64,

@@ -19,21 +19,32 @@ use std::alloc::Global;
 /// The bytes of a commit's fields, each of which is a value of the field's type.
 #[derive(Clone, Copy)]
 pub struct CommitParts<'a> {
+    /// `a{sv}`.
     pub metadata: &'a [u8],
+    /// `ay`: the digest of the commit before it, or nothing.
     pub parent: &'a [u8],
+    /// `a(say)`.
     pub related: &'a [u8],
+    /// `s`.
     pub subject: &'a [u8],
+    /// `s`.
     pub body: &'a [u8],
+    /// `t`: seconds since 1970, the highest byte first.
     pub time: &'a [u8],
+    /// `ay`: the digest of the dirtree of the root.
     pub tree: &'a [u8],
+    /// `ay`: the digest of the dirmeta of the root.
     pub meta: &'a [u8],
 }
 
 /// The digests in a commit.
 #[derive(Clone, Copy)]
 pub struct CommitDigests {
+    /// That of the commit before it, if there was one.
     pub parent: Option<Digest>,
+    /// That of the dirtree of the root.
     pub tree: Digest,
+    /// That of the dirmeta of the root.
     pub meta: Digest,
 }
 
