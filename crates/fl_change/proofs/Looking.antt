@@ -4,7 +4,6 @@ use Rattle.fp_host.specs.Frame.{Unchanged}
 use Rattle.fp_host.specs.Moments.{Moments}
 use Rattle.fp_host.specs.Outcome.{shows}
 use Rattle.fp_host.specs.Remote.{Holdings}
-use Rattle.fp_host.specs.View.{View}
 use Rattle.fp_host.proofs.Framed.{IsTold}
 use Rattle.fp_name.specs.Refs.{Ref}
 use Rattle.fp_small.specs.Places.{repo}
@@ -15,6 +14,7 @@ use Rattle.fp_small.specs.declared.refusal.Refusal.{Refusal}
 use Rattle.fp_small.specs.declared.refusal.Refusal.TheVariants as refusals
 use Rattle.ost_model.specs.Objects.{Have, store}
 use Rattle.ost_model.specs.Remotes.{Stores}
+use Rattle.ost_model.proofs.Stored.{still_stored}
 use Rattle.ost_walk.specs.Ends.{Outside}
 use Rattle.dep_states.specs.After.{row_at}
 use Rattle.fl_meta.specs.declared.meta.Meta.{Meta}
@@ -42,12 +42,6 @@ TellsOf told a f = (have : Have) → Stores repo told have → a ≡ f have
 
 pub told_known : {A : Type 0} (s : State) (a : A) (f : Have → A) (u : Outside) → TellsOf u.told a f → Known (Rests s) u s (λ held x. f (world_at s x).have ≡ a)
 told_known s a f u tells x first held known rests = ap f (world_have s x rests) ∙ sym (tells (store repo (shows x)) (stores_at u x first))
-
--- a host that only looks goes on to store the same
-still_stored : {a b : Option Moments} {have : Have} → Unchanged a b → Stores repo a have → Stores repo b have
-still_stored still s =
-    let n = still.goes.told s.moments s.told_is in
-    record { moments = n.0; told_is = n.1; is = s.is ∙ ap (λ (v : View). store repo (shows v)) (sym n.3.0) }
 
 -- it is refused by what is known at the entry
 pub refused_looked : {May : Op → Type 0} {s : State} (f : Holdings → World → Answer) (r : Refusal) {u v : Outside} → IsTold v.told → Looked May u v → Known (Rests s) u s (λ held x. f held (world_at s x) ≡ refusal_answer r) → Acts (Rests s) May f s (Err (Refused r)) u v

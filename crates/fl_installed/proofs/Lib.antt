@@ -1,6 +1,5 @@
 pub mod Named
 pub mod Distinct
-pub mod Quiet
 pub mod Found
 pub mod Standing
 pub mod Local

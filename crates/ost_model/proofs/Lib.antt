@@ -9,3 +9,4 @@ mod Examples
 pub mod Sample
 pub mod Supplied
 pub mod Once
+pub mod Stored

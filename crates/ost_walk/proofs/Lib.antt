@@ -3,7 +3,7 @@ mod Read
 mod Listed
 mod Checked
 mod Walked
-mod Quiet
+pub mod Quiet
 mod Followed
 mod Kept
 mod Surveyed

@@ -5,7 +5,6 @@ use Rattle.fp_host.specs.Paths.{Elements}
 use Rattle.fp_host.specs.View.{View}
 use Rattle.fp_host.specs.Outcome.{shows}
 use Rattle.fp_host.specs.Moments.{Moments, Rose}
-use Rattle.fp_host.specs.Frame.{Unchanged}
 use Rattle.fp_host.specs.Remote.{Holdings, nothing}
 use Rattle.ost_model.specs.Objects.{Have, store, supply}
 use Rattle.fp_host.proofs.Cause.{Rose-later}
@@ -95,12 +94,6 @@ stored {root = root} {told = told} {have = have} none s = subst (λ (u : Option 
   holdings_are = refl;
   is = s.is ∙ sym (supply_alone (store root (shows s.moments.now)) (λ u p. nothing));
 })
-
--- a host that only looks goes on to store the same
-pub still_stored : {root : Elements} {a b : Option Moments} {have : Have} → Unchanged a b → Stores root a have → Stores root b have
-still_stored {root = root} still s =
-    let n = still.goes.told s.moments s.told_is in
-    record { moments = n.0; told_is = n.1; is = s.is ∙ ap (λ (v : View). store root (shows v)) (sym n.3.0) }
 
 -- a count that stands at nothing doesn't rise
 pub never_rose : Rose 0 0 → ⊥

@@ -1,7 +1,7 @@
 use Rattle.fp_host.proofs.Looking.{looks_within}
 use Rattle.fl_export.specs.Exported.{desktops_by, icons_by}
 use Rattle.fl_export.proofs.Gather.{then_others}
-use Rattle.fl_export.proofs.Quiet.{still_stored}
+use Rattle.ost_model.proofs.Stored.{still_stored}
 use Rattle.fl_export.proofs.gathering.add_app.Goals as goal
 
 pub returns-clause-unchanged : goal.returns-clause-unchanged

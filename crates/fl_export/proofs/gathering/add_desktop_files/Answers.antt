@@ -4,7 +4,7 @@ use Rattle.fp_host.proofs.Looking.{looks_within}
 use Rattle.ost_object.specs.Views.{file_row}
 use Rattle.fl_export.specs.Exported.{desktop_of}
 use Rattle.fl_export.proofs.Gather.{flat_map_grows}
-use Rattle.fl_export.proofs.Quiet.{still_stored}
+use Rattle.ost_model.proofs.Stored.{still_stored}
 use Rattle.fl_export.proofs.gathering.add_desktop_files.Goals as goal
 
 pub returns-in_err-found-clause-unchanged : goal.returns-in_err-found-clause-unchanged

@@ -2,7 +2,7 @@ use Rattle.std.proofs.Common.{arith}
 use Rattle.fp_host.proofs.Looking.{looks_within}
 use Rattle.fl_export.specs.Exported.{exported_at}
 use Rattle.fl_export.proofs.Gather.{flat_next}
-use Rattle.fl_export.proofs.Quiet.{still_stored}
+use Rattle.ost_model.proofs.Stored.{still_stored}
 use Rattle.fl_export.proofs.listing.all_exported.Goals as goal
 
 pub returns-in_err-add_exports-clause-unchanged : goal.returns-in_err-add_exports-clause-unchanged

@@ -4,7 +4,7 @@ use Rattle.ost_object.specs.Views.{tree_view}
 use Rattle.fl_export.specs.Exported.{in_export}
 use Rattle.fl_export.specs.Texts.{share}
 use Rattle.fl_export.proofs.Looked.{look_on, if_ok_told}
-use Rattle.fl_export.proofs.Quiet.{still_stored}
+use Rattle.ost_model.proofs.Stored.{still_stored}
 use Rattle.fl_export.proofs.trees.applications_of.Goals as goal
 
 pub returns-clause-unchanged : goal.returns-clause-unchanged

@@ -2,7 +2,7 @@ use Rattle.std.specs.Prelude.{codes, option_map}
 use Rattle.fp_host.proofs.Looking.{looks_within}
 use Rattle.ost_object.specs.Views.{dir_row, tree_view}
 use Rattle.fl_export.proofs.Looked.{next_on, if_ok_told}
-use Rattle.fl_export.proofs.Quiet.{still_stored}
+use Rattle.ost_model.proofs.Stored.{still_stored}
 use Rattle.fl_export.proofs.trees.apps_in.Goals as goal
 
 pub returns-clause-unchanged : goal.returns-clause-unchanged

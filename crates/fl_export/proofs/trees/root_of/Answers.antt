@@ -2,7 +2,7 @@ use Rattle.std.specs.Prelude.{option_map}
 use Rattle.fp_host.proofs.Looking.{looks_within}
 use Rattle.ost_object.specs.Views.{tree_view}
 use Rattle.fl_export.proofs.Looked.{root_found, if_ok_told}
-use Rattle.fl_export.proofs.Quiet.{still_stored}
+use Rattle.ost_model.proofs.Stored.{still_stored}
 use Rattle.fl_export.proofs.trees.root_of.Goals as goal
 
 pub returns-clause-tells : goal.returns-clause-tells

@@ -4,7 +4,7 @@ use Rattle.fp_host.proofs.Looking.{looks_within}
 use Rattle.ost_object.specs.Views.{tree_view}
 use Rattle.fl_export.specs.Exported.{in_export}
 use Rattle.fl_export.proofs.Looked.{look_on, if_ok_told}
-use Rattle.fl_export.proofs.Quiet.{still_stored}
+use Rattle.ost_model.proofs.Stored.{still_stored}
 use Rattle.fl_export.proofs.trees.share_of.Goals as goal
 
 pub returns-in_err-export-clause-unchanged : goal.returns-in_err-export-clause-unchanged

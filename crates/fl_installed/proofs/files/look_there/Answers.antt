@@ -1,4 +1,4 @@
-use Rattle.fl_installed.proofs.Quiet.{stored}
+use Rattle.ost_walk.proofs.Quiet.{stored}
 use Rattle.fl_installed.proofs.files.look_there.Goals as goal
 
 pub returns-clause-tells : goal.returns-clause-tells

@@ -1,6 +1,6 @@
 use Rattle.std.proofs.Common.{sym, ◌∙◌}
 use Rattle.fp_host.proofs.Looking.{looks_within}
-use Rattle.fl_installed.proofs.Quiet.{still_stored}
+use Rattle.ost_model.proofs.Stored.{still_stored}
 use Rattle.fl_installed.proofs.Found.{file_there, file_away}
 use Rattle.fl_installed.proofs.files.metadata_file.Goals as goal
 

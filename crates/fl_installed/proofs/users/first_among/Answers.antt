@@ -1,6 +1,6 @@
 use Rattle.std.proofs.Common.{sym, ◌∙◌, arith}
 use Rattle.fp_host.proofs.Looking.{looks_within}
-use Rattle.fl_installed.proofs.Quiet.{still_stored}
+use Rattle.ost_model.proofs.Stored.{still_stored}
 use Rattle.fl_installed.proofs.Local.{user_later}
 use Rattle.fl_installed.proofs.users.first_among.Goals as goal
 

@@ -1,5 +1,5 @@
 use Rattle.fp_host.proofs.Looking.{looks_within}
-use Rattle.fl_installed.proofs.Quiet.{still_stored}
+use Rattle.ost_model.proofs.Stored.{still_stored}
 use Rattle.fl_sandbox.proofs.Reading.{parts_from}
 use Rattle.fl_sandbox.proofs.parts.parts_in.Goals as goal
 

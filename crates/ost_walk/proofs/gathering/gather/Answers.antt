@@ -1,6 +1,6 @@
 use Rattle.std.proofs.Common.{arith}
 use Rattle.ost_walk.proofs.Kept.{next_used, all_used, next_refused}
-use Rattle.ost_walk.proofs.Quiet.{still_stored}
+use Rattle.ost_model.proofs.Stored.{still_stored}
 use Rattle.fp_host.proofs.Looking.{looks_within}
 use Rattle.ost_walk.proofs.gathering.gather.Goals as goal
 

@@ -1,4 +1,4 @@
--- Calls that only look, and the store that a host tells.
+-- What a host stores, where it only looks.
 use Rattle.std.proofs.Common.{Option, sym, ◌∙◌, ap}
 use Rattle.fp_host.specs.Frame.{Unchanged}
 use Rattle.fp_host.specs.Moments.{Moments}
