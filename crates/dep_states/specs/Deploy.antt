@@ -9,12 +9,10 @@ use Rattle.gv_value.specs.Shape.{Shape, basic, maybe, tuple, no_shapes, shape}
 use Rattle.gv_value.specs.Tree.{Content, Tree, no_trees, tree}
 use Rattle.gv_value.specs.Reading.{value_of}
 use Rattle.ost_model.specs.Fields.{text_in}
+use Rattle.ost_model.specs.Types.{text_shape}
 use Rattle.dep_states.specs.declared.deploy.DeployData.{DeployData}
 use Rattle.dep_states.specs.declared.deploy.DeployError.{DeployError}
 use Rattle.dep_states.specs.declared.deploy.DeployError.TheVariants as errors
-
-abbrev pub text_shape : Shape
-text_shape = basic basics.Str
 
 abbrev pub time_shape : Shape
 time_shape = basic basics.Uint64
