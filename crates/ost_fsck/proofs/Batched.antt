@@ -13,14 +13,13 @@ use Rattle.fp_host.specs.View.{View}
 use Rattle.fp_host.specs.Outcome.{shows}
 use Rattle.fp_base.specs.declared.object.ObjKind.{ObjKind}
 use Rattle.ost_model.specs.Objects.{object_path}
-use Rattle.ost_store.specs.Names.{IsNamed}
+use Rattle.ost_store.specs.Names.{IsNamed, with_found}
 use Rattle.par_digest.specs.Digests.{item_digest, item_digests}
 use Rattle.par_digest.specs.declared.item.Item.{Item}
 use Rattle.ost_fsck.specs.declared.report.Finding.{Finding}
 use Rattle.ost_fsck.specs.declared.row.Row.{Row}
 use Rattle.ost_fsck.specs.declared.row.Row.TheVariants as rows
 use Rattle.ost_fsck.specs.Judging.{is_named, bad_unless, Looks}
-use Rattle.ost_fsck.specs.Picking.{with_found}
 use Rattle.ost_fsck.specs.Batches.{is_same, seen_by, listed, findings_by, objects_by, Grows, IsItemAt, IsRow, IsRowAt, AreRows, ChecksMore}
 use Rattle.ost_fsck.proofs.Reporting.{SoFar, more_seen}
 

@@ -9,7 +9,8 @@ use Rattle.fp_host.specs.Paths.{Elements, path_text}
 use Rattle.fp_host.specs.Reads.{comes_first, is_ascending}
 use Rattle.fp_small.proofs.Ordered.{before_on}
 use Rattle.ost_store.proofs.Lists.{in_none}
-use Rattle.ost_fsck.specs.Picking.{Picks, with_found}
+use Rattle.ost_fsck.specs.Picking.{Picks}
+use Rattle.ost_store.specs.Names.{with_found}
 
 -- ---- lists that ascend
 

@@ -16,13 +16,13 @@ use Rattle.fp_host.proofs.Ending.{ends_on, ends_both, ends_looks}
 use Rattle.fp_base.specs.declared.object.ObjKind.{ObjKind}
 use Rattle.ost_model.specs.Objects.{object_path, Named}
 use Rattle.ost_model.proofs.Stores.{one_name}
-use Rattle.ost_store.specs.Names.{ListsNames}
+use Rattle.ost_store.specs.Names.{ListsNames, with_found}
 use Rattle.ost_fsck.specs.declared.report.Finding.{Finding}
 use Rattle.ost_fsck.specs.declared.report.Finding.TheVariants as findings
 use Rattle.ost_fsck.specs.declared.report.Report.{Report}
 use Rattle.ost_fsck.specs.Report.{IsLeafAt, name_in, path_in, IsEntry, IsSo, Reports}
 use Rattle.ost_fsck.specs.Judging.{is_named, bad_unless, finding_at, IsNameOf, Looks}
-use Rattle.ost_fsck.specs.Picking.{IsOff, IsObject, Checks, with_found}
+use Rattle.ost_fsck.specs.Picking.{IsOff, IsObject, Checks}
 use Rattle.ost_fsck.proofs.Judged.{named_is, is_named_by}
 use Rattle.ost_fsck.proofs.Picking.{PicksSoFar, IsPicked, none_picked, next_picked, all_picked}
 

@@ -1,5 +1,5 @@
 -- What is found path by path.
-use Rattle.std.specs.Prelude.{◌≡◌, ◌↔◌, ℕ, List, [], ◌∷◌, ◌++◌, length, map, true, Option, Some, None, Contains}
+use Rattle.std.specs.Prelude.{◌≡◌, ◌↔◌, ℕ, List, length, map, true, Contains}
 use Rattle.fp_host.specs.Paths.{Elements, path_text}
 use Rattle.fp_host.specs.Reads.{is_ascending}
 use Rattle.fp_host.specs.View.{View}
@@ -11,11 +11,6 @@ use Rattle.ost_fsck.specs.declared.report.Finding.{Finding}
 use Rattle.ost_fsck.specs.declared.report.Finding.TheVariants as findings
 use Rattle.ost_fsck.specs.declared.report.Report.{Report}
 use Rattle.ost_fsck.specs.Report.{name_in, path_in, IsNameless}
-
--- one more, where there is one
-abbrev pub with_found : {A : Type 0} → List A → Option A → List A
-with_found found None = found
-with_found found (Some a) = found ++ a ∷ []
 
 -- These are picked among the paths, each at its own path. Where the paths ascend, they do too.
 pub record Picks {A : Type 0} (Is : A → Type 0) (at : A → Elements) (paths : List Elements)

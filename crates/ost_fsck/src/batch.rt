@@ -3,7 +3,7 @@ ghost use Rattle.std.specs.Prelude.{◌≡◌, ◌≤◌, ◌++◌, ◌∷◌, [
 ghost use Rattle.fp_host.specs.Causes.{IsCounted};
 ghost use Rattle.fp_host.specs.Frame.{AtEnd, Unchanged};
 ghost use Rattle.ost_fsck.specs.Batches.{AreRows, ChecksMore, findings_by, objects_by};
-ghost use Rattle.ost_fsck.specs.Picking.{with_found};
+ghost use Rattle.ost_store.specs.Names.{with_found};
 
 use crate::report::Finding;
 use crate::row::{Row, judge, read};

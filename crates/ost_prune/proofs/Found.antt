@@ -21,12 +21,12 @@ use Rattle.fp_base.specs.declared.object.ObjKind.{ObjKind}
 use Rattle.fp_base.specs.declared.object.ObjKind.TheVariants as kinds
 use Rattle.ost_model.specs.Objects.{object_path, object_at, store}
 use Rattle.ost_model.proofs.Stores.{one_name}
-use Rattle.ost_store.specs.Names.{ListsNames, IsNamed}
+use Rattle.ost_store.specs.Names.{ListsNames, IsNamed, with_found}
 use Rattle.ost_store.specs.Reads.{IsThere}
 use Rattle.ost_store.proofs.Lists.{in_none}
 use Rattle.ost_prune.specs.Prune.{path_in, text_in, IsUnused, ListsUnused}
 use Rattle.ost_prune.specs.Texts.{AreUsedTexts}
-use Rattle.ost_prune.specs.Finding.{IsUnusedAt, PicksUnused, with_found}
+use Rattle.ost_prune.specs.Finding.{IsUnusedAt, PicksUnused}
 
 abbrev Object : Type 0
 Object = List ℕ × ObjKind

@@ -1,5 +1,5 @@
 -- What is found among the names of a store.
-use Rattle.std.specs.Prelude.{◌≡◌, ◌↔◌, ℕ, List, [], ◌∷◌, ◌++◌, map, true, Option, Some, None, Contains}
+use Rattle.std.specs.Prelude.{◌≡◌, ◌↔◌, ℕ, List, map, true, Option, Some, None, Contains}
 use Rattle.fp_host.specs.Paths.{Elements, path_text}
 use Rattle.fp_host.specs.Reads.{is_ascending}
 use Rattle.fp_host.specs.View.{View}
@@ -13,11 +13,6 @@ IsUnusedAt root keep path v (Some object) =
     IsUnused root keep v object × (path ≡ path_in root object)
 IsUnusedAt root keep path v None =
     (object : List ℕ × ObjKind) → path ≡ path_in root object → IsUnused root keep v object → ⊥
-
--- the object more, where there is one
-abbrev pub with_found : {A : Type 0} → List A → Option A → List A
-with_found found None = found
-with_found found (Some object) = found ++ object ∷ []
 
 -- These are the objects among the names that no commit uses. Where the names ascend, they do too.
 pub record PicksUnused (root : Elements) (keep : List (List ℕ)) (paths : List Elements) (v : View)

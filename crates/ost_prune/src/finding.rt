@@ -5,7 +5,8 @@ ghost use Rattle.fp_host.specs.Causes.{IsCaused, IsCounted};
 ghost use Rattle.fp_host.specs.Frame.{AtEnd, Unchanged};
 ghost use Rattle.ost_prune.specs.Prune.{ListsUnused, CanPrune};
 ghost use Rattle.ost_prune.specs.Texts.{AreUsedTexts};
-ghost use Rattle.ost_prune.specs.Finding.{IsUnusedAt, PicksUnused, with_found};
+ghost use Rattle.ost_prune.specs.Finding.{IsUnusedAt, PicksUnused};
+ghost use Rattle.ost_store.specs.Names.{with_found};
 
 use crate::texts::used_texts;
 use fp_base::{Items, ObjKind};

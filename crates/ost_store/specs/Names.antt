@@ -1,5 +1,5 @@
 -- The names of a store in a list.
-use Rattle.std.specs.Prelude.{◌≡◌, ◌≢◌, ◌⊎◌, ◌≤◌, ℕ, List, length, take, drop, ◌++◌, map, codes, true, Option, Some, None, if◌then◌else◌}
+use Rattle.std.specs.Prelude.{◌≡◌, ◌≢◌, ◌⊎◌, ◌≤◌, ℕ, List, [], ◌∷◌, length, take, drop, ◌++◌, map, codes, true, Option, Some, None, if◌then◌else◌}
 use Rattle.std.specs.Str.{bytes_eq}
 use Rattle.fp_host.specs.Paths.{Elements, absent, path_text, IsAbove}
 use Rattle.fp_host.specs.View.{View}
@@ -47,3 +47,8 @@ IsNamed root path (Some object) =
     (is_digest object.0 ≡ true) × (path ≡ object_path root object.0 object.1)
 IsNamed root path None =
     (d : List ℕ) (kind : ObjKind) → is_digest d ≡ true → path ≢ object_path root d kind
+
+-- one more of what is found among them, where there is one
+abbrev pub with_found : {A : Type 0} → List A → Option A → List A
+with_found found None = found
+with_found found (Some a) = found ++ a ∷ []
