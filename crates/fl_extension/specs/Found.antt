@@ -1,14 +1,19 @@
 -- Which candidate of an extension point is installed.
 use Rattle.std.specs.Prelude.{ℕ, Bool, Option, option_and_then, slice_get}
-use Rattle.std.specs.List.{list_any, position}
+use Rattle.std.specs.List.{find, list_any, position}
 use Rattle.std.specs.Str.{bytes_eq}
 use Rattle.fp_name.specs.Refs.{Ref, ref_text}
+use Rattle.fp_small.specs.declared.state.RefRow.{RefRow}
 use Rattle.fp_small.specs.declared.state.State.{State}
 use Rattle.fl_extension.specs.declared.point.Point.{Point}
 
 -- the state has the ref
 abbrev pub has_ref : State → Ref → Bool
 has_ref state r = list_any (λ row. bytes_eq (ref_text row.name) (ref_text r)) state.refs
+
+-- the row of a ref, where it is deployed
+abbrev pub row_of : State → Ref → Option RefRow
+row_of state r = find (λ row. bytes_eq (ref_text row.name) (ref_text r)) state.refs
 
 -- the place of the first candidate that the state has
 abbrev pub found : Point → State → Option ℕ

@@ -15,7 +15,8 @@ use Rattle.fp_small.specs.declared.state.RemoteRow.{RemoteRow}
 use Rattle.ost_head.specs.Offers.{offered}
 use Rattle.dep_states.specs.After.{Done, row_at, after_all}
 use Rattle.dep_states.specs.Shown.{at_name}
-use Rattle.fl_plan.specs.Plans.{deployed, is_at, plan_of}
+use Rattle.fl_extension.specs.Found.{row_of}
+use Rattle.fl_plan.specs.Plans.{is_at, plan_of}
 use Rattle.fl_plan.specs.Taking.{Settles}
 use Rattle.fl_plan.proofs.Rows.{up_to_date}
 use Rattle.fl_plan.proofs.Skips.{own_refusal, only_own_ref}
@@ -70,7 +71,7 @@ module _ (held : Holdings) (x : World) where
       unoffered_current asked missed none =
           by_row (subst (IsCurrentFrom held row) (sym there) (inl (asked, missed, ap (offered held remote) said ∙ none)))
 
-      deployed_current : (commit : List ℕ) → offered held remote name ≡ Ok commit → is_at commit (deployed x.state name) ≡ true → Current held x.state name
+      deployed_current : (commit : List ℕ) → offered held remote name ≡ Ok commit → is_at commit (row_of x.state name) ≡ true → Current held x.state name
       deployed_current commit offers at =
           let same : row.commit ≡ commit = bytes_eq-is row.commit commit (sym (ap (is_at commit) (deployed_row x.state name ∙ is)) ∙ at) in
           by_row (subst (IsCurrentFrom held row) (sym there) (inr (ap (offered held remote) said ∙ offers ∙ ap (λ (c : List ℕ). Ok c) (sym same))))
@@ -133,7 +134,7 @@ module _ (held : Holdings) (x : World) where
           let refused = own_refusal held x.have x.state remote name (refusals.NoSuchRef none.0 none.1) (ap (offered held remote) (sym (named row is)) ∙ none.2) in
           subst IsStill (sym (ap (λ (said : Result (List Op) Refusal). unless_skipped name said held x) refused)) (record { ops = refl; refusal = refl })
       offered_still row is remote there (inr at) =
-          let deployed_is : is_at row.commit (deployed x.state name) ≡ true = ap (is_at row.commit) (deployed_row x.state name ∙ is) ∙ bytes_eq-itself row.commit in
+          let deployed_is : is_at row.commit (row_of x.state name) ≡ true = ap (is_at row.commit) (deployed_row x.state name ∙ is) ∙ bytes_eq-itself row.commit in
           let none = up_to_date held x.have x.state remote name row.commit (ap (offered held remote) (sym (named row is)) ∙ at) deployed_is in
           subst IsStill (sym (ap (λ (said : Result (List Op) Refusal). unless_skipped name said held x) none)) (record { ops = refl; refusal = refl })
 

@@ -1,22 +1,17 @@
 -- The extensions that a launch names: of each extension point, the candidate that is found.
-use Rattle.std.specs.Prelude.{ℕ, List, [], ◌∷◌, ◌++◌, fold, Option, codes}
-use Rattle.std.specs.List.{find, flat_map}
+use Rattle.std.specs.Prelude.{ℕ, List, [], ◌∷◌, ◌++◌, fold, codes}
+use Rattle.std.specs.List.{flat_map}
 use Rattle.std.specs.Option.{option_map_or}
 use Rattle.std.specs.BTreeSet.{insert_key}
 use Rattle.std.specs.Cmp.Lexicographic.{slice_cmp}
 use Rattle.std.specs.Ordering.{nat_cmp}
-use Rattle.std.specs.Str.{bytes_eq}
 use Rattle.fp_name.specs.Hex.{hex}
 use Rattle.fp_name.specs.Refs.{Ref, ref_text}
-use Rattle.fp_small.specs.declared.state.RefRow.{RefRow}
 use Rattle.fp_small.specs.declared.state.State.{State}
 use Rattle.fl_extension.specs.declared.point.Point.{Point}
-use Rattle.fl_extension.specs.Found.{found_ref}
+use Rattle.fl_extension.specs.Found.{found_ref, row_of}
 
--- the row of a ref, and the text of its commit
-abbrev pub row_of : State → Ref → Option RefRow
-row_of state r = find (λ row. bytes_eq (ref_text row.name) (ref_text r)) state.refs
-
+-- the text of a ref's commit
 abbrev pub commit_of : State → Ref → List ℕ
 commit_of state r = option_map_or (λ row. hex row.commit) (row_of state r) []
 

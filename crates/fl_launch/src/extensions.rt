@@ -1,22 +1,13 @@
 //! The extensions that a launch names.
 
 ghost use Rattle.std.specs.Prelude.{◌≡◌, ◌++◌, IfOk, OnOk, string_bytes};
-ghost use Rattle.std.specs.Option.{option_copied};
 ghost use Rattle.fl_launch.specs.Extensions as spec;
 
-use fl_extension::{Point, found_ref};
+use fl_extension::{Point, found_ref, row_of};
 use fp_base::Text;
 use fp_name::RefName;
-use fp_small::{RefRow, State};
+use fp_small::State;
 use std::alloc::{AllocError, Global};
-
-/// The row of a ref, where the state has it.
-pub fn row_of<'a>(state: &'a State, name: &RefName) -> Option<&'a RefRow>
-    ensures { option_copied result ≡ spec.row_of state.now name.now }
-{
-    let mut rows = state.refs.as_slice().iter();
-    rows.find(|row| row.name == *name)
-}
 
 /// The text of a ref's commit.
 pub(crate) fn commit_of(alloc: Global, state: &State, name: &RefName) -> Result<Text, AllocError>

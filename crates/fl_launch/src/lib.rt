@@ -11,6 +11,5 @@ mod mounts;
 mod policies;
 mod writing;
 
-pub use extensions::row_of;
 pub use launching::{LaunchText, launch, launch_extended};
 pub use policies::{policy_of, policy_of_system};

@@ -20,10 +20,10 @@ use Rattle.fp_small.specs.declared.state.RefRow.{RefRow}
 use Rattle.fp_small.specs.declared.state.RemoteRow.{RemoteRow}
 use Rattle.fl_meta.specs.Metadata.{has_group, meta_of, app_of, runtime_meta, runtime_of, runtime_in as runtime_said, meta_kind}
 use Rattle.fl_extension.specs.declared.point.Point.{Point}
-use Rattle.fl_extension.specs.Found.{has_ref}
+use Rattle.fl_extension.specs.Found.{has_ref, row_of}
 use Rattle.fl_installed.specs.Metadata.{groups_in, runtime_in, runtime_named}
 use Rattle.fl_plan.specs.Extensions.{is_coming, is_filled}
-use Rattle.fl_plan.specs.Plans.{deployed, is_at, begun}
+use Rattle.fl_plan.specs.Plans.{is_at, begun}
 use Rattle.fl_plan.specs.Allowed.{IsTaken, IsOneOf, IsOfferOf, MayCome, ComesTo, IsPlan}
 use Rattle.fl_plan.specs.declared.offer.Offer.{Offer}
 use Rattle.fl_plan.specs.declared.offer.Chosen.{Chosen}
@@ -56,8 +56,8 @@ one_among names i name remote o within is taken = record {
 
 -- ---- what isn't deployed may come
 
-absent_at : (s : State) (name : Ref) (commit : List ℕ) → has_ref s name ≡ false → is_at commit (deployed s name) ≡ false
-absent_at s name commit none = go (deployed s name) (ap is_some (deployed_row s name) ∙ sym (has_by_row s name) ∙ none)
+absent_at : (s : State) (name : Ref) (commit : List ℕ) → has_ref s name ≡ false → is_at commit (row_of s name) ≡ false
+absent_at s name commit none = go (row_of s name) (ap is_some (deployed_row s name) ∙ sym (has_by_row s name) ∙ none)
   where
     go : (row : Option RefRow) → is_some row ≡ false → is_at commit row ≡ false
     go None is = refl

@@ -13,7 +13,8 @@ use Rattle.ost_head.specs.Ends.{Answers, Looks}
 use Rattle.ost_head.specs.Heads.{head_of}
 use Rattle.fl_plan.specs.Answers.{Plans}
 use Rattle.fl_plan.specs.Offers.{have_at, chosen_with, chosen}
-use Rattle.fl_plan.specs.Plans.{deployed, time_of, target_of}
+use Rattle.fl_extension.specs.Found.{row_of}
+use Rattle.fl_plan.specs.Plans.{time_of, target_of}
 use Rattle.fl_plan.specs.declared.offer.Offer.{Offer}
 use Rattle.fl_plan.proofs.Steps.{supplies, plans_to, plans_err, ok_no_fault, mapped_ok, mapped_err}
 
@@ -45,7 +46,7 @@ module _ (offer : Offer) where
 
   module _ (state : State) where
     abbrev since_of : Option ℕ
-    since_of = time_of (deployed state offer.name)
+    since_of = time_of (row_of state offer.name)
 
     target_known : (held : Holdings) (stored : Have) (head : Head) → heads since_of held stored ≡ Ok head → target_of held stored state offer ≡ Ok (chosen_with offer head)
     unfolding target_of

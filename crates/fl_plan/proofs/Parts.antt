@@ -20,13 +20,13 @@ use Rattle.ost_head.specs.declared.ends.PullEnd.TheVariants as ends
 use Rattle.ost_head.specs.Ends.{Answers, NoFault}
 use Rattle.ost_head.specs.Offers.{offered}
 use Rattle.fl_extension.specs.declared.point.Point.{Point}
-use Rattle.fl_extension.specs.Found.{has_ref}
+use Rattle.fl_extension.specs.Found.{has_ref, row_of}
 use Rattle.fl_plan.specs.Answers.{and_then, mapped, Asks, Plans}
 use Rattle.fl_plan.specs.Offers.{offer_with, offer_of, first_of, first_offer, in_turn, chosen}
 use Rattle.fl_installed.specs.Metadata.{runtime_named, points_in}
 use Rattle.fl_plan.specs.Runtimes.{if_offered, runtime_for, if_named, install_in, runtime_install}
 use Rattle.fl_plan.specs.Extensions.{is_done, is_filled, if_any, extension_at, with_points, with_extensions, with_runtime}
-use Rattle.fl_plan.specs.Plans.{within, begun, extended, plan_with, planned, deployed, is_at, target_of, planned_at, plan_of}
+use Rattle.fl_plan.specs.Plans.{within, begun, extended, plan_with, planned, is_at, target_of, planned_at, plan_of}
 use Rattle.fl_plan.specs.Allowed.{IsTaken, IsOneOf, IsOfferOf, MayCome, ComesTo, IsPlan}
 use Rattle.fl_plan.specs.declared.offer.Offer.{Offer}
 use Rattle.fl_plan.specs.declared.offer.Chosen.{Chosen}
@@ -238,32 +238,32 @@ module _ (state : State) (target : Chosen) (named : Option Ref) (is : named ≡ 
   runtime_apart None good = tt
   runtime_apart (Some c) good = (good.1, named_apart target.offer.name target.metadata c.offer.name (good.0 ∙ is))
 
-at_there : (held : Holdings) (stored : Have) (state : State) (offer : Offer) → is_at offer.commit (deployed state offer.name) ≡ true → planned_at held stored state offer ≡ Ok []
+at_there : (held : Holdings) (stored : Have) (state : State) (offer : Offer) → is_at offer.commit (row_of state offer.name) ≡ true → planned_at held stored state offer ≡ Ok []
 unfolding planned_at
 at_there held stored state offer is = ap (λ b. if b then Ok [] else and_then (target_of held stored state offer) (planned held stored state)) is
 
-at_moves : (held : Holdings) (stored : Have) (state : State) (offer : Offer) → is_at offer.commit (deployed state offer.name) ≡ false
+at_moves : (held : Holdings) (stored : Have) (state : State) (offer : Offer) → is_at offer.commit (row_of state offer.name) ≡ false
     → planned_at held stored state offer ≡ and_then (target_of held stored state offer) (planned held stored state)
 unfolding planned_at
 at_moves held stored state offer is = ap (λ b. if b then Ok [] else and_then (target_of held stored state offer) (planned held stored state)) is
 
 module _ (state : State) (offer : Offer) where
-  pub at_none : {u : Outside} → IsTold u.told → is_at offer.commit (deployed state offer.name) ≡ true → Plans (λ held stored. planned_at held stored state offer) (Ok []) u u
+  pub at_none : {u : Outside} → IsTold u.told → is_at offer.commit (row_of state offer.name) ≡ true → Plans (λ held stored. planned_at held stored state offer) (Ok []) u u
   at_none told is = plans_none (λ held stored. planned_at held stored state offer) (Ok []) told (ok_no_fault []) (λ held stored. at_there held stored state offer is)
 
-  pub at_on : {u v w : Outside} {result : Result (List Op) PullEnd} (target : Chosen) → is_at offer.commit (deployed state offer.name) ≡ false → IsTold v.told
+  pub at_on : {u v w : Outside} {result : Result (List Op) PullEnd} (target : Chosen) → is_at offer.commit (row_of state offer.name) ≡ false → IsTold v.told
       → Plans (λ held stored. target_of held stored state offer) (Ok target) u v → Plans (λ held stored. planned held stored state target) result v w → Plans (λ held stored. planned_at held stored state offer) result u w
   at_on target is told before after =
       plans_on (λ held stored. planned_at held stored state offer) target told before after
       (λ held stored e. at_moves held stored state offer is ∙ then_ok (target_of held stored state offer) target (planned held stored state) e)
 
-  pub at_err : {u w : Outside} (end : PullEnd) → is_at offer.commit (deployed state offer.name) ≡ false → Plans (λ held stored. target_of held stored state offer) (Err end) u w
+  pub at_err : {u w : Outside} (end : PullEnd) → is_at offer.commit (row_of state offer.name) ≡ false → Plans (λ held stored. target_of held stored state offer) (Err end) u w
       → Plans (λ held stored. planned_at held stored state offer) (Err end) u w
   at_err end is before =
       plans_err (λ held stored. planned_at held stored state offer) end before
       (λ held stored r e. at_moves held stored state offer is ∙ then_err (target_of held stored state offer) r (planned held stored state) e)
 
-  pub may_move : is_at offer.commit (deployed state offer.name) ≡ false → IsOfferOf state.remotes offer.name offer → MayCome state offer
+  pub may_move : is_at offer.commit (row_of state offer.name) ≡ false → IsOfferOf state.remotes offer.name offer → MayCome state offer
   may_move moves is = record { name = is.good; remote = is.remote; commit = is.commit; moves = moves }
 
 -- ---- a plan

@@ -17,13 +17,13 @@ use Rattle.ost_head.specs.declared.head.Head.{Head}
 use Rattle.ost_head.specs.Heads.{head_of}
 use Rattle.ost_head.specs.Offers.{offered}
 use Rattle.fl_extension.specs.declared.point.Point.{Point}
-use Rattle.fl_extension.specs.Found.{has_ref}
+use Rattle.fl_extension.specs.Found.{has_ref, row_of}
 use Rattle.fl_plan.specs.Answers.{and_then, mapped}
 use Rattle.fl_plan.specs.Offers.{offer_with, offer_of, first_of, in_turn, first_offer, have_at, chosen_with, chosen}
 use Rattle.fl_installed.specs.Metadata.{runtime_named, points_in}
 use Rattle.fl_plan.specs.Runtimes.{if_offered, runtime_for, if_named}
 use Rattle.fl_plan.specs.Extensions.{is_done, if_any, extension_at, with_points, with_extensions}
-use Rattle.fl_plan.specs.Plans.{op_of, number_after, within, extended, plan_with, planned, deployed, is_at, time_of, target_of, planned_at, plan_of}
+use Rattle.fl_plan.specs.Plans.{op_of, number_after, within, extended, plan_with, planned, is_at, time_of, target_of, planned_at, plan_of}
 use Rattle.fl_plan.specs.Worked.{Heads, IsTarget, Says}
 use Rattle.fl_plan.specs.declared.offer.Offer.{Offer}
 use Rattle.fl_plan.specs.declared.offer.Chosen.{Chosen}
@@ -141,14 +141,14 @@ module _ (held : Holdings) (stored : Have) (state : State) where
     abbrev own : Offer
     own = offer_with remote name commit
 
-    pub up_to_date : offered held remote name ≡ Ok commit → is_at commit (deployed state name) ≡ true → plan_of held stored state remote name ≡ Ok []
+    pub up_to_date : offered held remote name ≡ Ok commit → is_at commit (row_of state name) ≡ true → plan_of held stored state remote name ≡ Ok []
     unfolding plan_of planned_at
     up_to_date offers is =
         ap (λ r. and_then r (λ c. planned_at held stored state (offer_with remote name c))) offers
         ∙ ap (λ b. if b then Ok [] else and_then (target_of held stored state own) (planned held stored state)) is
 
-    pub head_refuses : (r : Refusal) → offered held remote name ≡ Ok commit → is_at commit (deployed state name) ≡ false
-        → head_of (have_at held stored remote) name commit (time_of (deployed state name)) ≡ Err r → plan_of held stored state remote name ≡ Err r
+    pub head_refuses : (r : Refusal) → offered held remote name ≡ Ok commit → is_at commit (row_of state name) ≡ false
+        → head_of (have_at held stored remote) name commit (time_of (row_of state name)) ≡ Err r → plan_of held stored state remote name ≡ Err r
     unfolding plan_of planned_at target_of
     head_refuses r offers moves is =
         ap (λ x. and_then x (λ c. planned_at held stored state (offer_with remote name c))) offers

@@ -18,7 +18,7 @@ use Rattle.fp_small.specs.declared.state.RemoteRow.{RemoteRow}
 use Rattle.fl_meta.specs.declared.meta.Meta.{Meta}
 use Rattle.fl_meta.specs.Metadata.{meta_of, meta_kind}
 use Rattle.fl_extension.specs.declared.point.Point.{Point}
-use Rattle.fl_extension.specs.Found.{has_ref}
+use Rattle.fl_extension.specs.Found.{has_ref, row_of}
 use Rattle.ost_model.specs.Fields.{CommitView, TreeView}
 use Rattle.ost_model.specs.Objects.{Have, Fault, too_many, too_deep, missing, too_long, refused_mode, corrupt, malformed, object_fault}
 use Rattle.ost_model.specs.Order.{commit_at, tree_at}
@@ -32,7 +32,7 @@ use Rattle.fl_plan.specs.Offers.{offer_with, offer_of, first_of, first_offer, in
 use Rattle.fl_installed.specs.Metadata.{runtime_named, points_in}
 use Rattle.fl_plan.specs.Runtimes.{if_offered, runtime_for, if_named}
 use Rattle.fl_plan.specs.Extensions.{is_done, if_any, extension_at, with_points, with_extensions, with_runtime}
-use Rattle.fl_plan.specs.Plans.{op_of, number_after, within, begun, extended, plan_with, planned, deployed, is_at, time_of, target_of, planned_at, plan_of}
+use Rattle.fl_plan.specs.Plans.{op_of, number_after, within, begun, extended, plan_with, planned, is_at, time_of, target_of, planned_at, plan_of}
 use Rattle.fl_plan.specs.declared.offer.Offer.{Offer}
 use Rattle.fl_plan.specs.declared.offer.Chosen.{Chosen}
 
@@ -209,8 +209,8 @@ module _ (held : Holdings) (stored : Have) where
     unfolding planned_at target_of
     never_at offer =
         let have = have_at held stored offer.remote in
-        let since = time_of (deployed state offer.name) in
-        never_if (is_at offer.commit (deployed state offer.name)) (Ok []) (and_then (target_of held stored state offer) (planned held stored state)) (never_ok [])
+        let since = time_of (row_of state offer.name) in
+        never_if (is_at offer.commit (row_of state offer.name)) (Ok []) (and_then (target_of held stored state offer) (planned held stored state)) (never_ok [])
         (never_then (target_of held stored state offer) (planned held stored state)
         (never_mapped (chosen_with offer) (head_of have offer.name offer.commit since) (never_head offer.name offer.commit have since))
         never_planned)

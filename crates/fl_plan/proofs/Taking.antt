@@ -20,13 +20,13 @@ use Rattle.ost_head.specs.Offers.{offered}
 use Rattle.dep_states.specs.Shown.{at_name}
 use Rattle.dep_states.proofs.Good.{each_found}
 use Rattle.fl_extension.specs.declared.point.Point.{Point}
-use Rattle.fl_extension.specs.Found.{has_ref}
+use Rattle.fl_extension.specs.Found.{has_ref, row_of}
 use Rattle.fl_installed.specs.Metadata.{runtime_named, points_in}
 use Rattle.fl_plan.specs.Answers.{and_then, mapped}
 use Rattle.fl_plan.specs.Offers.{offer_with, unless_declined, offer_of, first_of, first_offer, is_remote, in_turn, have_at, chosen_with, chosen}
 use Rattle.fl_plan.specs.Runtimes.{install_of, if_offered, runtime_for, if_named}
 use Rattle.fl_plan.specs.Extensions.{is_done, if_any, extension_at, with_points, with_extensions, with_runtime}
-use Rattle.fl_plan.specs.Plans.{op_of, number_after, within, begun, extended, plan_with, planned, deployed, is_at, time_of, target_of, planned_at, plan_of}
+use Rattle.fl_plan.specs.Plans.{op_of, number_after, within, begun, extended, plan_with, planned, is_at, time_of, target_of, planned_at, plan_of}
 use Rattle.fl_plan.specs.declared.offer.Offer.{Offer}
 use Rattle.fl_plan.specs.declared.offer.Chosen.{Chosen}
 use Rattle.fl_plan.specs.Taking.{IsOffered, IsOf, IsAmong, Settles}
@@ -253,20 +253,20 @@ module _ (held : Holdings) where
             within_good target.offer.name two.0 ops (extended_good target one.0 two.0 (named_good own named one.0 one.1) offer two.1) two.2
 
         abbrev Ends : Ref → List ℕ → List Op → Type 0
-        Ends name commit ops = ((is_at commit (deployed state name) ≡ true) × (ops ≡ [])) ⊎ AreTaken name ops
+        Ends name commit ops = ((is_at commit (row_of state name) ≡ true) × (ops ≡ [])) ⊎ AreTaken name ops
 
         at_good : (remote : RemoteRow) (name : Ref) (commit : List ℕ) (ops : List Op) → at_name name_of remotes remote.name ≡ Some remote → offered held remote name ≡ Ok commit
             → planned_at held stored state (offer_with remote name commit) ≡ Ok ops → Ends name commit ops
         unfolding planned_at target_of
-        at_good remote name commit ops there offers is = by (is_at commit (deployed state name)) refl is
+        at_good remote name commit ops there offers is = by (is_at commit (row_of state name)) refl is
           where
             o : Offer
             o = offer_with remote name commit
 
             since : Option ℕ
-            since = time_of (deployed state name)
+            since = time_of (row_of state name)
 
-            by : (b : Bool) → is_at commit (deployed state name) ≡ b
+            by : (b : Bool) → is_at commit (row_of state name) ≡ b
                 → (if b then Ok [] else and_then (mapped (chosen_with o) (head_of (have_at held stored remote) name commit since)) (planned held stored state)) ≡ Ok ops → Ends name commit ops
             by true at is = inl (at, sym (cc is))
             by false at is =

@@ -17,10 +17,10 @@ use Rattle.fp_small.specs.declared.state.RemoteRow.{RemoteRow}
 use Rattle.dep_states.specs.Shown.{at_name, ref_key}
 use Rattle.dep_states.specs.After.{Allows, after_op, row_at, moved, updated}
 use Rattle.dep_states.proofs.Changes.{at_inserted, at_replaced}
-use Rattle.fl_extension.specs.Found.{has_ref}
+use Rattle.fl_extension.specs.Found.{has_ref, row_of}
 use Rattle.fl_plan.specs.Allowed.{AreAllowed, IsComing, MayCome, AreApart, IsPlan, ComesTo}
 use Rattle.fl_plan.specs.Extensions.{is_coming}
-use Rattle.fl_plan.specs.Plans.{op_of, new_ones, number_after, deployed, is_at}
+use Rattle.fl_plan.specs.Plans.{op_of, new_ones, number_after, is_at}
 use Rattle.fl_plan.specs.Runtimes.{install_of}
 use Rattle.fl_plan.specs.declared.offer.Offer.{Offer}
 
@@ -41,7 +41,7 @@ find_row (y ∷ ys) text = ap (cond (bytes_eq (ref_text y.name) text) (Some y)) 
 pub has_by_row : (s : State) (name : Ref) → has_ref s name ≡ is_some (row_at s name)
 has_by_row s name = has_row s.refs (ref_text name)
 
-pub deployed_row : (s : State) (name : Ref) → deployed s name ≡ row_at s name
+pub deployed_row : (s : State) (name : Ref) → row_of s name ≡ row_at s name
 deployed_row s name = find_row s.refs (ref_text name)
 
 shorter : (rows : List RefRow) (x : List ℕ) → length (removed ref_key rows x) ≤ length rows

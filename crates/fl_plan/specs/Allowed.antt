@@ -11,7 +11,8 @@ use Rattle.fp_small.specs.declared.state.State.{State}
 use Rattle.fp_small.specs.declared.state.RemoteRow.{RemoteRow}
 use Rattle.dep_states.specs.After.{Allows, after_op}
 use Rattle.fl_plan.specs.Extensions.{is_coming}
-use Rattle.fl_plan.specs.Plans.{deployed, is_at}
+use Rattle.fl_extension.specs.Found.{row_of}
+use Rattle.fl_plan.specs.Plans.{is_at}
 use Rattle.fl_plan.specs.declared.offer.Offer.{Offer}
 
 -- each may be done on the state that those before it leave, whatever the times of their commits are
@@ -44,7 +45,7 @@ pub record MayCome (state : State) (offer : Offer) : Type 0 where
   pub name : is_ref offer.name ≡ true
   pub remote : has_name name_of state.remotes offer.remote.name ≡ true
   pub commit : is_digest offer.commit ≡ true
-  pub moves : is_at offer.commit (deployed state offer.name) ≡ false
+  pub moves : is_at offer.commit (row_of state offer.name) ≡ false
 
 -- one that comes besides those of a plan
 pub record ComesTo (state : State) (plan : List Offer) (offer : Offer) : Type 0 where

@@ -1,9 +1,9 @@
 -- Which operations an install or an update of a ref is.
-use Rattle.std.specs.Prelude.{ℕ, Bool, false, not, leb, ◌+◌, List, [], ◌∷◌, ◌++◌, length, map, count_by, find, Option, Some, None, option_map, option_to_list, Result, Ok, Err, if◌then◌else◌}
+use Rattle.std.specs.Prelude.{ℕ, Bool, false, not, leb, ◌+◌, List, [], ◌∷◌, ◌++◌, length, map, count_by, Option, Some, None, option_map, option_to_list, Result, Ok, Err, if◌then◌else◌}
 use Rattle.std.specs.Str.{bytes_eq}
 use Rattle.fp_base.specs.declared.what.What.TheVariants as whats
 use Rattle.fp_host.specs.Remote.{Holdings}
-use Rattle.fp_name.specs.Refs.{Ref, ref_text}
+use Rattle.fp_name.specs.Refs.{Ref}
 use Rattle.fp_small.specs.declared.limits.TheConstants.{MOST_REFS}
 use Rattle.fp_small.specs.declared.op.Op.{Op}
 use Rattle.fp_small.specs.declared.op.Op.TheVariants.{Update}
@@ -15,7 +15,7 @@ use Rattle.fp_small.specs.declared.state.RemoteRow.{RemoteRow}
 use Rattle.ost_model.specs.Objects.{Have}
 use Rattle.ost_head.specs.Heads.{head_of}
 use Rattle.ost_head.specs.Offers.{offered}
-use Rattle.fl_extension.specs.Found.{has_ref}
+use Rattle.fl_extension.specs.Found.{has_ref, row_of}
 use Rattle.fl_plan.specs.Answers.{and_then, mapped}
 use Rattle.fl_plan.specs.Offers.{offer_with, have_at, chosen_with}
 use Rattle.fl_installed.specs.Metadata.{runtime_named}
@@ -67,10 +67,6 @@ planned held stored state target =
 
 -- ---- the target
 
--- its row, where it is deployed
-abbrev pub deployed : State → Ref → Option RefRow
-deployed state name = find (λ row. bytes_eq (ref_text row.name) (ref_text name)) state.refs
-
 abbrev pub is_at : List ℕ → Option RefRow → Bool
 is_at commit None = false
 is_at commit (Some row) = bytes_eq row.commit commit
@@ -83,12 +79,12 @@ time_of row = option_map (λ r. r.timestamp) row
 unfoldable pub target_of : Holdings → Have → State → Offer → Result Chosen Refusal
 target_of held stored state offer = mapped (chosen_with offer)
     (head_of (have_at held stored offer.remote) offer.name offer.commit
-    (time_of (deployed state offer.name)))
+    (time_of (row_of state offer.name)))
 
 -- the operations of a target whose remote offers this: none where that is deployed
 unfoldable pub planned_at : Holdings → Have → State → Offer → Result (List Op) Refusal
 planned_at held stored state offer =
-    if is_at offer.commit (deployed state offer.name) then Ok []
+    if is_at offer.commit (row_of state offer.name) then Ok []
     else and_then (target_of held stored state offer) (planned held stored state)
 
 -- The operations of a target from a remote: its runtime's install, where its runtime isn't

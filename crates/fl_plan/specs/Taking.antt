@@ -10,7 +10,8 @@ use Rattle.fp_small.specs.declared.state.State.{State}
 use Rattle.fp_small.specs.declared.state.RemoteRow.{RemoteRow}
 use Rattle.ost_head.specs.Offers.{offered}
 use Rattle.dep_states.specs.Shown.{at_name}
-use Rattle.fl_plan.specs.Plans.{deployed, is_at}
+use Rattle.fl_extension.specs.Found.{row_of}
+use Rattle.fl_plan.specs.Plans.{is_at}
 
 -- the remote of this name offers this commit under the ref
 pub record IsOfferedBy (held : Holdings) (remotes : List RemoteRow) (name : Ref)
@@ -42,5 +43,5 @@ pub record Settles (held : Holdings) (state : State) (remote : RemoteRow) (name 
     (ops : List Op) : Type 0 where
   pub commit : List ℕ
   pub offers : offered held remote name ≡ Ok commit
-  pub ends : ((is_at commit (deployed state name) ≡ true) × (ops ≡ []))
+  pub ends : ((is_at commit (row_of state name) ≡ true) × (ops ≡ []))
       ⊎ (AllByRecursion (IsOffered held state.remotes) ops × IsAmong name ops)

@@ -11,7 +11,8 @@ use Rattle.ost_head.specs.Heads.{head_of}
 use Rattle.ost_head.specs.Offers.{offered}
 use Rattle.fl_installed.specs.Metadata.{runtime_named, points_in}
 use Rattle.fl_plan.specs.Offers.{have_at}
-use Rattle.fl_plan.specs.Plans.{deployed, is_at, time_of}
+use Rattle.fl_extension.specs.Found.{row_of}
+use Rattle.fl_plan.specs.Plans.{is_at, time_of}
 
 -- a remote offers a ref at this commit, which has this head where the ref is deployed since
 pub record Heads (held : Holdings) (stored : Have) (remote : RemoteRow) (name : Ref)
@@ -22,8 +23,8 @@ pub record Heads (held : Holdings) (stored : Have) (remote : RemoteRow) (name : 
 -- a target that isn't deployed at what is offered
 pub record IsTarget (held : Holdings) (stored : Have) (state : State) (remote : RemoteRow)
     (name : Ref) (commit : List ℕ) (head : Head) : Type 0 where
-  pub heads : Heads held stored remote name (time_of (deployed state name)) commit head
-  pub moves : is_at commit (deployed state name) ≡ false
+  pub heads : Heads held stored remote name (time_of (row_of state name)) commit head
+  pub moves : is_at commit (row_of state name) ≡ false
 
 -- its metadata says this of its runtime and of extensions
 pub record Says (name : Ref) (head : Head) (runtime : Option Ref) (points : List Point) : Type 0

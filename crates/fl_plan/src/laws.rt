@@ -18,7 +18,7 @@ ghost use Rattle.dep_states.specs.Deployed.{platform, commit, deployed_state};
 ghost use Rattle.dep_states.specs.Samples.{hub};
 ghost use Rattle.dep_states.specs.Shown.{at_name};
 ghost use Rattle.fl_extension.specs.declared.point.Point.{Point};
-ghost use Rattle.fl_extension.specs.Found.{has_ref};
+ghost use Rattle.fl_extension.specs.Found.{has_ref, row_of};
 ghost use Rattle.ost_model.specs.Objects.{Have};
 ghost use Rattle.ost_head.specs.declared.head.Head.{Head};
 ghost use Rattle.ost_head.specs.Heads.{head_of};
@@ -26,7 +26,7 @@ ghost use Rattle.ost_head.specs.Offers.{offered};
 ghost use Rattle.fl_plan.specs.Extensions.{is_done};
 ghost use Rattle.fl_plan.specs.Offered as shop;
 ghost use Rattle.fl_plan.specs.Offers.{first_of, first_offer, have_at, in_turn, offer_of, offer_with};
-ghost use Rattle.fl_plan.specs.Plans.{deployed, is_at, number_after, op_of, plan_of, time_of};
+ghost use Rattle.fl_plan.specs.Plans.{is_at, number_after, op_of, plan_of, time_of};
 ghost use Rattle.fl_plan.specs.Sample as sample;
 ghost use Rattle.fl_plan.specs.Taking.{Settles};
 ghost use Rattle.fl_plan.specs.Targets.{targets_of};
@@ -42,8 +42,8 @@ pub fn plans_refuse()
         → plan_of held stored state remote name ≡ Err refusal }
     ensures head { (held : Holdings) (stored : Have) (state : State) (remote : RemoteRow)
         (name : Ref) (commit : List ℕ) (refusal : Refusal)
-        → offered held remote name ≡ Ok commit → is_at commit (deployed state name) ≡ false
-        → head_of (have_at held stored remote) name commit (time_of (deployed state name))
+        → offered held remote name ≡ Ok commit → is_at commit (row_of state name) ≡ false
+        → head_of (have_at held stored remote) name commit (time_of (row_of state name))
         ≡ Err refusal
         → plan_of held stored state remote name ≡ Err refusal }
     ensures absent { (held : Holdings) (stored : Have) (state : State) (remote : RemoteRow)
@@ -56,7 +56,7 @@ pub fn plans_refuse()
 pub fn up_to_date()
     ensures { (held : Holdings) (stored : Have) (state : State) (remote : RemoteRow)
         (name : Ref) (commit : List ℕ)
-        → offered held remote name ≡ Ok commit → is_at commit (deployed state name) ≡ true
+        → offered held remote name ≡ Ok commit → is_at commit (row_of state name) ≡ true
         → plan_of held stored state remote name ≡ Ok [] }
 {}
 

@@ -18,7 +18,7 @@ use Rattle.fl_extension.specs.declared.point.Point.{Point}
 use Rattle.ost_model.specs.Objects.{Have}
 use Rattle.fl_installed.specs.Described.{broken, by_rules, by_lines, by_file, described}
 use Rattle.fl_installed.specs.Files.{metadata_file}
-use Rattle.fl_launch.specs.Extensions.{row_of}
+use Rattle.fl_extension.specs.Found.{row_of}
 use Rattle.fl_sandbox.specs.declared.parts.DeployedMeta.{DeployedMeta}
 use Rattle.fl_sandbox.specs.declared.parts.LaunchParts.{LaunchParts}
 use Rattle.fl_sandbox.specs.Parts.{with_points, points_at, deployed, app_in, runtime_in, runtime_of, with_runtime, with_app, parts_in}

@@ -5,7 +5,7 @@ use Rattle.fp_small.specs.declared.state.RefRow.{RefRow}
 use Rattle.fp_small.specs.declared.state.State.{State}
 use Rattle.ost_model.specs.Objects.{Have}
 use Rattle.fl_installed.specs.Files.{metadata_file}
-use Rattle.fl_launch.specs.Extensions.{row_of}
+use Rattle.fl_extension.specs.Found.{row_of}
 use Rattle.fl_sandbox.specs.Launching.{launch_in}
 
 -- the deployed commits of the state have the same files `metadata`

@@ -13,7 +13,7 @@ use Rattle.ost_model.specs.Objects.{Have}
 use Rattle.fl_installed.specs.Described.{broken, described}
 use Rattle.fl_installed.specs.Files.{metadata_in}
 use Rattle.fl_installed.specs.Metadata.{points_in}
-use Rattle.fl_launch.specs.Extensions.{row_of}
+use Rattle.fl_extension.specs.Found.{row_of}
 use Rattle.fl_sandbox.specs.declared.parts.DeployedMeta.{DeployedMeta}
 use Rattle.fl_sandbox.specs.declared.parts.LaunchParts.{LaunchParts}
 

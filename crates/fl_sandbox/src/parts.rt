@@ -8,9 +8,8 @@ ghost use Rattle.ost_model.specs.Remotes.{Stores};
 ghost use Rattle.fl_installed.specs.Described.{broken};
 ghost use Rattle.fl_sandbox.specs.Parts as spec;
 
-use fl_extension::Point;
+use fl_extension::{Point, row_of};
 use fl_installed::{described, points_in, read_metadata};
-use fl_launch::row_of;
 use fl_meta::Meta;
 use fp_base::{Items, MetaRule, MetadataRule};
 use fp_host::{Host, HostEnd};

@@ -37,7 +37,7 @@ use Rattle.op_change.specs.Applied.{op_refusal, done_with}
 use Rattle.fl_meta.specs.declared.meta.Meta.{Meta}
 use Rattle.fl_meta.specs.Metadata.{meta_of, meta_kind}
 use Rattle.fl_extension.specs.declared.point.Point.{Point}
-use Rattle.fl_extension.specs.Found.{has_ref}
+use Rattle.fl_extension.specs.Found.{has_ref, row_of}
 use Rattle.fl_installed.specs.Described.{by_rules, by_lines, by_file, broken, described, info_in, as_info}
 use Rattle.fl_installed.specs.Files.{metadata_file}
 use Rattle.fl_installed.specs.Metadata.{runtime_named, points_in}
@@ -47,7 +47,7 @@ use Rattle.fl_plan.specs.Answers.{and_then, mapped}
 use Rattle.fl_plan.specs.Offers.{offer_with, offer_of, have_at, chosen_with, chosen, first_of, in_turn as remotes_in_turn, first_offer}
 use Rattle.fl_plan.specs.Runtimes.{if_offered, runtime_for, if_named}
 use Rattle.fl_plan.specs.Extensions.{is_done, if_any, extension_at, with_points, with_extensions, with_runtime}
-use Rattle.fl_plan.specs.Plans.{number_after, op_of, within, begun, extended, plan_with, planned as target_planned, deployed, is_at, time_of, target_of, planned_at, plan_of}
+use Rattle.fl_plan.specs.Plans.{number_after, op_of, within, begun, extended, plan_with, planned as target_planned, is_at, time_of, target_of, planned_at, plan_of}
 use Rattle.fl_plan.specs.Targets.{targets_of}
 use Rattle.fl_words.specs.declared.command.Change.{Change}
 use Rattle.fl_words.specs.declared.command.Change.TheVariants.{Pin, Unpin, RemoteAdd, RemoteModify, RemoteDelete, Install, UpdateAll, UpdateOne, Uninstall, UninstallUnused, Rollback, OverrideChange, OverrideReset}
@@ -225,12 +225,12 @@ module _ (held : Holdings) (stored : Have) where
     target_later : (offer : _) → Fails (target_of held stored s offer)
     unfolding target_of
     target_later offer =
-        let since = time_of (deployed s offer.name) in
+        let since = time_of (row_of s offer.name) in
         mapped_later (chosen_with offer) (head_of (have_at held stored offer.remote) offer.name offer.commit since) (head_later (have_at held stored offer.remote) offer.name offer.commit since)
 
     at_offer : (offer : _) → Fails (planned_at held stored s offer)
     unfolding planned_at
-    at_offer offer = if_later (is_at offer.commit (deployed s offer.name)) (Ok []) (and_then (target_of held stored s offer) (target_planned held stored s)) (ok_later [])
+    at_offer offer = if_later (is_at offer.commit (row_of s offer.name)) (Ok []) (and_then (target_of held stored s offer) (target_planned held stored s)) (ok_later [])
         (then_later (target_of held stored s offer) (target_planned held stored s) (target_later offer) planned_later)
 
     plan_later : (remote : RemoteRow) (name : Ref) → Fails (plan_of held stored s remote name)
