@@ -11,7 +11,8 @@ use Rattle.fl_export.specs.Steps.{Refreshes}
 use Rattle.fl_change.specs.Answer.{Answer}
 use Rattle.fl_change.specs.Changes.{MayHold, operated, tidied, Changes, OnlyTidied, IsUntouched}
 use Rattle.fl_change.proofs.Changing.{keeps_files, not_touched}
-use Rattle.fl_top.specs.Exports.{MayCome, changed, refreshed, made_by, NoMaking, Alters, MayRest, tidied_at, refreshed_at, OnlyRests}
+use Rattle.fp_host.specs.Frame.{NoName}
+use Rattle.fl_top.specs.Exports.{MayCome, changed, refreshed, made_by, Alters, MayRest, tidied_at, refreshed_at, OnlyRests}
 
 pub alter_none : {May : Op → Type 0} {Make : Elements → Slot → Type 0} {u w : View} → ((q : Elements) → w.names q ≡ u.names q) → KeepsFiles u w → Alters May Make u w
 alter_none names files = record { names = λ q. inl (names q); files = files; links = links_still names }
@@ -37,13 +38,13 @@ hold_to : {A B : Op → Type 0} {q : Elements} {e : Slot} → ((op : Op) → A o
 hold_to wider (operated s op v may put) = operated s op v (wider op may) put
 hold_to wider (tidied s may) = tidied s may
 
-come_to : {A B : Op → Type 0} {Make : Elements → Slot → Type 0} {q : Elements} {e : Slot} → ((op : Op) → A op → B op) → MayCome A NoMaking q e → MayCome B Make q e
+come_to : {A B : Op → Type 0} {Make : Elements → Slot → Type 0} {q : Elements} {e : Slot} → ((op : Op) → A op → B op) → MayCome A NoName q e → MayCome B Make q e
 come_to wider (changed may) = changed (hold_to wider may)
 come_to wider (refreshed may) = refreshed may
 come_to wider (made_by none) = absurd none
 
 -- by more operations
-pub alter_to : {A B : Op → Type 0} {Make : Elements → Slot → Type 0} {u w : View} → ((op : Op) → A op → B op) → Alters A NoMaking u w → Alters B Make u w
+pub alter_to : {A B : Op → Type 0} {Make : Elements → Slot → Type 0} {u w : View} → ((op : Op) → A op → B op) → Alters A NoName u w → Alters B Make u w
 alter_to wider alters = record { names = λ q. elim (alters.names q) [ inl same ↦ inl same | inr may ↦ inr (come_to wider may) ]; files = alters.files; links = alters.links }
 
 pub alter_changes : {May : Op → Type 0} {Make : Elements → Slot → Type 0} {u w : View} → Changes May u w → Alters May Make u w

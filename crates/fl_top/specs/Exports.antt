@@ -71,10 +71,6 @@ pub data MayCome (May : Op → Type 0) (Make : Elements → Slot → Type 0) (q 
   refreshed : MayRefresh q e → MayCome May Make q e
   made_by : Make q e → MayCome May Make q e
 
--- nothing is made
-abbrev pub NoMaking : Elements → Slot → Type 0
-NoMaking q e = ⊥
-
 -- Each name holds what it held, or what it may. Each file that was there keeps its mode and its
 -- bytes: what is new is in new files. What came to a commit's folder is its record, or a file of
 -- the store.

@@ -24,7 +24,8 @@ use Rattle.fl_top.specs.Asked.{OpsBy}
 use Rattle.fl_top.specs.Runs.{Runs, Ran, Stands, IsJust, Told, IsGivenTo, IsReady, IsKnown, MayAnswer}
 use Rattle.fl_change.specs.Changes.{IsUntouched, HasText}
 use Rattle.fl_change.specs.Created.{CreatesInTurn}
-use Rattle.fl_top.specs.Exports.{Alters, NoMaking, StaysAtRest}
+use Rattle.fp_host.specs.Frame.{NoName}
+use Rattle.fl_top.specs.Exports.{Alters, StaysAtRest}
 use Rattle.fl_top.specs.Remotes.{MakesBy, MadeBy}
 use Rattle.fl_top.specs.Input.{IsDrained}
 use Rattle.fl_top.specs.Status.{IsAnswered, only_looks, changes_state, makes_remote, reads_input}
@@ -43,7 +44,7 @@ pub record RunsOver (holds : Option Holdings) (May : Op → Type 0) (f : Holding
     (u w : View) : Type 0 where
   pub runs : IsReady u → (held : Holdings) → holds ≡ Some held
       → OverView (f held) u (λ a. Runs a u w)
-  pub changes : IsKnown May holds u → Alters May NoMaking u w
+  pub changes : IsKnown May holds u → Alters May NoName u w
   pub rests : IsReady u → (held : Holdings) → holds ≡ Some held
       → OverView (f held) u (λ a. StaysAtRest a u w)
   pub untouched : NotShown (shows u) → IsUntouched u w
