@@ -13,8 +13,9 @@ use Rattle.fp_small.specs.declared.state.RemoteRow.{RemoteRow}
 use Rattle.fp_small.specs.declared.op.Op.TheVariants.{AddPin, DropPin, AddRemote, ModifyRemote, DropRemote}
 use Rattle.fp_small.specs.declared.refusal.Refusal.{Refusal}
 use Rattle.fp_small.specs.declared.refusal.Refusal.TheVariants.{PinExists, NoSuchPin, NoSuchRemote, RemoteInUse, Limit}
+use Rattle.fl_meta.specs.Names.{is_among}
 use Rattle.fl_change.specs.Ends.{IsPlain}
-use Rattle.fl_change.specs.Settings.{is_pinned, add_pin_refusal, drop_pin_refusal, add_remote_refusal, remote_refusal, first_from, in_use_refusal, drop_remote_refusal}
+use Rattle.fl_change.specs.Settings.{add_pin_refusal, drop_pin_refusal, add_remote_refusal, remote_refusal, first_from, in_use_refusal, drop_remote_refusal}
 
 -- ---- from the code's tests to the refusals
 
@@ -24,7 +25,7 @@ full most n le = grind arith
 not_full : (most n : ℕ) → n < most → nat_le most n ≡ false
 not_full most n lt = grind arith
 
-pinned : (r : Bool) (pins : List (List ℕ)) (pin : List ℕ) → (IsTrue r ↔ Contains pins pin) → is_pinned pins pin ≡ r
+pinned : (r : Bool) (pins : List (List ℕ)) (pin : List ℕ) → (IsTrue r ↔ Contains pins pin) → is_among pins pin ≡ r
 pinned true pins pin iff = is_contained pins pin (iff.0 refl)
 pinned false pins pin iff = lacks pins pin (λ has. let is : false ≡ true = iff.1 has in cc is)
 

@@ -1,6 +1,5 @@
 -- What speaks against a change of the settings.
-use Rattle.std.specs.Prelude.{ℕ, ◌+◌, List, Bool, length, nat_le, find, Option, Some, None, option_map, if◌then◌else◌}
-use Rattle.std.specs.List.{list_any}
+use Rattle.std.specs.Prelude.{ℕ, ◌+◌, List, length, nat_le, find, Option, Some, None, option_map, if◌then◌else◌}
 use Rattle.std.specs.Str.{bytes_eq}
 use Rattle.fp_base.specs.declared.what.What.TheVariants.{Pins, Remotes}
 use Rattle.fp_name.specs.Refs.{Ref}
@@ -12,17 +11,15 @@ use Rattle.fp_small.specs.declared.state.RefRow.{RefRow}
 use Rattle.fp_small.specs.declared.state.RemoteRow.{RemoteRow}
 use Rattle.fp_small.specs.declared.refusal.Refusal.{Refusal}
 use Rattle.fp_small.specs.declared.refusal.Refusal.TheVariants.{NoSuchRemote, RemoteExists, RemoteInUse, PinExists, NoSuchPin, Limit}
-
-abbrev pub is_pinned : List (List ℕ) → List ℕ → Bool
-is_pinned pins pin = list_any (bytes_eq pin) pins
+use Rattle.fl_meta.specs.Names.{is_among}
 
 -- there may be 1,024 pins
 abbrev pub add_pin_refusal : List (List ℕ) → List ℕ → Option Refusal
-add_pin_refusal pins pin = if is_pinned pins pin then Some (PinExists pin)
+add_pin_refusal pins pin = if is_among pins pin then Some (PinExists pin)
     else (if nat_le MOST_PINS (length pins) then Some (Limit Pins (MOST_PINS + 1)) else None)
 
 abbrev pub drop_pin_refusal : List (List ℕ) → List ℕ → Option Refusal
-drop_pin_refusal pins pin = if is_pinned pins pin then None else Some (NoSuchPin pin)
+drop_pin_refusal pins pin = if is_among pins pin then None else Some (NoSuchPin pin)
 
 -- there may be 256 remotes
 abbrev pub add_remote_refusal : List RemoteRow → List ℕ → Option Refusal

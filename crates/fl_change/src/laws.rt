@@ -23,9 +23,10 @@ ghost use Rattle.op_change.specs.Applied.{op_refusal};
 ghost use Rattle.fl_lines.specs.Lines.{op_text};
 ghost use Rattle.fl_words.specs.declared.command.Change.{Change};
 ghost use Rattle.fl_words.specs.declared.command.Change.TheVariants as changes;
+ghost use Rattle.fl_meta.specs.Names.{is_among};
 ghost use Rattle.fl_change.specs.World.{World, kept_commits, is_used, used_of, world_after, worlds_after};
 ghost use Rattle.fl_change.specs.Answer.{Answer, done_answer, nothing, op_answer, refusal_answer, IsUnpulled};
-ghost use Rattle.fl_change.specs.Settings.{first_from, is_pinned};
+ghost use Rattle.fl_change.specs.Settings.{first_from};
 ghost use Rattle.fl_change.specs.Turns.{change_over, changing, in_turn};
 
 /// A world has the objects of the orders of its state's commits as they are, and it has nothing
@@ -80,7 +81,7 @@ pub fn migration_comes_first()
 /// What an operation is refused for is found in what is pulled.
 pub fn some_refusals_pull_nothing()
     ensures pin { (held : Holdings) (x : World) (pin : List ℕ)
-        → is_pinned x.state.pins pin ≡ true
+        → is_among x.state.pins pin ≡ true
         → IsUnpulled (change_over (changes.Pin pin) held x).refusal }
     ensures operation { (have : Have) (op : Op) (refusal : Refusal)
         → op_refusal have op ≡ Some refusal → IsUnpulled (Some refusal) → ⊥ }
@@ -89,20 +90,20 @@ pub fn some_refusals_pull_nothing()
 /// A pattern is pinned once, and there are at most 1,024. One that isn't there isn't taken away.
 pub fn pins_answer()
     ensures exists { (held : Holdings) (x : World) (pin : List ℕ)
-        → is_pinned x.state.pins pin ≡ true
+        → is_among x.state.pins pin ≡ true
         → change_over (changes.Pin pin) held x ≡ refusal_answer (refusals.PinExists pin) }
     ensures limit { (held : Holdings) (x : World) (pin : List ℕ)
-        → is_pinned x.state.pins pin ≡ false → MOST_PINS ≤ length x.state.pins
+        → is_among x.state.pins pin ≡ false → MOST_PINS ≤ length x.state.pins
         → change_over (changes.Pin pin) held x
         ≡ refusal_answer (refusals.Limit whats.Pins (MOST_PINS + 1)) }
     ensures pins { (held : Holdings) (x : World) (pin : List ℕ)
-        → is_pinned x.state.pins pin ≡ false → length x.state.pins < MOST_PINS
+        → is_among x.state.pins pin ≡ false → length x.state.pins < MOST_PINS
         → change_over (changes.Pin pin) held x ≡ op_answer (ops.AddPin pin) }
     ensures absent { (held : Holdings) (x : World) (pin : List ℕ)
-        → is_pinned x.state.pins pin ≡ false
+        → is_among x.state.pins pin ≡ false
         → change_over (changes.Unpin pin) held x ≡ refusal_answer (refusals.NoSuchPin pin) }
     ensures unpins { (held : Holdings) (x : World) (pin : List ℕ)
-        → is_pinned x.state.pins pin ≡ true
+        → is_among x.state.pins pin ≡ true
         → change_over (changes.Unpin pin) held x ≡ op_answer (ops.DropPin pin) }
 {}
 

@@ -51,9 +51,10 @@ use Rattle.fl_plan.specs.Plans.{number_after, op_of, within, begun, extended, pl
 use Rattle.fl_plan.specs.Targets.{targets_of}
 use Rattle.fl_words.specs.declared.command.Change.{Change}
 use Rattle.fl_words.specs.declared.command.Change.TheVariants.{Pin, Unpin, RemoteAdd, RemoteModify, RemoteDelete, Install, UpdateAll, UpdateOne, Uninstall, UninstallUnused, Rollback, OverrideChange, OverrideReset}
+use Rattle.fl_meta.specs.Names.{is_among}
 use Rattle.fl_change.specs.World.{World, supplied, worlds_after}
 use Rattle.fl_change.specs.Answer.{Answer, Piece, ops_of, done_answer, op_answer, refusal_answer, continued, each_over, unless, nothing}
-use Rattle.fl_change.specs.Settings.{is_pinned, add_pin_refusal, drop_pin_refusal, add_remote_refusal, remote_refusal, first_from, in_use_refusal, drop_remote_refusal}
+use Rattle.fl_change.specs.Settings.{add_pin_refusal, drop_pin_refusal, add_remote_refusal, remote_refusal, first_from, in_use_refusal, drop_remote_refusal}
 use Rattle.fl_change.specs.Overrides.{changed_row, long_refusal}
 use Rattle.fl_change.specs.Refs.{op_over, ops_over, planned, if_remote, from_remote, installed_refusal, install_over, update_over, skipped, is_no_offer, unless_skipped, updated_from, target_over, used_refusal, uninstall_over, unused_in, drop_over, missing_refusal, back_to, previous_commit, previous_in, going_back, reset_over}
 use Rattle.fl_exercise.specs.Exercising.{end_answer, exercising}
@@ -358,8 +359,8 @@ drop_remote_later s name false = one_later (refusals.NoSuchRemote name) (record 
 
 change_later : (change : Change) (held : Holdings) (x : World) → Refuses (change_over change held x)
 change_later (Pin pin) held x = unless_later (add_pin_refusal x.state.pins pin) (op_answer (ops.AddPin pin))
-    (refused_or (is_pinned x.state.pins pin) (nat_le 1024 (length x.state.pins)) (refusals.PinExists pin) (refusals.Limit whats.Pins 1025) (record { late = λ none. none; one = refl }) (record { late = λ none. none; one = refl })) none_later
-change_later (Unpin pin) held x = unless_later (drop_pin_refusal x.state.pins pin) (op_answer (ops.DropPin pin)) (refused_if (is_pinned x.state.pins pin) (refusals.NoSuchPin pin) (record { late = λ none. none; one = refl })) none_later
+    (refused_or (is_among x.state.pins pin) (nat_le 1024 (length x.state.pins)) (refusals.PinExists pin) (refusals.Limit whats.Pins 1025) (record { late = λ none. none; one = refl }) (record { late = λ none. none; one = refl })) none_later
+change_later (Unpin pin) held x = unless_later (drop_pin_refusal x.state.pins pin) (op_answer (ops.DropPin pin)) (refused_if (is_among x.state.pins pin) (refusals.NoSuchPin pin) (record { late = λ none. none; one = refl })) none_later
 change_later (RemoteAdd row) held x = unless_later (add_remote_refusal x.state.remotes row.name) (op_answer (ops.AddRemote row))
     (refused_or (has_name name_of x.state.remotes row.name) (nat_le 256 (length x.state.remotes)) (refusals.RemoteExists row.name) (refusals.Limit whats.Remotes 257) (record { late = λ none. none; one = refl }) (record { late = λ none. none; one = refl })) none_later
 change_later (RemoteModify row) held x = unless_later (remote_refusal x.state.remotes row.name) (op_answer (ops.ModifyRemote row)) (refused_if (has_name name_of x.state.remotes row.name) (refusals.NoSuchRemote row.name) (record { late = λ none. none; one = refl })) none_later
