@@ -32,6 +32,6 @@ pub use names::{
     BUS_NAME, are_name_elements, is_bus_name, is_interface_name, is_member_name, is_object_path,
     is_unique_name, is_well_known_name,
 };
-pub use reading::read_frame;
+pub use reading::{copy_text, read_frame};
 pub use renaming::with_names;
 pub use writing::error_frame;

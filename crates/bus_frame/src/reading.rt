@@ -69,7 +69,8 @@ fn known_of_message<'a>(fixed: &Fixed, bytes: &'a [u8]) -> Result<RawKnown<'a>, 
     }
 }
 
-fn copied(alloc: Global, text: Option<&str>) -> Result<Option<Text>, AllocError>
+/// A copy of a text, where there is one.
+pub fn copy_text(alloc: Global, text: Option<&str>) -> Result<Option<Text>, AllocError>
     ensures { IfOk result (λ copy. copy ≡ option_map (λ t. t.now) text.entry) }
 {
     match text {
@@ -95,9 +96,9 @@ fn target_of(alloc: Global, known: &RawKnown<'_>) -> Result<Target, AllocError>
     ensures member { IfOk result (λ t. t.member ≡ (known_of known.now).member) }
 {
     Ok(Target {
-        path: copied(alloc, known.path)?,
-        interface: copied(alloc, known.interface)?,
-        member: copied(alloc, known.member)?,
+        path: copy_text(alloc, known.path)?,
+        interface: copy_text(alloc, known.interface)?,
+        member: copy_text(alloc, known.member)?,
     })
 }
 
@@ -115,8 +116,8 @@ fn parties_of(alloc: Global, known: &RawKnown<'_>) -> Result<Parties, AllocError
     ensures sender { IfOk result (λ p. p.sender ≡ (known_of known.now).sender) }
 {
     Ok(Parties {
-        destination: copied(alloc, known.destination)?,
-        sender: copied(alloc, known.sender)?,
+        destination: copy_text(alloc, known.destination)?,
+        sender: copy_text(alloc, known.sender)?,
     })
 }
 
@@ -124,8 +125,8 @@ fn parties_of(alloc: Global, known: &RawKnown<'_>) -> Result<Parties, AllocError
 fn header(alloc: Global, fixed: &Fixed, known: &RawKnown<'_>) -> Result<Header, AllocError>
     ensures { IfOk result (λ h. h ≡ header_of fixed.now (known_of known.now)) }
 {
-    let error_name = copied(alloc, known.error_name)?;
-    let signature = copied(alloc, known.signature)?;
+    let error_name = copy_text(alloc, known.error_name)?;
+    let signature = copy_text(alloc, known.signature)?;
     let target = target_of(alloc, known)?;
     let parties = parties_of(alloc, known)?;
     Ok(Header {

@@ -21,7 +21,7 @@ use crate::peer::Peer;
 use crate::peers::{Peers, opening};
 use crate::policy::{Policy, RuleKind, any_gives_leave, level_by_rules};
 use crate::verdict::Verdict;
-use bus_frame::{BUS_NAME, Header, MessageType, first_string, three_strings};
+use bus_frame::{BUS_NAME, Header, MessageType, copy_text, first_string, three_strings};
 use fp_base::{Items, Side, Text};
 use indexmap::IndexMap;
 use std::alloc::{AllocError, Global};
@@ -85,15 +85,6 @@ impl Watch {
     }
 }
 
-fn copied(alloc: Global, text: Option<&str>) -> Result<Option<Text>, AllocError>
-    ensures { IfOk result (λ copy. copy ≡ option_map (λ t. t.now) text.entry) }
-{
-    match text {
-        Some(text) => Ok(Some(Text::from_str(alloc, text)?)),
-        None => Ok(None),
-    }
-}
-
 impl<S: BuildHasher + Copy> Watch<S> {
     /// The same as `new`, with a hasher of the caller's.
     pub fn with_hasher(
@@ -107,7 +98,7 @@ impl<S: BuildHasher + Copy> Watch<S> {
         ensures policy { IfOk result (λ w. rules_of w ≡ policy) }
         ensures client { IfOk result (λ w. client_of w ≡ option_map (λ t. t.now) client.entry) }
     {
-        let client = copied(alloc, client)?;
+        let client = copy_text(alloc, client)?;
         let peers = opening(alloc, hash_builder, policy.rules(), owners.as_slice())?;
         Ok(Watch {
             policy,

@@ -23,7 +23,8 @@ use Rattle.fp_small.specs.declared.loading.Loaded.{Loaded}
 use Rattle.fp_small.specs.declared.loading.Loaded.TheVariants.{Bytes, Absent, TooLong, NotFile}
 use Rattle.fp_small.specs.declared.state.OverrideRow.{OverrideRow}
 use Rattle.dep_open.proofs.Gathering.{in_none}
-use Rattle.dep_states.specs.Names.{is_override, overrides_folder, override_path}
+use Rattle.dep_states.specs.Names.{overrides_folder, override_path}
+use Rattle.fp_name.specs.Grammar.{is_override}
 use Rattle.dep_states.specs.Shown.{Seen, away, bad, there, seen_of, small_most, if_file, named_override, override_at, override_seen, at_name, override_key}
 use Rattle.dep_states.specs.After.{IsGoodLayer}
 use Rattle.dep_states.proofs.Good.{named_good, ok_good, if_file_is, read_there}

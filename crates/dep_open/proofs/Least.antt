@@ -11,7 +11,8 @@ use Rattle.fp_name.specs.Kinds.{kind_word}
 use Rattle.fp_small.specs.Order.{comes_before}
 use Rattle.fp_small.proofs.Ordered.{before_on, before_back}
 use Rattle.ost_refs.proofs.Elements.{element_id, element_arch, element_branch, element_kind}
-use Rattle.dep_states.specs.Names.{is_override, override_path, active}
+use Rattle.dep_states.specs.Names.{override_path, active}
+use Rattle.fp_name.specs.Grammar.{is_override}
 use Rattle.dep_states.proofs.Texts.{text_back}
 use Rattle.dep_open.specs.Parts.{lesser, IsLeast}
 

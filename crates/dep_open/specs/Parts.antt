@@ -18,7 +18,8 @@ use Rattle.fp_small.specs.declared.state.Layout.TheVariants.{Two}
 use Rattle.fp_small.specs.declared.state.RefRow.{RefRow}
 use Rattle.fp_small.specs.declared.state.OverrideRow.{OverrideRow}
 use Rattle.dep_states.specs.declared.setup.Setup.{Setup}
-use Rattle.dep_states.specs.Names.{config, remotes_conf, pins_file, is_override, override_path, active, branch_dir}
+use Rattle.dep_states.specs.Names.{config, remotes_conf, pins_file, override_path, active, branch_dir}
+use Rattle.fp_name.specs.Grammar.{is_override}
 use Rattle.dep_states.specs.Shown.{Seen, away, bad, there, read_of, seen_of, setup, settings_seen, layout_one, ref_seen, row_seen, if_file, named_override, override_seen, at_name, ref_key, override_key}
 use Rattle.dep_states.specs.Damaged.{Damages}
 use Rattle.dep_states.specs.Small.{IsSetting}

@@ -5,7 +5,8 @@ ghost use Rattle.fp_host.specs.Frame.{AtEnd, Unchanged};
 ghost use Rattle.fp_host.specs.Outcome.{shows};
 ghost use Rattle.fp_host.specs.Paths.{is_element};
 ghost use Rattle.std.specs.List.{list_all};
-ghost use Rattle.dep_states.specs.Names.{is_override as names_override, overrides_folder};
+ghost use Rattle.dep_states.specs.Names.{overrides_folder};
+ghost use Rattle.fp_name.specs.Grammar.{is_override as names_override};
 ghost use Rattle.fp_small.specs.Naming.{ListsIn};
 ghost use Rattle.dep_open.specs.Parts.{seen_in, override_loaded, AreOverrides, AreGoodLayers, AddsOverride, KeepsGoodLayers};
 

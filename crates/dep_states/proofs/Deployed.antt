@@ -27,7 +27,8 @@ use Rattle.ost_model.specs.Look.{nothing, directory, file_at, look, next, entry_
 use Rattle.ost_model.specs.Standing.{Stands, expected, is_metadata, deploy_name, metadata_name}
 use Rattle.ost_model.specs.Stores.{IsObject}
 use Rattle.sha2.specs.Sha256.{sha256, digest_bytes, hash_after, compress, rounds, schedule, first_words}
-use Rattle.dep_states.specs.Names.{active, text_dir, commit_dir, deploy, is_override, override_path}
+use Rattle.dep_states.specs.Names.{active, text_dir, commit_dir, deploy, override_path}
+use Rattle.fp_name.specs.Grammar.{is_override}
 use Rattle.dep_states.specs.Deploy.{deploy_of}
 use Rattle.dep_states.specs.Shown.{Seen, away, there, by_active, deploy_at, ref_seen, override_seen, override_at, at_name, ref_key, override_key, Shows}
 use Rattle.dep_states.specs.Zones.{Allowed, Fits, zone, outward, outward_onto, IsFileOrGone}

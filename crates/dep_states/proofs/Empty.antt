@@ -5,7 +5,7 @@ use Rattle.fp_host.specs.Paths.{Elements}
 use Rattle.fp_host.specs.Outcome.{gone}
 use Rattle.fp_name.specs.Refs.{Ref, is_ref, ref_of}
 use Rattle.fp_small.specs.declared.state.RefRow.{RefRow}
-use Rattle.dep_states.specs.Names.{is_override}
+use Rattle.fp_name.specs.Grammar.{is_override}
 use Rattle.dep_states.specs.Shown.{Seen, away, there, ref_seen, row_seen, override_at, remotes_at, pins_at, Shows}
 use Rattle.dep_states.specs.Zones.{Zone, anything, a_file, a_link, a_leaf, a_folder, a_prefix, an_object, Fits, Allowed, zone, outward}
 use Rattle.fp_small.specs.Places.{tmp}

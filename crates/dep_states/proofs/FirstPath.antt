@@ -11,7 +11,8 @@ use Rattle.fp_name.specs.Grammar.{is_id, is_arch, is_branch}
 use Rattle.fp_name.specs.Hex.{hex}
 use Rattle.fp_name.specs.Refs.{Ref, is_ref}
 use Rattle.fp_small.specs.Order.{comes_before}
-use Rattle.dep_states.specs.Names.{active, is_override, override_path}
+use Rattle.dep_states.specs.Names.{active, override_path}
+use Rattle.fp_name.specs.Grammar.{is_override}
 use Rattle.dep_states.specs.Shown.{Seen, away, bad, deploy_at, by_active, ref_seen, override_at, remotes_at, pins_at}
 use Rattle.dep_states.specs.Damaged.{Damages, bad_config, bad_remotes, bad_pins, bad_ref, bad_override, Gives}
 use Rattle.dep_states.specs.Samples.{one_text, app_bytes, short_ref, dashed_ref, damaged_rows, damaged_disk}

@@ -24,7 +24,8 @@ use Rattle.fp_small.proofs.OldReads.{remotes_good, pins_good}
 use Rattle.fp_small.proofs.Ordered.{bytes_eq-is}
 use Rattle.dep_states.specs.declared.deploy.DeployData.{DeployData}
 use Rattle.dep_states.specs.declared.setup.Setup.{Setup}
-use Rattle.dep_states.specs.Names.{config, remotes_conf, pins_file, is_override, override_path, active}
+use Rattle.dep_states.specs.Names.{config, remotes_conf, pins_file, override_path, active}
+use Rattle.fp_name.specs.Grammar.{is_override}
 use Rattle.dep_states.specs.Deploy.{deploy_of}
 use Rattle.dep_states.specs.Shown.{Seen, away, bad, there, read_of, seen_of, read_file, config_most, small_most, layout_one, layout_two, config_at, remotes_at, pins_at, settings_at, setup_of, row_of, row_in, deploy_at, by_active, if_file, named_override, override_at, override_seen, at_name, ref_key, override_key, Shows}
 use Rattle.dep_states.specs.After.{IsGoodRow, IsGoodLayer, IsGood}

@@ -11,7 +11,8 @@ use Rattle.fp_small.specs.Config.{config_of, config_text, IsSettings}
 use Rattle.fp_small.specs.declared.config.Settings.{Settings}
 use Rattle.fp_small.specs.declared.state.RefRow.{RefRow}
 use Rattle.fp_small.proofs.ConfigTexts.{written_back}
-use Rattle.dep_states.specs.Names.{config, is_override, override_path}
+use Rattle.dep_states.specs.Names.{config, override_path}
+use Rattle.fp_name.specs.Grammar.{is_override}
 use Rattle.dep_states.specs.Shown.{Seen, away, bad, there, setup_of, layout_two, read_of, config_most, config_at, ref_seen, row_seen, override_at, Shows}
 use Rattle.dep_states.specs.Zones.{Zone, anything, Fits, zone, outward, Allowed}
 use Rattle.dep_states.specs.Sound.{Sound, IsSound, Opens}

@@ -11,7 +11,8 @@ use Rattle.ost_model.specs.Objects.{object_path, store}
 use Rattle.ost_model.specs.Order.{Place, In, order}
 use Rattle.ost_model.specs.Standing.{deploy_name}
 use Rattle.ost_model.proofs.Local.{stands_same}
-use Rattle.dep_states.specs.Names.{config, remotes_conf, pins_file, is_override, override_path, active, text_dir, commit_dir, deploy}
+use Rattle.dep_states.specs.Names.{config, remotes_conf, pins_file, override_path, active, text_dir, commit_dir, deploy}
+use Rattle.fp_name.specs.Grammar.{is_override}
 use Rattle.dep_states.specs.Shown.{away, deploy_at, by_active, ref_seen, row_seen, override_at, override_seen, settings_at, settings_seen, Shows}
 use Rattle.dep_states.specs.Zones.{IsFileOrGone, Allowed}
 use Rattle.dep_states.specs.Sound.{Keeps, Sound, is_remotes, is_pins, Fixed, is_config, is_old, is_active, is_deploy, is_layer, is_inside, is_object, Permits, Opens, IsSound, Spares, Spared, reads_as}

@@ -20,7 +20,8 @@ use Rattle.fp_small.specs.declared.config.Settings.{Settings}
 use Rattle.ost_model.specs.Order.{In}
 use Rattle.dep_states.specs.declared.deploy.DeployData.{DeployData}
 use Rattle.dep_states.specs.declared.setup.Setup.{Setup}
-use Rattle.dep_states.specs.Names.{config, remotes_conf, pins_file, is_override, override_path, active}
+use Rattle.dep_states.specs.Names.{config, remotes_conf, pins_file, override_path, active}
+use Rattle.fp_name.specs.Grammar.{is_override}
 use Rattle.dep_states.specs.Shown.{Seen, away, bad, there, layout_one, layout_two, config_at, remotes_at, pins_at, settings_at, settings_seen, row_in, deploy_at, by_active, ref_seen, row_seen, named_override, override_at, override_seen, at_name, ref_key, override_key, IsShown}
 use Rattle.dep_states.specs.Damaged.{Damages, bad_config, bad_remotes, bad_pins, bad_ref, bad_override}
 use Rattle.dep_states.proofs.Changes.{at_replaced, replaced_ascends}

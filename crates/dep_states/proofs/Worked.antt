@@ -21,7 +21,8 @@ use Rattle.fp_name.specs.Refs.{Ref, is_ref, ref_text}
 use Rattle.fp_small.specs.Config.{config_of, is_config, remote_of}
 use Rattle.fp_small.specs.declared.state.RefRow.{RefRow}
 use Rattle.fp_small.specs.declared.state.OverrideRow.{OverrideRow}
-use Rattle.dep_states.specs.Names.{active, override_path, is_override}
+use Rattle.dep_states.specs.Names.{active, override_path}
+use Rattle.fp_name.specs.Grammar.{is_override}
 use Rattle.dep_states.specs.Deploy.{deploy_of}
 use Rattle.dep_states.specs.Shown.{away, there, Seen, deploy_at, override_at, config_at, by_active, ref_seen, override_seen, setup_of, at_name, ref_key, override_key, Shows}
 use Rattle.dep_states.specs.Samples.{app, platform, one, two, three, two_text, three_text, app_bytes, platform_bytes, rows_at, rows, config_bytes, layer_bytes, app_row, platform_row, layer, worked_disk, worked_state}

@@ -18,7 +18,7 @@ use Rattle.fp_small.specs.declared.state.Layout.{Layout}
 use Rattle.fp_small.specs.declared.state.Layout.TheVariants.{One, Two}
 use Rattle.fp_small.specs.declared.op.Op.{Op}
 use Rattle.fp_small.specs.declared.op.Op.TheVariants.{Install, Update, Uninstall, AddPin, DropPin, AddRemote, ModifyRemote, DropRemote, SetOverride, DropOverride, Migrate, Rollback}
-use Rattle.dep_states.specs.Names.{is_override}
+use Rattle.fp_name.specs.Grammar.{is_override}
 use Rattle.dep_states.specs.Deploy.{goes_back_to}
 use Rattle.dep_states.specs.Shown.{at_name, ref_key, override_key, settings_of}
 

@@ -22,7 +22,8 @@ use Rattle.fp_small.specs.declared.state.Layout.{Layout}
 use Rattle.fp_small.specs.declared.state.Layout.TheVariants.{One, Two}
 use Rattle.dep_states.specs.declared.deploy.DeployData.{DeployData}
 use Rattle.dep_states.specs.declared.setup.Setup.{Setup}
-use Rattle.dep_states.specs.Names.{config, remotes_conf, pins_file, is_override, override_path, active, text_dir, deploy}
+use Rattle.dep_states.specs.Names.{config, remotes_conf, pins_file, override_path, active, text_dir, deploy}
+use Rattle.fp_name.specs.Grammar.{is_override}
 use Rattle.dep_states.specs.Deploy.{deploy_of}
 
 -- a part of the state: it isn't there, it doesn't read, or it is this

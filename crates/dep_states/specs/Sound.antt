@@ -20,7 +20,8 @@ use Rattle.fl_meta.specs.Metadata.{meta_of, meta_kind}
 use Rattle.ost_model.specs.Objects.{object_path, store}
 use Rattle.ost_model.specs.Order.{Place, In, order}
 use Rattle.ost_model.specs.Standing.{deploy_name, Stands}
-use Rattle.dep_states.specs.Names.{config, remotes_conf, pins_file, is_override, override_path, active, text_dir, commit_dir, deploy}
+use Rattle.dep_states.specs.Names.{config, remotes_conf, pins_file, override_path, active, text_dir, commit_dir, deploy}
+use Rattle.fp_name.specs.Grammar.{is_override}
 use Rattle.dep_states.specs.Shown.{there, ref_seen, Shows, IsShown}
 use Rattle.dep_states.specs.Zones.{IsFileOrGone, Allowed}
 

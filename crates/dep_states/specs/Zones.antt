@@ -10,7 +10,7 @@ use Rattle.fp_name.specs.Kinds.{kind_of}
 use Rattle.fp_small.specs.Places.{repo}
 use Rattle.fp_small.specs.declared.limits.TheConstants.{MOST_ELEMENTS}
 use Rattle.ost_model.specs.Stores.{is_prefix, MayBePrefix, MayBeObject}
-use Rattle.dep_states.specs.Names.{is_override}
+use Rattle.fp_name.specs.Grammar.{is_override}
 
 pub data Zone : Type 0 where
   anything : Zone

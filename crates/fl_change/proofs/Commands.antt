@@ -20,7 +20,7 @@ use Rattle.fl_meta.specs.declared.meta.Meta.{Meta}
 use Rattle.fl_installed.specs.Described.{described}
 use Rattle.fl_installed.specs.Users.{first_user}
 use Rattle.fp_name.specs.Refs.{ref_text}
-use Rattle.dep_states.specs.Names.{is_override}
+use Rattle.fp_name.specs.Grammar.{is_override}
 use Rattle.dep_states.specs.Shown.{at_name, ref_key, override_key}
 use Rattle.std.specs.List.{AllByRecursion}
 use Rattle.fp_small.specs.declared.state.Previous.{Previous}

@@ -24,7 +24,8 @@ use Rattle.dep_tidy.specs.Kept.{kept_of}
 use Rattle.dep_tidy.specs.Tidy.{Tidies}
 use Rattle.dep_tidy.proofs.RowsKept.{kept_both}
 use Rattle.dep_tidy.proofs.Pruned.{row_keeps}
-use Rattle.fl_change.specs.World.{World, world_at, world_after, worlds_after, same_kind, is_at, kept_commits, is_used, used_of}
+use Rattle.fl_change.specs.World.{World, world_at, world_after, worlds_after, is_at, kept_commits, is_used, used_of}
+use Rattle.fp_base.specs.Objects.{is_kind}
 use Rattle.fl_change.specs.Performs.{Holds}
 use Rattle.fl_change.proofs.Same.{now_left}
 
@@ -61,7 +62,7 @@ any_same f g (x ∷ xs) same = ap (λ (b : Bool). b || list_any f xs) (same x (i
 
 -- ---- kinds
 
-kind_is : (a b : ObjKind) → same_kind a b ≡ true → a ≡ b
+kind_is : (a b : ObjKind) → is_kind a b ≡ true → a ≡ b
 kind_is kinds.Commit kinds.Commit is = refl
 kind_is kinds.DirTree kinds.DirTree is = refl
 kind_is kinds.DirMeta kinds.DirMeta is = refl
@@ -79,14 +80,14 @@ kind_is kinds.File kinds.Commit is = absurd (cc is)
 kind_is kinds.File kinds.DirTree is = absurd (cc is)
 kind_is kinds.File kinds.DirMeta is = absurd (cc is)
 
-kind_own : (a : ObjKind) → same_kind a a ≡ true
+kind_own : (a : ObjKind) → is_kind a a ≡ true
 kind_own kinds.Commit = refl
 kind_own kinds.DirTree = refl
 kind_own kinds.DirMeta = refl
 kind_own kinds.File = refl
 
 at_own : (p : Place) → is_at p.digest p.kind p ≡ true
-at_own p = ap (λ (b : Bool). b && same_kind p.kind p.kind) ((bytes_eq-Decides p.digest p.digest).1 refl) ∙ kind_own p.kind
+at_own p = ap (λ (b : Bool). b && is_kind p.kind p.kind) ((bytes_eq-Decides p.digest p.digest).1 refl) ∙ kind_own p.kind
 
 both_true : (b c : Bool) → (b && c) ≡ true → (b ≡ true) × (c ≡ true)
 both_true true true is = (refl, refl)
@@ -114,7 +115,7 @@ used_same s h k agree = λ i d kind. each d kind i
     value d kind is =
         let commit = found (λ c. list_any (is_at d kind) (order h c)) (kept_commits s) is in
         let place = found (is_at d kind) (order h commit.one) commit.holds in
-        let both = both_true (bytes_eq place.one.digest d) (same_kind place.one.kind kind) place.holds in
+        let both = both_true (bytes_eq place.one.digest d) (is_kind place.one.kind kind) place.holds in
         let digest : place.one.digest ≡ d = (bytes_eq-Decides place.one.digest d).0 both.0 in
         let kinds_are : place.one.kind ≡ kind = kind_is place.one.kind kind both.1 in
         ap (λ (x : List ℕ). k x kind) (sym digest) ∙ ap (k place.one.digest) (sym kinds_are) ∙ agree commit.one commit.inside place.one place.inside ∙ ap (h place.one.digest) kinds_are ∙ ap (λ (x : List ℕ). h x kind) digest

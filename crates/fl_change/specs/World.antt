@@ -2,6 +2,7 @@
 use Rattle.std.specs.Prelude.{ℕ, List, [], ◌∷◌, Bool, true, false, ◌&&◌, None, if◌then◌else◌}
 use Rattle.std.specs.List.{list_any}
 use Rattle.std.specs.Str.{bytes_eq}
+use Rattle.fp_base.specs.Objects.{is_kind}
 use Rattle.fp_host.specs.Outcome.{Disk, shows}
 use Rattle.fp_host.specs.Remote.{Holdings}
 use Rattle.fp_host.specs.View.{View}
@@ -20,16 +21,9 @@ use Rattle.op_change.specs.Applied.{url_for}
 
 -- ---- the objects that commits use
 
-abbrev pub same_kind : ObjKind → ObjKind → Bool
-same_kind kinds.Commit kinds.Commit = true
-same_kind kinds.DirTree kinds.DirTree = true
-same_kind kinds.DirMeta kinds.DirMeta = true
-same_kind kinds.File kinds.File = true
-same_kind _ _ = false
-
 -- the object stands at this place of an order
 abbrev pub is_at : List ℕ → ObjKind → Place → Bool
-is_at d kind p = bytes_eq p.digest d && same_kind p.kind kind
+is_at d kind p = bytes_eq p.digest d && is_kind p.kind kind
 
 -- the commits that a state keeps: of each ref its commit and the previous one
 abbrev pub kept_commits : State → List (List ℕ)

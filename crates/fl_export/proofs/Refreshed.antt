@@ -34,7 +34,8 @@ use Rattle.dep_states.proofs.Law.{frame_law}
 use Rattle.dep_states.proofs.Linked.{links_refl, links_still, links_on}
 use Rattle.fl_export.specs.declared.rows.ExportRow.{ExportRow}
 use Rattle.fl_export.specs.Exported.{exported}
-use Rattle.fl_export.specs.Placed.{exports, place_of, places_of, IsExported, IsLeafSpot, ExportsAre}
+use Rattle.fl_export.specs.Placed.{exports, place_of, places_of, IsExported, ExportsAre}
+use Rattle.fp_host.specs.Outcome.{IsLeafSpot}
 use Rattle.fl_export.specs.Steps.{Alters, Exports, in_exports, in_store, in_work, MayRefresh, some_export, some_work, store_folder, work_folder, Cleans, HasNoStale, PutAt, it_at, gone_at, folder_at, work_at, PutName, it_name, gone_name, folder_name, work_name, HasRows, PutsRows, AreRows, HasLinkText, CanPutRows, WereAllPut, Refreshes, WasRefreshed, exported_in}
 use Rattle.fl_export.proofs.Alter.{alters_on, alters_to, alters_kept}
 use Rattle.fl_export.proofs.Elsewhere.{refresh_links, no_object_put}

@@ -2,7 +2,7 @@
 use Rattle.std.specs.Prelude.{◌≡◌, ◌==◌, ◌&&◌, ℕ, Bool, false, List, [], ◌∷◌, ◌++◌, map, codes, Contains}
 use Rattle.std.specs.Str.{bytes_eq}
 use Rattle.fp_host.specs.Paths.{Elements}
-use Rattle.fp_host.specs.Outcome.{Spot, gone, folder, holds, points, Disk}
+use Rattle.fp_host.specs.Outcome.{Spot, gone, folder, holds, points, Disk, IsLeafSpot}
 use Rattle.fp_small.specs.Clear.{IsWithin}
 use Rattle.fp_small.specs.Move.{IsNew}
 use Rattle.fp_small.specs.declared.limits.TheConstants.{FILE_MODE}
@@ -23,13 +23,6 @@ places_of rows = map place_of rows
 abbrev pub IsExported : ExportWhat → Spot → Type 0
 IsExported (what.Text bytes) spot = IsNew bytes spot
 IsExported (what.Link text) spot = spot ≡ points text
-
--- a file or a link stands there
-abbrev pub IsLeafSpot : Spot → Type 0
-IsLeafSpot (holds id mode bytes) = Unit {0}
-IsLeafSpot (points text) = Unit {0}
-IsLeafSpot gone = ⊥
-IsLeafSpot folder = ⊥
 
 -- The files and links at or below `exports` are exactly these: each of them stands there, and at no
 -- other path is one.

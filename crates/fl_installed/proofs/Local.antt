@@ -9,7 +9,8 @@ use Rattle.fp_name.specs.Refs.{Ref}
 use Rattle.fp_small.specs.declared.state.RefRow.{RefRow}
 use Rattle.ost_model.specs.Objects.{Have}
 use Rattle.fl_installed.specs.Metadata.{runtime_named, points_in}
-use Rattle.fl_installed.specs.Users.{is_app, is_name, names_it, first_user, named_meta, meta_at, installed_metas, points_at, installed_points, SaySame}
+use Rattle.fl_installed.specs.Users.{is_name, names_it, first_user, named_meta, meta_at, installed_metas, points_at, installed_points, SaySame}
+use Rattle.fp_name.specs.Pins.{is_app}
 use Rattle.fl_installed.specs.Standing.{UserIsLocal, MetasAreLocal, PointsAreLocal}
 
 found_same : (i j : Have) (runtime : Ref) (rows : List RefRow) → SaySame i j rows → find (names_it j runtime) rows ≡ find (names_it i runtime) rows

@@ -17,7 +17,7 @@ use Rattle.fp_small.proofs.Ordered.{bytes_eq-is}
 use Rattle.fl_meta.specs.Metadata.{has_group, meta_of, app_of, runtime_meta, runtime_of, runtime_in as runtime_said, meta_kind}
 use Rattle.fl_installed.specs.Metadata.{groups_in, runtime_in, runtime_named}
 use Rattle.fl_installed.specs.Standing.{ApplicationsName}
-use Rattle.fl_installed.specs.Users.{is_app}
+use Rattle.fp_name.specs.Pins.{is_app}
 
 first_text : (r : Ref) (k : RefKind) → r.kind ≡ k → get_or (ref_text r) 0 0 ≡ get_or (join_with_byte 47 (kind_word k ∷ r.id ∷ r.arch ∷ r.branch ∷ [])) 0 0
 first_text r k is = ap (λ (j : RefKind). get_or (join_with_byte 47 (kind_word j ∷ r.id ∷ r.arch ∷ r.branch ∷ [])) 0 0) is

@@ -4,7 +4,7 @@ use Rattle.std.specs.Prelude.{◌≡◌, ℕ, Bool, false, List, map, find, Opti
 use Rattle.std.specs.List.{flat_map, AllByRecursion}
 use Rattle.std.specs.Option.{option_map_or}
 use Rattle.std.specs.Str.{bytes_eq}
-use Rattle.fp_name.specs.Pins.{same_kind}
+use Rattle.fp_name.specs.Pins.{is_app}
 use Rattle.fp_name.specs.Refs.{Ref, ref_text}
 use Rattle.fp_name.specs.declared.kind.RefKind.TheVariants.{App}
 use Rattle.fp_small.specs.declared.state.RefRow.{RefRow}
@@ -13,9 +13,6 @@ use Rattle.fl_meta.specs.declared.meta.Meta.{Meta}
 use Rattle.fl_extension.specs.declared.point.Point.{Point}
 use Rattle.fl_installed.specs.Metadata.{meta_said, runtime_named, points_in}
 use Rattle.fl_installed.specs.Files.{metadata_in}
-
-abbrev pub is_app : Ref → Bool
-is_app name = same_kind App name.kind
 
 -- the runtime that a commit of a ref names
 abbrev pub runtime_at : Have → Ref → List ℕ → Option Ref

@@ -5,7 +5,8 @@ use Rattle.std.specs.Fmt.{digit_glyph}
 use Rattle.std.specs.List.{list_all}
 use Rattle.std.proofs.lemmas.Bool.{false≢true}
 use Rattle.std.proofs.lemmas.Bool.Decides.{nat_tests}
-use Rattle.fl_lines.specs.Lines.{is_control, is_escaped, escaped}
+use Rattle.fl_lines.specs.Lines.{is_escaped, escaped}
+use Rattle.fp_base.specs.Parts.{is_control}
 
 glyph_injective : (d e : ℕ) → digit_glyph false d ≡ digit_glyph false e → d ≡ e
 glyph_injective d e h = grind (arith, nat_tests)

@@ -2,6 +2,7 @@
 use Rattle.std.specs.Prelude.{ℕ, ◌/◌, ◌%◌, ◌==◌, ◌||◌, List, [], ◌∷◌, ◌++◌, Bool, false, Option, Some, None, nat_lt, codes, decimal, flat_map, if◌then◌else◌}
 use Rattle.std.specs.Fmt.{digit_glyph}
 use Rattle.std.specs.List.{join_with_byte}
+use Rattle.fp_base.specs.Parts.{is_control}
 use Rattle.fp_base.specs.declared.object.ObjKind.{ObjKind}
 use Rattle.fp_base.specs.declared.object.ObjKind.TheVariants.{Commit, DirTree, DirMeta, File}
 use Rattle.fp_host.specs.Paths.{Elements, path_text}
@@ -18,10 +19,6 @@ use Rattle.fp_base.specs.Objects.{kind_text}
 use Rattle.fl_lines.specs.PrintedWords.{rule_word, what_word, side_word, metadata_rule_word, frame_rule_word}
 
 -- ---- a text that we didn't make
-
--- a control byte: below 0x20, or 0x7f
-abbrev pub is_control : ℕ → Bool
-is_control b = nat_lt b 32 || b == 127
 
 -- a control byte or a backslash
 abbrev pub is_escaped : ℕ → Bool

@@ -2,7 +2,8 @@
 //! law.
 ghost use Rattle.std.specs.Prelude.{◌≡◌, ℕ, List, true, not};
 ghost use Rattle.std.specs.List.{list_all};
-ghost use Rattle.fl_lines.specs.Lines.{is_control, escaped};
+ghost use Rattle.fl_lines.specs.Lines.{escaped};
+ghost use Rattle.fp_base.specs.Parts.{is_control};
 
 /// What is printed of a text has no control byte, and tells the text: no two are printed alike.
 pub fn escapes_tell_texts()

@@ -8,7 +8,8 @@ use Rattle.std.specs.Str.{bytes_eq, is_utf8}
 use Rattle.fp_name.specs.Grammar.{is_element}
 use Rattle.fp_keyfile.specs.declared.group.Group.{Group}
 use Rattle.fp_keyfile.specs.declared.fault.KeyFault.{KeyFault}
-use Rattle.fp_keyfile.specs.Grammar.{is_blank, is_control, begins_so}
+use Rattle.fp_keyfile.specs.Grammar.{is_blank, begins_so}
+use Rattle.fp_base.specs.Parts.{is_control}
 use Rattle.fp_keyfile.specs.KeyFile.{file_of, is_good}
 use Rattle.fp_keyfile.specs.Lines.{split_at}
 use Rattle.fl_meta.specs.declared.permission.PermList.{PermList}

@@ -3,6 +3,7 @@
 ghost use Rattle.std.specs.Prelude.{◌≡◌, ◌&&◌};
 ghost use Rattle.std.specs.List.{list_any};
 ghost use Rattle.fp_name.specs.Grammar as grammar;
+ghost use Rattle.fp_base.specs.Parts as parts;
 ghost use Rattle.fp_keyfile.specs.Grammar as keys;
 ghost use Rattle.fl_options.specs.Options as spec;
 
@@ -38,7 +39,7 @@ fn has_barred(text: &str) -> bool
 }
 
 fn has_control(text: &str) -> bool
-    ensures { result ≡ list_any keys.is_control text.now }
+    ensures { result ≡ list_any parts.is_control text.now }
 {
     text.bytes().any(is_control)
 }

@@ -15,7 +15,8 @@ use Rattle.dep_states.proofs.Empty.{empty_settled}
 use Rattle.dep_states.proofs.Images.{bare_opens}
 use Rattle.dep_states.proofs.Rows.{each_at}
 use Rattle.fl_export.specs.Exported.{exported, desktop_row, icon_row}
-use Rattle.fl_export.specs.Placed.{exports, places_of, IsExported, IsLeafSpot, ExportsAre}
+use Rattle.fl_export.specs.Placed.{exports, places_of, IsExported, ExportsAre}
+use Rattle.fp_host.specs.Outcome.{IsLeafSpot}
 use Rattle.fl_export.specs.Sample as sample
 use Rattle.fl_export.specs.declared.rows.ExportRow.{ExportRow}
 use Rattle.fl_export.proofs.Samples.{stable_exported}

@@ -17,11 +17,12 @@ use Rattle.fl_words.specs.declared.command.Shown.TheVariants as things
 use Rattle.std.proofs.lemmas.Bool.{and_parts, false≢true}
 use Rattle.fl_words.specs.declared.forms.Form.{Form}
 use Rattle.fl_words.specs.declared.forms.Form.TheVariants.{Pin, Unpin, RemoteAdd, RemoteModify, RemoteDelete, Install, UpdateAll, UpdateOne, Uninstall, UninstallUnused, Rollback, Override, OverrideApp, OverrideReset, OverrideResetApp, ListRefs, ListRemotes, ListPins, ListExports, Info, Launch, OverrideShow, OverrideShowApp, Filter, FilterFrom, FilterSystemFrom, Batch, Fsck, Export, Exercise, ShowCommit, ShowDirTree, ShowDirMeta, ShowValue}
-use Rattle.fl_words.specs.Forms.{literal, pattern, remote, url, ref_name, app, app_id, type_string, permission, permissions, launch_options, filter_rules, from_app, app_count, fits, is_app, forms, slots_of, made, reads, command_of}
+use Rattle.fl_words.specs.Forms.{literal, pattern, remote, url, ref_name, app, app_id, type_string, permission, permissions, launch_options, filter_rules, from_app, app_count, fits, forms, slots_of, made, reads, command_of}
+use Rattle.fp_name.specs.Pins.{is_app}
 use Rattle.fl_options.specs.Options.{is_option, is_launch_option}
 use Rattle.fl_options.proofs.Lines.{uncut_no_option}
 use Rattle.fl_words.specs.Words.{words_of, is_command, override_word, are_options}
-use Rattle.fl_words.specs.Names.{is_override_name}
+use Rattle.fp_name.specs.Grammar.{is_override}
 use Rattle.fp_name.specs.Refs.{Ref, is_ref, ref_text, ref_of, ref_at}
 use Rattle.fp_name.proofs.Refs.{ref_of-ref_text}
 use Rattle.fl_words.proofs.Names.{other_than_global, id_names}
@@ -65,7 +66,7 @@ app_words : (a o : List ℕ) (ws : List (List ℕ)) → bytes_eq a (codes "overr
 app_words a o ws h is w =
     let words : List (List ℕ) = a ∷ o ∷ (w.options ++ w.id ∷ []) in
     let same : words ≡ codes "override" ∷ o ∷ (w.options ++ override_word w.id) = rw (other_than_global w.id w.named) (ap (λ (x : List ℕ). x ∷ o ∷ (w.options ++ w.id ∷ [])) (is_word a (codes "override") h)) in
-    let good = both_true (is_override_name w.id) (is_option o && list_all is_option w.options) (id_names w.id w.named) (both_true (is_option o) (list_all is_option w.options) is w.all) in
+    let good = both_true (is_override w.id) (is_option o && list_all is_option w.options) (id_names w.id w.named) (both_true (is_option o) (list_all is_option w.options) is w.all) in
     subst (λ (l : List (List ℕ)). Speaks OverrideApp (a ∷ o ∷ l)) (sym w.is) (subst (λ (x : Command). (words ≡ words_of x) × (is_command x ≡ true)) (sym (app_made a o w.options w.id)) (same, good))
 
 -- and of a launch
@@ -155,10 +156,10 @@ change_by name o os true is h option all =
     rw (append-nil os, option, takes_all permissions os refl all) (ap (λ (n : List ℕ). Some (Changing (changes.OverrideChange n (o ∷ os)))) (sym (is_word name (codes "global") is)))
 change_by name o os false is h option all = rw (option, no_more_options os name all h, fits_id os name all h) (ap Some (app_made (codes "override") o os name))
 
-change_written : (name : List ℕ) (options : List (List ℕ)) → (is_override_name name && are_options options) ≡ true → command_of (codes "override" ∷ (options ++ override_word name)) ≡ Some (Changing (changes.OverrideChange name options))
-change_written name [] h = absurd (false≢true (and_parts (is_override_name name) false h).1)
+change_written : (name : List ℕ) (options : List (List ℕ)) → (is_override name && are_options options) ≡ true → command_of (codes "override" ∷ (options ++ override_word name)) ≡ Some (Changing (changes.OverrideChange name options))
+change_written name [] h = absurd (false≢true (and_parts (is_override name) false h).1)
 change_written name (o ∷ os) h =
-    let parts = and_parts (is_override_name name) (is_option o && list_all is_option os) h in
+    let parts = and_parts (is_override name) (is_option o && list_all is_option os) h in
     let each = and_parts (is_option o) (list_all is_option os) parts.1 in
     change_by name o os (bytes_eq name (codes "global")) refl parts.0 each.0 each.1
 

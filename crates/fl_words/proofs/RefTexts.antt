@@ -7,7 +7,7 @@ use Rattle.fp_name.specs.declared.kind.RefKind.TheVariants.{App}
 use Rattle.fp_name.specs.Grammar.{is_id, is_arch, is_branch}
 use Rattle.fp_name.specs.Refs.{Ref, is_ref, ref_text, ref_of, ref_at, ref_with}
 use Rattle.fp_name.proofs.Refs.{ref_of-ref_text, kept_text, kept_good, no_text_no_ref}
-use Rattle.fl_words.specs.Forms.{is_app}
+use Rattle.fp_name.specs.Pins.{is_app}
 
 -- ---- what parsing tells
 

@@ -8,7 +8,7 @@ use Rattle.std.specs.List.{find, list_all}
 use Rattle.std.specs.Option.{option_map, option_map_or, is_some}
 use Rattle.std.specs.Str.{bytes_eq}
 use Rattle.fp_name.specs.Grammar.{is_remote_name, is_url, is_id}
-use Rattle.fp_name.specs.Pins.{is_pin, same_kind}
+use Rattle.fp_name.specs.Pins.{is_pin, is_app}
 use Rattle.fp_name.specs.Refs.{Ref, ref_of, ref_at}
 use Rattle.fp_name.specs.declared.kind.RefKind.TheVariants.{App}
 use Rattle.fp_small.specs.declared.state.RemoteRow.{RemoteRow}
@@ -62,10 +62,6 @@ place_of slots.LaunchOptions = launch_options
 place_of slots.Rules = filter_rules
 place_of slots.FromApp = from_app
 place_of slots.Count = app_count
-
--- a ref of an application
-abbrev pub is_app : Ref → Bool
-is_app name = same_kind App name.kind
 
 -- the text of a ref of one
 abbrev pub is_app_text : List ℕ → Bool

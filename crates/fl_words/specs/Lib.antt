@@ -1,6 +1,5 @@
 pub mod Types
 pub mod Counts
-pub mod Names
 pub mod Forms
 pub mod Words
 pub mod Reading

@@ -17,8 +17,9 @@ use Rattle.fl_words.specs.declared.command.Shown.{Shown}
 use Rattle.fl_words.specs.declared.command.Shown.TheVariants.{Commit, DirTree, DirMeta, Value}
 use Rattle.fl_options.specs.Options.{is_option, is_launch_option}
 use Rattle.fl_rules.specs.Rules.{is_rule}
-use Rattle.fl_words.specs.Forms.{is_app, command_of}
-use Rattle.fl_words.specs.Names.{is_override_name}
+use Rattle.fl_words.specs.Forms.{command_of}
+use Rattle.fp_name.specs.Pins.{is_app}
+use Rattle.fp_name.specs.Grammar.{is_override}
 use Rattle.fl_words.specs.Types.{is_type_text}
 use Rattle.fl_words.specs.Counts.{is_app_count}
 
@@ -94,8 +95,8 @@ is_change (UpdateOne name) = is_ref name
 is_change (Uninstall name) = is_ref name
 is_change UninstallUnused = true
 is_change (Rollback name) = is_ref name
-is_change (OverrideChange name options) = is_override_name name && are_options options
-is_change (OverrideReset name) = is_override_name name
+is_change (OverrideChange name options) = is_override name && are_options options
+is_change (OverrideReset name) = is_override name
 
 abbrev pub is_listing : Listing → Bool
 is_listing Refs = true
@@ -104,7 +105,7 @@ is_listing Pins = true
 is_listing Exports = true
 is_listing (Info name) = is_ref name
 is_listing (Launch name options) = (is_ref name && is_app name) && list_all is_launch_option options
-is_listing (OverrideShow name) = is_override_name name
+is_listing (OverrideShow name) = is_override name
 
 abbrev pub is_source : PolicySource → Bool
 is_source (Rules rules) = list_all is_rule rules

@@ -1,6 +1,6 @@
 //! The name of an override.
 ghost use Rattle.std.specs.Prelude.{◌≡◌, true, IfOk, codes};
-ghost use Rattle.fl_words.specs.Names.{is_override_name};
+ghost use Rattle.fp_name.specs.Grammar.{is_override};
 
 use fp_base::Text;
 use fp_name::AppId;
@@ -16,13 +16,13 @@ pub struct OverrideName {
 
 impl Model for OverrideName {
     ghost use Rattle.std.specs.Prelude.{◌≡◌, List, ℕ, true};
-    ghost use Rattle.fl_words.specs.Names.{is_override_name};
+    ghost use Rattle.fp_name.specs.Grammar.{is_override};
 
     ghost Value = { List ℕ };
 
     ghost view = { λ n. n.text };
 
-    ghost invariant = { λ n. is_override_name n.text ≡ true };
+    ghost invariant = { λ n. is_override n.text ≡ true };
 }
 
 impl OverrideName {
@@ -46,7 +46,7 @@ impl OverrideName {
     /// The name as a text.
     pub fn as_text(&self) -> &Text
         ensures text { result.now ≡ self.now }
-        ensures good { is_override_name self.now ≡ true }
+        ensures good { is_override self.now ≡ true }
     {
         &self.text
     }

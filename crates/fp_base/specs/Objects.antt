@@ -1,5 +1,5 @@
--- The word of each kind of object.
-use Rattle.std.specs.Prelude.{ℕ, List, codes}
+-- The kinds of objects: the word of each, and which are the same.
+use Rattle.std.specs.Prelude.{ℕ, Bool, true, false, List, codes}
 use Rattle.fp_base.specs.declared.object.ObjKind.{ObjKind}
 use Rattle.fp_base.specs.declared.object.ObjKind.TheVariants as kinds
 
@@ -9,3 +9,11 @@ kind_text kinds.Commit = codes "commit"
 kind_text kinds.DirTree = codes "dirtree"
 kind_text kinds.DirMeta = codes "dirmeta"
 kind_text kinds.File = codes "file"
+
+-- two kinds are the same
+abbrev pub is_kind : ObjKind → ObjKind → Bool
+is_kind kinds.Commit kinds.Commit = true
+is_kind kinds.DirTree kinds.DirTree = true
+is_kind kinds.DirMeta kinds.DirMeta = true
+is_kind kinds.File kinds.File = true
+is_kind _ _ = false

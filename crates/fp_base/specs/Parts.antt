@@ -1,8 +1,12 @@
--- The parts of lines: what a byte separates, and hexadecimal.
-use Rattle.std.specs.Prelude.{ℕ, ◌+◌, Bool, ◌&&◌, ◌||◌, ◌==◌, nat_le, not, if◌then◌else◌, List, length, take, drop, Option, None, option_map}
+-- The parts of lines: control characters, what a byte separates, and hexadecimal.
+use Rattle.std.specs.Prelude.{ℕ, ◌+◌, Bool, ◌&&◌, ◌||◌, ◌==◌, nat_le, nat_lt, not, if◌then◌else◌, List, length, take, drop, Option, None, option_map}
 use Rattle.std.specs.List.{list_all, position}
 use Rattle.std.specs.Result.{result_ok}
 use Rattle.hex.specs.Hex.{decode_of}
+
+-- a byte below 0x20, or 0x7f
+abbrev pub is_control : ℕ → Bool
+is_control b = nat_lt b 32 || b == 127
 
 -- what stands before the first such byte, and after it
 unfoldable pub parts_at : ℕ → List ℕ → Option (List ℕ × List ℕ)

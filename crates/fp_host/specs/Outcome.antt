@@ -11,6 +11,13 @@ pub data Spot : Type 0 where
   holds : ℕ → ℕ → List ℕ → Spot
   points : List ℕ → Spot
 
+-- a file or a symbolic link stands there
+abbrev pub IsLeafSpot : Spot → Type 0
+IsLeafSpot (holds id mode bytes) = Unit {0}
+IsLeafSpot (points text) = Unit {0}
+IsLeafSpot gone = ⊥
+IsLeafSpot folder = ⊥
+
 -- each path, with what stands there
 abbrev pub Disk : Type 0
 Disk = Elements → Spot

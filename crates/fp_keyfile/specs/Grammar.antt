@@ -2,6 +2,7 @@
 -- the file".
 use Rattle.std.specs.Prelude.{ℕ, Bool, false, not, ◌&&◌, ◌||◌, List, [], ◌∷◌, length, nat_lt, ◌==◌}
 use Rattle.std.specs.List.{list_all}
+use Rattle.fp_base.specs.Parts.{is_control}
 
 -- a space or a tab
 abbrev pub is_blank : ℕ → Bool
@@ -10,10 +11,6 @@ is_blank b = b == 32 || b == 9
 -- a carriage return
 abbrev pub is_return : ℕ → Bool
 is_return b = b == 13
-
--- a byte below 0x20, or 0x7f
-abbrev pub is_control : ℕ → Bool
-is_control b = nat_lt b 32 || b == 127
 
 -- whether the first byte passes, and whether the last one does
 abbrev pub begins_so : (ℕ → Bool) → List ℕ → Bool

@@ -1,5 +1,5 @@
 -- The grammars of names, as tests of their texts.
-use Rattle.std.specs.Prelude.{ℕ, List, [], ◌∷◌, Bool, false, ◌&&◌, nat_le, length, take, drop, codes}
+use Rattle.std.specs.Prelude.{ℕ, List, [], ◌∷◌, Bool, false, ◌&&◌, ◌||◌, nat_le, length, take, drop, codes}
 use Rattle.std.specs.List.{list_all, slice_split}
 use Rattle.std.specs.Char.{is_ascii_graphic}
 use Rattle.std.specs.Str.{bytes_eq}
@@ -23,6 +23,10 @@ are_elements (element ∷ next ∷ more) = is_element element && are_elements (n
 unfoldable pub is_id : List ℕ → Bool
 is_id text = nat_le (length text) MOST_NAME_BYTES
     && (nat_le 3 (length (slice_split is_dot text)) && are_elements (slice_split is_dot text))
+
+-- the name of an override: `global`, or the ID of an application
+abbrev pub is_override : List ℕ → Bool
+is_override name = bytes_eq name (codes "global") || is_id name
 
 -- An ARCH is 1 to 255 letters, digits and `_`.
 unfoldable pub is_arch : List ℕ → Bool

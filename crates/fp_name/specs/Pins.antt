@@ -23,6 +23,10 @@ same_kind App Runtime = false
 same_kind Runtime App = false
 same_kind Runtime Runtime = true
 
+-- it is the ref of an application
+abbrev pub is_app : Ref → Bool
+is_app name = same_kind App name.kind
+
 -- A part of a pattern matches what is equal to it, and `*` matches anything.
 abbrev pub part_matches : List ℕ → List ℕ → Bool
 part_matches pattern part = is_star pattern || bytes_eq pattern part

@@ -14,7 +14,7 @@ use Rattle.fp_small.specs.declared.state.State.{State}
 use Rattle.fp_small.proofs.Ordered.{bytes_eq-differ}
 use Rattle.dep_states.specs.After.{with_refs, exchanged, back, rolled_back, after, plain, HasRow, HasPrevious, IsGoodPrevious, IsGoodRow, IsGoodLayer, IsGood}
 use Rattle.dep_states.specs.Deploy.{goes_back_to}
-use Rattle.dep_states.specs.Names.{is_override}
+use Rattle.fp_name.specs.Grammar.{is_override}
 use Rattle.dep_states.specs.Shown.{ref_key, override_key}
 use Rattle.dep_states.proofs.Changes.{removed_ascends, replaced_ascends}
 use Rattle.dep_states.proofs.Listed.{at_found}

@@ -40,7 +40,8 @@ use Rattle.fp_small.proofs.Staging.{synced}
 use Rattle.ost_model.specs.Objects.{object_path}
 use Rattle.dep_states.specs.After.{after, plain}
 use Rattle.dep_states.specs.Lasting.IsLasting.{an_override}
-use Rattle.dep_states.specs.Names.{is_override, overrides_folder, override_path, commit_dir, deploy}
+use Rattle.dep_states.specs.Names.{overrides_folder, override_path, commit_dir, deploy}
+use Rattle.fp_name.specs.Grammar.{is_override}
 use Rattle.dep_states.specs.Shown.{away, bad, there, seen_of, read_of, if_file, named_override, override_at, override_seen, at_name, override_key, small_most, Shows}
 use Rattle.dep_states.specs.Small.{IsLayered}
 use Rattle.dep_states.specs.Sound.{Sound, Fixed, Permits, Opens, is_config, is_old, is_remotes, is_pins, is_active, is_deploy, is_layer, is_inside, is_object}

@@ -19,7 +19,8 @@ use Rattle.ost_commit.specs.declared.row.TreeRow.TheVariants as row
 use Rattle.ost_commit.specs.declared.built.BuiltObject.{BuiltObject}
 use Rattle.ost_commit.specs.Rows.{content, put_by}
 use Rattle.ost_commit.specs.Refusals.{is_content}
-use Rattle.ost_commit.specs.Objects.{is_kind, have_of, AreApart}
+use Rattle.ost_commit.specs.Objects.{have_of, AreApart}
+use Rattle.fp_base.specs.Objects.{is_kind}
 use Rattle.ost_commit.specs.Shows.{AreGood}
 use Rattle.ost_commit.specs.Digests.{IsDigestOf, AreDigests}
 use Rattle.ost_commit.specs.Tables.{object_in, built_of, built_meta, AreUsable}

@@ -1,6 +1,7 @@
 -- The objects of what was built.
 use Rattle.std.specs.Prelude.{◌≡◌, List, [], ◌∷◌, Bool, true, false, ◌&&◌, Some, None, if◌then◌else◌}
 use Rattle.std.specs.Str.{bytes_eq}
+use Rattle.fp_base.specs.Objects.{is_kind}
 use Rattle.fp_base.specs.declared.object.ObjKind.{ObjKind}
 use Rattle.fp_base.specs.declared.object.ObjKind.TheVariants as kinds
 use Rattle.ost_model.specs.declared.object.Object.TheVariants as objects
@@ -9,13 +10,6 @@ use Rattle.ost_model.specs.Objects.{Have, name_fault}
 use Rattle.ost_commit.specs.declared.row.TreeRow.{TreeRow}
 use Rattle.ost_commit.specs.declared.row.TreeRow.TheVariants as row
 use Rattle.ost_commit.specs.declared.built.BuiltObject.{BuiltObject}
-
-abbrev pub is_kind : ObjKind → ObjKind → Bool
-is_kind kinds.Commit kinds.Commit = true
-is_kind kinds.DirTree kinds.DirTree = true
-is_kind kinds.DirMeta kinds.DirMeta = true
-is_kind kinds.File kinds.File = true
-is_kind _ _ = false
 
 -- the object of this digest and this kind
 abbrev pub have_of : List BuiltObject → Have

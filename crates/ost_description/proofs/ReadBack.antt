@@ -16,7 +16,8 @@ use Rattle.ost_commit.specs.Refusals.{first_refused}
 use Rattle.ost_description.specs.declared.description.Description.{Description}
 use Rattle.ost_description.specs.declared.limits.TheConstants.{MOST_SUBJECT_BYTES}
 use Rattle.fp_base.specs.Steps.{◌>>=◌, where_it}
-use Rattle.ost_description.specs.Parts.{number_in, mode_in, content_in, path_in, text_in, is_subject, is_control}
+use Rattle.ost_description.specs.Parts.{number_in, mode_in, content_in, path_in, text_in, is_subject}
+use Rattle.fp_base.specs.Parts.{is_control}
 use Rattle.fp_base.specs.Parts.{parts_at, is_lower_digit}
 use Rattle.ost_description.specs.Descriptions.{timestamp_in, subject_in, folder_in, file_in, link_in, row_in, pieces, row_before, rows_in, unformed_in, first_by, judged, with_rows, described}
 use Rattle.ost_description.specs.Writing.{is_newline, mode_text, content_text, row_text, rows_text, with_newline, description_text, IsWritablePath, IsWritableFile, IsWritableLink, IsWritableRow, IsWritable}

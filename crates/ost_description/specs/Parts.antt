@@ -7,7 +7,7 @@ use Rattle.std.specs.Str.Parse.{digits_value}
 use Rattle.fp_host.specs.Paths.{Elements, is_element, cut}
 use Rattle.ost_description.specs.declared.limits.TheConstants.{MOST_SUBJECT_BYTES}
 use Rattle.fp_base.specs.Steps.{◌>>=◌, where_it}
-use Rattle.fp_base.specs.Parts.{hex_in}
+use Rattle.fp_base.specs.Parts.{is_control, hex_in}
 
 -- decimal digits, one or more, without a leading zero
 abbrev pub has_leading_zero : List ℕ → Bool
@@ -47,10 +47,6 @@ path_in text = where_it (is_utf8 text && not (list_any (λ b. b == 32) text)
 
 unfoldable pub text_in : List ℕ → Option (List ℕ)
 text_in text = where_it (is_utf8 text) text
-
--- a byte below 0x20, or 0x7f
-abbrev pub is_control : ℕ → Bool
-is_control b = nat_lt b 32 || b == 127
 
 -- at most 1,024 bytes of text without control characters
 abbrev pub is_subject : List ℕ → Bool

@@ -4,7 +4,8 @@ ghost use Rattle.std.specs.Prelude.{◌≡◌, ◌<◌, ◌==◌, IfOk, IfSome, 
 ghost use Rattle.std.specs.Char.{is_ascii_digit};
 ghost use Rattle.std.specs.List.{list_all, list_any};
 ghost use Rattle.fp_base.specs.Steps.{Gives};
-ghost use Rattle.ost_description.specs.Parts.{has_leading_zero, are_digits as are_digits_of, number_in, octal_in, mode_in, content_in, path_in, text_in, is_control, is_subject as may_be_subject};
+ghost use Rattle.ost_description.specs.Parts.{has_leading_zero, are_digits as are_digits_of, number_in, octal_in, mode_in, content_in, path_in, text_in, is_subject as may_be_subject};
+ghost use Rattle.fp_base.specs.Parts.{is_control};
 
 use crate::limits::MOST_SUBJECT_BYTES;
 use fp_base::{Blob, bytes_of_hex, is_control};

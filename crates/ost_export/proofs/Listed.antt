@@ -15,7 +15,8 @@ use Rattle.ost_model.specs.declared.object.Object.{Object}
 use Rattle.ost_model.specs.Objects.{object_path}
 use Rattle.ost_model.specs.Order.{In}
 use Rattle.ost_commit.specs.declared.built.BuiltObject.{BuiltObject}
-use Rattle.ost_commit.specs.Objects.{is_kind, have_of, IsNamed, AreApart}
+use Rattle.ost_commit.specs.Objects.{have_of, IsNamed, AreApart}
+use Rattle.fp_base.specs.Objects.{is_kind}
 use Rattle.ost_export.specs.Staging.{Named, AreWhole, IsIn, IsCovered}
 
 -- ---- all of a list

@@ -20,7 +20,8 @@ use Rattle.ost_store.specs.Names.{ListsNames, with_found}
 use Rattle.ost_fsck.specs.declared.report.Finding.{Finding}
 use Rattle.ost_fsck.specs.declared.report.Finding.TheVariants as findings
 use Rattle.ost_fsck.specs.declared.report.Report.{Report}
-use Rattle.ost_fsck.specs.Report.{IsLeafAt, name_in, path_in, IsEntry, IsSo, Reports}
+use Rattle.ost_fsck.specs.Report.{name_in, path_in, IsEntry, IsSo, Reports}
+use Rattle.fp_host.specs.Outcome.{IsLeafSpot}
 use Rattle.ost_fsck.specs.Judging.{is_named, bad_unless, finding_at, IsNameOf, Looks}
 use Rattle.ost_fsck.specs.Picking.{IsOff, IsObject, Checks}
 use Rattle.ost_fsck.proofs.Judged.{named_is, is_named_by}
@@ -109,28 +110,28 @@ all_seen root paths i v report is so_far = record {
 
 -- ---- all paths
 
-leaf_shown : (v : View) (e : Slot) → ((id : ℕ) → e ≡ file id → v.files id ≡ None → ⊥) → IsLeaf e → IsLeafAt (spot_of v.files e)
+leaf_shown : (v : View) (e : Slot) → ((id : ℕ) → e ≡ file id → v.files id ≡ None → ⊥) → IsLeaf e → IsLeafSpot (spot_of v.files e)
 leaf_shown v absent known leaf = leaf
 leaf_shown v dir known leaf = leaf
 leaf_shown v (link text) known leaf = tt
 leaf_shown v (file id) known leaf = go (v.files id) (known id refl)
   where
-    go : (row : Option Inode) → (row ≡ None → ⊥) → IsLeafAt (holding id row)
+    go : (row : Option Inode) → (row ≡ None → ⊥) → IsLeafSpot (holding id row)
     go None there = absurd (there refl)
     go (Some f) there = tt
 
-leaf_held : (v : View) (e : Slot) → IsLeafAt (spot_of v.files e) → IsLeaf e
+leaf_held : (v : View) (e : Slot) → IsLeafSpot (spot_of v.files e) → IsLeaf e
 leaf_held v absent leaf = leaf
 leaf_held v dir leaf = leaf
 leaf_held v (link text) leaf = tt
 leaf_held v (file id) leaf = tt
 
 module _ (root : Elements) (paths : List Elements) (v : View) (tree : IsTree v) (lists : ListsNames root v paths) where
-  leaf_is : (q : Elements) → IsLeaf (v.names q) → IsLeafAt (shows v q)
-  leaf_is q leaf = subst (λ (e : Slot). IsLeafAt (spot_of v.files e)) (sym (at_tree v tree q)) (leaf_shown v (v.names q) (λ id is. tree.known q id (inl (sym is))) leaf)
+  leaf_is : (q : Elements) → IsLeaf (v.names q) → IsLeafSpot (shows v q)
+  leaf_is q leaf = subst (λ (e : Slot). IsLeafSpot (spot_of v.files e)) (sym (at_tree v tree q)) (leaf_shown v (v.names q) (λ id is. tree.known q id (inl (sym is))) leaf)
 
-  leaf_back : (q : Elements) → IsLeafAt (shows v q) → IsLeaf (v.names q)
-  leaf_back q leaf = leaf_held v (v.names q) (subst (λ (e : Slot). IsLeafAt (spot_of v.files e)) (at_tree v tree q) leaf)
+  leaf_back : (q : Elements) → IsLeafSpot (shows v q) → IsLeaf (v.names q)
+  leaf_back q leaf = leaf_held v (v.names q) (subst (λ (e : Slot). IsLeafSpot (spot_of v.files e)) (at_tree v tree q) leaf)
 
   listed : (o : Object) → IsEntry root (shows v) o → Contains paths (name_in root o)
   listed o entry = (lists.leaves.each (name_in root o)).1 (inr (inl refl), leaf_back (name_in root o) entry.there)

@@ -14,7 +14,8 @@ use Rattle.ost_model.proofs.Stores.{one_name}
 use Rattle.ost_store.proofs.Lists.{in_cases, in_one, in_first, in_rest}
 use Rattle.ost_fsck.specs.declared.report.Finding.{Finding}
 use Rattle.ost_fsck.specs.declared.report.Finding.TheVariants as findings
-use Rattle.ost_fsck.specs.Report.{IsLeafAt, name_in, IsNameless, IsEntry, IsBad, IsSo}
+use Rattle.ost_fsck.specs.Report.{name_in, IsNameless, IsEntry, IsBad, IsSo}
+use Rattle.fp_host.specs.Outcome.{IsLeafSpot}
 use Rattle.ost_fsck.specs.Laws.{meta, root, good_name, bad_name, stray_name, is_folder, spot_by, small_disk, small_report, SmallReport}
 
 abbrev Object : Type 0
@@ -26,25 +27,25 @@ meta_good = refl
 -- ---- what the disk has
 
 -- a file stands at these three names alone
-by_name : (path : Elements) (a b c d : Bool) → path_eq path good_name ≡ a → path_eq path bad_name ≡ b → path_eq path stray_name ≡ c → IsLeafAt (spot_by a b c d) → (path ≡ good_name) ⊎ ((path ≡ bad_name) ⊎ (path ≡ stray_name))
+by_name : (path : Elements) (a b c d : Bool) → path_eq path good_name ≡ a → path_eq path bad_name ≡ b → path_eq path stray_name ≡ c → IsLeafSpot (spot_by a b c d) → (path ≡ good_name) ⊎ ((path ≡ bad_name) ⊎ (path ≡ stray_name))
 by_name path true b c d ea eb ec leaf = inl ((path_decides path good_name).0 ea)
 by_name path false true c d ea eb ec leaf = inr (inl ((path_decides path bad_name).0 eb))
 by_name path false false true d ea eb ec leaf = inr (inr ((path_decides path stray_name).0 ec))
 by_name path false false false true ea eb ec leaf = absurd leaf
 by_name path false false false false ea eb ec leaf = absurd leaf
 
-three_leaves : (path : Elements) → IsLeafAt (small_disk path) → (path ≡ good_name) ⊎ ((path ≡ bad_name) ⊎ (path ≡ stray_name))
+three_leaves : (path : Elements) → IsLeafSpot (small_disk path) → (path ≡ good_name) ⊎ ((path ≡ bad_name) ⊎ (path ≡ stray_name))
 three_leaves path leaf = by_name path (path_eq path good_name) (path_eq path bad_name) (path_eq path stray_name) (is_folder path) refl refl refl leaf
 
-good_there : IsLeafAt (small_disk good_name)
+good_there : IsLeafSpot (small_disk good_name)
 unfolding hex
 good_there = tt
 
-bad_there : IsLeafAt (small_disk bad_name)
+bad_there : IsLeafSpot (small_disk bad_name)
 unfolding hex
 bad_there = tt
 
-stray_there : IsLeafAt (small_disk stray_name)
+stray_there : IsLeafSpot (small_disk stray_name)
 unfolding hex
 stray_there = tt
 

@@ -1,7 +1,7 @@
 -- What is found in a store.
 use Rattle.std.specs.Prelude.{◌≡◌, ◌≢◌, ◌↔◌, ℕ, List, length, map, true, Contains}
 use Rattle.fp_host.specs.Paths.{Elements, path_text, IsAbove}
-use Rattle.fp_host.specs.Outcome.{Spot, gone, folder, holds, points, Disk}
+use Rattle.fp_host.specs.Outcome.{Spot, gone, folder, holds, points, Disk, IsLeafSpot}
 use Rattle.fp_host.specs.Reads.{is_ascending}
 use Rattle.fp_name.specs.Hex.{is_digest}
 use Rattle.fp_base.specs.declared.object.ObjKind.{ObjKind}
@@ -10,13 +10,6 @@ use Rattle.ost_model.specs.Stores.{objects_folder}
 use Rattle.ost_fsck.specs.declared.report.Finding.{Finding}
 use Rattle.ost_fsck.specs.declared.report.Finding.TheVariants as findings
 use Rattle.ost_fsck.specs.declared.report.Report.{Report}
-
--- a file or a link
-abbrev pub IsLeafAt : Spot → Type 0
-IsLeafAt (holds id mode bytes) = Unit {0}
-IsLeafAt (points text) = Unit {0}
-IsLeafAt gone = ⊥
-IsLeafAt folder = ⊥
 
 -- the name of an object in the store at root
 abbrev pub name_in : Elements → List ℕ × ObjKind → Elements
@@ -28,7 +21,7 @@ name_text root object = path_text (name_in root object)
 -- a file or link has the name of this object
 pub record IsEntry (root : Elements) (disk : Disk) (object : List ℕ × ObjKind) : Type 0 where
   pub digits : is_digest object.0 ≡ true
-  pub there : IsLeafAt (disk (name_in root object))
+  pub there : IsLeafSpot (disk (name_in root object))
 
 -- and it isn't the object that its name says
 pub record IsBad (root : Elements) (disk : Disk) (object : List ℕ × ObjKind) : Type 0 where
@@ -43,7 +36,7 @@ IsNameless root path =
 -- a file or link below `objects` that has the name of no object
 pub record IsStray (root : Elements) (disk : Disk) (path : Elements) : Type 0 where
   pub below : IsAbove (objects_folder root) path
-  pub there : IsLeafAt (disk path)
+  pub there : IsLeafSpot (disk path)
   pub nameless : IsNameless root path
 
 -- what a finding says
