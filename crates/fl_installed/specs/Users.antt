@@ -6,7 +6,6 @@ use Rattle.std.specs.Option.{option_map_or}
 use Rattle.std.specs.Str.{bytes_eq}
 use Rattle.fp_name.specs.Pins.{is_app}
 use Rattle.fp_name.specs.Refs.{Ref, ref_text}
-use Rattle.fp_name.specs.declared.kind.RefKind.TheVariants.{App}
 use Rattle.fp_small.specs.declared.state.RefRow.{RefRow}
 use Rattle.ost_model.specs.Objects.{Have}
 use Rattle.fl_meta.specs.declared.meta.Meta.{Meta}

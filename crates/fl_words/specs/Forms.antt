@@ -10,7 +10,6 @@ use Rattle.std.specs.Str.{bytes_eq}
 use Rattle.fp_name.specs.Grammar.{is_remote_name, is_url, is_id}
 use Rattle.fp_name.specs.Pins.{is_pin, is_app}
 use Rattle.fp_name.specs.Refs.{Ref, ref_of, ref_at}
-use Rattle.fp_name.specs.declared.kind.RefKind.TheVariants.{App}
 use Rattle.fp_small.specs.declared.state.RemoteRow.{RemoteRow}
 use Rattle.fl_options.specs.Options.{is_option, is_launch_option}
 use Rattle.fl_rules.specs.Rules.{is_rule}
