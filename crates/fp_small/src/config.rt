@@ -14,7 +14,9 @@ use std::fmt;
 /// The remotes and the pins of an installation, each ascending by name.
 #[derive(Drop)]
 pub struct Settings {
+    /// The remotes.
     pub remotes: Items<RemoteRow>,
+    /// The pins.
     pub pins: Items<PinPattern>,
 }
 

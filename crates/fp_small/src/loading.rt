@@ -12,6 +12,7 @@ use std::alloc::Global;
 /// What was read of a small file.
 #[derive(Debug, Drop)]
 pub enum Loaded {
+    /// The whole file.
     Bytes(Blob),
     /// Nothing stands at the path.
     Absent,

@@ -19,14 +19,21 @@ pub enum Op {
         remote: RemoteName,
         commit: Digest,
     },
+    /// A ref that is there goes away.
     Uninstall {
         name: RefName,
     },
+    /// A pin that is not there comes.
     AddPin(PinPattern),
+    /// A pin that is there goes away.
     DropPin(PinPattern),
+    /// A remote that is not there comes.
     AddRemote(RemoteRow),
+    /// A remote that is there gets this url.
     ModifyRemote(RemoteRow),
+    /// A remote that is there goes away.
     DropRemote(RemoteName),
+    /// The override of this name is this one from now on.
     SetOverride(OverrideRow),
     /// The override of this name, `global` or an application's ID.
     DropOverride(Text),

@@ -18,6 +18,7 @@ pub enum Layout {
 /// A commit that a ref was at before.
 #[derive(Clone, Copy, Debug)]
 pub struct Previous {
+    /// The digest of the commit.
     pub commit: Digest,
     /// In seconds since 1970.
     pub timestamp: u64,
@@ -26,18 +27,24 @@ pub struct Previous {
 /// A deployed ref.
 #[derive(Drop)]
 pub struct RefRow {
+    /// The ref.
     pub name: RefName,
+    /// The remote that it comes from.
     pub origin: RemoteName,
+    /// The commit that is deployed.
     pub commit: Digest,
     /// In seconds since 1970.
     pub timestamp: u64,
+    /// The commit that it was at before, if there was one.
     pub previous: Option<Previous>,
 }
 
 /// A remote by its name.
 #[derive(Debug, Drop)]
 pub struct RemoteRow {
+    /// What the installation calls it.
     pub name: RemoteName,
+    /// Where it is.
     pub url: RemoteUrl,
 }
 
@@ -58,6 +65,7 @@ impl RemoteRow {
 pub struct OverrideRow {
     /// `global`, or an application's ID.
     pub name: Text,
+    /// What it says.
     pub file: KeyFile,
 }
 
@@ -65,9 +73,14 @@ pub struct OverrideRow {
 /// twice.
 #[derive(Drop)]
 pub struct State {
+    /// How the settings are kept.
     pub layout: Layout,
+    /// The deployed refs.
     pub refs: Items<RefRow>,
+    /// The remotes.
     pub remotes: Items<RemoteRow>,
+    /// The pins.
     pub pins: Items<PinPattern>,
+    /// The overrides.
     pub overrides: Items<OverrideRow>,
 }

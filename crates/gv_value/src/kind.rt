@@ -9,11 +9,17 @@ use crate::types::GvType;
 /// A type by its form, with the types in it.
 #[derive(Clone, Copy)]
 pub enum Kind<'a> {
+    /// A basic type.
     Basic(Basic),
+    /// `v`.
     Variant,
+    /// An array of this type.
     Array(&'a GvType),
+    /// A value of this type, or nothing.
     Maybe(&'a GvType),
+    /// The types of the members.
     Tuple(&'a [GvType]),
+    /// The types of the key and of the value.
     Entry(&'a GvType, &'a GvType),
 }
 

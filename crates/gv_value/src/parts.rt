@@ -12,23 +12,36 @@ use crate::value::GvValue;
 /// What a value of a basic type holds.
 #[derive(Clone, Copy)]
 pub enum Content<'a> {
+    /// Of `b`.
     Truth(bool),
+    /// Of an unsigned number.
     Number(u64),
+    /// Of a signed number.
     Integer(i64),
+    /// Of `d`: its eight bytes, in the order of the format.
     Eight(&'a [u8]),
+    /// Of `s`, `o` and `g`.
     Text(&'a str),
 }
 
 /// A value by its form, with the values in it.
 #[derive(Clone, Copy)]
 pub enum Parts<'a> {
+    /// A value of this basic type.
     Basic(Basic, Content<'a>),
+    /// A value with its type.
     Variant(&'a GvType, &'a GvValue),
+    /// The elements of an array.
     Array(&'a [GvValue]),
+    /// A maybe that has nothing.
     Nothing,
+    /// A maybe that has this value.
     Just(&'a GvValue),
+    /// The members of a tuple.
     Tuple(&'a [GvValue]),
+    /// The key and the value of an entry.
     Entry(&'a GvValue, &'a GvValue),
+    /// An array of bytes.
     Bytes(&'a [u8]),
 }
 

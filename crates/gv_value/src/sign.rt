@@ -7,13 +7,21 @@ use crate::basic::Basic;
 /// What a character of a type string says.
 #[derive(Clone, Copy)]
 pub enum Sign {
+    /// A basic type.
     Basic(Basic),
+    /// `v`.
     Variant,
+    /// `a`: the type of the elements follows.
     Array,
+    /// `m`: the type of the value follows.
     Maybe,
+    /// `(`: the types of members follow.
     TupleOpen,
+    /// `)`.
     TupleClose,
+    /// `{`: the types of a key and a value follow.
     EntryOpen,
+    /// `}`.
     EntryClose,
 }
 
