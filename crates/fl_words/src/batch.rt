@@ -17,6 +17,7 @@ use std::{fmt, str};
 pub enum BatchError {
     /// This line, counted from 1, is the first that asks for no change.
     BadRecord { line: u64 },
+    /// There was no memory.
     NoMemory,
 }
 

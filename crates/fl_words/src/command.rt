@@ -140,6 +140,7 @@ pub enum WordsError {
     /// The words are no command. The index is that of the first word with which they can't go on to
     /// be one, or their number where they could go on.
     BadWords { index: u64 },
+    /// There was no memory.
     NoMemory,
 }
 

@@ -58,39 +58,73 @@ impl Slot {
 /// A form of words.
 #[derive(Clone, Copy)]
 pub enum Form {
+    /// `pin PATTERN`.
     Pin,
+    /// `unpin PATTERN`.
     Unpin,
+    /// `remote-add REMOTE URL`.
     RemoteAdd,
+    /// `remote-modify REMOTE URL`.
     RemoteModify,
+    /// `remote-delete REMOTE`.
     RemoteDelete,
+    /// `install REMOTE REF`.
     Install,
+    /// `update`.
     UpdateAll,
+    /// `update REF`.
     UpdateOne,
+    /// `uninstall REF`.
     Uninstall,
+    /// `uninstall --unused`.
     UninstallUnused,
+    /// `rollback REF`.
     Rollback,
+    /// `override OPTION [OPTION..]`.
     Override,
+    /// `override OPTION [OPTION..] ID`.
     OverrideApp,
+    /// `override --reset`.
     OverrideReset,
+    /// `override --reset ID`.
     OverrideResetApp,
+    /// `list`.
     ListRefs,
+    /// `list --remotes`.
     ListRemotes,
+    /// `list --pins`.
     ListPins,
+    /// `list --exports`.
     ListExports,
+    /// `info REF`.
     Info,
+    /// `launch REF [OPTION..]`.
     Launch,
+    /// `override --show`.
     OverrideShow,
+    /// `override --show ID`.
     OverrideShowApp,
+    /// `filter [RULE..]`.
     Filter,
+    /// `filter --from=REF`.
     FilterFrom,
+    /// `filter --system --from=REF`.
     FilterSystemFrom,
+    /// `batch`.
     Batch,
+    /// `fsck`.
     Fsck,
+    /// `export REMOTE REF`.
     Export,
+    /// `exercise COUNT`.
     Exercise,
+    /// `show commit`.
     ShowCommit,
+    /// `show dirtree`.
     ShowDirTree,
+    /// `show dirmeta`.
     ShowDirMeta,
+    /// `show value TYPE`.
     ShowValue,
 }
 
