@@ -16,11 +16,11 @@ use Rattle.fp_host.proofs.Ending.{ends_on, ends_both, ends_looks}
 use Rattle.fp_base.specs.declared.object.ObjKind.{ObjKind}
 use Rattle.ost_model.specs.Objects.{object_path, Named}
 use Rattle.ost_model.proofs.Stores.{one_name}
-use Rattle.ost_store.specs.Names.{ListsNames, with_found}
+use Rattle.ost_store.specs.Names.{ListsNames, with_found, name_in}
 use Rattle.ost_fsck.specs.declared.report.Finding.{Finding}
 use Rattle.ost_fsck.specs.declared.report.Finding.TheVariants as findings
 use Rattle.ost_fsck.specs.declared.report.Report.{Report}
-use Rattle.ost_fsck.specs.Report.{name_in, path_in, IsEntry, IsSo, Reports}
+use Rattle.ost_fsck.specs.Report.{path_in, IsEntry, IsSo, Reports}
 use Rattle.fp_host.specs.Outcome.{IsLeafSpot}
 use Rattle.ost_fsck.specs.Judging.{is_named, bad_unless, finding_at, IsNameOf, Looks}
 use Rattle.ost_fsck.specs.Picking.{IsOff, IsObject, Checks}

@@ -14,7 +14,8 @@ use Rattle.ost_model.proofs.Stores.{one_name}
 use Rattle.ost_store.proofs.Lists.{in_cases, in_one, in_first, in_rest}
 use Rattle.ost_fsck.specs.declared.report.Finding.{Finding}
 use Rattle.ost_fsck.specs.declared.report.Finding.TheVariants as findings
-use Rattle.ost_fsck.specs.Report.{name_in, IsNameless, IsEntry, IsBad, IsSo}
+use Rattle.ost_fsck.specs.Report.{IsNameless, IsEntry, IsBad, IsSo}
+use Rattle.ost_store.specs.Names.{name_in}
 use Rattle.fp_host.specs.Outcome.{IsLeafSpot}
 use Rattle.ost_fsck.specs.Laws.{meta, root, good_name, bad_name, stray_name, is_folder, spot_by, small_disk, small_report, SmallReport}
 

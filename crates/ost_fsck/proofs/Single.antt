@@ -8,7 +8,8 @@ use Rattle.fp_small.proofs.Ordered.{before_on, not_before_itself}
 use Rattle.ost_store.proofs.Lists.{in_none, in_cases, in_first, in_rest}
 use Rattle.ost_fsck.specs.declared.report.Finding.{Finding}
 use Rattle.ost_fsck.specs.declared.report.Report.{Report}
-use Rattle.ost_fsck.specs.Report.{name_text, text_in}
+use Rattle.ost_fsck.specs.Report.{text_in}
+use Rattle.ost_store.specs.Names.{name_text}
 use Rattle.ost_fsck.specs.Laws.{OneReport}
 
 -- ---- lists that ascend and have the same in them are the same

@@ -14,7 +14,8 @@ use Rattle.ost_model.specs.Objects.{object_path, object_at, store, name_fault, h
 use Rattle.ost_model.specs.Readers.{broken_rule}
 use Rattle.ost_fsck.specs.declared.report.Finding.{Finding}
 use Rattle.ost_fsck.specs.declared.report.Finding.TheVariants as findings
-use Rattle.ost_fsck.specs.Report.{name_in, IsNameless}
+use Rattle.ost_fsck.specs.Report.{IsNameless}
+use Rattle.ost_store.specs.Names.{name_in}
 
 -- the most bytes of a metadata object
 abbrev pub meta_most : ℕ

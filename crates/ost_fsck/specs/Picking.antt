@@ -10,7 +10,8 @@ use Rattle.ost_model.specs.Objects.{object_path, Named}
 use Rattle.ost_fsck.specs.declared.report.Finding.{Finding}
 use Rattle.ost_fsck.specs.declared.report.Finding.TheVariants as findings
 use Rattle.ost_fsck.specs.declared.report.Report.{Report}
-use Rattle.ost_fsck.specs.Report.{name_in, path_in, IsNameless}
+use Rattle.ost_fsck.specs.Report.{path_in, IsNameless}
+use Rattle.ost_store.specs.Names.{name_in}
 
 -- These are picked among the paths, each at its own path. Where the paths ascend, they do too.
 pub record Picks {A : Type 0} (Is : A → Type 0) (at : A → Elements) (paths : List Elements)

@@ -7,16 +7,10 @@ use Rattle.fp_name.specs.Hex.{is_digest}
 use Rattle.fp_base.specs.declared.object.ObjKind.{ObjKind}
 use Rattle.ost_model.specs.Objects.{object_path, Named}
 use Rattle.ost_model.specs.Stores.{objects_folder}
+use Rattle.ost_store.specs.Names.{name_in, name_text}
 use Rattle.ost_fsck.specs.declared.report.Finding.{Finding}
 use Rattle.ost_fsck.specs.declared.report.Finding.TheVariants as findings
 use Rattle.ost_fsck.specs.declared.report.Report.{Report}
-
--- the name of an object in the store at root
-abbrev pub name_in : Elements → List ℕ × ObjKind → Elements
-name_in root object = object_path root object.0 object.1
-
-abbrev pub name_text : Elements → List ℕ × ObjKind → List ℕ
-name_text root object = path_text (name_in root object)
 
 -- a file or link has the name of this object
 pub record IsEntry (root : Elements) (disk : Disk) (object : List ℕ × ObjKind) : Type 0 where

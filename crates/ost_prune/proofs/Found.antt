@@ -21,10 +21,10 @@ use Rattle.fp_base.specs.declared.object.ObjKind.{ObjKind}
 use Rattle.fp_base.specs.declared.object.ObjKind.TheVariants as kinds
 use Rattle.ost_model.specs.Objects.{object_path, object_at, store}
 use Rattle.ost_model.proofs.Stores.{one_name}
-use Rattle.ost_store.specs.Names.{ListsNames, IsNamed, with_found}
+use Rattle.ost_store.specs.Names.{ListsNames, IsNamed, with_found, name_in, name_text}
 use Rattle.ost_store.specs.Reads.{IsThere}
 use Rattle.ost_store.proofs.Lists.{in_none}
-use Rattle.ost_prune.specs.Prune.{path_in, text_in, IsUnused, ListsUnused}
+use Rattle.ost_prune.specs.Prune.{IsUnused, ListsUnused}
 use Rattle.ost_prune.specs.Texts.{AreUsedTexts}
 use Rattle.ost_prune.specs.Finding.{IsUnusedAt, PicksUnused}
 
@@ -36,7 +36,7 @@ Object = List ℕ × ObjKind
 module _ (root : Elements) (keep : List (List ℕ)) (path : Elements) (v : View) {has : List ℕ → Bool} (used : AreUsedTexts root keep v has) (back : elements_of (path_text path) ≡ path) where
   pub used_there : has (path_text path) ≡ true → IsUnusedAt root keep path v None
   used_there there o name is =
-      let text : path_text path ≡ text_in root o = ap path_text name in
+      let text : path_text path ≡ name_text root o = ap path_text name in
       is.unused (used.alone o is.digits (ap elements_of (sym text) ∙ back ∙ name) (ap has (sym text) ∙ there))
 
   pub none_named : IsNamed root path None → IsUnusedAt root keep path v None
@@ -79,12 +79,12 @@ less_one (x ∷ w ∷ xs) y ys h =
 
 -- what was found among the first i names
 pub record PicksSoFar (root : Elements) (keep : List (List ℕ)) (paths : List Elements) (i : ℕ) (v : View) (found : List Object) : Type 0 where
-  pub each : (o : Object) → Contains found o ↔ (IsUnused root keep v o × Contains (take i paths) (path_in root o))
-  pub ascending : is_ascending (map path_text paths) ≡ true → is_ascending (map (text_in root) found ++ map path_text (drop i paths)) ≡ true
+  pub each : (o : Object) → Contains found o ↔ (IsUnused root keep v o × Contains (take i paths) (name_in root o))
+  pub ascending : is_ascending (map path_text paths) ≡ true → is_ascending (map (name_text root) found ++ map path_text (drop i paths)) ≡ true
 
 pub none_picked : (root : Elements) (keep : List (List ℕ)) (paths : List Elements) (v : View) (found : List Object) → found ≡ [] → PicksSoFar root keep paths 0 v found
 none_picked root keep paths v found none = subst (PicksSoFar root keep paths 0 v) (sym none) (record {
-  each = λ o. (λ has. absurd (in_none o has), λ both. absurd (in_none (path_in root o) both.1));
+  each = λ o. (λ has. absurd (in_none o has), λ both. absurd (in_none (name_in root o) both.1));
   ascending = λ h. h;
 })
 
@@ -102,13 +102,13 @@ module _ (root : Elements) (keep : List (List ℕ)) (paths : List Elements) (i :
   pub not_picked : IsUnusedAt root keep path v None → PicksSoFar root keep paths (i + 1) v found
   not_picked none = record {
     each = λ o. (
-      λ has. let b = (before.each o).0 has in (b.0, subst (λ (l : List Elements). Contains l (path_in root o)) (sym taken) (Contains-append_left (take i paths) (path ∷ []) (path_in root o) b.1)),
-      λ both. elim (Contains-push_cases (take i paths) path (path_in root o) (subst (λ (l : List Elements). Contains l (path_in root o)) taken both.1)) [
+      λ has. let b = (before.each o).0 has in (b.0, subst (λ (l : List Elements). Contains l (name_in root o)) (sym taken) (Contains-append_left (take i paths) (path ∷ []) (name_in root o) b.1)),
+      λ both. elim (Contains-push_cases (take i paths) path (name_in root o) (subst (λ (l : List Elements). Contains l (name_in root o)) taken both.1)) [
         | inl earlier ↦ (before.each o).1 (both.0, earlier)
         | inr same ↦ absurd (none o same both.0)
       ],
     );
-    ascending = λ h. less_one (map (text_in root) found) (path_text path) (map path_text (drop (i + 1) paths)) (subst (λ (l : List Elements). is_ascending (map (text_in root) found ++ map path_text l) ≡ true) dropped (before.ascending h));
+    ascending = λ h. less_one (map (name_text root) found) (path_text path) (map path_text (drop (i + 1) paths)) (subst (λ (l : List Elements). is_ascending (map (name_text root) found ++ map path_text l) ≡ true) dropped (before.ascending h));
   }
 
   module _ (o : Object) (unused : IsUnusedAt root keep path v (Some o)) {found' : List Object} (pushed : found' ≡ found ++ o ∷ []) where
@@ -116,11 +116,11 @@ module _ (root : Elements) (keep : List (List ℕ)) (paths : List Elements) (i :
     picked_list = record {
       each = λ p. (
         λ has. elim (Contains-push_cases found o p has) [
-          | inl earlier ↦ let b = (before.each p).0 earlier in (b.0, subst (λ (l : List Elements). Contains l (path_in root p)) (sym taken) (Contains-append_left (take i paths) (path ∷ []) (path_in root p) b.1))
-          | inr same ↦ subst (λ (x : Object). IsUnused root keep v x × Contains (take (i + 1) paths) (path_in root x)) same
-              (unused.0, subst (λ (l : List Elements). Contains l (path_in root o)) (sym taken) (subst (Contains (take i paths ++ path ∷ [])) unused.1 (Contains-push (take i paths) path)))
+          | inl earlier ↦ let b = (before.each p).0 earlier in (b.0, subst (λ (l : List Elements). Contains l (name_in root p)) (sym taken) (Contains-append_left (take i paths) (path ∷ []) (name_in root p) b.1))
+          | inr same ↦ subst (λ (x : Object). IsUnused root keep v x × Contains (take (i + 1) paths) (name_in root x)) same
+              (unused.0, subst (λ (l : List Elements). Contains l (name_in root o)) (sym taken) (subst (Contains (take i paths ++ path ∷ [])) unused.1 (Contains-push (take i paths) path)))
         ],
-        λ both. elim (Contains-push_cases (take i paths) path (path_in root p) (subst (λ (l : List Elements). Contains l (path_in root p)) taken both.1)) [
+        λ both. elim (Contains-push_cases (take i paths) path (name_in root p) (subst (λ (l : List Elements). Contains l (name_in root p)) taken both.1)) [
           | inl earlier ↦ Contains-append_left found (o ∷ []) p ((before.each p).1 (both.0, earlier))
           | inr same ↦
               let one = one_name root o.0 p.0 o.1 p.1 unused.0.digits both.0.digits (sym unused.1 ∙ same) in
@@ -129,12 +129,12 @@ module _ (root : Elements) (keep : List (List ℕ)) (paths : List Elements) (i :
         ],
       );
       ascending = λ h.
-          let text : path_text path ≡ text_in root o = ap path_text unused.1 in
-          let all : map (text_in root) found ++ map path_text (drop i paths) ≡ map (text_in root) (found ++ o ∷ []) ++ map path_text (drop (i + 1) paths) =
-          ap (λ (l : List Elements). map (text_in root) found ++ map path_text l) dropped
-          ∙ ap (λ (t : List ℕ). map (text_in root) found ++ (t ∷ map path_text (drop (i + 1) paths))) text
-          ∙ sym (append_assoc (map (text_in root) found) (text_in root o ∷ []) (map path_text (drop (i + 1) paths)))
-          ∙ ap (λ (l : List (List ℕ)). l ++ map path_text (drop (i + 1) paths)) (sym (map-append (text_in root) found (o ∷ []))) in
+          let text : path_text path ≡ name_text root o = ap path_text unused.1 in
+          let all : map (name_text root) found ++ map path_text (drop i paths) ≡ map (name_text root) (found ++ o ∷ []) ++ map path_text (drop (i + 1) paths) =
+          ap (λ (l : List Elements). map (name_text root) found ++ map path_text l) dropped
+          ∙ ap (λ (t : List ℕ). map (name_text root) found ++ (t ∷ map path_text (drop (i + 1) paths))) text
+          ∙ sym (append_assoc (map (name_text root) found) (name_text root o ∷ []) (map path_text (drop (i + 1) paths)))
+          ∙ ap (λ (l : List (List ℕ)). l ++ map path_text (drop (i + 1) paths)) (sym (map-append (name_text root) found (o ∷ []))) in
           subst (λ (l : List (List ℕ)). is_ascending l ≡ true) all (before.ascending h);
     }
 
@@ -148,8 +148,8 @@ next_picked root keep paths i path v found low is before (Some o) pushed unused 
 
 pub all_picked : (root : Elements) (keep : List (List ℕ)) (paths : List Elements) (i : ℕ) (v : View) (found : List Object) → length paths ≡ i → PicksSoFar root keep paths i v found → PicksUnused root keep paths v found
 all_picked root keep paths i v found is so_far = record {
-  each = λ o. subst (λ (l : List Elements). Contains found o ↔ (IsUnused root keep v o × Contains l (path_in root o))) (ap (λ (k : ℕ). take k paths) (sym is) ∙ take-length paths) (so_far.each o);
-  ascending = λ h. subst (λ (l : List (List ℕ)). is_ascending l ≡ true) (ap (λ (l : List Elements). map (text_in root) found ++ map path_text l) (drop_all i paths (omega (arith, is))) ∙ append-nil (map (text_in root) found)) (so_far.ascending h);
+  each = λ o. subst (λ (l : List Elements). Contains found o ↔ (IsUnused root keep v o × Contains l (name_in root o))) (ap (λ (k : ℕ). take k paths) (sym is) ∙ take-length paths) (so_far.each o);
+  ascending = λ h. subst (λ (l : List (List ℕ)). is_ascending l ≡ true) (ap (λ (l : List Elements). map (name_text root) found ++ map path_text l) (drop_all i paths (omega (arith, is))) ∙ append-nil (map (name_text root) found)) (so_far.ascending h);
 }
 
 -- ---- all names
@@ -180,7 +180,7 @@ pub all_unused : (root : Elements) (keep : List (List ℕ)) (paths : List Elemen
 all_unused root keep paths v found tree names picks = record {
   each = λ o. (
     λ has. ((picks.each o).0 has).0,
-    λ is. (picks.each o).1 (is, (names.leaves.each (path_in root o)).1 (inr (inl refl), object_leaf root o.0 o.1 v tree is.there)),
+    λ is. (picks.each o).1 (is, (names.leaves.each (name_in root o)).1 (inr (inl refl), object_leaf root o.0 o.1 v tree is.there)),
   );
   ascending = picks.ascending names.ascending;
 }

@@ -21,7 +21,8 @@ use Rattle.ost_model.specs.Objects.{object_at}
 use Rattle.ost_model.proofs.Stores.{one_name}
 use Rattle.ost_store.proofs.Lists.{in_none, in_cases, in_first, in_rest}
 use Rattle.ost_store.proofs.Staying.{shown_stays}
-use Rattle.ost_prune.specs.Prune.{path_in, text_in, is_commit, CommitsFirst, ListsUnused}
+use Rattle.ost_prune.specs.Prune.{is_commit, CommitsFirst, ListsUnused}
+use Rattle.ost_store.specs.Names.{name_in, name_text}
 use Rattle.ost_prune.specs.Removing.{IsAmong, GoneAmong, AbsentAmong, AreGone, is_other, commits_of, others_of, GoInOrder, CanRemoveAll}
 
 abbrev Object : Type 0
@@ -60,24 +61,24 @@ comes_over : (x y : List ℕ) (zs : List (List ℕ)) → comes_before x y ≡ tr
 comes_over x y [] first second = refl
 comes_over x y (z ∷ zs) first second = before_on x y z first second
 
-first_left : (root : Elements) (p : Object → Bool) (t : List ℕ) (xs : List Object) → comes_first t (map (text_in root) xs) ≡ true → is_ascending (map (text_in root) xs) ≡ true → comes_first t (map (text_in root) (filter p xs)) ≡ true
+first_left : (root : Elements) (p : Object → Bool) (t : List ℕ) (xs : List Object) → comes_first t (map (name_text root) xs) ≡ true → is_ascending (map (name_text root) xs) ≡ true → comes_first t (map (name_text root) (filter p xs)) ≡ true
 first_left root p t [] first h = refl
 first_left root p t (x ∷ xs) first h = elim (cases_Bool (p x)) [
-  | inl holds ↦ subst (λ (b : Bool). comes_first t (map (text_in root) (cond b (x ∷ filter p xs) (filter p xs))) ≡ true) (sym holds) first
+  | inl holds ↦ subst (λ (b : Bool). comes_first t (map (name_text root) (cond b (x ∷ filter p xs) (filter p xs))) ≡ true) (sym holds) first
   | inr fails ↦
-      let a = and_parts (comes_first (text_in root x) (map (text_in root) xs)) (is_ascending (map (text_in root) xs)) h in
-      subst (λ (b : Bool). comes_first t (map (text_in root) (cond b (x ∷ filter p xs) (filter p xs))) ≡ true) (sym fails) (first_left root p t xs (comes_over t (text_in root x) (map (text_in root) xs) first a.0) a.1)
+      let a = and_parts (comes_first (name_text root x) (map (name_text root) xs)) (is_ascending (map (name_text root) xs)) h in
+      subst (λ (b : Bool). comes_first t (map (name_text root) (cond b (x ∷ filter p xs) (filter p xs))) ≡ true) (sym fails) (first_left root p t xs (comes_over t (name_text root x) (map (name_text root) xs) first a.0) a.1)
 ]
 
-still_ascending : (root : Elements) (p : Object → Bool) (xs : List Object) → is_ascending (map (text_in root) xs) ≡ true → is_ascending (map (text_in root) (filter p xs)) ≡ true
+still_ascending : (root : Elements) (p : Object → Bool) (xs : List Object) → is_ascending (map (name_text root) xs) ≡ true → is_ascending (map (name_text root) (filter p xs)) ≡ true
 still_ascending root p [] h = refl
 still_ascending root p (x ∷ xs) h =
-    let a = and_parts (comes_first (text_in root x) (map (text_in root) xs)) (is_ascending (map (text_in root) xs)) h in
+    let a = and_parts (comes_first (name_text root x) (map (name_text root) xs)) (is_ascending (map (name_text root) xs)) h in
     let rest = still_ascending root p xs a.1 in
     elim (cases_Bool (p x)) [
-      | inl holds ↦ subst (λ (b : Bool). is_ascending (map (text_in root) (cond b (x ∷ filter p xs) (filter p xs))) ≡ true) (sym holds)
-          (and_from (comes_first (text_in root x) (map (text_in root) (filter p xs))) (is_ascending (map (text_in root) (filter p xs))) (first_left root p (text_in root x) xs a.0 a.1) rest)
-      | inr fails ↦ subst (λ (b : Bool). is_ascending (map (text_in root) (cond b (x ∷ filter p xs) (filter p xs))) ≡ true) (sym fails) rest
+      | inl holds ↦ subst (λ (b : Bool). is_ascending (map (name_text root) (cond b (x ∷ filter p xs) (filter p xs))) ≡ true) (sym holds)
+          (and_from (comes_first (name_text root x) (map (name_text root) (filter p xs))) (is_ascending (map (name_text root) (filter p xs))) (first_left root p (name_text root x) xs a.0 a.1) rest)
+      | inr fails ↦ subst (λ (b : Bool). is_ascending (map (name_text root) (cond b (x ∷ filter p xs) (filter p xs))) ≡ true) (sym fails) rest
     ]
 
 -- ---- object after object
@@ -111,8 +112,8 @@ stays_gone root xs q gone keeps = elim (keeps.names q) [ inl same ↦ same ∙ g
 module _ (root : Elements) (objects : List Object) where
   -- another object has its name still
   other_stays : {u v : View} → ((o : Object) → Contains objects o → is_digest o.0 ≡ true) → Keeps (GoneAmong root (commits_of objects)) (AbsentAmong root (commits_of objects)) NoPath u v
-      → (o : Object) → Contains objects o → is_commit o ≡ false → v.names (path_in root o) ≡ u.names (path_in root o)
-  other_stays good keeps o has other = elim (keeps.names (path_in root o)) [
+      → (o : Object) → Contains objects o → is_commit o ≡ false → v.names (name_in root o) ≡ u.names (name_in root o)
+  other_stays good keeps o has other = elim (keeps.names (name_in root o)) [
     | inl same ↦ same
     | inr put ↦
         let a = put.0 in
@@ -135,7 +136,7 @@ module _ (root : Elements) (objects : List Object) where
     there = λ o has.
         let f = from_filter is_other objects o has in
         let name = other_stays can.digits keeps o f.0 (not_commit (is_commit o) f.1) in
-        let shown = shown_stays (path_in root o) u v (record { name = name; row = λ id g at row. keeps.files id g row (λ q none at. none) }) tree tree' in
+        let shown = shown_stays (name_in root o) u v (record { name = name; row = λ id g at row. keeps.files id g row (λ q none at. none) }) tree tree' in
         record { there = ap (λ s. is_some (object_at o.1 s)) shown ∙ (can.there o f.0).there };
     ascending = still_ascending root is_other objects can.ascending;
   }
@@ -143,7 +144,7 @@ module _ (root : Elements) (objects : List Object) where
   pub both_gone : {v w : View} → AreGone root (commits_of objects) v → Keeps (GoneAmong root (others_of objects)) (AbsentAmong root (others_of objects)) NoPath v w → AreGone root (others_of objects) w → AreGone root objects w
   both_gone first keeps second = record {
     gone = λ o has. elim (cases_Bool (is_commit o)) [
-      | inl commit ↦ stays_gone root (others_of objects) (path_in root o) (first.gone o (to_filter is_commit objects o has commit)) keeps
+      | inl commit ↦ stays_gone root (others_of objects) (name_in root o) (first.gone o (to_filter is_commit objects o has commit)) keeps
       | inr other ↦ second.gone o (to_filter is_other objects o has (not_from_false (is_commit o) other))
     ];
   }
@@ -152,10 +153,10 @@ module _ (root : Elements) (objects : List Object) where
   order_first keeps = record { first = λ good. inl (λ o has other. other_stays good keeps o has other) }
 
   order_then : {u v w : View} → AreGone root (commits_of objects) v → Keeps (GoneAmong root (others_of objects)) (AbsentAmong root (others_of objects)) NoPath v w → GoInOrder root objects u w
-  order_then gone keeps = record { first = λ good. inr (λ o has commit. stays_gone root (others_of objects) (path_in root o) (gone.gone o (to_filter is_commit objects o has commit)) keeps) }
+  order_then gone keeps = record { first = λ good. inr (λ o has commit. stays_gone root (others_of objects) (name_in root o) (gone.gone o (to_filter is_commit objects o has commit)) keeps) }
 
   order_same : {u w : View} → w ≡ u → GoInOrder root objects u w
-  order_same same = record { first = λ good. inl (λ o has other. ap (λ (x : View). x.names (path_in root o)) same) }
+  order_same same = record { first = λ good. inl (λ o has other. ap (λ (x : View). x.names (name_in root o)) same) }
 
   pub order_start : {a : Option Moments} → IsTold a → Always (GoInOrder root objects) a a
   order_start told = stays told (λ u. order_same refl) (λ u t. order_same refl)
@@ -190,7 +191,7 @@ module _ {root : Elements} {xs zs : List Object} (same : zs ≡ xs) {a b : Optio
 -- ---- of what nobody keeps
 
 order_looked : {root : Elements} {keep : List (List ℕ)} {u w : View} → w ≡ u → CommitsFirst root keep u w
-order_looked {root = root} same = record { first = inl (λ o is other. ap (λ (x : View). x.names (path_in root o)) same) }
+order_looked {root = root} same = record { first = inl (λ o is other. ap (λ (x : View). x.names (name_in root o)) same) }
 
 pub looked_order : {a b : Option Moments} {root : Elements} {keep : List (List ℕ)} → IsTold a → Unchanged a b → Always (CommitsFirst root keep) a b
 looked_order told still = begins told still.goes (λ u w t same. order_looked same) (λ u w t same q. order_looked same)

@@ -18,7 +18,8 @@ use Rattle.ost_model.specs.Used.{IsUsed}
 use Rattle.ost_model.proofs.Stores.{one_name}
 use Rattle.ost_store.proofs.Staying.{shown_stays}
 use Rattle.ost_prune.proofs.Found.{none_gone}
-use Rattle.ost_prune.specs.Prune.{path_in, IsUnused, IsUnusedName, Prunes, ListsUnused, WasPruned}
+use Rattle.ost_prune.specs.Prune.{IsUnused, IsUnusedName, Prunes, ListsUnused, WasPruned}
+use Rattle.ost_store.specs.Names.{name_in}
 use Rattle.ost_prune.specs.Removing.{GoneAmong, AbsentAmong, AreGone, CanRemoveAll}
 
 -- nothing was changed
@@ -59,35 +60,35 @@ was_pruned {objects = objects} lists away count = record {
 
 module _ {root : Elements} {keep : List (List ℕ)} {u w : View} (object : List ℕ × ObjKind) (good : is_digest object.0 ≡ true) (pruned : Prunes root keep u w) where
   -- the name of an unused object is that of this one
-  unused_here : IsUnusedName root keep u (path_in root object) → IsUnused root keep u object
+  unused_here : IsUnusedName root keep u (name_in root object) → IsUnused root keep u object
   unused_here n =
       let one = one_name root n.object.0 object.0 n.object.1 object.1 n.unused.digits good (sym n.name) in
       let same : n.object ≡ object = (λ i. (one.0 i, one.1 i)) in
       subst (IsUnused root keep u) same n.unused
 
-  pub used_name : IsUsed (store root (shows u)) keep object → w.names (path_in root object) ≡ u.names (path_in root object)
-  used_name used = elim (pruned.keeps.names (path_in root object)) [ inl same ↦ same | inr put ↦ absurd ((unused_here put.0).unused used) ]
+  pub used_name : IsUsed (store root (shows u)) keep object → w.names (name_in root object) ≡ u.names (name_in root object)
+  used_name used = elim (pruned.keeps.names (name_in root object)) [ inl same ↦ same | inr put ↦ absurd ((unused_here put.0).unused used) ]
 
-  pub used_stop : IsUsed (store root (shows u)) keep object → (disk : Disk) → Leaves w disk → (before : Disk) × Leaves u before × (disk (path_in root object) ≡ before (path_in root object))
+  pub used_stop : IsUsed (store root (shows u)) keep object → (disk : Disk) → Leaves w disk → (before : Disk) × Leaves u before × (disk (name_in root object) ≡ before (name_in root object))
   used_stop used disk left =
       let b = pruned.keeps.follows.from disk left in
-      (b.0, b.1, elim (b.2 (path_in root object)) [ inl same ↦ same | inr given ↦ absurd ((unused_here given.0).unused used) ])
+      (b.0, b.1, elim (b.2 (name_in root object)) [ inl same ↦ same | inr given ↦ absurd ((unused_here given.0).unused used) ])
 
   module _ (tree : IsTree u) (tree' : IsTree w) where
     -- where the name is the same, so is the object
-    same_object : w.names (path_in root object) ≡ u.names (path_in root object) → is_some (store root (shows w) object.0 object.1) ≡ is_some (store root (shows u) object.0 object.1)
-    same_object name = ap (λ s. is_some (object_at object.1 s)) (shown_stays (path_in root object) u w (record { name = name; row = λ id f at row. pruned.keeps.files id f row (λ q none at. none) }) tree tree')
+    same_object : w.names (name_in root object) ≡ u.names (name_in root object) → is_some (store root (shows w) object.0 object.1) ≡ is_some (store root (shows u) object.0 object.1)
+    same_object name = ap (λ s. is_some (object_at object.1 s)) (shown_stays (name_in root object) u w (record { name = name; row = λ id f at row. pruned.keeps.files id f row (λ q none at. none) }) tree tree')
 
-    no_object : w.names (path_in root object) ≡ absent → is_some (store root (shows w) object.0 object.1) ≡ true → ⊥
-    no_object none there = both_ways (is_some (object_at object.1 gone)) (none_gone object.1) (sym (ap (λ (e : Slot). is_some (object_at object.1 (spot_of w.files e))) (at_tree w tree' (path_in root object) ∙ none)) ∙ there)
+    no_object : w.names (name_in root object) ≡ absent → is_some (store root (shows w) object.0 object.1) ≡ true → ⊥
+    no_object none there = both_ways (is_some (object_at object.1 gone)) (none_gone object.1) (sym (ap (λ (e : Slot). is_some (object_at object.1 (spot_of w.files e))) (at_tree w tree' (name_in root object) ∙ none)) ∙ there)
 
     pub left_exactly : {number : ℕ} → WasPruned root keep number u w → (is_some (store root (shows w) object.0 object.1) ≡ true) ↔ ((is_some (store root (shows u) object.0 object.1) ≡ true) × (IsUnused root keep u object → ⊥))
     left_exactly was = (
-      λ there. elim (pruned.keeps.names (path_in root object)) [
+      λ there. elim (pruned.keeps.names (name_in root object)) [
         | inl same ↦ (sym (same_object same) ∙ there, λ unused. no_object (was.gone object unused) there)
         | inr put ↦ absurd (no_object put.1 there)
       ],
-      λ both. elim (pruned.keeps.names (path_in root object)) [
+      λ both. elim (pruned.keeps.names (name_in root object)) [
         | inl same ↦ same_object same ∙ both.0
         | inr put ↦ absurd (both.1 (unused_here put.0))
       ],

@@ -20,7 +20,7 @@ use Rattle.ost_store.proofs.Lists.{in_none, in_cases, in_first, in_map}
 use Rattle.ost_store.proofs.Staying.{shown_stays}
 use Rattle.ost_model.proofs.Stores.{one_name}
 use Rattle.fp_host.proofs.Framed.{keeps_on, keeps_to}
-use Rattle.ost_prune.specs.Prune.{path_in, text_in}
+use Rattle.ost_store.specs.Names.{name_in, name_text}
 use Rattle.ost_prune.specs.Removing.{IsAmong, GoneAmong, AbsentAmong, AreGone, CanRemoveAll}
 
 abbrev Object : Type 0
@@ -36,14 +36,14 @@ first_below x (y ∷ ys) z first h has = elim (in_cases y ys z has) [
       before_on x y z first (first_below y ys z a.0 a.1 later)
 ]
 
-not_again : (root : Elements) (xs : List Object) (o : Object) (ys : List Object) → is_ascending (map (text_in root) (xs ++ o ∷ ys)) ≡ true → Contains xs o → ⊥
+not_again : (root : Elements) (xs : List Object) (o : Object) (ys : List Object) → is_ascending (map (name_text root) (xs ++ o ∷ ys)) ≡ true → Contains xs o → ⊥
 not_again root [] o ys h has = in_none o has
 not_again root (x ∷ xs) o ys h has =
-    let a = and_parts (comes_first (text_in root x) (map (text_in root) (xs ++ o ∷ ys))) (is_ascending (map (text_in root) (xs ++ o ∷ ys))) h in
+    let a = and_parts (comes_first (name_text root x) (map (name_text root) (xs ++ o ∷ ys))) (is_ascending (map (name_text root) (xs ++ o ∷ ys))) h in
     elim (in_cases x xs o has) [
       | inl same ↦
-          let below = first_below (text_in root x) (map (text_in root) (xs ++ o ∷ ys)) (text_in root o) a.0 a.1 (in_map (text_in root) (xs ++ o ∷ ys) o (Contains-append_right xs (o ∷ ys) o (in_first o ys))) in
-          both_ways (comes_before (text_in root x) (text_in root o)) (subst (λ (p : Object). comes_before (text_in root x) (text_in root p) ≡ false) (sym same) (not_before_itself (text_in root x))) below
+          let below = first_below (name_text root x) (map (name_text root) (xs ++ o ∷ ys)) (name_text root o) a.0 a.1 (in_map (name_text root) (xs ++ o ∷ ys) o (Contains-append_right xs (o ∷ ys) o (in_first o ys))) in
+          both_ways (comes_before (name_text root x) (name_text root o)) (subst (λ (p : Object). comes_before (name_text root x) (name_text root p) ≡ false) (sym same) (not_before_itself (name_text root x))) below
       | inr later ↦ not_again root xs o ys a.1 later
     ]
 
@@ -66,8 +66,8 @@ module _ (root : Elements) (objects : List Object) (i : ℕ) (o : Object) (low :
   pub next_gone : {v w : View} → AreGone root (take i objects) v → Keeps (GoneAt (object_path root o.0 o.1)) (AbsentAt (object_path root o.0 o.1)) NoPath v w → WasRemoved (object_path root o.0 o.1) v w → AreGone root (take (i + 1) objects) w
   next_gone {w = w} before keeps was = record {
     gone = λ p has. elim (Contains-push_cases (take i objects) o p (subst (λ (l : List Object). Contains l p) taken has)) [
-      | inl earlier ↦ elim (keeps.names (path_in root p)) [ inl same ↦ same ∙ before.gone p earlier | inr put ↦ put.1 ]
-      | inr same ↦ subst (λ (x : Object). w.names (path_in root x) ≡ absent) same was.left
+      | inl earlier ↦ elim (keeps.names (name_in root p)) [ inl same ↦ same ∙ before.gone p earlier | inr put ↦ put.1 ]
+      | inr same ↦ subst (λ (x : Object). w.names (name_in root x) ≡ absent) same was.left
     ];
   }
 
@@ -99,7 +99,7 @@ module _ (root : Elements) (objects : List Object) (i : ℕ) (o : Object) (low :
             let first = Contains-take objects i a.object a.among in
             let one = one_name root a.object.0 o.0 a.object.1 o.1 (can.digits a.object first) (can.digits o o_in) (sym a.name) in
             let same : a.object ≡ o = (λ j. (one.0 j, one.1 j)) in
-            absurd (not_again root (take i objects) o (drop (suc i) objects) (subst (λ (l : List Object). is_ascending (map (text_in root) l) ≡ true) split can.ascending) (subst (Contains (take i objects)) same a.among))
+            absurd (not_again root (take i objects) o (drop (suc i) objects) (subst (λ (l : List Object). is_ascending (map (name_text root) l) ≡ true) split can.ascending) (subst (Contains (take i objects)) same a.among))
       ] in
       let shown = shown_stays p u v (record { name = name; row = λ id f at row. keeps.files id f row (λ q none at. none) }) tree tree' in
       record { there = ap (λ s. is_some (object_at o.1 s)) shown ∙ (can.there o o_in).there }

@@ -29,7 +29,7 @@ use Rattle.ost_walk.specs.declared.ends.WalkEnd.{WalkEnd}
 use Rattle.ost_walk.specs.declared.ends.WalkEnd.TheVariants as ends
 use Rattle.ost_walk.specs.Ends.{RefusesBy, IsFirst}
 use Rattle.ost_walk.specs.UsedList.{IsUsedList}
-use Rattle.ost_prune.specs.Prune.{text_in}
+use Rattle.ost_store.specs.Names.{name_text}
 use Rattle.ost_prune.specs.Texts.{IsTextOf, AreTextsOf, AreUsedTexts, AreWhole, end_of}
 
 abbrev Object : Type 0
@@ -62,12 +62,12 @@ none_texts root has none = record { each = none; good = λ o h. absurd (in_none 
 pub one_text : (root : Elements) (objects : List Object) (o : Object) (text : List ℕ) (has had : List ℕ → Bool) → AreTextsOf root objects had → IsTextOf root o text
     → ((q : List ℕ) → has q ≡ cond (bytes_eq text q) true (had q)) → AreTextsOf root (objects ++ o ∷ []) has
 one_text root objects o text has had before new step = record {
-  each = λ q. step q ∙ joined (bytes_eq text q) (had q) ∙ ap (λ b. b || bytes_eq text q) (before.each q) ∙ ap (λ (t : List ℕ). list_any (λ p. bytes_eq (text_in root p) q) objects || bytes_eq t q) new.is
-      ∙ sym (any_push (λ p. bytes_eq (text_in root p) q) objects o);
-  good = λ p h. elim (Contains-push_cases objects o p h) [ inl earlier ↦ before.good p earlier | inr same ↦ subst (λ (x : Object). IsTextOf root x (text_in root x)) same (own o text new) ];
+  each = λ q. step q ∙ joined (bytes_eq text q) (had q) ∙ ap (λ b. b || bytes_eq text q) (before.each q) ∙ ap (λ (t : List ℕ). list_any (λ p. bytes_eq (name_text root p) q) objects || bytes_eq t q) new.is
+      ∙ sym (any_push (λ p. bytes_eq (name_text root p) q) objects o);
+  good = λ p h. elim (Contains-push_cases objects o p h) [ inl earlier ↦ before.good p earlier | inr same ↦ subst (λ (x : Object). IsTextOf root x (name_text root x)) same (own o text new) ];
 }
   where
-    own : (o : Object) (text : List ℕ) → IsTextOf root o text → IsTextOf root o (text_in root o)
+    own : (o : Object) (text : List ℕ) → IsTextOf root o text → IsTextOf root o (name_text root o)
     own o text is = subst (IsTextOf root o) is.is is
 
 pub next_text : (root : Elements) (objects : List Object) (i : ℕ) (o : Object) (text : List ℕ) (has had : List ℕ → Bool) → i < length objects → o ≡ get_or objects i o → AreTextsOf root (take i objects) had → IsTextOf root o text
@@ -101,11 +101,11 @@ from_any f (y ∷ ys) is = elim (cases_Bool (f y)) [
 
 pub used_texts_of : (root : Elements) (keep : List (List ℕ)) (v : View) (objects : List Object) (has : List ℕ → Bool) → IsUsedList (store root (shows v)) keep objects → AreTextsOf root objects has → AreUsedTexts root keep v has
 used_texts_of root keep v objects has list texts = record {
-  used = λ o is. texts.each (text_in root o) ∙ any_true (λ p. bytes_eq (text_in root p) (text_in root o)) objects o ((list.lists.each o).1 is) ((bytes_eq-Decides (text_in root o) (text_in root o)).1 refl);
+  used = λ o is. texts.each (name_text root o) ∙ any_true (λ p. bytes_eq (name_text root p) (name_text root o)) objects o ((list.lists.each o).1 is) ((bytes_eq-Decides (name_text root o) (name_text root o)).1 refl);
   alone = λ o good back there.
-      let found = from_any (λ p. bytes_eq (text_in root p) (text_in root o)) objects (sym (texts.each (text_in root o)) ∙ there) in
+      let found = from_any (λ p. bytes_eq (name_text root p) (name_text root o)) objects (sym (texts.each (name_text root o)) ∙ there) in
       let text = texts.good found.0 found.1 in
-      let same = one_name root found.0.0 o.0 found.0.1 o.1 text.good good (sym text.back ∙ ap elements_of ((bytes_eq-Decides (text_in root found.0) (text_in root o)).0 found.2) ∙ back) in
+      let same = one_name root found.0.0 o.0 found.0.1 o.1 text.good good (sym text.back ∙ ap elements_of ((bytes_eq-Decides (name_text root found.0) (name_text root o)).0 found.2) ∙ back) in
       let object : found.0 ≡ o = (λ i. (same.0 i, same.1 i)) in
       (list.lists.each o).0 (subst (Contains objects) object found.1);
 }

@@ -1,6 +1,6 @@
 -- Objects that no commit uses, and a store from which they are taken away.
 use Rattle.std.specs.Prelude.{◌≡◌, ◌⊎◌, ◌↔◌, ℕ, List, Bool, length, map, true, false, is_some, None, Contains}
-use Rattle.fp_host.specs.Paths.{Elements, Slot, absent, path_text}
+use Rattle.fp_host.specs.Paths.{Elements, Slot, absent}
 use Rattle.fp_host.specs.View.{View}
 use Rattle.fp_host.specs.Outcome.{Spot, gone, shows}
 use Rattle.fp_host.specs.Frame.{Keeps, NoPath}
@@ -8,17 +8,10 @@ use Rattle.fp_host.specs.Reads.{is_ascending}
 use Rattle.fp_name.specs.Hex.{is_digest}
 use Rattle.fp_base.specs.declared.object.ObjKind.{ObjKind}
 use Rattle.fp_base.specs.declared.object.ObjKind.TheVariants as kinds
-use Rattle.ost_model.specs.Objects.{object_path, store}
+use Rattle.ost_model.specs.Objects.{store}
 use Rattle.ost_model.specs.Order.{first_fault}
 use Rattle.ost_model.specs.Used.{IsUsed}
-use Rattle.ost_store.specs.Names.{CanList}
-
--- the path of the object in the store at root, and its text
-abbrev pub path_in : Elements → List ℕ × ObjKind → Elements
-path_in root object = object_path root object.0 object.1
-
-abbrev pub text_in : Elements → List ℕ × ObjKind → List ℕ
-text_in root object = path_text (path_in root object)
+use Rattle.ost_store.specs.Names.{CanList, name_in, name_text}
 
 -- the object is there, and no commit to keep uses it
 pub record IsUnused (root : Elements) (keep : List (List ℕ)) (v : View)
@@ -32,7 +25,7 @@ pub record IsUnusedName (root : Elements) (keep : List (List ℕ)) (v : View) (q
   where
     pub object : List ℕ × ObjKind
     pub unused : IsUnused root keep v object
-    pub name : q ≡ path_in root object
+    pub name : q ≡ name_in root object
 
 -- a stop may leave nothing there
 abbrev pub PrunesAt : Elements → List (List ℕ) → View → Elements → Spot → Type 0
@@ -60,16 +53,16 @@ is_commit object = is_commit_kind object.1
 -- each that is one is gone.
 pub record CommitsFirst (root : Elements) (keep : List (List ℕ)) (u w : View) : Type 0 where
   pub first : ((object : List ℕ × ObjKind) → IsUnused root keep u object → is_commit object ≡ false
-      → w.names (path_in root object) ≡ u.names (path_in root object))
+      → w.names (name_in root object) ≡ u.names (name_in root object))
       ⊎ ((object : List ℕ × ObjKind) → IsUnused root keep u object → is_commit object ≡ true
-      → w.names (path_in root object) ≡ absent)
+      → w.names (name_in root object) ≡ absent)
 
 -- these are the objects that no commit to keep uses, each once, ascending by the texts of their
 -- paths
 pub record ListsUnused (root : Elements) (keep : List (List ℕ)) (v : View)
     (objects : List (List ℕ × ObjKind)) : Type 0 where
   pub each : (object : List ℕ × ObjKind) → Contains objects object ↔ IsUnused root keep v object
-  pub ascending : is_ascending (map (text_in root) objects) ≡ true
+  pub ascending : is_ascending (map (name_text root) objects) ≡ true
 
 -- This is the number of objects that were there and that no commit to keep uses, and they are gone.
 pub record WasPruned (root : Elements) (keep : List (List ℕ)) (number : ℕ) (u w : View) : Type 0
@@ -78,7 +71,7 @@ pub record WasPruned (root : Elements) (keep : List (List ℕ)) (number : ℕ) (
     pub all : ListsUnused root keep u objects
     pub count : number ≡ length objects
     pub gone : (object : List ℕ × ObjKind) → IsUnused root keep u object
-        → w.names (path_in root object) ≡ absent
+        → w.names (name_in root object) ≡ absent
 
 -- where it may be done: the orders of the commits have no fault in the store, and no path below
 -- `objects` is too long

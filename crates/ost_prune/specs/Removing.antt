@@ -8,14 +8,15 @@ use Rattle.fp_host.specs.Outcome.{Spot, gone}
 use Rattle.fp_name.specs.Hex.{is_digest}
 use Rattle.fp_base.specs.declared.object.ObjKind.{ObjKind}
 use Rattle.ost_store.specs.Place.{HasObject}
-use Rattle.ost_prune.specs.Prune.{path_in, text_in, is_commit}
+use Rattle.ost_prune.specs.Prune.{is_commit}
+use Rattle.ost_store.specs.Names.{name_in, name_text}
 
 -- the path is the name of one of the objects
 pub record IsAmong (root : Elements) (objects : List (List ℕ × ObjKind)) (q : Elements) : Type 0
   where
     pub object : List ℕ × ObjKind
     pub among : Contains objects object
-    pub name : q ≡ path_in root object
+    pub name : q ≡ name_in root object
 
 -- a stop may leave nothing there
 abbrev pub GoneAmong : Elements → List (List ℕ × ObjKind) → Elements → Spot → Type 0
@@ -27,7 +28,7 @@ AbsentAmong root objects q e = IsAmong root objects q × (e ≡ absent)
 -- all of them are gone
 pub record AreGone (root : Elements) (objects : List (List ℕ × ObjKind)) (v : View) : Type 0 where
   pub gone : (object : List ℕ × ObjKind) → Contains objects object
-      → v.names (path_in root object) ≡ absent
+      → v.names (name_in root object) ≡ absent
 
 -- the commits among the objects, and the others
 abbrev pub is_other : List ℕ × ObjKind → Bool
@@ -45,9 +46,9 @@ pub record GoInOrder (root : Elements) (objects : List (List ℕ × ObjKind)) (u
   where
     pub first : ((object : List ℕ × ObjKind) → Contains objects object → is_digest object.0 ≡ true)
         → ((object : List ℕ × ObjKind) → Contains objects object → is_commit object ≡ false
-        → w.names (path_in root object) ≡ u.names (path_in root object))
+        → w.names (name_in root object) ≡ u.names (name_in root object))
         ⊎ ((object : List ℕ × ObjKind) → Contains objects object → is_commit object ≡ true
-        → w.names (path_in root object) ≡ absent)
+        → w.names (name_in root object) ≡ absent)
 
 -- where they may be taken away: they are there, and each is named once
 pub record CanRemoveAll (root : Elements) (objects : List (List ℕ × ObjKind)) (v : View) : Type 0
@@ -55,4 +56,4 @@ pub record CanRemoveAll (root : Elements) (objects : List (List ℕ × ObjKind))
     pub digits : (object : List ℕ × ObjKind) → Contains objects object → is_digest object.0 ≡ true
     pub there : (object : List ℕ × ObjKind) → Contains objects object
         → HasObject root object.0 object.1 v
-    pub ascending : is_ascending (map (text_in root) objects) ≡ true
+    pub ascending : is_ascending (map (name_text root) objects) ≡ true

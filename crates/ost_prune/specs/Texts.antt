@@ -14,30 +14,30 @@ use Rattle.ost_model.specs.Order.{first_fault}
 use Rattle.ost_model.specs.Used.{IsUsed}
 use Rattle.ost_walk.specs.declared.ends.WalkEnd.{WalkEnd}
 use Rattle.ost_walk.specs.declared.ends.WalkEnd.TheVariants as ends
-use Rattle.ost_prune.specs.Prune.{path_in, text_in}
+use Rattle.ost_store.specs.Names.{name_in, name_text}
 
 -- the text is that of the object's path in the store at root, and is read as it
 pub record IsTextOf (root : Elements) (object : List ℕ × ObjKind) (text : List ℕ) : Type 0 where
   pub good : is_digest object.0 ≡ true
-  pub is : text ≡ text_in root object
-  pub back : elements_of text ≡ path_in root object
+  pub is : text ≡ name_text root object
+  pub back : elements_of text ≡ name_in root object
 
 -- the set has the texts of these objects alone
 pub record AreTextsOf (root : Elements) (objects : List (List ℕ × ObjKind))
     (has : List ℕ → Bool) : Type 0 where
-  pub each : (q : List ℕ) → has q ≡ list_any (λ o. bytes_eq (text_in root o) q) objects
+  pub each : (q : List ℕ) → has q ≡ list_any (λ o. bytes_eq (name_text root o) q) objects
   pub good : (object : List ℕ × ObjKind) → Contains objects object
-      → IsTextOf root object (text_in root object)
+      → IsTextOf root object (name_text root object)
 
 -- The set tells which objects the commits use: it has the text of each of these, and of no other
 -- object.
 pub record AreUsedTexts (root : Elements) (keep : List (List ℕ)) (v : View)
     (has : List ℕ → Bool) : Type 0 where
   pub used : (object : List ℕ × ObjKind) → IsUsed (store root (shows v)) keep object
-      → has (text_in root object) ≡ true
+      → has (name_text root object) ≡ true
   pub alone : (object : List ℕ × ObjKind) → is_digest object.0 ≡ true
-      → elements_of (text_in root object) ≡ path_in root object
-      → has (text_in root object) ≡ true → IsUsed (store root (shows v)) keep object
+      → elements_of (name_text root object) ≡ name_in root object
+      → has (name_text root object) ≡ true → IsUsed (store root (shows v)) keep object
 
 -- the orders of the commits have no fault in the store at root
 pub record AreWhole (root : Elements) (keep : List (List ℕ)) (v : View) : Type 0 where

@@ -9,7 +9,8 @@ ghost use Rattle.fp_name.specs.Hex.{is_digest};
 ghost use Rattle.fp_base.specs.declared.object.ObjKind.{ObjKind};
 ghost use Rattle.ost_model.specs.Objects.{store};
 ghost use Rattle.ost_model.specs.Used.{IsUsed};
-ghost use Rattle.ost_prune.specs.Prune.{path_in, is_commit, CommitsFirst, IsUnused, Prunes, WasPruned};
+ghost use Rattle.ost_prune.specs.Prune.{is_commit, CommitsFirst, IsUnused, Prunes, WasPruned};
+ghost use Rattle.ost_store.specs.Names.{name_in};
 
 /// What a commit to keep uses is untouched: its name holds what it held, and each stop leaves there
 /// what some stop before would have left.
@@ -18,13 +19,13 @@ pub fn used_objects_stay()
         (u w : View) → is_digest object.0 ≡ true
         → Prunes root keep u w
         → IsUsed (store root (shows u)) keep object
-        → w.names (path_in root object) ≡ u.names (path_in root object) }
+        → w.names (name_in root object) ≡ u.names (name_in root object) }
     ensures stop { (root : Elements) (keep : List (List ℕ)) (object : List ℕ × ObjKind)
         (u w : View) → is_digest object.0 ≡ true
         → Prunes root keep u w → IsUsed (store root (shows u)) keep object
         → (disk : Disk) → Leaves w disk
         → (before : Disk) × Leaves u before
-        × (disk (path_in root object) ≡ before (path_in root object)) }
+        × (disk (name_in root object) ≡ before (name_in root object)) }
 {}
 
 /// After it an object is there exactly if it was there and isn't one that no commit to keep uses.
@@ -42,9 +43,9 @@ pub fn used_objects_are_left()
 pub fn commits_go_first()
     ensures kept { (root : Elements) (keep : List (List ℕ)) (commit : List ℕ × ObjKind) (u : View)
         → IsUnused root keep u commit → is_commit commit ≡ true
-        → CommitsFirst root keep u (done (unlinks (path_in root commit)) u) }
+        → CommitsFirst root keep u (done (unlinks (name_in root commit)) u) }
     ensures broken { (root : Elements) (keep : List (List ℕ)) (commit other : List ℕ × ObjKind)
         (u : View) → IsUnused root keep u commit → is_commit commit ≡ true
         → IsUnused root keep u other → is_commit other ≡ false
-        → CommitsFirst root keep u (done (unlinks (path_in root other)) u) → ⊥ }
+        → CommitsFirst root keep u (done (unlinks (name_in root other)) u) → ⊥ }
 {}

@@ -13,6 +13,13 @@ use Rattle.ost_model.specs.Stores.{objects_folder}
 use Rattle.ost_store.specs.declared.naming.TheConstants.{REST_DIGITS}
 use Rattle.ost_store.specs.Walks.{AreLeavesBelow}
 
+-- the name of an object in the store at root, and its text
+abbrev pub name_in : Elements → List ℕ × ObjKind → Elements
+name_in root object = object_path root object.0 object.1
+
+abbrev pub name_text : Elements → List ℕ × ObjKind → List ℕ
+name_text root object = path_text (name_in root object)
+
 -- the files and links below `objects`, ascending by the bytes of their paths
 pub record ListsNames (root : Elements) (v : View) (paths : List Elements) : Type 0 where
   pub leaves : AreLeavesBelow (objects_folder root) v paths
