@@ -49,7 +49,7 @@ pub(crate) fn furnish<H: Host>(
         (H.moments host.old) (H.moments host.new)) }
     ensures reserved { (r : Refusal) → IsErrOf result (PullEnd.Refused r)
         → AtEnd (λ u w. HasReserved repo commit.now w) (H.moments host.old) (H.moments host.new) }
-    ensures no_remote { IsErrOf result PullEnd.RemoteFault → ⊥ }
+    ensures no_remote_fault { IsErrOf result PullEnd.RemoteFault → ⊥ }
     ensures fault_has_cause { IsCaused (IsErrOf result PullEnd.HostFault) (H.moments host.old)
         (CanFurnish commit.now (commit_dir name.now commit.now) kept)
         (H.faults host.old) (H.faults host.new) }

@@ -143,7 +143,7 @@ returns-clause-refused_unchanged g c r is =
 
 pub returns-clause-remote_fault_unchanged : goal.returns-clause-remote_fault_unchanged
 returns-clause-remote_fault_unchanged g c is =
-    absurd (c.furnish.ensures.no_remote is)
+    absurd (c.furnish.ensures.no_remote_fault is)
 
 pub returns-clause-fault_has_cause : goal.returns-clause-fault_has_cause
 returns-clause-fault_has_cause g c =
@@ -162,4 +162,4 @@ returns-clause-fault_has_cause g c =
 
 pub returns-clause-remote_fault_has_cause : goal.returns-clause-remote_fault_has_cause
 returns-clause-remote_fault_has_cause g c =
-    record { later = c.pull.ensures.remote_fault_has_cause.later; rose = λ is. absurd (c.furnish.ensures.no_remote is) }
+    record { later = c.pull.ensures.remote_fault_has_cause.later; rose = λ is. absurd (c.furnish.ensures.no_remote_fault is) }
