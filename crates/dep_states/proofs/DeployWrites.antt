@@ -26,7 +26,8 @@ use Rattle.gv_value.proofs.Exact.{reads_values, spells_values}
 use Rattle.gv_value.proofs.Lists.{length-zeros}
 use Rattle.gv_value.proofs.Numbers.{length-le_bytes, length-offsets}
 use Rattle.dep_states.specs.declared.deploy.DeployData.{DeployData}
-use Rattle.dep_states.specs.Deploy.{time_shape, deploy_shape, digest_in, previous_in, goes_back_to, deploy_from, deploy_in, deploy_of, text_tree, time_tree, previous_tree, deploy_tree}
+use Rattle.dep_states.specs.Deploy.{time_shape, deploy_shape, digest_in, previous_in, goes_back_to, deploy_from, deploy_in, deploy_of, time_tree, previous_tree, deploy_tree}
+use Rattle.ost_model.specs.Fields.{text_value}
 use Rattle.ost_model.specs.Types.{text_shape}
 use Rattle.dep_states.specs.After.{IsGoodPrevious}
 use Rattle.dep_states.specs.Shown.{small_most}
@@ -127,7 +128,7 @@ previous_says (Some p) good = rw (unhex-hex p.commit good.0) refl
 
 pub deploy_says : (d : DeployData) → is_remote_name d.origin ≡ true → is_digest d.commit ≡ true → IsGoodPrevious d.previous → goes_back_to d.commit d.previous ≡ false → deploy_in (deploy_tree d) ≡ Some d
 deploy_says d origin commit previous moves =
-    ap (λ o. deploy_from o (digest_in (text_tree (hex d.commit))) (Some d.timestamp) (previous_in (previous_tree d.previous))) (if_good (is_remote_name d.origin) (Some d.origin) None origin)
+    ap (λ o. deploy_from o (digest_in (text_value (hex d.commit))) (Some d.timestamp) (previous_in (previous_tree d.previous))) (if_good (is_remote_name d.origin) (Some d.origin) None origin)
     ∙ ap (λ c. deploy_from (Some d.origin) c (Some d.timestamp) (previous_in (previous_tree d.previous))) (unhex-hex d.commit commit)
     ∙ ap (λ p. deploy_from (Some d.origin) (Some d.commit) (Some d.timestamp) p) (previous_says d.previous previous)
     ∙ if_bad (goes_back_to d.commit d.previous) None (Some d) moves
@@ -180,7 +181,7 @@ unfolding is_remote_name
 short_remote_name text good = leb-true (length text) 64 (and_parts (nat_le (length text) 64) _ good).0
 
 abbrev inner_tree : List ℕ → ℕ → Tree
-inner_tree text time = Tree.tuple (tree (text_tree text) (tree (time_tree time) no_trees))
+inner_tree text time = Tree.tuple (tree (text_value text) (tree (time_tree time) no_trees))
 
 abbrev inner_shapes : Shapes
 inner_shapes = shape text_shape (shape time_shape no_shapes)

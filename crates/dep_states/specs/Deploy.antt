@@ -8,7 +8,7 @@ use Rattle.gv_value.specs.declared.basic.Basic.TheVariants as basics
 use Rattle.gv_value.specs.Shape.{Shape, basic, maybe, tuple, no_shapes, shape}
 use Rattle.gv_value.specs.Tree.{Content, Tree, no_trees, tree}
 use Rattle.gv_value.specs.Reading.{value_of}
-use Rattle.ost_model.specs.Fields.{text_in}
+use Rattle.ost_model.specs.Fields.{text_in, text_value}
 use Rattle.ost_model.specs.Types.{text_shape}
 use Rattle.dep_states.specs.declared.deploy.DeployData.{DeployData}
 use Rattle.dep_states.specs.declared.deploy.DeployError.{DeployError}
@@ -74,14 +74,11 @@ deploy_of bytes = option_and_then deploy_in (value_of deploy_shape bytes)
 
 -- ---- the value that says it
 
-abbrev pub text_tree : List ℕ → Tree
-text_tree text = Tree.leaf basics.Str (Content.text text)
-
 abbrev pub time_tree : ℕ → Tree
 time_tree n = Tree.leaf basics.Uint64 (Content.number n)
 
 abbrev pub back_tree : Previous → Tree
-back_tree p = Tree.tuple (tree (text_tree (hex p.commit)) (tree (time_tree p.timestamp) no_trees))
+back_tree p = Tree.tuple (tree (text_value (hex p.commit)) (tree (time_tree p.timestamp) no_trees))
 
 abbrev pub previous_tree : Option Previous → Tree
 previous_tree None = Tree.nothing
@@ -89,8 +86,8 @@ previous_tree (Some p) = Tree.just (back_tree p)
 
 abbrev pub deploy_tree : DeployData → Tree
 deploy_tree d = Tree.tuple
-    (tree (text_tree d.origin)
-    (tree (text_tree (hex d.commit))
+    (tree (text_value d.origin)
+    (tree (text_value (hex d.commit))
     (tree (time_tree d.timestamp) (tree (previous_tree d.previous) no_trees))))
 
 -- ---- what reading answers; nothing is said of running out of memory

@@ -4,7 +4,8 @@ ghost use Rattle.fp_name.specs.Grammar.{is_remote_name};
 ghost use Rattle.fp_name.specs.Hex.{hex, is_digest};
 ghost use Rattle.gv_value.specs.Views.{plain};
 ghost use Rattle.dep_states.specs.After.{IsGoodPrevious};
-ghost use Rattle.dep_states.specs.Deploy.{text_tree, time_tree, back_tree, previous_tree, deploy_tree};
+ghost use Rattle.dep_states.specs.Deploy.{time_tree, back_tree, previous_tree, deploy_tree};
+ghost use Rattle.ost_model.specs.Fields.{text_value};
 
 use crate::deploy::DeployData;
 use fp_base::Text;
@@ -30,14 +31,14 @@ pub(crate) fn data_as_value(alloc: Global, read: &DeployData) -> Result<GvValue,
 
 /// A text as a value.
 fn text_as_value(alloc: Global, text: &str) -> Result<GvValue, AllocError>
-    ensures { IfOk result (λ value. plain value ≡ text_tree text.now) }
+    ensures { IfOk result (λ value. plain value ≡ text_value text.now) }
 {
     Ok(GvValue::Str(Text::from_str(alloc, text)?))
 }
 
 /// The digits of a digest as a value.
 fn digest_as_value(alloc: Global, digest: &Digest) -> Result<GvValue, AllocError>
-    ensures value { IfOk result (λ value. plain value ≡ text_tree (hex digest.now)) }
+    ensures value { IfOk result (λ value. plain value ≡ text_value (hex digest.now)) }
     ensures good { OnOk result (is_digest digest.now ≡ true) }
 {
     Ok(GvValue::Str(digest.write(alloc)?))

@@ -4,9 +4,8 @@ use Rattle.gv_value.specs.declared.basic.Basic.TheVariants as basics
 use Rattle.gv_value.specs.Shape.{Shape}
 use Rattle.gv_value.specs.Tree.{Tree, no_trees, tree}
 use Rattle.fp_name.specs.Refs.{Ref, ref_text}
-use Rattle.ost_model.specs.Fields.{CommitView}
+use Rattle.ost_model.specs.Fields.{CommitView, text_value}
 use Rattle.ost_model.specs.Binding.{binding_name}
-use Rattle.ost_object.specs.Values.{text_value}
 
 -- a list of one text
 abbrev pub one_text : List ℕ → Tree

@@ -5,7 +5,7 @@ ghost use Rattle.gv_value.specs.Views.{shape_of, plain};
 ghost use Rattle.gv_value.specs.Shape.{Shape};
 ghost use Rattle.ost_model.specs.Types.{text_shape, dictionary_shape};
 ghost use Rattle.ost_model.specs.Readers.{commit_read, tree_read, meta_read};
-ghost use Rattle.ost_object.specs.Values.{text_value};
+ghost use Rattle.ost_model.specs.Fields.{text_value};
 ghost use Rattle.ost_object.specs.Views.{commit_view, tree_view, tree_at};
 ghost use Rattle.ost_commit.specs.Commits.{one_text, refs_of, binding_entry_of, bound_to as binding_of, commit_of_tree};
 ghost use Rattle.ost_commit.specs.Shows.{plain_meta};

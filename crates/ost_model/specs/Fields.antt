@@ -56,6 +56,10 @@ items_in _ = None
 abbrev pub bytes_in : Tree → Option (List ℕ)
 bytes_in v = option_and_then (each_of byte_in) (items_in v)
 
+-- a text as a value
+abbrev pub text_value : List ℕ → Tree
+text_value text = Tree.leaf basics.Str (Content.text text)
+
 -- of type `s`
 abbrev pub text_in : Tree → Option (List ℕ)
 text_in (Tree.leaf basics.Str (Content.text text)) = Some text

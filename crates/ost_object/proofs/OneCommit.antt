@@ -14,14 +14,14 @@ use Rattle.gv_value.proofs.Cutting.{length-laid}
 use Rattle.gv_value.proofs.Depths.{bounds_depth}
 use Rattle.ost_model.specs.Contents.{bytes_shape}
 use Rattle.ost_model.specs.Types.{text_shape, dictionary_shape, related_shape, commit_shape}
-use Rattle.ost_model.specs.Fields.{CommitView, text_in, time_in, bytes_in, commit_from, commit_in}
+use Rattle.ost_model.specs.Fields.{CommitView, text_in, time_in, bytes_in, commit_from, commit_in, text_value}
 use Rattle.fp_base.specs.declared.rule.Rule.TheVariants as rules
 use Rattle.ost_model.specs.Readers.{commit_breaks}
 use Rattle.ost_object.specs.declared.error.ObjectError.{ObjectError}
 use Rattle.ost_object.specs.declared.error.ObjectError.TheVariants as errors
 use Rattle.ost_object.specs.Writes.{HasNoSpelling, Refuses}
 use Rattle.gv_value.proofs.Exact.{spells_values}
-use Rattle.ost_object.specs.Values.{text_value, time_value, bytes_value}
+use Rattle.ost_object.specs.Values.{time_value, bytes_value}
 use Rattle.ost_object.proofs.OneValue.{text_is, time_is, bytes_are}
 use Rattle.ost_object.proofs.Rows.{bytes_back}
 use Rattle.ost_object.proofs.Written.{twice_8, read, read_is}

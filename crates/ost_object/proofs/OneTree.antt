@@ -6,9 +6,9 @@ use Rattle.std.proofs.lemmas.Bool.{and_parts}
 use Rattle.fp_name.specs.Hex.{is_byte, is_digest}
 use Rattle.gv_value.specs.Tree.{Tree, Trees, no_trees, tree}
 use Rattle.gv_value.proofs.Lists.{then_some, map_some}
-use Rattle.ost_model.specs.Fields.{FileRow, DirRow, TreeView, text_in, items_in, bytes_in, each_of, file_in, dir_in, tree_in}
+use Rattle.ost_model.specs.Fields.{FileRow, DirRow, TreeView, text_in, items_in, bytes_in, each_of, file_in, dir_in, tree_in, text_value}
 use Rattle.ost_model.specs.Readers.{is_long}
-use Rattle.ost_object.specs.Values.{text_value, bytes_value, each_value, file_value, dir_value}
+use Rattle.ost_object.specs.Values.{bytes_value, each_value, file_value, dir_value}
 use Rattle.ost_object.proofs.OneValue.{text_is, items_are, bytes_are, each_are, each_says}
 use Rattle.ost_object.proofs.Rows.{bytes_back}
 

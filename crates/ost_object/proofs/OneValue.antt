@@ -10,11 +10,11 @@ use Rattle.gv_value.specs.Spelling.{fits_within, fits}
 use Rattle.gv_value.proofs.Lists.{then_some, map_some}
 use Rattle.ost_model.specs.Contents.{number_shape, attributes_shape}
 use Rattle.ost_model.specs.Types.{meta_shape}
-use Rattle.ost_model.specs.Fields.{MetaView, byte_in, text_in, number_in, time_in, items_in, bytes_in, each_of, are_none, meta_in}
+use Rattle.ost_model.specs.Fields.{MetaView, byte_in, text_in, number_in, time_in, items_in, bytes_in, each_of, are_none, meta_in, text_value}
 use Rattle.fp_base.specs.declared.rule.Rule.{Rule}
 use Rattle.fp_base.specs.declared.rule.Rule.TheVariants as rules
 use Rattle.ost_model.specs.Readers.{meta_breaks}
-use Rattle.ost_object.specs.Values.{number_value, time_value, text_value, bytes_value, each_value, meta_value}
+use Rattle.ost_object.specs.Values.{number_value, time_value, bytes_value, each_value, meta_value}
 use Rattle.ost_object.proofs.Written.{twice_4, twice_8}
 
 abbrev number_leaf : ℕ → Tree

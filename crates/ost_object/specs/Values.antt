@@ -4,7 +4,7 @@ use Rattle.std.specs.Int.{w32, w64, swap_bytes}
 use Rattle.gv_value.specs.declared.basic.Basic.TheVariants as basics
 use Rattle.gv_value.specs.Tree.{Content, Tree, Trees, no_trees, tree, byte_trees}
 use Rattle.gv_value.specs.Views.{trees_from}
-use Rattle.ost_model.specs.Fields.{FileRow, DirRow, MetaView}
+use Rattle.ost_model.specs.Fields.{FileRow, DirRow, MetaView, text_value}
 
 -- of type `u`, as OSTree keeps it: big endian
 abbrev pub number_value : ℕ → Tree
@@ -13,9 +13,6 @@ number_value n = Tree.leaf basics.Uint32 (Content.number (swap_bytes w32 n))
 -- of type `t`, big endian too
 abbrev pub time_value : ℕ → Tree
 time_value n = Tree.leaf basics.Uint64 (Content.number (swap_bytes w64 n))
-
-abbrev pub text_value : List ℕ → Tree
-text_value text = Tree.leaf basics.Str (Content.text text)
 
 abbrev pub bytes_value : List ℕ → Tree
 bytes_value bytes = Tree.array (byte_trees bytes)

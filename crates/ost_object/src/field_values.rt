@@ -2,7 +2,8 @@
 ghost use Rattle.std.specs.Prelude.{◌≡◌, true, IfOk};
 ghost use Rattle.gv_value.specs.Views.{plain};
 ghost use Rattle.ost_model.specs.Readers.{is_long};
-ghost use Rattle.ost_object.specs.Values.{text_value, bytes_value};
+ghost use Rattle.ost_object.specs.Values.{bytes_value};
+ghost use Rattle.ost_model.specs.Fields.{text_value};
 
 use fp_base::{Blob, Text};
 use fp_name::Digest;

@@ -5,7 +5,8 @@ ghost use Rattle.gv_value.specs.Views.{plain};
 ghost use Rattle.ost_model.specs.Readers.{commit_breaks, commit_read, is_long};
 ghost use Rattle.ost_model.specs.Types.{commit_shape, dictionary_shape, related_shape};
 ghost use Rattle.ost_object.specs.Decodes.{Decodes};
-ghost use Rattle.ost_object.specs.Values.{bytes_value, text_value, time_value};
+ghost use Rattle.ost_object.specs.Values.{bytes_value, time_value};
+ghost use Rattle.ost_model.specs.Fields.{text_value};
 ghost use Rattle.ost_object.specs.Views.{commit_view, parent_bytes, tree_at};
 ghost use Rattle.ost_object.specs.Writes.{Spells, Writes};
 

@@ -2,12 +2,12 @@ use Rattle.std.proofs.Common.{subst, refl, ◌≡◌}
 use Rattle.std.specs.Prelude.{Result}
 use Rattle.gv_value.specs.declared.value.GvValue.{GvValue}
 use Rattle.gv_value.specs.Views.{plain}
-use Rattle.ost_model.specs.Fields.{commit_in}
+use Rattle.ost_model.specs.Fields.{commit_in, text_value}
 use Rattle.ost_model.specs.Readers.{commit_breaks}
 use Rattle.ost_model.specs.Types.{related_shape, commit_shape}
 use Rattle.ost_object.specs.declared.error.ObjectError.{ObjectError}
 use Rattle.ost_object.specs.Decodes.{Decodes}
-use Rattle.ost_object.specs.Values.{text_value, time_value}
+use Rattle.ost_object.specs.Values.{time_value}
 use Rattle.ost_object.specs.Views.{commit_view, tree_at}
 use Rattle.ost_object.proofs.OneCommit.{commit_value, no_related, commit_is, commit_says, same_members}
 use Rattle.ost_object.proofs.Written.{written, spells_as}
