@@ -6,6 +6,7 @@ ghost use Rattle.fp_host.specs.Frame.{Unchanged};
 ghost use Rattle.fp_small.specs.Places.{repo};
 ghost use Rattle.ost_model.specs.Objects.{Have};
 ghost use Rattle.ost_model.specs.Remotes.{Stores};
+ghost use Rattle.fp_name.specs.Pins as pins;
 ghost use Rattle.fl_installed.specs.Users as spec;
 
 use crate::files::read_metadata;
@@ -17,7 +18,7 @@ use std::alloc::Global;
 
 /// Whether the ref is that of an application.
 pub(crate) fn is_app(name: &RefName) -> bool
-    ensures { result ≡ spec.is_app name.now }
+    ensures { result ≡ pins.is_app name.now }
 {
     match name.kind() {
         RefKind::App => true,
