@@ -356,6 +356,61 @@ fn what_stands_there_is_synced(rt: HostRuntime) {
     assert!(rt; tell(&rt, &rt, "bare", Kind::Plain, &BARE));
 }
 
+/// What takes a name away or gives a second one makes its folder last, and a file that waits for a
+/// sync is synced by the name that is left.
+const NAMES: [(Step<'static>, &str); 17] = [
+    (
+        Step::MakeDir("d"),
+        "make names\nmake names/root\nlock names/root/.lock\n\
+         write names/root/.lock\nmake names/root/d\n",
+    ),
+    (Step::MakeDir("d/e"), "make names/root/d/e\n"),
+    (Step::MakeDir("g"), "make names/root/g\n"),
+    (Step::Create("d/f", 0o644), "create names/root/d/f\n"),
+    (
+        Step::Sync,
+        "sync names/root/d/f\nsync .\nsync names\nsync names/root\n\
+         sync .\nsync names\nsync names/root\nsync names/root/d\nsync names/root/d/e\n\
+         sync names/root/g\ncut names/root/.lock\n",
+    ),
+    (
+        Step::Link("d/f", "g/f"),
+        "write names/root/.lock\nlink names/root/g/f\n",
+    ),
+    (Step::Sync, "sync names/root/g\ncut names/root/.lock\n"),
+    (
+        Step::Unlink("d/f"),
+        "write names/root/.lock\nremove names/root/d/f\n",
+    ),
+    (Step::Sync, "sync names/root/d\ncut names/root/.lock\n"),
+    (
+        Step::RemoveDir("d/e"),
+        "write names/root/.lock\nremove names/root/d/e\n",
+    ),
+    (Step::Sync, "sync names/root/d\ncut names/root/.lock\n"),
+    (
+        Step::Symlink("x", "g/l"),
+        "write names/root/.lock\nlink names/root/g/l\n",
+    ),
+    (Step::Sync, "sync names/root/g\ncut names/root/.lock\n"),
+    (
+        Step::Create("d/x", 0o644),
+        "write names/root/.lock\ncreate names/root/d/x\n",
+    ),
+    (Step::Link("d/x", "g/x"), "link names/root/g/x\n"),
+    (Step::Unlink("d/x"), "remove names/root/d/x\n"),
+    (
+        Step::Sync,
+        "sync names/root/g/x\nsync names/root/d\nsync names/root/g\ncut names/root/.lock\n",
+    ),
+];
+
+#[test]
+fn changed_names_are_synced(rt: HostRuntime) {
+    let parts = [Part::Ask(&NAMES)];
+    assert!(rt; tell_both(&rt, &rt, ("names", "names/root"), Kind::Plain, &parts));
+}
+
 /// How many files are made, and the sync that fails. Where 192 files are open beside the one that
 /// is written, they are synced before the next one is created, and the sync makes the others last.
 /// They are synced by their names, up to the first that fails: before f150 are f00 to f09, six of

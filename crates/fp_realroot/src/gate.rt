@@ -220,10 +220,12 @@ fn find_or_make_root<R: System>(
     }
 }
 
+/// What there is of a lock file. A symlink isn't followed, and nothing but a regular file is opened.
 fn find_lock_file<R: System>(rt: &R, lock_at: &str) -> Result<Entry, Cause> {
     match kind_at(rt, lock_at) {
         Ok(Kind::Absent) => Ok(Entry::Unlocked),
-        Ok(_) => Ok(Entry::Old),
+        Ok(Kind::File) => Ok(Entry::Old),
+        Ok(_) => Err(Cause::NoLock),
         Err(e) => Err(e),
     }
 }
@@ -251,9 +253,18 @@ fn some_lock<R: System>(rt: &R, at: &str, root: &str) -> Result<Option<Lock<R::F
     }
 }
 
+fn find_lock<R: System>(rt: &R, at: &str, root: &str) -> Result<Lock<R::File>, Cause> {
+    match find_lock_file(rt, at) {
+        Ok(Entry::Unlocked) => Ok(Lock::Open),
+        Ok(_) => open_to_look(rt, at, root),
+        Err(e) if e.is(ErrorKind::PermissionDenied) => Ok(Lock::Open),
+        Err(e) => Err(e),
+    }
+}
+
 /// The lock to look, where there is a file for it that may be opened: who may only read an
 /// installation looks without it.
-fn find_lock<R: System>(rt: &R, at: &str, root: &str) -> Result<Lock<R::File>, Cause> {
+fn open_to_look<R: System>(rt: &R, at: &str, root: &str) -> Result<Lock<R::File>, Cause> {
     match known(fs::open(rt, at)) {
         Ok(file) => share(rt, file, root),
         Err(e) if e.is(ErrorKind::NotFound) || e.is(ErrorKind::PermissionDenied) => Ok(Lock::Open),

@@ -87,6 +87,33 @@ const LINKED: [Act<'static>; 2] = [
     }),
 ];
 
+/// A lock file that leads to a file outside.
+const LINKED_LOCK: [Made<'static>; 3] = [
+    Made::Folder("links_lock/root"),
+    Made::File("links_lock/outside", "kept"),
+    Made::Link("../outside", "links_lock/root/.lock"),
+];
+
+const NO_LOCK: &str = "cannot use the folder links_lock/root: its .lock is no regular file";
+
+/// The symlink is followed neither by a change nor by a look.
+const LOCK_LINKED: [Act<'static>; 4] = [
+    Act::Make(&LINKED_LOCK),
+    Act::Run(
+        Access::Change,
+        "links_lock/root",
+        &[Part::Fail(&[Step::MakeDir("d")])],
+        (1, NO_LOCK),
+    ),
+    Act::Run(
+        Access::Look,
+        "links_lock/root",
+        &[Part::Fail(&[Step::Stat("d")])],
+        (1, NO_LOCK),
+    ),
+    Act::Text("links_lock/outside", "kept"),
+];
+
 /// A look at a folder that is not there makes nothing.
 const READS: [Step<'static>; 4] = [
     Step::List(""),
@@ -105,4 +132,5 @@ fn no_symlink_is_followed(rt: HostRuntime) {
     assert!(rt; tell(&rt, &rt, "links", Kind::Plain, &FOLLOWING));
     assert!(rt; tell(&rt, &rt, "links_there", Kind::Plain, &LINKED));
     assert!(rt; tell(&rt, &rt, "unmade", Kind::Plain, &UNMADE));
+    assert!(rt; tell(&rt, &rt, "links_lock", Kind::Plain, &LOCK_LINKED));
 }

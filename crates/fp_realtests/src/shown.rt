@@ -59,3 +59,16 @@ fn bytes_that_are_no_text_are_shown_so(rt: HostRuntime) {
     print_bytes(&rt, &rt, &log, true, b"a\x9b\xff\x1b\n");
     assert!(rt; log.is_noted("print a\\x9b\\xff\\u{1b}\n\n"));
 }
+
+/// Whether a failure of the system to print is told, on a terminal or elsewhere.
+fn is_told(rt: &HostRuntime, is_terminal: bool) -> bool {
+    let log = Log::new(rt.alloc(), Kind::Failing("print words"));
+    let system = Logged { rt, log: &log };
+    let screen = Screen::new(&system, rt.alloc(), is_terminal);
+    screen.write_all(b"words").is_err()
+}
+
+#[test]
+fn what_cannot_be_printed_is_told(rt: HostRuntime) {
+    assert!(rt; is_told(&rt, false) && is_told(&rt, true));
+}

@@ -33,6 +33,8 @@ pub enum Cause {
     IsSymlink,
     /// It is no regular file.
     NoFile,
+    /// What stands in the place of the lock file is no regular file.
+    NoLock,
     /// It is neither a regular file nor a symlink.
     NoLeaf,
     /// Both paths are names of one file.
@@ -89,6 +91,7 @@ impl Cause {
             Cause::IsOther => "it is no file, folder or symlink",
             Cause::IsSymlink => "a symlink is in the place of a folder",
             Cause::NoFile => "it is no regular file",
+            Cause::NoLock => "its .lock is no regular file",
             Cause::NoLeaf => "it is neither a regular file nor a symlink",
             Cause::OneFile => "both names are of one file",
             Cause::InTheWay => "what stands there is no file or symlink",
