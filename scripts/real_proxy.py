@@ -3,7 +3,7 @@
 
 usage: real_proxy.py PROGRAM..        as: real_proxy.py crates/fpk/out/fpk
 
-A private dbus-daemon, services on it, and a client behind `xdg-dbus-proxy --filter`. What both sides of the proxy send is recorded, and
+A private dbus-daemon, services on it, and a client that goes through `xdg-dbus-proxy --filter`. What both sides of the proxy send is recorded, and
 given to `PROGRAM filter RULES` as a recording. A message counts as the same where its type, serials, names, members and body are. It needs
 Debian's packages dbus, xdg-dbus-proxy and python3-gi.
 

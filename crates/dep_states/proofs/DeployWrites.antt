@@ -26,7 +26,8 @@ use Rattle.gv_value.proofs.Exact.{reads_values, spells_values}
 use Rattle.gv_value.proofs.Lists.{length-zeros}
 use Rattle.gv_value.proofs.Numbers.{length-le_bytes, length-offsets}
 use Rattle.dep_states.specs.declared.deploy.DeployData.{DeployData}
-use Rattle.dep_states.specs.Deploy.{time_shape, deploy_shape, digest_in, previous_in, goes_back_to, deploy_from, deploy_in, deploy_of, time_tree, previous_tree, deploy_tree}
+use Rattle.dep_states.specs.Deploy.{deploy_shape, digest_in, previous_in, goes_back_to, deploy_from, deploy_in, deploy_of, time_tree, previous_tree, deploy_tree}
+use Rattle.ost_model.specs.Types.{time_shape}
 use Rattle.ost_model.specs.Fields.{text_value}
 use Rattle.ost_model.specs.Types.{text_shape}
 use Rattle.dep_states.specs.After.{IsGoodPrevious}

@@ -15,7 +15,8 @@ use Rattle.gv_value.proofs.Exact.{reads_values, spells_values}
 use Rattle.gv_value.proofs.Lists.{then_some}
 use Rattle.ost_model.specs.Fields.{text_in}
 use Rattle.dep_states.specs.declared.deploy.DeployData.{DeployData}
-use Rattle.dep_states.specs.Deploy.{time_shape, deploy_shape, digest_in, time_in, if_remote_name, origin_in, previous_from, previous_in, goes_back_to, if_moves, deploy_from, deploy_in, deploy_of}
+use Rattle.dep_states.specs.Deploy.{deploy_shape, digest_in, time_in, if_remote_name, origin_in, previous_from, previous_in, goes_back_to, if_moves, deploy_from, deploy_in, deploy_of}
+use Rattle.ost_model.specs.Types.{time_shape}
 use Rattle.ost_model.specs.Types.{text_shape}
 use Rattle.dep_states.specs.After.{IsGoodPrevious}
 

@@ -9,13 +9,10 @@ use Rattle.gv_value.specs.Shape.{Shape, basic, maybe, tuple, no_shapes, shape}
 use Rattle.gv_value.specs.Tree.{Content, Tree, no_trees, tree}
 use Rattle.gv_value.specs.Reading.{value_of}
 use Rattle.ost_model.specs.Fields.{text_in, text_value}
-use Rattle.ost_model.specs.Types.{text_shape}
+use Rattle.ost_model.specs.Types.{text_shape, time_shape}
 use Rattle.dep_states.specs.declared.deploy.DeployData.{DeployData}
 use Rattle.dep_states.specs.declared.deploy.DeployError.{DeployError}
 use Rattle.dep_states.specs.declared.deploy.DeployError.TheVariants as errors
-
-abbrev pub time_shape : Shape
-time_shape = basic basics.Uint64
 
 -- `(sstm(st))`: origin, commit, timestamp, and the previous commit with its timestamp
 abbrev pub deploy_shape : Shape

@@ -6,6 +6,9 @@ use Rattle.ost_model.specs.Contents.{number_shape, bytes_shape, attributes_shape
 abbrev pub text_shape : Shape
 text_shape = basic basics.Str
 
+abbrev pub time_shape : Shape
+time_shape = basic basics.Uint64
+
 -- `a{sv}`
 abbrev pub dictionary_shape : Shape
 dictionary_shape = array (entry text_shape variant)
@@ -23,7 +26,7 @@ dirs_shape = array (tuple (shape text_shape (shape bytes_shape (shape bytes_shap
 abbrev pub commit_shape : Shape
 commit_shape = tuple (shape dictionary_shape
     (shape bytes_shape (shape related_shape (shape text_shape (shape text_shape
-    (shape (basic basics.Uint64) (shape bytes_shape (shape bytes_shape no_shapes))))))))
+    (shape time_shape (shape bytes_shape (shape bytes_shape no_shapes))))))))
 
 -- `(a(say)a(sayay))`: files, directories
 abbrev pub tree_shape : Shape

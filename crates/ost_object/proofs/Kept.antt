@@ -26,7 +26,8 @@ use Rattle.ost_object.specs.declared.error.ObjectError.{ObjectError}
 use Rattle.ost_object.specs.declared.error.ObjectError.TheVariants as errors
 use Rattle.ost_object.specs.Answers.{Finds}
 use Rattle.ost_object.specs.Decodes.{Decodes}
-use Rattle.ost_object.specs.Views.{tree_at, time_shape, text_at, time_at}
+use Rattle.ost_object.specs.Views.{tree_at, text_at, time_at}
+use Rattle.ost_model.specs.Types.{time_shape}
 use Rattle.ost_object.proofs.Rows.{bytes_back}
 
 pub tree_at-is : (t : Shape) (bytes : List ℕ) (v : Tree) → value_of t bytes ≡ Some v → tree_at t bytes ≡ v

@@ -18,7 +18,8 @@ use Rattle.fp_base.specs.declared.rule.Rule.{Rule}
 use Rattle.ost_object.specs.declared.error.ObjectError.{ObjectError}
 use Rattle.ost_object.specs.declared.error.ObjectError.TheVariants as errors
 use Rattle.ost_object.specs.Answers.{Finds, Misses}
-use Rattle.ost_object.specs.Views.{tree_at, text_at, time_at, time_shape, parts_view, part_list, if_eight}
+use Rattle.ost_object.specs.Views.{tree_at, text_at, time_at, parts_view, part_list, if_eight}
+use Rattle.ost_model.specs.Types.{time_shape}
 use Rattle.ost_object.proofs.Kept.{tree_at-is, some-value, bytes-field, text-field, time-field}
 
 abbrev one_left : Shapes

@@ -4,7 +4,7 @@ use Rattle.gv_value.specs.declared.basic.Basic.TheVariants as basics
 use Rattle.gv_value.specs.Reading.{value_of}
 use Rattle.gv_value.specs.Shape.{Shape}
 use Rattle.gv_value.specs.Tree.{Tree}
-use Rattle.ost_model.specs.Types.{dictionary_shape, related_shape, text_shape}
+use Rattle.ost_model.specs.Types.{dictionary_shape, related_shape, text_shape, time_shape}
 use Rattle.ost_model.specs.Fields.{CommitView, FileRow, DirRow, TreeView, MetaView, text_in, time_in}
 use Rattle.ost_model.specs.Readers.{file_name, dir_name}
 use Rattle.ost_object.specs.declared.commit.Commit.{Commit}
@@ -24,9 +24,6 @@ use Rattle.ost_object.specs.declared.fields.MetaFields.{MetaFields}
 -- the value of a type that bytes are; `nothing` where they are none
 unfoldable pub tree_at : Shape → List ℕ → Tree
 tree_at t bytes = unwrap_or (value_of t bytes) Tree.nothing
-
-abbrev pub time_shape : Shape
-time_shape = Shape.basic basics.Uint64
 
 -- the text that bytes of type `s` are, else the empty one
 abbrev pub text_at : List ℕ → List ℕ

@@ -8,7 +8,8 @@ ghost use Rattle.ost_model.specs.Fields.{byte_in, text_in, bytes_in, number_in, 
 ghost use Rattle.gv_decode.specs.Decoded.{slices, children_of as children_in};
 ghost use Rattle.ost_model.specs.Types.{text_shape};
 ghost use Rattle.ost_object.specs.Answers.{Finds, Holds, as_is};
-ghost use Rattle.ost_object.specs.Views.{time_shape, text_at, time_at};
+ghost use Rattle.ost_object.specs.Views.{text_at, time_at};
+ghost use Rattle.ost_model.specs.Types.{time_shape};
 
 use crate::error::ObjectError;
 use fp_base::{Blob, Rule, Text};

@@ -47,8 +47,8 @@ pub fn place<H: Host>(
     Ok(host.rename(tmp, &path)?)
 }
 
-/// Gives an object that stands in a work folder, laid out as a store, its name in the store. Nothing
-/// is synced. It is for an object that may be placed so.
+/// Gives an object that stands in a work folder, laid out as a store, its name in the store.
+/// Nothing is synced. It is for an object that may be placed so.
 pub fn place_from<H: Host>(
     alloc: Global,
     host: &mut H,
