@@ -56,7 +56,8 @@ fn numbered(alloc: Global, kind: &Kind) -> Result<Vec<u8>, Fail> {
     Ok(all)
 }
 
-/// The length of what goes on, where that is the first message of what a side sent and goes to the other side.
+/// The length of what goes on, where that is the first message of what a side sent and goes to the
+/// other side.
 fn length_passed(next: &Next, side: Side, sent: &[u8]) -> usize {
     match next {
         Next::Out(out) if out.to != side && sent.starts_with(out.bytes.as_slice()) => {
@@ -66,7 +67,8 @@ fn length_passed(next: &Next, side: Side, sent: &[u8]) -> usize {
     }
 }
 
-/// How many bytes of a side go to the other as they came, in order, where they come in small pieces.
+/// How many bytes of a side go to the other as they came, in order, where they come in small
+/// pieces.
 fn count_passed(filter: &mut Filter, side: Side, bytes: &[u8]) -> Result<usize, Fail> {
     let mut passed = 0usize;
     for piece in bytes.chunks(PIECE) {

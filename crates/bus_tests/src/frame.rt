@@ -22,8 +22,9 @@ const ANSWER: &[u8] = b"l\x03\x01\x01\0\0\0\0\xff\xff\xff\xff\x5d\0\0\0\
 \x05\x01u\0\x01\0\0\0\
 \x07\x01s\0\x14\0\0\0org.freedesktop.DBus\0\0\0\0";
 
-/// Messages in hexadecimal, and what is read at their front. They are the worked call; with a byte after it; with a body
-/// that lacks; with that body and no signature; a byte between the fields and the body; a reply serial of 0.
+/// Messages in hexadecimal, and what is read at their front. They are the worked call; with a byte
+/// after it; with a body that lacks; with that body and no signature; a byte between the fields and
+/// the body; a reply serial of 0.
 const FRONTS: &str = "\
 6c01000100000000010000003000000001016f00020000002f6100000000000003017300010000004d0000000000000006017300070000006f72672e62617200 1 0 1 /a - M - - org.bar - - 0
 6c01000100000000010000003000000001016f00020000002f6100000000000003017300010000004d0000000000000006017300070000006f72672e62617200ff 1 0 1 /a - M - - org.bar - - 0 and 1 more
@@ -32,8 +33,8 @@ const FRONTS: &str = "\
 6c04000119000000010000003900000001016f00010000002f000000000000000201730003000000612e62000000000003017300010000004d000000000000000801670003737373000000000000000101000000610000000000000000000000040000003a312e3100 breaks Padding
 420200010000001900000002000000100501750000000000080167000261730000000015000000076f72672e62617200000000043a312e3100 breaks Value";
 
-/// Messages in hexadecimal, and their bodies: none; three texts; one, where the second length says one byte more; two
-/// names in big endian; no names.
+/// Messages in hexadecimal, and their bodies: none; three texts; one, where the second length says
+/// one byte more; two names in big endian; no names.
 const BODIES: &str = "\
 6c01000100000000010000003000000001016f00020000002f6100000000000003017300010000004d0000000000000006017300070000006f72672e62617200 l 64 - - -
 6c04000119000000010000003900000001016f00010000002f000000000000000201730003000000612e62000000000003017300010000004d000000000000000801670003737373000000000000000001000000610000000000000000000000040000003a312e3100 l 80 a a,,:1.1 -
@@ -75,8 +76,8 @@ fn worked_messages(rt: HostRuntime) {
     agree_on_lines(&rt, rt.alloc(), BODIES, true);
 }
 
-/// How long a beginning of the worked call is, and what is read: what its fixed part says, and what follows that isn't
-/// looked at.
+/// How long a beginning of the worked call is, and what is read: what its fixed part says, and what
+/// follows that isn't looked at.
 const LENGTHS: [(usize, &str); 5] = [
     (0, "lacks 16"),
     (15, "lacks 1"),

@@ -9,8 +9,9 @@ use std::alloc::Global;
 use std::panic::Expect;
 use std::process::Abort;
 
-/// A step is a message and what becomes of it, as words: its side, type, flags, serial, the serial that it replies to, sender,
-/// destination, interface, member, signature, body in hexadecimal, and the verdict. Where `-` stands there is none.
+/// A step is a message and what becomes of it, as words: its side, type, flags, serial, the serial
+/// that it replies to, sender, destination, interface, member, signature, body in hexadecimal, and
+/// the verdict. Where `-` stands there is none.
 ///
 /// The word of a step at this place, or nothing for `-`.
 fn word<'a>(step: &'a str, at: usize) -> Option<&'a str> {
@@ -227,7 +228,8 @@ fn bad_rules(rt: HostRuntime) {
     assert!(rt; is_one_added(&rt, rt.alloc(), &mut policy));
 }
 
-/// Calls of the client: to a name at talk, see, none; without a reply; by a rule and past it; to the client itself.
+/// Calls of the client: to a name at talk, see, none; without a reply; by a rule and past it; to
+/// the client itself.
 const CALLS: &str = "\
 c 1 0 1 - - org.foo.x - M - - Pass
 c 1 0 1 - - org.bar - M - - Deny

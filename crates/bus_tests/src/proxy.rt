@@ -1,4 +1,5 @@
-//! Worked streams through the filter, however they are cut. The messages are spelled by hand after the D-Bus specification.
+//! Worked streams through the filter, however they are cut. The messages are spelled by hand after
+//! the D-Bus specification.
 
 use crate::rows::agree;
 use crate::told::spelled;
@@ -10,15 +11,16 @@ use std::alloc::Global;
 use std::panic::Expect;
 use std::process::Abort;
 
-/// The level of `org.bar`, and messages that are sent and that go to a side: each with `c` for the client or `b` for the
-/// bus.
+/// The level of `org.bar`, and messages that are sent and that go to a side: each with `c` for the
+/// client or `b` for the bus.
 struct Case {
     level: Level,
     sent: &'static str,
     wanted: &'static str,
 }
 
-/// A call of `M` at `/a` of `org.bar` with serial 1 goes to the bus, and one return of it from `:1.9` to the client.
+/// A call of `M` at `/a` of `org.bar` with serial 1 goes to the bus, and one return of it from
+/// `:1.9` to the client.
 const TALK: Case = Case {
     level: Level::Talk,
     sent: "\
@@ -51,7 +53,8 @@ const NOTHING: Case = Case {
     wanted: "",
 };
 
-/// A call of `ListNames`, and of the names `org.bar` and `:1.1` that come back, in big endian, the one that may be seen.
+/// A call of `ListNames`, and of the names `org.bar` and `:1.1` that come back, in big endian, the
+/// one that may be seen.
 const NAMES: Case = Case {
     level: Level::See,
     sent: "\

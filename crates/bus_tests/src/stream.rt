@@ -17,8 +17,9 @@ fn real_messages(rt: HostRuntime) {
     agree_on_lines(&rt, rt.alloc(), CAPTURED, false);
 }
 
-/// What the next answer of a stream means, where it ends the stream: `.` for whole messages, `?` where more is to come, `x`
-/// for a broken rule, `L` for the rule of lengths, and `m` without memory.
+/// What the next answer of a stream means, where it ends the stream: `.` for whole messages, `?`
+/// where more is to come, `x` for a broken rule, `L` for the rule of lengths, and `m` without
+/// memory.
 fn mark(next: &Result<Cut, FrameError>, pending: u64) -> Option<u8> {
     match next {
         Ok(Cut::Message(_, _)) => None,
@@ -95,7 +96,8 @@ fn agree_on_told(rt: &impl Abort, alloc: Global, lines: &str, ping: &[u8], is_so
     }
 }
 
-/// The daemon disconnects for messages that break a rule, and for no others but those that are listed apart.
+/// The daemon disconnects for messages that break a rule, and for no others but those that are
+/// listed apart.
 #[test]
 fn broken_messages(rt: HostRuntime) {
     let ping = bytes_of(&rt, rt.alloc(), PING);
@@ -221,14 +223,16 @@ fn comes(cutter: &mut Cutter, wanted: &[u8]) -> bool {
     is_so
 }
 
-/// Whether after one byte more the message is there, where it is to, and that many bytes wait before.
+/// Whether after one byte more the message is there, where it is to, and that many bytes wait
+/// before.
 fn comes_at(rt: &impl Abort, cutter: &mut Cutter, message: &[u8], at: usize, byte: u8) -> bool {
     cutter.feed(&[byte]).expect(rt, "memory");
     let pending = cutter.pending();
     pending == (at as u64).saturating_add(1) && comes(cutter, message) == (at == 63)
 }
 
-/// Ends the test where a message that comes byte by byte isn't there with its last byte, or is there before.
+/// Ends the test where a message that comes byte by byte isn't there with its last byte, or is
+/// there before.
 fn agree_on_bytes(rt: &impl Abort, cutter: &mut Cutter, message: &[u8]) {
     for (at, byte) in message.iter().enumerate() {
         agree_at(rt, at, comes_at(rt, cutter, message, at, *byte));

@@ -63,7 +63,8 @@ fn joined(rt: &impl Abort, alloc: Global, words: &[&str]) -> String {
     words.join(alloc, " ").expect(rt, "memory")
 }
 
-/// The texts of a header: what is called, or which error it is, the serial that it replies to, and the others.
+/// The texts of a header: what is called, or which error it is, the serial that it replies to, and
+/// the others.
 fn texts_of(rt: &impl Abort, alloc: Global, header: &Header, reply: &str) -> String {
     let path = word(&header.path);
     let interface = word(&header.interface);
@@ -152,7 +153,8 @@ fn error_line(rt: &impl Abort, alloc: Global, error: &FrameError) -> String {
     }
 }
 
-/// What stands at the front of some bytes: the header of a message, how many bytes lack, or the rule that is broken.
+/// What stands at the front of some bytes: the header of a message, how many bytes lack, or the
+/// rule that is broken.
 pub fn front_line(rt: &impl Abort, alloc: Global, bytes: &[u8]) -> String {
     let read = read_frame(alloc, bytes);
     let line = read_line(rt, alloc, &read, bytes.len() as u64);
@@ -169,7 +171,8 @@ fn three_word(rt: &impl Abort, alloc: Global, header: &Header, message: &[u8]) -
     three.expect(rt, "memory")
 }
 
-/// The order of the bytes of a body and where it begins, its first text, three texts, and whether it is a list of names.
+/// The order of the bytes of a body and where it begins, its first text, three texts, and whether
+/// it is a list of names.
 fn plain_line(rt: &impl Abort, alloc: Global, header: &Header, message: &[u8]) -> String {
     let order = if header.little { "l" } else { "B" };
     let first = first_string(header, message).unwrap_or("-");
@@ -223,7 +226,8 @@ fn read_body(
     }
 }
 
-/// The body of a message: the order of its bytes and where it begins, its first text, its three texts, its names.
+/// The body of a message: the order of its bytes and where it begins, its first text, its three
+/// texts, its names.
 pub fn body_line(rt: &impl Abort, alloc: Global, bytes: &[u8]) -> String {
     let read = read_frame(alloc, bytes);
     let line = read_body(rt, alloc, &read, bytes);

@@ -110,8 +110,8 @@ fn fsck_status<T: Threads + Sync + Abort, H: Host, R: Remotes, G: Gate + Sync>(
     run_gated(rt, alloc, &words, &mut input, host, remotes, gate)
 }
 
-/// The commit, its dirtree, its dirmeta and 40 files are 43 objects. They are one batch, of the pull and of `fsck`, and each half
-/// of it sees the other at work.
+/// The commit, its dirtree, its dirmeta and 40 files are 43 objects. They are one batch, of the
+/// pull and of `fsck`, and each half of it sees the other at work.
 #[test]
 fn both_halves_are_at_work(rt: HostRuntime) {
     let alloc = rt.alloc();

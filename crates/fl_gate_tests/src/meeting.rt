@@ -33,8 +33,8 @@ impl Side {
     }
 }
 
-/// A gate whose two halves each look, as they begin, whether the other one has begun: a thousand million looks at most. So one
-/// thread that hashes both can't see both.
+/// A gate whose two halves each look, as they begin, whether the other one has begun: a thousand
+/// million looks at most. So one thread that hashes both can't see both.
 #[derive(Drop)]
 pub struct MeetingGate {
     first: Side,

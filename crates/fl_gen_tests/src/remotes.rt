@@ -19,8 +19,8 @@ fn commit_at(
     Ok(digits)
 }
 
-/// `ostree commit --no-xattrs --owner-uid=0 --owner-gid=0 --subject=gen --timestamp=@1` gives the first digest, and with `@2` the
-/// second.
+/// `ostree commit --no-xattrs --owner-uid=0 --owner-gid=0 --subject=gen --timestamp=@1` gives the
+/// first digest, and with `@2` the second.
 #[test]
 fn as_ostree(rt: HostRuntime) -> Result<(), Fail> {
     let alloc = rt.alloc();
@@ -42,7 +42,8 @@ fn as_ostree(rt: HostRuntime) -> Result<(), Fail> {
     Ok(())
 }
 
-/// One remote, four installs, another url, an update, two applications with odd numbers, and the unused runtimes.
+/// One remote, four installs, another url, an update, two applications with odd numbers, and the
+/// unused runtimes.
 #[test]
 fn ten_commands(rt: HostRuntime) -> Result<(), Fail> {
     assert!(rt; exercise_commands(rt.alloc(), 4)?.len() == 10);

@@ -30,7 +30,8 @@ fn put_candidates(rt: &impl Abort, out: &mut String, candidates: &[RefName]) {
     }
 }
 
-/// Adds `NAME DIRECTORY auto: CANDIDATE .. CANDIDATE |`, with `manual` for a point that isn't automatic.
+/// Adds `NAME DIRECTORY auto: CANDIDATE .. CANDIDATE |`, with `manual` for a point that isn't
+/// automatic.
 fn put_point(rt: &impl Abort, out: &mut String, point: &Point) {
     put_front(out, point).expect(rt, "memory");
     put_candidates(rt, out, point.candidates.as_slice());
@@ -352,7 +353,8 @@ pub fn many(rt: &impl Abort, alloc: Global, count: u32, head: &str, tail: &str) 
     text
 }
 
-/// The place that is found among 300 candidates in a state of 1,101 refs, of which the last is a candidate.
+/// The place that is found among 300 candidates in a state of 1,101 refs, of which the last is a
+/// candidate.
 #[test]
 fn many_candidates(rt: HostRuntime) {
     let alloc = rt.alloc();

@@ -1,4 +1,5 @@
-//! A state of 1,100 refs over a host that holds nothing: what is asked of each ref comes to its end.
+//! A state of 1,100 refs over a host that holds nothing: what is asked of each ref comes to its
+//! end.
 
 use crate::extension::{many, state_of};
 use crate::given::ref_name;
@@ -29,7 +30,8 @@ fn new_host(rt: &impl Abort, alloc: Global) -> MemHost {
     MemHost::new(alloc).expect(rt, "memory")
 }
 
-/// How many refs have metadata, how many are told with their points, and how many files are exported.
+/// How many refs have metadata, how many are told with their points, and how many files are
+/// exported.
 fn counts(rt: &impl Abort, alloc: Global, host: &mut MemHost, state: &State) -> [usize; 3] {
     let metas = metas(alloc, host, state).expect(rt, "metadata");
     let points = points(alloc, host, state).expect(rt, "points");
@@ -77,7 +79,8 @@ fn options(rt: &impl Abort, alloc: Global) -> Vec<Text> {
     words
 }
 
-/// Whether an application whose commit is not there is refused, for what it consists of and for a launch.
+/// Whether an application whose commit is not there is refused, for what it consists of and for a
+/// launch.
 fn is_refused(
     rt: &impl Abort,
     alloc: Global,

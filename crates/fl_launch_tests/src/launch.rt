@@ -1,4 +1,5 @@
-//! Launches that were worked out from the rules by hand: their texts, and the policies that they give.
+//! Launches that were worked out from the rules by hand: their texts, and the policies that they
+//! give.
 
 ghost use Rattle.std.specs.Prelude.{IsTrue, IsSome};
 
@@ -33,8 +34,9 @@ const PLATFORM: &str = "[Runtime]\nname=org.x.Platform\n";
 const HEADING: &str =
     "[Application]\nname=org.x.App\nruntime=runtime/org.x.Platform/x86_64/1\ncommand=run\n[Instance]\napp-commit=0101010101010101010101010101010101010101010101010101010101010101\nruntime-commit=0202020202020202020202020202020202020202020202020202020202020202\narch=x86_64\nbranch=stable\n";
 
-/// What is given to a launch: the metadata of the runtime and of the application, the global override and the application's, the
-/// options, and the extensions that are installed. Spaces separate the last two.
+/// What is given to a launch: the metadata of the runtime and of the application, the global
+/// override and the application's, the options, and the extensions that are installed. Spaces
+/// separate the last two.
 #[derive(Clone, Copy)]
 struct Given<'a> {
     runtime: &'a str,
@@ -229,8 +231,9 @@ const LINES_WITH_BUS: &str =
 const LINES_WITH_LOCALE: &str =
     "app-extensions=org.x.App.Locale=0303030303030303030303030303030303030303030303030303030303030303;\nsession-bus-proxy=true\n[Context]\nshared=ipc;network;\nsockets=wayland;\ndevices=dri;\nfilesystems=~/x:ro;\n[Environment]\nA=b c\n[Session Bus Policy]\norg.foo.*=talk\n[Unknown]\nsockets=gizmo;\n[Mounts]\n/app/share/locale=runtime/org.x.App.Locale/x86_64/stable\n";
 
-/// Much is given: each layer takes something away from those before it, and there are points of both with more than one candidate.
-/// Names ascend among the extensions, and whole lines among the mounts, where a space comes before `=` and a letter after it.
+/// Much is given: each layer takes something away from those before it, and there are points of
+/// both with more than one candidate. Names ascend among the extensions, and whole lines among the
+/// mounts, where a space comes before `=` and a letter after it.
 const MUCH: Given<'static> = Given {
     runtime: "[Runtime]\n[Context]\nshared=network;ipc\nfeatures=f;devel\n[Environment]\nC=3\nA=0\n[Session Bus Policy]\norg.foo=own\norg.bar=see\n[Extension org.x.P]\ndirectory=a\nversions=3;2;1\n",
     app: "[Application]\nname=org.x.App\nruntime=org.x.Platform/x86_64/1\ncommand=run\n[Context]\nshared=!network\nsockets=x11;session-bus\nfilesystems=~/y:create;host;!home;~/x:ro\npersistent=.b;.a\n[Environment]\nB=2\nA=1\n[System Bus Policy]\norg.c.d=talk\norg.e=Own\n[Extension org.x.c]\ndirectory=z b\n[Extension org.x.b]\ndirectory=z\n[Extension org.x.a]\ndirectory=zz\n[Extension org.x.d]\ndirectory=d\n",
@@ -344,8 +347,8 @@ fn long_command(rt: HostRuntime) {
     assert!(rt; text.expect(&rt, "a runtime").contains(command.as_str()));
 }
 
-/// Whether the launch with these points and refs has so many lines, and mounts the extensions of the
-/// first point and of the last.
+/// Whether the launch with these points and refs has so many lines, and mounts the extensions of
+/// the first point and of the last.
 fn are_mounted(
     rt: &impl Abort,
     alloc: Global,
@@ -373,8 +376,8 @@ fn are_mounted(
     is_so
 }
 
-/// 1,100 extensions are mounted, a line each, besides the 21 lines of the usual launch, the line of the
-/// extensions and the head of the mounts.
+/// 1,100 extensions are mounted, a line each, besides the 21 lines of the usual launch, the line of
+/// the extensions and the head of the mounts.
 #[test]
 fn many_mounts(rt: HostRuntime) {
     let groups = many_groups(&rt, rt.alloc(), 1_100);

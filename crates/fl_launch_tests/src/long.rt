@@ -1,5 +1,5 @@
-//! Metadata and a desktop file of 100 KiB, and states of 1,100 rows: what has to be found in them or
-//! made of them.
+//! Metadata and a desktop file of 100 KiB, and states of 1,100 rows: what has to be found in them
+//! or made of them.
 
 use crate::extension::{many, state_of};
 use crate::given::{key_file, ref_name};

@@ -82,3 +82,17 @@ fn is_source(alloc: Global) -> bool {
 fn an_input_is_a_source(rt: HostRuntime) {
     assert!(rt; is_source(rt.alloc()));
 }
+
+/// Whether what was taken is kept, where that is asked for.
+fn keeps(alloc: Global) -> bool {
+    let turn = Cell::new(1);
+    let turns = Turns { turn: &turn };
+    let mut source = StdinSource::keeping(&turns, alloc);
+    let mut into = [7u8; 4];
+    source.take(&mut into) == Taken::Took(2) && source.kept() == Some([7u8, 7].as_slice())
+}
+
+#[test]
+fn what_was_taken_is_kept(rt: HostRuntime) {
+    assert!(rt; keeps(rt.alloc()));
+}

@@ -44,7 +44,8 @@ fn new_host(rt: &impl Abort, alloc: Global) -> MemHost {
     MemHost::new(alloc).expect(rt, "memory")
 }
 
-/// The host after these calls, of which one fails: it is done all the same, or a stop may still bring it about.
+/// The host after these calls, of which one fails: it is done all the same, or a stop may still
+/// bring it about.
 fn replaced(rt: &impl Abort, alloc: Global, at: &Places, failing: u64, is_done: bool) -> MemHost {
     let mut host = new_host(rt, alloc);
     host.fail_calls(&[(failing, is_done)]).expect(rt, "memory");
@@ -128,7 +129,8 @@ fn left(
     }
 }
 
-/// Calls that were made, the entries chosen of the two names, the bytes that are chosen for file 0, and where the file is found.
+/// Calls that were made, the entries chosen of the two names, the bytes that are chosen for file 0,
+/// and where the file is found.
 const LEFT: [(u64, u64, u64, &[u8], &str); 12] = [
     (5, 0, 0, b"", "config"),
     (5, 0, 1, b"", "both"),
@@ -164,7 +166,8 @@ fn a_stop_leaves_what_is_chosen(rt: HostRuntime) {
     drop(at);
 }
 
-/// Which call fails, whether it is done all the same, whether two names may change then, and where the file is found.
+/// Which call fails, whether it is done all the same, whether two names may change then, and where
+/// the file is found.
 const FAILING: [(u64, bool, bool, &str); 6] = [
     (99, true, true, "config"),
     (0, false, false, "neither"),

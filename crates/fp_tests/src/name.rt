@@ -422,8 +422,8 @@ fn ascend(rt: &impl Abort, alloc: Global, left: &str, right: &str) -> bool {
         && order_of(rt, alloc, right, left) == Some(Ordering::Greater)
 }
 
-/// By the bytes of the texts the left ref comes first. The first two have the other order by their parts, since `-` and
-/// `.` come before `/`.
+/// By the bytes of the texts the left ref comes first. The first two have the other order by their
+/// parts, since `-` and `.` come before `/`.
 const ORDERED: [(&str, &str); 10] = [
     ("app/org.x.A-b/x86_64/1", "app/org.x.A/x86_64/1"),
     ("app/org.x.A.b/x86_64/1", "app/org.x.A/x86_64/1"),
@@ -572,7 +572,8 @@ fn longest(rt: &impl Abort, alloc: Global) -> String {
         .expect(rt, "memory")
 }
 
-/// Whether a ref of a runtime is written, copied and made again of its parts, and is a pattern that matches it.
+/// Whether a ref of a runtime is written, copied and made again of its parts, and is a pattern that
+/// matches it.
 fn is_kept(rt: &impl Abort, alloc: Global, name: &RefName, text: &str) -> bool {
     name.kind() == RefKind::Runtime
         && is_whole(rt, alloc, name, text)

@@ -1,4 +1,5 @@
-//! How a test ends at a row of a table that is otherwise than it should be, and what texts are compared with.
+//! How a test ends at a row of a table that is otherwise than it should be, and what texts are
+//! compared with.
 
 use fp_base::Text;
 use std::alloc::AllocError;

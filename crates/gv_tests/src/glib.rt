@@ -20,7 +20,8 @@ fn is_spelled(rt: &impl Abort, alloc: Global, of: &GvType, value: GvValue, bytes
     written.expect(rt, "a value").as_slice() == bytes
 }
 
-/// Whether bytes are read exactly where they are in normal form, and are written again as they were.
+/// Whether bytes are read exactly where they are in normal form, and are written again as they
+/// were.
 fn is_read(rt: &impl Abort, alloc: Global, normal: bool, of: &GvType, bytes: &[u8]) -> bool {
     match decode(alloc, of, bytes) {
         Ok(value) => is_spelled(rt, alloc, of, value, bytes) && normal,

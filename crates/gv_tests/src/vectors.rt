@@ -1,6 +1,7 @@
 //! Bytes that GLib has judged.
 
-/// What `scripts/gvariant_vectors.py 200 1` prints, with GLib 2.74: whether bytes are of a type in normal form.
+/// What `scripts/gvariant_vectors.py 200 1` prints, with GLib 2.74: whether bytes are of a type in
+/// normal form.
 pub const VECTORS: &str = "\
 no mv 006d7b677d00\n\
 no mb ff\n\

@@ -87,15 +87,16 @@ fn digits(
     digits_with(rt, alloc, rows, "subject")
 }
 
-/// `ostree commit --no-xattrs --owner-uid=0 --owner-gid=0 --timestamp=@1700000000` gives this digest.
+/// `ostree commit --no-xattrs --owner-uid=0 --owner-gid=0 --timestamp=@1700000000` gives this
+/// digest.
 #[test]
 fn as_ostree(rt: HostRuntime) {
     let found = digits(&rt, rt.alloc(), &rows(&rt, rt.alloc()));
     assert!(rt; found == Ok(*b"6a9c63939657b099e13480c81b59c39977f1b660cd41bd1e0e2adb60c706027f"));
 }
 
-/// What it gives to a tree of 1,100 files, in a folder `files`: their names are the numbers from 1000 on, and the bytes of each are
-/// those of its name.
+/// What it gives to a tree of 1,100 files, in a folder `files`: their names are the numbers from
+/// 1000 on, and the bytes of each are those of its name.
 pub const MANY: [u8; 64] = *b"83d18e69cbeb79ab908981967b6e54a9b8e16d9aeb59ddccb46409d0af7de04e";
 
 /// The numbers that name them.
@@ -122,7 +123,8 @@ fn many_as_ostree(rt: HostRuntime) {
     assert!(rt; found == Ok(MANY));
 }
 
-/// The commit of no file whose subject is 100 KiB of the letter s, spelled by the format of OSTree's objects, has this digest.
+/// The commit of no file whose subject is 100 KiB of the letter s, spelled by the format of
+/// OSTree's objects, has this digest.
 #[test]
 fn long_subject(rt: HostRuntime) {
     let subject = "s".repeat(rt.alloc(), 100 << 10).expect(&rt, "memory");

@@ -39,7 +39,8 @@ link files/link bin/run
 dir empty
 ";
 
-/// `ostree commit --no-xattrs --owner-uid=0 --owner-gid=0 --timestamp=@1700000000` gives this digest.
+/// `ostree commit --no-xattrs --owner-uid=0 --owner-gid=0 --timestamp=@1700000000` gives this
+/// digest.
 #[test]
 fn described_as_ostree(rt: HostRuntime) {
     let found = digits(&rt, rt.alloc(), TREE);

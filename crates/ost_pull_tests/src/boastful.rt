@@ -8,7 +8,8 @@ use std::alloc::Global;
 /// A byte more than an object may have.
 const SIZE: u64 = 1_073_741_825;
 
-/// A remote that holds what another one does, but for a file that it says to have this size. It tells nothing.
+/// A remote that holds what another one does, but for a file that it says to have this size. It
+/// tells nothing.
 #[derive(Drop)]
 pub struct Boastful {
     /// The other one.

@@ -95,8 +95,8 @@ fn is_always_true(rt: &impl Abort, alloc: Global, host: &MemHost) -> bool {
     true
 }
 
-/// Whether a pull in which this call of the remote fails ends so, over a store that has the commit of no file, which has so many
-/// objects then; and all names were true at every moment.
+/// Whether a pull in which this call of the remote fails ends so, over a store that has the commit
+/// of no file, which has so many objects then; and all names were true at every moment.
 fn ends_so(
     rt: &(impl Abort + Threads + Sync),
     alloc: Global,
@@ -125,7 +125,8 @@ fn is_pulled(rt: &(impl Abort + Threads + Sync), alloc: Global, host: &mut MemHo
 /// More calls than a pull of the few files makes.
 const MOST_CALLS: u64 = 1_000;
 
-/// How many calls of the remote, from the first on, end the pull where they fail, and leave the store as it was.
+/// How many calls of the remote, from the first on, end the pull where they fail, and leave the
+/// store as it was.
 fn faults(rt: &(impl Abort + Threads + Sync), alloc: Global, built: &Built) -> u64 {
     for call in 0..MOST_CALLS {
         if !ends_so(rt, alloc, built, call, "the remote failed", 3) {

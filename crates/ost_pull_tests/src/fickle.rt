@@ -5,8 +5,8 @@ use fp_host::{Node, Path, RemoteError, Remotes};
 use fp_memhost::MemRemotes;
 use std::alloc::Global;
 
-/// A remote that holds what another one does. The bits of a number say of the reads in turn, and from the 65th on again from the
-/// first, which of them give another first byte.
+/// A remote that holds what another one does. The bits of a number say of the reads in turn, and
+/// from the 65th on again from the first, which of them give another first byte.
 #[derive(Drop)]
 pub struct Fickle {
     /// The other one.

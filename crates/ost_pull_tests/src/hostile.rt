@@ -87,7 +87,8 @@ fn put_files(rt: &impl Abort, alloc: Global, remotes: &mut MemRemotes, count: u3
     put_meta(rt, alloc, remotes, ObjKind::DirTree, bytes)
 }
 
-/// A commit of this number of levels below the root, in each of which each name is the same folder. The last has the files.
+/// A commit of this number of levels below the root, in each of which each name is the same folder.
+/// The last has the files.
 fn put_levels(
     rt: &impl Abort,
     alloc: Global,
@@ -105,8 +106,9 @@ fn put_levels(
     put_root(rt, alloc, remotes, tree, meta)
 }
 
-/// The names in each folder, the levels, the files in the last one, the answer of a pull, and the number of objects that are
-/// stored. Ten levels of two names, with 1,024 files in each of the last, make 2^20 places.
+/// The names in each folder, the levels, the files in the last one, the answer of a pull, and the
+/// number of objects that are stored. Ten levels of two names, with 1,024 files in each of the
+/// last, make 2^20 places.
 const LEVELS: &[(&[&str], u32, u32, &str, usize)] = &[
     (&["a"], 64, 1, "", 68),
     (&["a"], 65, 1, "error: limit depth 65\n", 0),

@@ -1,8 +1,8 @@
-//! Objects of the few files, each cut by a byte, with a byte more, and with another object of its kind in its place.
-//! `scripts/ostree_pulls.py` printed the table.
+//! Objects of the few files, each cut by a byte, with a byte more, and with another object of its
+//! kind in its place. `scripts/ostree_pulls.py` printed the table.
 
-/// The object's name, and what a remote has in its place: the permission bits, the bytes in hexadecimal digits (a link's text), and
-/// the digest of that.
+/// The object's name, and what a remote has in its place: the permission bits, the bytes in
+/// hexadecimal digits (a link's text), and the digest of that.
 pub const BREAKS: &[(&str, u32, &str, &str)] = &[
     (
         "27087435aa0e61882d62d6ff85ecabf67a078e17662b4542ba9fa777e0daf792.commit",

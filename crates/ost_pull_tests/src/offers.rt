@@ -1,4 +1,5 @@
-//! Commits of a few files and of many at a remote. `scripts/ostree_pulls.py` makes the same ones with the `ostree` command.
+//! Commits of a few files and of many at a remote. `scripts/ostree_pulls.py` makes the same ones
+//! with the `ostree` command.
 
 use fp_base::{Blob, ObjKind, Text};
 use fp_host::Path;

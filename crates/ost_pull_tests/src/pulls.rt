@@ -122,8 +122,8 @@ pub fn is_refused<R: Remotes>(
     end.as_str() == line && has.is_empty()
 }
 
-/// Pulls a commit of which a remote has all. The calls of the remote with these numbers fail. The text says why it wasn't done, or
-/// nothing.
+/// Pulls a commit of which a remote has all. The calls of the remote with these numbers fail. The
+/// text says why it wasn't done, or nothing.
 pub fn pull_offered(
     rt: &(impl Abort + Threads + Sync),
     alloc: Global,
@@ -159,7 +159,8 @@ fn stored_from(
     stored(rt, alloc, &mut host)
 }
 
-/// From a url of 1,100 bytes come the few files, and a file in pieces with the three objects above it.
+/// From a url of 1,100 bytes come the few files, and a file in pieces with the three objects above
+/// it.
 #[test]
 fn a_long_url_is_pulled_from(rt: HostRuntime) {
     let alloc = rt.alloc();
@@ -194,8 +195,8 @@ enum Instead {
     Mode(u32),
 }
 
-/// The file `metadata`, the link, the file `files/bin/run`, and the dirtree of the folder `files`, in the order of the commit but
-/// for the last one, which is before the link.
+/// The file `metadata`, the link, the file `files/bin/run`, and the dirtree of the folder `files`,
+/// in the order of the commit but for the last one, which is before the link.
 const METADATA: &str = "99a024be1d26a754338667712506aec165851fcef90b2793d8e540034c02a72f";
 
 const LINK: &str = "9a66a8ed7bf66427f5f2716c2f1fae391371f0d9939557f33ade986c45844bef";
@@ -342,7 +343,8 @@ fn a_link_without_a_text_is_none(rt: HostRuntime) {
     assert!(rt; is_harm_refused(&rt, alloc, &built, CUT_LETTER, NO_LETTER));
 }
 
-/// How many objects the store has after a pull of the commit that is done, and how many bytes were written until then.
+/// How many objects the store has after a pull of the commit that is done, and how many bytes were
+/// written until then.
 fn amounts_after(
     rt: &(impl Abort + Threads + Sync),
     alloc: Global,
@@ -364,7 +366,8 @@ fn a_second_pull_stores_nothing(rt: HostRuntime) {
     assert!(rt; first.0 == 3 && amounts_after(&rt, alloc, &mut host, &built) == first);
 }
 
-/// Whether a pull from a remote whose reads change so stores all of the few files, each true, or is refused and stores nothing.
+/// Whether a pull from a remote whose reads change so stores all of the few files, each true, or is
+/// refused and stores nothing.
 fn does_no_harm(
     rt: &(impl Abort + Threads + Sync),
     alloc: Global,

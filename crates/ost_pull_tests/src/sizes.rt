@@ -13,7 +13,8 @@ use std::panic::Expect;
 use std::process::Abort;
 use std::thread::Threads;
 
-/// The files below `objects` of the repository that `ostree commit` makes of a file of 67,108,865 zero bytes.
+/// The files below `objects` of the repository that `ostree commit` makes of a file of 67,108,865
+/// zero bytes.
 const BIG_OBJECTS: &str = "\
 repo/objects/08/4d42639e534fc2582a92fe3a14608d69c66c347070d760e04fe696af57eb09.commit
 repo/objects/44/6a0ef11b7cc167f3b603e585c7eeeeb675faa412d5ec73f62988eb0b6c5488.dirmeta
@@ -83,7 +84,8 @@ fn is_tidy(rt: &impl Abort, alloc: Global, host: &mut MemHost) -> bool {
     names.expect(rt, "names").is_empty()
 }
 
-/// Whether a pull of a file of this size whose last byte is missing is refused so, and leaves nothing in `repo/tmp`.
+/// Whether a pull of a file of this size whose last byte is missing is refused so, and leaves
+/// nothing in `repo/tmp`.
 fn is_cut_refused(
     rt: &(impl Abort + Threads + Sync),
     alloc: Global,

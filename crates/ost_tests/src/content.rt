@@ -31,7 +31,8 @@ fn headers(rt: HostRuntime) {
     assert!(rt; is_link_header(&rt, rt.alloc(), "f0", link));
 }
 
-/// The digest of a file whose content comes in pieces of this many bytes. The contracts of the hasher prove that it is the file's.
+/// The digest of a file whose content comes in pieces of this many bytes. The contracts of the
+/// hasher prove that it is the file's.
 fn digest_in_pieces(mode: u32, bytes: &[u8], size: usize) -> Digest
     requires permission { may_be_mode mode ≡ true }
     requires size { 0 < size }
@@ -95,7 +96,8 @@ fn agree_all(rt: &impl Abort, alloc: Global, names: &[(Named, &str)]) {
     }
 }
 
-/// The bytes of an empty directory, which are one zero byte, and no bytes, with the digests that `sha256sum` writes.
+/// The bytes of an empty directory, which are one zero byte, and no bytes, with the digests that
+/// `sha256sum` writes.
 const EMPTY: &[(Named, &str)] = &[
     (
         Named::Meta("00"),

@@ -1,4 +1,5 @@
-//! What no contract says: digests that `sha256sum` gives, and that both halves are at work at one time.
+//! What no contract says: digests that `sha256sum` gives, and that both halves are at work at one
+//! time.
 
 use crate::holding::HoldingGate;
 use crate::parsed::digest_of;
@@ -40,7 +41,8 @@ fn digest_of_all(all: &[Digest]) -> Digest {
     Digest::from_bytes(hasher.finalize())
 }
 
-/// Counts of items, and the digest of their digests, one after another, as one thread of another program gives it.
+/// Counts of items, and the digest of their digests, one after another, as one thread of another
+/// program gives it.
 const COUNTS: &[(usize, &str)] = &[
     (
         0,
@@ -141,8 +143,8 @@ fn digests_of_items(rt: HostRuntime) {
     }
 }
 
-/// Whether the digests of so many items, and those that come where this half is held until the other one is done, have this digest,
-/// and both halves are at work.
+/// Whether the digests of so many items, and those that come where this half is held until the
+/// other one is done, have this digest, and both halves are at work.
 fn are_at_work(
     rt: &(impl Abort + Threads + Sync),
     alloc: Global,
@@ -158,8 +160,8 @@ fn are_at_work(
     is_wanted && are_counted(rt, all.as_slice(), count, name) && gate.is_as_due(count)
 }
 
-/// The second half is held until the first one is done, and then the other way round, so neither waits for the other's
-/// thread. Only the first cut is told.
+/// The second half is held until the first one is done, and then the other way round, so neither
+/// waits for the other's thread. Only the first cut is told.
 #[test]
 fn both_halves_are_at_work(rt: HostRuntime) {
     let alloc = rt.alloc();

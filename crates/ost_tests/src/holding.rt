@@ -56,8 +56,8 @@ impl Side {
     }
 }
 
-/// A gate that holds one half as it begins, until the other half has shown all of its digests: a thousand million looks at
-/// most. It counts the calls for what is neither half.
+/// A gate that holds one half as it begins, until the other half has shown all of its digests: a
+/// thousand million looks at most. It counts the calls for what is neither half.
 #[derive(Drop)]
 pub struct HoldingGate {
     held: u32,
@@ -81,8 +81,8 @@ impl HoldingGate {
         }
     }
 
-    /// Whether each half began so often and showed so many times what was due, nothing else was told, and the held half saw the
-    /// other one done.
+    /// Whether each half began so often and showed so many times what was due, nothing else was
+    /// told, and the held half saw the other one done.
     fn have_told(&self, reached: u64, watched: u64) -> bool {
         self.first.has_told(reached, watched)
             && self.second.has_told(reached, watched)
@@ -90,8 +90,8 @@ impl HoldingGate {
             && self.strays.load(Ordering::SeqCst) == 0
     }
 
-    /// Whether both halves of this many items were at work, first with zeros alone and then with their digests; or nothing was told
-    /// where the items aren't cut.
+    /// Whether both halves of this many items were at work, first with zeros alone and then with
+    /// their digests; or nothing was told where the items aren't cut.
     pub fn is_as_due(&self, count: usize) -> bool {
         if count > 16 {
             self.have_told(1, 2)

@@ -19,8 +19,9 @@ pub enum Piece {
 /// How many rows there are.
 pub const ROWS: u32 = 1_100;
 
-/// The digest and the kind of a commit with metadata, texts and related objects that are all long: 100 KiB of the byte 7 and a
-/// binding to the rows' refs, the rows' objects, and 100 KiB of the letter t twice.
+/// The digest and the kind of a commit with metadata, texts and related objects that are all long:
+/// 100 KiB of the byte 7 and a binding to the rows' refs, the rows' objects, and 100 KiB of the
+/// letter t twice.
 pub const COMMIT: &str = "3eaabaf16a1bab4a65de8ab73503cdb23689fdcde8e33bd7fdd9291e9e51d15e.commit";
 
 /// What the commit is made of.

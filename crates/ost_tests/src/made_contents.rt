@@ -1,4 +1,5 @@
-//! Objects of a repository that OSTree made, with their names. `scripts/ostree_contents.py` printed them.
+//! Objects of a repository that OSTree made, with their names. `scripts/ostree_contents.py` printed
+//! them.
 
 /// What an object is made of.
 pub enum Named {

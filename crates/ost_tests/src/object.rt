@@ -1,4 +1,5 @@
-//! Metadata objects: what they are read as, the first rule that they break, and how they are written.
+//! Metadata objects: what they are read as, the first rule that they break, and how they are
+//! written.
 
 use crate::long_objects;
 use crate::long_objects::{COMMIT_PIECES, ROWS, TREE_PIECES, spelled};
@@ -217,7 +218,8 @@ fn refs_of(rt: &impl Abort, alloc: Global, commit: &Commit) -> String {
     }
 }
 
-/// Whether the commit of the digits has this timestamp and these lengths, and is bound to these refs.
+/// Whether the commit of the digits has this timestamp and these lengths, and is bound to these
+/// refs.
 fn is_read_as(
     rt: &impl Abort,
     alloc: Global,
@@ -229,8 +231,8 @@ fn is_read_as(
     has_lengths(&commit, lengths) && refs_of(rt, alloc, &commit).as_str() == refs
 }
 
-/// Commits that GLib spelled with two bindings, and the refs that each is bound to: the last binding decides, and one of type `s` is
-/// none.
+/// Commits that GLib spelled with two bindings, and the refs that each is bound to: the last
+/// binding decides, and one of type `s` is none.
 const BOUND: &[(&str, &str)] = &[
     (
         "6f73747265652e7265662d62696e64696e6700000000000061000200617313006f73747265652e7265662d62696e64696e67000000000000620002006173131f3f00000000000000000000000000000001010101010101010101010101010101010101010101010101010101010101010101010101010101010101010101010101010101010101010101010101010101704342414141",
@@ -430,8 +432,8 @@ fn is_long_commit(rt: &impl Abort, alloc: Global, bytes: &[u8]) -> bool {
         && has_name(rt, alloc, long_objects::COMMIT, bytes)
 }
 
-/// Whether the root of a commit has the dirtree whose digest is of the byte 3, and the dirmeta whose
-/// digest is of the byte 4.
+/// Whether the root of a commit has the dirtree whose digest is of the byte 3, and the dirmeta
+/// whose digest is of the byte 4.
 fn has_root(rt: &impl Abort, alloc: Global, bytes: &[u8]) -> bool {
     let root = commit_root(alloc, bytes).expect(rt, "a commit");
     root.tree == Digest::from_bytes([3; 32]) && root.meta == Digest::from_bytes([4; 32])

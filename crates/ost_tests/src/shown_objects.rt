@@ -1,4 +1,5 @@
-//! Metadata objects of another repository that the `ostree` command made: those of `scripts/ostree_shows.py`.
+//! Metadata objects of another repository that the `ostree` command made: those of
+//! `scripts/ostree_shows.py`.
 
 /// Their names, and their bytes in hexadecimal digits.
 pub const SHOWN: &[(&str, &str)] = &[

@@ -1,4 +1,5 @@
-//! Objects of a store. Their names are those that the `ostree` command gave them (`scripts/ostree_objects.sh`).
+//! Objects of a store. Their names are those that the `ostree` command gave them
+//! (`scripts/ostree_objects.sh`).
 
 use crate::steps::{Content, DONE, FAULT, Made, Step, Want, tell_all};
 use fp_base::ObjKind;
