@@ -22,7 +22,7 @@ pub(crate) fn is_on(group: &Group, key: &str) -> bool
 fn are_plain(text: &str) -> bool
     ensures { result ≡ list_all keys.is_key_byte text.now }
 {
-    text.bytes().all(is_key_byte)
+    text.bytes().all(|byte| is_key_byte(byte))
 }
 
 /// Whether an extension may be mounted at the text: a path that isn't the root, without `=` and

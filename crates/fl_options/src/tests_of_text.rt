@@ -41,7 +41,7 @@ fn has_barred(text: &str) -> bool
 fn has_control(text: &str) -> bool
     ensures { result ≡ list_any parts.is_control text.now }
 {
-    text.bytes().any(is_control)
+    text.bytes().any(|byte| is_control(byte))
 }
 
 /// Whether a text names a permission: it isn't empty, has no `;`, `=` or control character, and
