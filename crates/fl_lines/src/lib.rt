@@ -18,8 +18,8 @@ pub use info::info_text;
 pub use laws::escapes_tell_texts;
 pub use lines::{digits_of, object_of, op_line, pins_text, refs_text, remotes_text, skipped_line};
 pub use printed_words::{
-    frame_rule_word, key_rule_word, meta_rule_word, metadata_rule_word, rule_word,
-    side_word, what_word,
+    frame_rule_word, key_rule_word, meta_rule_word, metadata_rule_word, rule_word, side_word,
+    what_word,
 };
 pub use refusals::{octal_of, refusal_line};
 pub use stores::{bad_line, fsck_line, made_line, stray_line};

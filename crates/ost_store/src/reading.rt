@@ -183,8 +183,9 @@ pub fn read_within<H: Host>(
     ensures fault_has_cause { IsCounted (IsErrOf result HostEnd.Fault)
         (H.moments host.old) (H.faults host.old) (H.faults host.new) }
 {
-    match get(alloc, host, root, digest, ObjKind::File, most)? {
-        Got::File { size, .. } => Ok(Some(read_sized(alloc, host, root, digest, size)?)),
-        _ => Ok(None),
-    }
+    let Got::File { size, .. } = get(alloc, host, root, digest, ObjKind::File, most)? else {
+        return Ok(None);
+    };
+    let bytes = read_sized(alloc, host, root, digest, size)?;
+    Ok(Some(bytes))
 }
