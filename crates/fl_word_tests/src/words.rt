@@ -535,22 +535,24 @@ fn longest_remote(rt: HostRuntime) {
 /// Words after which stands a name or a number, each of another kind.
 const NAMED: [&str; 5] = ["pin", "exercise", "uninstall", "remote-delete", "override"];
 
+/// Whether a word is bad after this one.
+fn is_bad_after(rt: &impl Abort, alloc: Global, first: &str, word: &str) -> bool {
+    read_as(rt, alloc, &[first, word], "bad words at 1")
+}
+
+/// Whether a word is bad as a url.
+fn is_bad_url(rt: &impl Abort, alloc: Global, url: &str) -> bool {
+    read_as(rt, alloc, &["remote-add", "lab", url], "bad words at 2")
+}
+
 /// A word of a mebibyte is bad, whatever it has to be, and so is the second of 1,100.
 #[test]
 fn long_words(rt: HostRuntime) {
     let long = many(&rt, rt.alloc(), "a", 1 << 20);
     for first in &NAMED {
-        let is_so = read_as(&rt, rt.alloc(), &[*first, &long], "bad words at 1");
-        agree(&rt, first, is_so);
+        agree(&rt, first, is_bad_after(&rt, rt.alloc(), first, &long));
     }
-    assert!(rt;
-        read_as(
-            &rt,
-            rt.alloc(),
-            &["remote-add", "lab", &long],
-            "bad words at 2"
-        )
-    );
+    assert!(rt; is_bad_url(&rt, rt.alloc(), &long));
     assert!(rt; read_as(&rt, rt.alloc(), &["list"; 1_100], "bad words at 1"));
 }
 
