@@ -6,7 +6,7 @@ use Rattle.fp_host.specs.Paths.{Elements, Slot, absent, file, link, dir, IsAbove
 use Rattle.fp_host.specs.View.{View, IsTree}
 use Rattle.fp_host.specs.Calls.{IsLeaf, IsNoDir}
 use Rattle.fp_host.specs.Frame.{Keeps, NoPath, Only}
-use Rattle.fp_small.specs.Clear.{GoneAt, AbsentAt, IsWithin, Reaches}
+use Rattle.fp_small.specs.Clear.{GoneAt, AbsentAt, IsWithin, AbsentWithin, Reaches}
 use Rattle.fp_small.specs.Naming.{ListsIn}
 use Rattle.fp_small.proofs.Emptying.{within_child, reaches_child, emptied_no_dir}
 use Rattle.fp_small.proofs.Sharing.{shares_refl, shares_on, shares_empty}
@@ -211,3 +211,7 @@ leaf_is_no_dir (file id) leaf = tt
 leaf_is_no_dir (link text) leaf = tt
 leaf_is_no_dir absent leaf = absurd leaf
 leaf_is_no_dir dir leaf = absurd leaf
+
+-- what comes to be otherwise at or below the path comes to be absent
+pub names_swept : {p : Elements} {places : List Elements} {v w : View} → Sweeps (IsWithin p) places v w → (q : Elements) → (w.names q ≡ v.names q) ⊎ AbsentWithin p q (w.names q)
+names_swept s q = elim (s.alters.names q) [ inl same ↦ inl same | inr gone ↦ inr (gone.0.within, gone.1) ]

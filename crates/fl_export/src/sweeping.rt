@@ -65,6 +65,8 @@ fn sweep_within<H: Host>(
         (H.moments host.old) (H.moments host.new) }
     ensures on_success { OnOk result (AtEnd (λ u w. HasNoStaleIn (IsWithin path.now) places.now w)
         (H.moments host.old) (H.moments host.new)) }
+    ensures reach { OnOk result (AtEnd (λ u w. Reaches path.now depth u)
+        (H.moments host.old) (H.moments host.new)) }
     ensures fault_has_cause { IsCaused (IsErrOf result HostEnd.Fault) (H.moments host.old)
         (Reaches path.now depth) (H.faults host.old) (H.faults host.new) }
 {
@@ -88,6 +90,8 @@ fn sweep_names<H: Host>(
         (H.moments host.old) (H.moments host.new) }
     ensures on_success { OnOk result (AtEnd (λ u w. HasNoStaleIn (IsAbove path.now) places.now w)
         (H.moments host.old) (H.moments host.new)) }
+    ensures reach { OnOk result (AtEnd (λ u w. Reaches path.now depth u)
+        (H.moments host.old) (H.moments host.new)) }
     ensures fault_has_cause { IsCaused (IsErrOf result HostEnd.Fault) (H.moments host.old)
         (λ v. (v.names path.now ≡ dir) × Reaches path.now depth v)
         (H.faults host.old) (H.faults host.new) }
@@ -107,6 +111,9 @@ fn sweep_names<H: Host>(
 pub(crate) fn sweep<H: Host>(alloc: Global, host: &mut H, places: &[Path]) -> Result<(), HostEnd>
     ensures any_moment { Always (Cleans places.now) (H.moments host.old) (H.moments host.new) }
     ensures on_success { OnOk result (AtEnd (λ u w. HasNoStale places.now w)
+        (H.moments host.old) (H.moments host.new)) }
+    // No path below `exports` was deeper.
+    ensures reach { OnOk result (AtEnd (λ u w. Reaches exports MOST_LEVELS u)
         (H.moments host.old) (H.moments host.new)) }
     ensures fault_has_cause { IsCaused (IsErrOf result HostEnd.Fault) (H.moments host.old)
         (Reaches exports MOST_LEVELS) (H.faults host.old) (H.faults host.new) }

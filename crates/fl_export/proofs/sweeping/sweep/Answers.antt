@@ -17,6 +17,9 @@ returns-clause-any_moment g c = begins (g.met.H.Host.is_tree c.args.host.now) c.
 pub returns-clause-on_success : goal.returns-clause-on_success
 returns-clause-on_success g c = on_ok_weaker c.sweep_within.result (λ done. ends_to done (λ u w q. subst (λ (p : Elements). HasNoStaleIn (IsWithin p) c.args.places.now w) c.in_ok-exports.ensures q)) c.sweep_within.ensures.on_success
 
+pub returns-clause-reach : goal.returns-clause-reach
+returns-clause-reach g c = on_ok_weaker c.sweep_within.result (λ done. ends_to done (λ u w q. subst (λ (p : Elements). Reaches p 127 u) c.in_ok-exports.ensures q)) c.sweep_within.ensures.reach
+
 pub returns-clause-fault_has_cause : goal.returns-clause-fault_has_cause
 returns-clause-fault_has_cause g c = record {
   later = c.sweep_within.ensures.fault_has_cause.later;
