@@ -2,7 +2,7 @@
 
 use crate::meeting::MeetingGate;
 use fl_top::run_gated;
-use fp_base::Blob;
+use fp_base::{Blob, Items};
 use fp_host::{Host, Path, Remotes};
 use fp_memhost::{MemHost, MemNode, MemRemotes, MemSource};
 use fp_name::{Digest, RefName};
@@ -95,6 +95,15 @@ fn is_pulled<G: Gate + Sync>(
     pull_gated(rt, alloc, host, remotes, &root, URL, commit, &work, gate).is_ok()
 }
 
+/// The names of the objects.
+fn names_of(rt: &impl Abort, alloc: Global, built: &Built) -> Items<Digest> {
+    let mut names = Vec::new(alloc);
+    for made in built.objects.as_slice() {
+        names.push(made.digest).expect(rt, "memory");
+    }
+    Items::from_vec(names)
+}
+
 /// Runs `fsck` with a gate, and answers its status.
 fn fsck_status<T: Threads + Sync + Abort, H: Host, R: Remotes, G: Gate + Sync>(
     rt: &T,
@@ -111,17 +120,17 @@ fn fsck_status<T: Threads + Sync + Abort, H: Host, R: Remotes, G: Gate + Sync>(
 }
 
 /// The commit, its dirtree, its dirmeta and 40 files are 43 objects. They are one batch, of the
-/// pull and of `fsck`, and each half of it sees the other at work.
+/// pull and of `fsck`, each half of it sees the other at work, and the halves show their names.
 #[test]
 fn both_halves_are_at_work(rt: HostRuntime) {
     let alloc = rt.alloc();
     let built = built(&rt, alloc);
     let mut remotes = remote_of(&rt, alloc, &built);
     let mut host = MemHost::new(alloc).expect(&rt, "memory");
-    let gate = MeetingGate::new();
+    let gate = MeetingGate::new(names_of(&rt, alloc, &built));
     assert!(rt; is_pulled(&rt, alloc, &mut host, &mut remotes, &built.commit, &gate));
     assert!(rt; gate.have_met());
-    let gate = MeetingGate::new();
+    let gate = MeetingGate::new(names_of(&rt, alloc, &built));
     let status = fsck_status(&rt, alloc, &mut host, &mut remotes, &gate);
     assert!(rt; status == 0 && gate.have_met());
     assert!(rt; host.printed() == b"fsck 43 objects, 0 bad\n".as_slice());

@@ -12,6 +12,7 @@ use Rattle.fp_name.specs.Grammar.{is_remote_name}
 use Rattle.fp_name.specs.Refs.{Ref, of_parts, if_ref}
 use Rattle.ost_refs.specs.Places.{heads, remotes, place_path, is_place}
 use Rattle.fp_small.specs.Walks.{IsLevel, IsTextOf}
+use Rattle.ost_refs.specs.declared.listing.TheConstants.{HEAD_DEPTH, REMOTE_DEPTH}
 use Rattle.ost_refs.specs.declared.place.RefPlace.{RefPlace}
 use Rattle.ost_refs.specs.declared.place.RefPlace.TheVariants.{Head, Remote}
 
@@ -33,7 +34,7 @@ place_named _ = None
 -- the paths at which refs may stand: four names below refs/heads, or five below refs/remotes
 pub record ArePaths (root : Elements) (v : View) (paths : List Elements) : Type 0 where
   pub each : (q : Elements) → Contains paths q
-      ↔ (IsLevel 4 (heads root) v q ⊎ IsLevel 5 (remotes root) v q)
+      ↔ (IsLevel HEAD_DEPTH (heads root) v q ⊎ IsLevel REMOTE_DEPTH (remotes root) v q)
 
 -- the place is put among the others, by the text of its path
 abbrev pub Puts : {Z : Type 0} → Elements → Option RefPlace → List (String Z × RefPlace)

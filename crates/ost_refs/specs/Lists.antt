@@ -5,6 +5,7 @@ use Rattle.fp_host.specs.View.{View}
 use Rattle.fp_host.specs.Calls.{IsFile}
 use Rattle.fp_host.specs.Reads.{is_ascending}
 use Rattle.ost_refs.specs.Places.{heads, remotes, place_path, is_place}
+use Rattle.ost_refs.specs.declared.listing.TheConstants.{HEAD_DEPTH, REMOTE_DEPTH}
 use Rattle.ost_refs.specs.declared.place.RefPlace.{RefPlace}
 
 -- the texts of their paths
@@ -19,8 +20,8 @@ pub record ListsRefs (root : Elements) (v : View) (places : List RefPlace) : Typ
 
 -- four names below refs/heads, or five below refs/remotes
 abbrev pub IsReached : Elements → Elements → Type 0
-IsReached root q = (IsAbove (heads root) q × (length q ≡ length (heads root) + 4))
-    ⊎ (IsAbove (remotes root) q × (length q ≡ length (remotes root) + 5))
+IsReached root q = (IsAbove (heads root) q × (length q ≡ length (heads root) + HEAD_DEPTH))
+    ⊎ (IsAbove (remotes root) q × (length q ≡ length (remotes root) + REMOTE_DEPTH))
 
 -- No other path counts: where all that is reached is the same, the same places are listed, whatever
 -- stands deeper.
