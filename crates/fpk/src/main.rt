@@ -15,9 +15,10 @@ use fp_realsync::Access;
 use fp_system::SystemError;
 use std::alloc::{AllocError, Global};
 use std::env::{self, VarError};
+use std::fs;
 use std::io::{self, ErrorKind, Input};
 use std::process::ExitCode;
-use std::rt::Env;
+use std::rt::{Env, Files};
 use std::thread::Threads;
 use std::time::Clock;
 
@@ -71,7 +72,21 @@ The installation is the folder that FPK_INSTALLATION names, else the folder `ins
 ";
 
 fn main(rt: HostRuntime) -> ExitCode {
-    ExitCode::from(start(&rt, rt.alloc()))
+    let first = hold_place(&rt);
+    let second = hold_place(&rt);
+    let third = hold_place(&rt);
+    let status = start(&rt, rt.alloc());
+    drop(first);
+    drop(second);
+    drop(third);
+    ExitCode::from(status)
+}
+
+/// Opens the folder `/`. Open three times, it has the places of standard input, output and error
+/// that were closed when fpk began, so no file that is opened later gets one of them. It takes no
+/// bytes and gives none: what is printed there fails, and goes into no file.
+fn hold_place<R: Files>(rt: &R) -> io::Result<R::File> {
+    fs::open(rt, "/")
 }
 
 /// The words after the program's name are run, but for `--help` and `--version`.
