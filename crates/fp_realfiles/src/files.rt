@@ -26,14 +26,23 @@ fn no_file(kind: Kind) -> Cause {
 /// it is opened.
 pub fn open_own<R: Files>(rt: &R, how: &OpenOptions, at: &str) -> Result<R::File, Cause> {
     match known(how.open(rt, at)) {
-        Err(e) if e.is(ErrorKind::PermissionDenied) => open_denied(rt, how, at),
+        Err(e) if e.is(ErrorKind::PermissionDenied) => open_denied(rt, how, at, e),
         opened => opened,
     }
 }
 
-fn open_denied<R: Files>(rt: &R, how: &OpenOptions, at: &str) -> Result<R::File, Cause> {
-    match find_file(rt, at) {
-        Ok(found) => open_widened(rt, how, at, found.permission_bits()),
+/// What is no regular file stays denied.
+fn open_denied<R: Files>(
+    rt: &R,
+    how: &OpenOptions,
+    at: &str,
+    denied: Cause,
+) -> Result<R::File, Cause> {
+    match look(rt, at) {
+        Ok(found) if found.kind == Kind::File => {
+            open_widened(rt, how, at, found.permission_bits())
+        }
+        Ok(_) => Err(denied),
         Err(e) => Err(e),
     }
 }

@@ -10,9 +10,9 @@ use fp_base::{Items, Text};
 use fp_host::is_element;
 use fp_system::{Cause, known};
 use std::alloc::{AllocError, Global};
-use std::fs::DirEntry;
+use std::fs::{self, DirEntry};
+use std::io::{self, ErrorKind};
 use std::rt::Files;
-use std::{fs, io};
 
 /// The names in the folder but the hidden one, ascending by their bytes. A name that no path may
 /// have is an error.
@@ -24,7 +24,7 @@ pub fn list_names<R: Files + AllocGlobal>(
 ) -> Result<Items<Text>, Cause>
     ensures { IfOk result AreNames }
 {
-    match read_names(rt, alloc, at) {
+    match read_names(rt, alloc, at, OddNames::Refused) {
         Ok(names) => sorted_names(names, hidden),
         Err(e) => Err(e),
     }
@@ -44,14 +44,24 @@ pub fn sorted_names(mut names: Vec<Text>, hidden: &str) -> Result<Items<Text>, C
     }
 }
 
+/// What becomes of names that aren't UTF-8. No path of a host has one.
+#[derive(Clone, Copy, PartialEq, Eq)]
+pub enum OddNames {
+    /// They are an error.
+    Refused,
+    /// They are left out: they aren't ours.
+    LeftOut,
+}
+
 /// The names in the folder, in no order.
 pub fn read_names<R: Files + AllocGlobal>(
     rt: &R,
     alloc: Global,
     at: &str,
+    odd: OddNames,
 ) -> Result<Vec<Text>, Cause> {
     let mut names = Vec::new(alloc);
-    match known(add_names(rt, alloc, at, &mut names)) {
+    match known(add_names(rt, alloc, at, odd, &mut names)) {
         Ok(()) => Ok(names),
         Err(e) => Err(e),
     }
@@ -61,10 +71,11 @@ fn add_names<R: Files + AllocGlobal>(
     rt: &R,
     alloc: Global,
     at: &str,
+    odd: OddNames,
     names: &mut Vec<Text>,
 ) -> io::Result<()> {
     for entry in fs::read_dir(&rt, at)? {
-        add_name(alloc, entry, names)?;
+        add_name(alloc, entry, odd, names)?;
     }
     Ok(())
 }
@@ -72,10 +83,12 @@ fn add_names<R: Files + AllocGlobal>(
 fn add_name<R: Files + Drop>(
     alloc: Global,
     entry: io::Result<DirEntry<R>>,
+    odd: OddNames,
     names: &mut Vec<Text>,
 ) -> io::Result<()> {
     match entry {
         Ok(entry) => Ok(push_name(alloc, entry.file_name(), names)?),
+        Err(e) if odd == OddNames::LeftOut && e.kind() == ErrorKind::InvalidFilename => Ok(()),
         Err(e) => Err(e),
     }
 }

@@ -15,6 +15,8 @@ pub enum Kind<'a> {
     Busy,
     /// What is looked at is noted, too.
     TellingLooks,
+    /// The file or folder at this path may not be opened.
+    Denying(&'a str),
 }
 
 /// The lines since they were read last, and the first row of a table that didn't hold.
@@ -82,6 +84,14 @@ impl<'a> Log<'a> {
         }
     }
 
+    /// Whether what is at the path may not be opened. A folder's path may end in a slash.
+    pub(crate) fn denies(&self, at: &str) -> bool {
+        match self.kind {
+            Kind::Denying(denied) => at.strip_suffix('/').unwrap_or(at) == denied,
+            _ => false,
+        }
+    }
+
     pub(crate) fn is_busy(&self) -> bool {
         matches!(self.kind, Kind::Busy)
     }
@@ -126,6 +136,14 @@ fn is_line(line: &str, what: &str, at: &str) -> bool {
         Some(rest) => rest.strip_prefix(' ') == Some(at),
         None => false,
     }
+}
+
+/// The system's error where something may not be opened: EACCES of Linux.
+const DENIED: i32 = 13;
+
+/// The error of what may not be opened.
+pub(crate) fn denied() -> io::Error {
+    io::Error::from_raw_os_error(DENIED)
 }
 
 /// The error of a call that fails.

@@ -1,5 +1,5 @@
 //! The system that notes, over the real one.
-use crate::log::{Log, out};
+use crate::log::{Log, denied, out};
 use fp_realroot::{Access, Failure, System, Unsynced, sync_in_turn};
 use fp_system::{Call, known};
 use std::alloc::{Alloc, Allocator, Global};
@@ -35,6 +35,9 @@ impl<'a> Files for Logged<'a> {
     type Dir = <HostRuntime as Files>::Dir;
 
     fn open_file(&self, how: &OpenOptions, path: &str) -> io::Result<LoggedFile<'a>> {
+        if self.log.denies(path) {
+            return Err(denied());
+        }
         if how.asks_create_new() && !self.log.lets("create", path) {
             return Err(out());
         }
@@ -47,6 +50,9 @@ impl<'a> Files for Logged<'a> {
     }
 
     fn open_dir(&self, path: &str) -> io::Result<<HostRuntime as Files>::Dir> {
+        if self.log.denies(path) {
+            return Err(denied());
+        }
         if self.log.lets_look(path) {
             self.rt.open_dir(path)
         } else {

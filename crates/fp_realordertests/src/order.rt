@@ -220,8 +220,15 @@ const LEFT: [Act<'static>; 3] = [
 /// The mark of an earlier start of the machine means nothing.
 const MARKED: [Act<'static>; 3] = [
     Act::Logged(Access::Change, "left/root", &[Part::Ask(&UNSYNCED)]),
-    Act::Make(&[Made::File("left/root/.lock", "0-0\n")]),
+    Act::Make(&[Made::File("left/root/.lock", "00000000-0000-0000-0000-000000000000\n")]),
     Act::Logged(Access::Change, "left/root", &[Part::Ask(&IDLE)]),
+];
+
+/// What else stands in the lock file was written over a mark.
+const WRITTEN_OVER: [Act<'static>; 3] = [
+    Act::Logged(Access::Change, "left/root", &[Part::Ask(&UNSYNCED)]),
+    Act::Make(&[Made::File("left/root/.lock", "pinned app/*/*/*\n")]),
+    Act::Logged(Access::Change, "left/root", &[Part::Ask(&CAUGHT_UP)]),
 ];
 
 /// A folder that was there without a lock file may hold what was left.
@@ -240,6 +247,48 @@ const UNKNOWN: [(Step<'static>, &str); 2] = [
 const UNLOCKED: [Act<'static>; 2] = [
     Act::Make(&[Made::Folder("old/root"), Made::File("old/root/f", "")]),
     Act::Logged(Access::Change, "old/root", &[Part::Ask(&UNKNOWN)]),
+];
+
+/// What stands in a root without a lock file.
+const OTHERS: [Made<'static>; 2] = [
+    Made::Folder("old/root/theirs"),
+    Made::File("old/root/f", ""),
+];
+
+/// The folder above the root may not be opened.
+const ABOVE_DENIED: [(Step<'static>, &str); 2] = [
+    (
+        Step::Stat("f"),
+        "lock old/root/.lock\nwrite old/root/.lock\n",
+    ),
+    (
+        Step::Sync,
+        "sync .\nsync old/root\nsync old/root/.lock\nsync old/root/f\n\
+         sync old/root/theirs\ncut old/root/.lock\n",
+    ),
+];
+
+/// A folder below it may not.
+const BELOW_DENIED: [(Step<'static>, &str); 2] = [
+    (
+        Step::Stat("f"),
+        "lock old/root/.lock\nwrite old/root/.lock\n",
+    ),
+    (
+        Step::Sync,
+        "sync .\nsync old\nsync old/root\nsync old/root/.lock\nsync old/root/f\n\
+         cut old/root/.lock\n",
+    ),
+];
+
+const SPARED_ABOVE: [Act<'static>; 2] = [
+    Act::Make(&OTHERS),
+    Act::Logged(Access::Change, "old/root", &[Part::Ask(&ABOVE_DENIED)]),
+];
+
+const SPARED_BELOW: [Act<'static>; 2] = [
+    Act::Make(&OTHERS),
+    Act::Logged(Access::Change, "old/root", &[Part::Ask(&BELOW_DENIED)]),
 ];
 
 /// A file that was renamed is synced by its path.
@@ -345,9 +394,24 @@ fn the_system_is_asked_in_order(rt: HostRuntime) {
     assert!(rt; tell(&rt, &rt, "date", Kind::Plain, &DATING));
     assert!(rt; tell(&rt, &rt, "left", Kind::Plain, &LEFT));
     assert!(rt; tell(&rt, &rt, "left", Kind::Plain, &MARKED));
+    assert!(rt; tell(&rt, &rt, "left", Kind::Plain, &WRITTEN_OVER));
     assert!(rt; tell(&rt, &rt, "left", Kind::Failing(LOST), &LEAVING));
     assert!(rt; tell(&rt, &rt, "old", Kind::Plain, &UNLOCKED));
     assert!(rt; tell(&rt, &rt, "looks", Kind::TellingLooks, &LOOKING));
+}
+
+#[test]
+fn what_may_not_be_opened_is_left_alone(rt: HostRuntime) {
+    assert!(rt; tell(&rt, &rt, "old", Kind::Denying("old"), &SPARED_ABOVE));
+    assert!(rt;
+        tell(
+            &rt,
+            &rt,
+            "old",
+            Kind::Denying("old/root/theirs"),
+            &SPARED_BELOW
+        )
+    );
 }
 
 #[test]

@@ -75,8 +75,8 @@ fn mark_of(boot: &Option<String>) -> &str {
     }
 }
 
-/// Whether the file holds a mark of this start of the machine, or one of a start that the system
-/// didn't name. A file that can't be read may hold one.
+/// Whether the file holds a mark of this start of the machine, or anything else that isn't as long
+/// as one: then it was written into. A file that can't be read may hold a mark.
 fn has_mark<R: Files + AllocGlobal>(rt: &R, at: &str, boot: &Option<String>) -> bool {
     match fs::read_to_string(rt, at) {
         Ok(text) => is_mark(text.as_str(), boot),
@@ -86,8 +86,9 @@ fn has_mark<R: Files + AllocGlobal>(rt: &R, at: &str, boot: &Option<String>) -> 
 
 fn is_mark(text: &str, boot: &Option<String>) -> bool {
     match boot {
-        Some(name) => text == name.as_str() || text.starts_with(UNKNOWN),
-        None => !text.is_empty(),
+        _ if text.is_empty() => false,
+        Some(name) => text == name.as_str() || text.len() != name.len(),
+        None => true,
     }
 }
 

@@ -1,10 +1,11 @@
 //! What an earlier run may have left that was stopped before its own sync.
 use crate::roots::{above_root, folder_at};
 use fp_base::Text;
-use fp_realfiles::read_names;
+use fp_realfiles::{OddNames, read_names};
 use fp_realsync::Touched;
 use fp_system::{Cause, Kind, kind_at};
 use std::alloc::{AllocError, Global};
+use std::io::ErrorKind;
 use std::rt::Files;
 
 /// Notes the root folder and those above it.
@@ -18,7 +19,8 @@ pub fn add_above(root: &str, touched: &mut Touched) {
     touched.add_left(root);
 }
 
-/// Notes each file and folder below the root.
+/// Notes each file and folder below the root. What may not be looked at or listed isn't ours, nor
+/// what has a name that isn't UTF-8: it is left alone.
 pub fn add_below<R: Files + AllocGlobal>(
     rt: &R,
     alloc: Global,
@@ -65,10 +67,18 @@ fn add_in<R: Files + AllocGlobal>(
     folders: &mut Vec<String>,
     touched: &mut Touched,
 ) -> Result<(), Cause> {
-    match read_names(rt, alloc, folder) {
+    match read_names(rt, alloc, folder, OddNames::LeftOut) {
         Ok(names) => add_named(rt, alloc, folder, &names, folders, touched),
-        Err(e) => Err(e),
+        Err(e) => spare(e),
     }
+}
+
+/// What isn't ours, or went away since, is left alone.
+fn spare(cause: Cause) -> Result<(), Cause> {
+    if cause.is_absence() || cause.is(ErrorKind::PermissionDenied) {
+        return Ok(());
+    }
+    Err(cause)
 }
 
 fn add_named<R: Files>(
@@ -98,7 +108,7 @@ fn add_found<R: Files>(
 ) -> Result<(), Cause> {
     match kind_at(rt, &at) {
         Ok(kind) => add_kind(at, kind, folders, touched),
-        Err(e) => Err(e),
+        Err(e) => spare(e),
     }
 }
 
