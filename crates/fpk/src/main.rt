@@ -84,9 +84,13 @@ fn main(rt: HostRuntime) -> ExitCode {
 
 /// Opens the folder `/`. Open three times, it has the places of standard input, output and error
 /// that were closed when fpk began, so no file that is opened later gets one of them. It takes no
-/// bytes and gives none: what is printed there fails, and goes into no file.
+/// bytes and gives none: what is printed there fails, and goes into no file. Where it may not be
+/// opened, `/dev/null` is.
 fn hold_place<R: Files>(rt: &R) -> io::Result<R::File> {
-    fs::open(rt, "/")
+    match fs::open(rt, "/") {
+        Ok(folder) => Ok(folder),
+        Err(_) => fs::open(rt, "/dev/null"),
+    }
 }
 
 /// The words after the program's name are run, but for `--help` and `--version`.
@@ -103,15 +107,15 @@ fn start(rt: &(impl System + Env + Print + Input + Clock + Threads + Sync), allo
     let words = words.as_slice();
     if let [word] = words {
         if word.as_str() == "--help" {
-            return print(rt, HELP);
+            return print(rt, HELP, 0);
         }
         if word.as_str() == "--version" {
-            return print(rt, "fpk 0.1\n");
+            return print(rt, "fpk 0.1\n", 0);
         }
     }
     match env::var(rt, "FPK_INSTALLATION") {
-        Ok(folder) => run_on(rt, alloc, &folder, words),
-        Err(VarError::NotPresent) => run_on(rt, alloc, "installation", words),
+        Ok(folder) if !folder.is_empty() => run_on(rt, alloc, &folder, words),
+        Ok(_) | Err(VarError::NotPresent) => run_on(rt, alloc, "installation", words),
         Err(VarError::NotUnicode) => complain(rt, "fpk: FPK_INSTALLATION is no UTF-8", 3),
         Err(VarError::OutOfMemory) => out_of_memory(rt),
     }
@@ -119,10 +123,11 @@ fn start(rt: &(impl System + Env + Print + Input + Clock + Threads + Sync), allo
 
 /// A word that is no UTF-8 begins no command.
 fn no_text(rt: &(impl Print + Eprint)) -> u8 {
-    match print!(rt; "error: words 0\n") {
-        Ok(()) => complain(rt, "fpk: a word isn't UTF-8", 2),
-        Err(_) => 3,
+    let status = print(rt, "error: words 0\n", 2);
+    if status == 2 {
+        say(rt, "fpk: a word isn't UTF-8\n");
     }
+    status
 }
 
 /// The words after the program's name.
@@ -244,12 +249,18 @@ fn say_refused(rt: &impl Eprint, refused: Option<&SystemError>) {
     }
 }
 
-/// Prints what was asked for.
-fn print(rt: &impl Print, text: &str) -> u8 {
+/// Prints what was asked for, and answers a status.
+fn print(rt: &(impl Print + Eprint), text: &str, status: u8) -> u8 {
     match print!(rt; "{text}") {
-        Ok(()) => 0,
-        Err(_) => 3,
+        Ok(()) => status,
+        Err(error) => not_printed(rt, &error),
     }
+}
+
+/// Says on standard error why nothing was printed.
+fn not_printed(rt: &impl Eprint, error: &io::Error) -> u8 {
+    let _said = eprintln!(rt; "fpk: cannot print: {error}");
+    3
 }
 
 /// Says on standard error why the status is this one.
