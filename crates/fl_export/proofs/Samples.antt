@@ -153,6 +153,10 @@ pub rewrites_language : rewritten (codes "[A]\nExec[de]=a\nTryExec[de]=b\nTryExe
 unfolding rewritten file_of text_of line_says with_pair with_group is_utf8 chars encode
 rewrites_language = refl
 
+pub rewrites_foreign : rewritten (codes "[A]\nX-Flatpak=a\nX-GNOME-Bugzilla-ExtraInfoScript=b\nName=d\n") sample.stable ≡ Some (codes "[A]\nName=d\n")
+unfolding rewritten file_of text_of line_says with_pair with_group is_utf8 chars encode
+rewrites_foreign = refl
+
 pub rewrites_no_key_file : rewritten (codes "Exec=run\n") sample.stable ≡ None
 unfolding rewritten file_of text_of line_says with_pair with_group is_utf8 chars encode
 rewrites_no_key_file = refl

@@ -28,10 +28,15 @@ command_option word = if is_command word then codes " --command=" ++ word else [
 abbrev pub launch_line : Ref → List ℕ → List ℕ
 launch_line name value = codes "fpk launch " ++ (ref_text name ++ command_option (first_word value))
 
+-- what is run outside the sandbox, and what says whose application it is
+abbrev pub is_foreign : List ℕ → Bool
+is_foreign key = bytes_eq key (codes "X-GNOME-Bugzilla-ExtraInfoScript")
+    || bytes_eq key (codes "X-Flatpak")
+
 -- `TryExec`, and `Exec` and `TryExec` in a language
 abbrev pub is_left_out : List ℕ → Bool
-is_left_out key = bytes_eq key (codes "TryExec")
-    || (starts_with nat_eq key (codes "Exec[") || starts_with nat_eq key (codes "TryExec["))
+is_left_out key = is_foreign key || (bytes_eq key (codes "TryExec")
+    || (starts_with nat_eq key (codes "Exec[") || starts_with nat_eq key (codes "TryExec[")))
 
 abbrev pub launching : Ref → Pair → Pair
 launching name p =

@@ -42,5 +42,8 @@ pub fn commands_are_rewritten()
         ≡ Some (codes "[A]\nExec=fpk launch app/org.x.App/x86_64/stable\n") }
     ensures language { rewritten (codes "[A]\nExec[de]=a\nTryExec[de]=b\nTryExec=c\nName=d\n")
         sample.stable ≡ Some (codes "[A]\nName=d\n") }
+    ensures foreign { rewritten
+        (codes "[A]\nX-Flatpak=a\nX-GNOME-Bugzilla-ExtraInfoScript=b\nName=d\n")
+        sample.stable ≡ Some (codes "[A]\nName=d\n") }
     ensures no_key_file { rewritten (codes "Exec=run\n") sample.stable ≡ None }
 {}

@@ -76,12 +76,21 @@ pub(crate) fn begins_with(text: &str, prefix: &str) -> bool
     text.starts_with(prefix)
 }
 
+/// Whether a desktop would run the value of this key outside the sandbox, or learn from it whose
+/// application it is.
+fn is_foreign(key: &str) -> bool
+    ensures { result ≡ spec.is_foreign key.now }
+{
+    key == "X-GNOME-Bugzilla-ExtraInfoScript" || key == "X-Flatpak"
+}
+
 /// Whether pairs of this key are left out: `TryExec`, which names a program of the application's
-/// own, and the commands in a language.
+/// own, the commands in a language, and what isn't the application's to say.
 fn is_left_out(key: &str) -> bool
     ensures { result ≡ spec.is_left_out key.now }
 {
-    key == "TryExec" || begins_with(key, "Exec[") || begins_with(key, "TryExec[")
+    is_foreign(key)
+        || (key == "TryExec" || begins_with(key, "Exec[") || begins_with(key, "TryExec["))
 }
 
 /// The pair, with the launch of the application where it is the command.
