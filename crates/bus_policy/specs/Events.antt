@@ -12,7 +12,7 @@ use Rattle.fp_base.specs.declared.side.Side.TheVariants as side
 use Rattle.bus_frame.specs.Bodies.{three_texts}
 use Rattle.bus_frame.specs.Messages.{wants_no_reply as flags_want_none}
 use Rattle.bus_rules.specs.Rules.{says}
-use Rattle.bus_policy.specs.Driver.{driver}
+use Rattle.bus_policy.specs.Driver.{driver, is_listing}
 use Rattle.bus_policy.specs.declared.verdict.Verdict.{Verdict}
 use Rattle.bus_policy.specs.declared.verdict.Verdict.TheVariants as verdict
 
@@ -144,12 +144,23 @@ is_bus_reply serial j =
     is_bus_side j.event.side && is_reply j.event.header
     && is_serial j.event.header.reply_serial serial && is_forwarded j.verdict
 
--- The calls of the client with this serial that wait, the latest first. A reply ends all of them.
-abbrev pub client_calls : List Judged → ℕ → List Header
-client_calls [] serial = []
-client_calls (j ∷ before) serial =
-    if is_client_call serial j then j.event.header ∷ client_calls before serial
-    else (if is_bus_reply serial j then [] else client_calls before serial)
+-- whether calls of the client with this serial wait; a reply ends all of them
+abbrev pub client_waits : List Judged → ℕ → Bool
+client_waits [] serial = false
+client_waits (j ∷ before) serial =
+    if is_client_call serial j then true
+    else (if is_bus_reply serial j then false else client_waits before serial)
+
+-- A forwarded call of the client with this serial that lists names, also one that wants no reply: a
+-- bus may answer that one all the same.
+abbrev pub is_listing_call : ℕ → Judged → Bool
+is_listing_call serial j =
+    not (is_bus_side j.event.side) && is_call j.event.header && j.event.header.serial == serial
+    && is_listing j.event.header && is_forwarded j.verdict
+
+-- whether a call of the client with this serial ever listed names
+abbrev pub has_listed : List Judged → ℕ → Bool
+has_listed noted serial = list_any (is_listing_call serial) noted
 
 -- a call from a peer to the client with this serial that wants a reply, and a forwarded reply to it
 abbrev pub is_bus_call : List ℕ → ℕ → Judged → Bool

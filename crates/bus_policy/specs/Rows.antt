@@ -32,6 +32,14 @@ call_header interface member = record {
 abbrev pub call : List ℕ → Event
 call member = record { side = side.Client; header = call_header (Some driver) member; bytes = [] }
 
+-- one that wants no reply
+abbrev pub silent_call : List ℕ → Event
+silent_call member = record {
+  side = side.Client;
+  header = record (call_header (Some driver) member) { flags = record { bits = 1 } };
+  bytes = [];
+}
+
 -- a reply to serial 1
 abbrev pub reply_header : MessageType → Header
 reply_header kind = record {

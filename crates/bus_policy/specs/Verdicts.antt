@@ -21,7 +21,7 @@ use Rattle.bus_policy.specs.Events.{Event, is_bus_side, is_return, wants_no_repl
 
 -- What is known before an event: the level of a name; whether a rule for calls or broadcasts gives
 -- leave to a message of a peer; whether calls of the client with a serial wait for a reply, and if
--- so, whether one of them lists names; whether a call of a peer waits.
+-- so, whether one with that serial ever listed names; whether a call of a peer waits.
 pub record Sight : Type 0 where
   pub level_of : List ℕ → Level
   pub gives_leave : RuleKind → List ℕ → Header → Bool
@@ -102,7 +102,8 @@ of_client sight e (type.Unknown n) = verdict.Drop
 
 -- ---- messages of the bus
 
--- a reply to calls that wait; where one of them lists names, the names of a return are filtered
+-- A reply to calls that wait. Where a call with their serial ever listed names, the names of a return
+-- are filtered: a bus answers late, or a call that wants no answer.
 abbrev pub reply_to : Event → Bool → Verdict
 reply_to e for_names =
     if is_return e.header && for_names

@@ -1,5 +1,5 @@
 -- What is known after events, and that a watch knows it.
-use Rattle.std.specs.Prelude.{◌≡◌, ℕ, Bool, true, false, ◌||◌, ◌&&◌, ◌==◌, not, if◌then◌else◌, List, [], ◌∷◌, map, nat_eq, Option, Some, None, unwrap_or}
+use Rattle.std.specs.Prelude.{◌≡◌, ℕ, Bool, true, false, ◌||◌, ◌&&◌, ◌==◌, not, if◌then◌else◌, List, [], ◌∷◌, map, nat_eq, Option, Some, None}
 use Rattle.indexmap.specs.IndexMap.{get, get_by_text}
 use Rattle.indexmap.specs.IndexSet as set
 use Rattle.std.specs.List.{list_any}
@@ -12,12 +12,14 @@ use Rattle.bus_policy.specs.declared.level.Level.TheVariants as level
 use Rattle.bus_policy.specs.declared.policy.RuleKind.{RuleKind}
 use Rattle.bus_policy.specs.declared.policy.PolicyRule.{PolicyRule}
 use Rattle.bus_policy.specs.declared.peer.Peer.{Peer}
+use Rattle.bus_policy.specs.declared.calls.ClientCalls.{ClientCalls}
+use Rattle.bus_policy.specs.declared.calls.ClientCalls.TheVariants as calls
 use Rattle.bus_policy.specs.declared.watch.Watch.{Watch}
 use Rattle.bus_policy.specs.declared.peer.RawNews.{RawNews}
 use Rattle.bus_policy.specs.declared.peer.RawNews.TheVariants as raw
 use Rattle.bus_policy.specs.declared.verdict.Verdict.{Verdict}
 use Rattle.bus_policy.specs.Levels.{greater, rules_level, allows, pattern_matches}
-use Rattle.bus_policy.specs.Events.{Event, Judged, is_unique_like, is_call, wants_no_reply, is_forwarded, name_given, names_of, is_addressed_by, has_written, is_client_call, is_bus_reply, is_bus_call, is_client_reply, client_calls, peer_waits}
+use Rattle.bus_policy.specs.Events.{Event, Judged, is_unique_like, is_call, wants_no_reply, is_forwarded, name_given, names_of, is_addressed_by, has_written, is_client_call, is_bus_reply, is_listing_call, is_bus_call, is_client_reply, client_waits, has_listed, peer_waits}
 use Rattle.bus_policy.specs.Driver.{driver, is_listing}
 use Rattle.bus_policy.specs.Verdicts.{Sight, verdict_in}
 
@@ -62,16 +64,15 @@ leave_after rules owners noted kind peer header =
     list_any (λ rule. allows kind header rule.grant
     && is_meant (names_of owners noted peer) peer rule) rules
 
--- whether calls wait, and if so, whether one of them lists names
-abbrev pub awaited : List Header → Option Bool
-awaited [] = None
-awaited (h ∷ calls) = Some (list_any is_listing (h ∷ calls))
+-- where calls wait, whether one with their serial ever listed names
+abbrev pub names_awaited : (waits listed : Bool) → Option Bool
+names_awaited waits listed = if waits then Some listed else None
 
 abbrev pub sight_after : List PolicyRule → Option (List ℕ) → Owners → List Judged → Sight
 sight_after rules client owners noted = record {
   level_of = level_after rules client owners noted;
   gives_leave = leave_after rules owners noted;
-  client_waits = λ serial. awaited (client_calls noted serial);
+  client_waits = λ serial. names_awaited (client_waits noted serial) (has_listed noted serial);
   peer_waits = peer_waits noted;
 }
 
@@ -198,18 +199,54 @@ abbrev pub judged_event : Side → Header → List ℕ → Verdict → Judged
 judged_event side header bytes verdict =
     record { event = record { side = side; header = header; bytes = bytes }; verdict = verdict }
 
--- what is known of a call of the client with an event more
-abbrev pub call_with_event : Judged → ℕ → Option Bool → Option Bool
-call_with_event j serial waits =
-    if is_client_call serial j then Some (is_listing j.event.header || unwrap_or waits false)
-    else (if is_bus_reply serial j then None else waits)
+-- what is known of the client's calls with a serial: whether they wait, and whether one ever listed
+-- names
+abbrev pub calls_by : (waits listed : Bool) → Option ClientCalls
+calls_by true true = Some calls.WaitingForNames
+calls_by true false = Some calls.Waiting
+calls_by false true = Some calls.NamesListed
+calls_by false false = None
+
+abbrev pub waits_by : ClientCalls → Bool
+waits_by calls.Waiting = true
+waits_by calls.WaitingForNames = true
+waits_by calls.NamesListed = false
+
+abbrev pub listed_by : ClientCalls → Bool
+listed_by calls.Waiting = false
+listed_by calls.WaitingForNames = true
+listed_by calls.NamesListed = true
+
+abbrev pub are_waiting : Option ClientCalls → Bool
+are_waiting None = false
+are_waiting (Some calls) = waits_by calls
+
+abbrev pub have_listed : Option ClientCalls → Bool
+have_listed None = false
+have_listed (Some calls) = listed_by calls
+
+-- the same with an event more
+abbrev pub calls_with_event : Judged → ℕ → Option ClientCalls → Option ClientCalls
+calls_with_event j serial calls =
+    calls_by (if is_client_call serial j then true
+    else (if is_bus_reply serial j then false else are_waiting calls))
+    (is_listing_call serial j || have_listed calls)
+
+-- with a call more, and with a reply
+abbrev pub calls_with : Header → Option ClientCalls → Option ClientCalls
+calls_with h calls =
+    calls_by (not (wants_no_reply h) || are_waiting calls) (is_listing h || have_listed calls)
+
+abbrev pub calls_answered : Option ClientCalls → Option ClientCalls
+calls_answered calls = calls_by false (have_listed calls)
 
 -- a watch knows what is known after these events
 pub record WatchAt {S H : Type 0} (w : Watch S H) (owners : Owners) (noted : List Judged) : Type 0
   where
     pub peers : (name : List ℕ) → known_of (rules_of w) (get_by_text w.peers name)
         ≡ known_after (rules_of w) owners noted name
-    pub calls : (serial : ℕ) → get nat_eq w.waiting serial ≡ awaited (client_calls noted serial)
+    pub calls : (serial : ℕ) → get nat_eq w.calls serial
+        ≡ calls_by (client_waits noted serial) (has_listed noted serial)
 
 -- ---- what it answers by
 
@@ -234,7 +271,8 @@ sight_by rules client known waits = record {
 unfoldable pub sight_of : {S H : Type 0} → Watch S H → Sight
 sight_of w = sight_by (rules_of w) (client_of w)
     (λ name. known_of (rules_of w) (get_by_text w.peers name))
-    (λ serial. get nat_eq w.waiting serial)
+    (λ serial. names_awaited (are_waiting (get nat_eq w.calls serial))
+    (have_listed (get nat_eq w.calls serial)))
 
 abbrev pub event : Side → Header → List ℕ → Event
 event side header bytes = record { side = side; header = header; bytes = bytes }

@@ -5,7 +5,7 @@ ghost use Rattle.bus_frame.specs.declared.message.MessageType.TheVariants as mes
 ghost use Rattle.bus_policy.specs.declared.driver.Handler.TheVariants as handler;
 ghost use Rattle.bus_policy.specs.declared.verdict.Verdict.TheVariants as verdict;
 ghost use Rattle.bus_policy.specs.Driver.{driver, handler_of};
-ghost use Rattle.bus_policy.specs.Rows.{HoldsNames, call_header, call, reply, verdict_on};
+ghost use Rattle.bus_policy.specs.Rows.{HoldsNames, call_header, call, silent_call, reply, verdict_on};
 
 /// A call without an interface is one of the bus's own; a call of another interface or member is
 /// denied.
@@ -31,6 +31,23 @@ pub fn one_call_of_several_lists_names()
         (reply message_type.MethodReturn bytes) ≡ verdict.FilterNameList }
     ensures none { (bytes : List ℕ)
         → verdict_on (call (codes "GetId") ∷ call (codes "Hello") ∷ [])
+        (reply message_type.MethodReturn bytes) ≡ verdict.Pass }
+{}
+
+/// Once a call listed names, the names of each later reply to its serial are filtered: where it wanted
+/// no reply, and where it was answered before.
+pub fn listed_names_stay_filtered()
+    ensures silent { (bytes : List ℕ) → HoldsNames bytes
+        → verdict_on (call (codes "GetId") ∷ silent_call (codes "ListNames") ∷ [])
+        (reply message_type.MethodReturn bytes) ≡ verdict.FilterNameList }
+    ensures answered { (bytes : List ℕ) → HoldsNames bytes
+        → verdict_on (call (codes "GetId") ∷ reply message_type.Error []
+        ∷ call (codes "ListNames") ∷ [])
+        (reply message_type.MethodReturn bytes) ≡ verdict.FilterNameList }
+    ensures unwanted { (bytes : List ℕ) → verdict_on (silent_call (codes "ListNames") ∷ [])
+        (reply message_type.MethodReturn bytes) ≡ verdict.Drop }
+    ensures others { (bytes : List ℕ)
+        → verdict_on (call (codes "GetId") ∷ silent_call (codes "Hello") ∷ [])
         (reply message_type.MethodReturn bytes) ≡ verdict.Pass }
 {}
 

@@ -1,6 +1,7 @@
 //! What a filter lets through: levels of names, and verdicts on messages by what came before.
 #![tactic(auto)]
 
+mod calls;
 mod driver;
 mod judging;
 pub mod laws;

@@ -1,11 +1,12 @@
 //! Noting events.
 
-ghost use Rattle.std.specs.Prelude.{◌≡◌, ◌&&◌, ℕ, nat_eq, List, false, is_some, unwrap_or, OnOk, OnErr};
+ghost use Rattle.std.specs.Prelude.{◌≡◌, ◌&&◌, ◌==◌, if◌then◌else◌, ℕ, nat_eq, List, false, is_some, OnOk, OnErr};
 ghost use Rattle.indexmap.specs.IndexMap.{get, get_by_text};
 ghost use Rattle.bus_policy.specs.declared.policy.PolicyRule.{PolicyRule as TheRule};
 ghost use Rattle.bus_policy.specs.Events.{tells_owner, is_unique_like};
-ghost use Rattle.bus_policy.specs.Watching.{known_of, waiting_call, with_event, call_with_event, judged_event};
+ghost use Rattle.bus_policy.specs.Watching.{known_of, waiting_call, with_event, calls_with, calls_with_event, judged_event};
 
+use crate::calls::{CallTable, ClientCalls, end_calls, has_listed_names, is_awaited};
 use crate::driver::asks_for_names;
 use crate::judging::{is_a_call, is_a_reply, is_about_owner};
 use crate::pattern::is_like_unique;
@@ -15,7 +16,6 @@ use crate::policy::PolicyRule;
 use crate::verdict::Verdict;
 use bus_frame::{Header, three_strings};
 use fp_base::Side;
-use indexmap::IndexMap;
 use std::alloc::AllocError;
 use std::hash::BuildHasher;
 
@@ -36,33 +36,41 @@ fn is_written_by(header: &Header, sender: &str) -> bool
     is_like_unique(sender.as_bytes()) && header.destination.is_some()
 }
 
-/// Whether a call with this serial waits that lists names.
-fn waits_for_names<S: BuildHasher>(waiting: &IndexMap<u32, bool, S>, serial: u32) -> bool
-    ensures { result ≡ unwrap_or (get nat_eq waiting.now serial) false }
+/// Adds a call of the client. Without memory nothing changes.
+fn add_call<S: BuildHasher + Copy>(
+    calls: &mut CallTable<S>,
+    header: &Header,
+) -> Result<(), AllocError>
+    ensures ok { OnOk result ((s : ℕ) → get nat_eq calls.new s
+        ≡ (if header.now.serial == s then calls_with header.now (get nat_eq calls.old s)
+        else get nat_eq calls.old s)) }
+    ensures err { OnErr result ((s : ℕ) → get nat_eq calls.new s ≡ get nat_eq calls.old s) }
 {
-    match waiting.get(&serial) {
-        Some(for_names) => *for_names,
-        None => false,
+    let serial = header.serial;
+    let waits = !header.flags.want_no_reply() || is_awaited(calls, serial);
+    let has_listed = asks_for_names(header) || has_listed_names(calls, serial);
+    if let Some(known) = ClientCalls::new(waits, has_listed) {
+        calls.insert(serial, known)?;
     }
+    Ok(())
 }
 
-/// A message of the client may be a call that waits.
+/// A message of the client may be a call that waits, or that lists names.
 pub fn note_client_call<S: BuildHasher + Copy>(
-    waiting: &mut IndexMap<u32, bool, S>,
+    calls: &mut CallTable<S>,
     header: &Header,
     message: &[u8],
     verdict: Verdict,
 ) -> Result<(), AllocError>
-    ensures ok { OnOk result ((s : ℕ) → get nat_eq waiting.new s
-        ≡ call_with_event (judged_event Side.Client header.now message.now verdict) s
-        (get nat_eq waiting.old s)) }
-    ensures err { OnErr result ((s : ℕ) → get nat_eq waiting.new s ≡ get nat_eq waiting.old s) }
+    ensures ok { OnOk result ((s : ℕ) → get nat_eq calls.new s
+        ≡ calls_with_event (judged_event Side.Client header.now message.now verdict) s
+        (get nat_eq calls.old s)) }
+    ensures err { OnErr result ((s : ℕ) → get nat_eq calls.new s ≡ get nat_eq calls.old s) }
 {
-    if let Some(serial) = serial_to_wait(header, verdict) {
-        let for_names = asks_for_names(header) || waits_for_names(waiting, serial);
-        waiting.insert(serial, for_names)?;
+    if !is_a_call(header) || !verdict.is_forwarding() {
+        return Ok(());
     }
-    Ok(())
+    add_call(calls, header)
 }
 
 /// A message of the client may be a reply to a peer's call.
@@ -87,20 +95,20 @@ pub fn note_client_reply<S: BuildHasher + Copy>(
 
 /// A message of the bus may be a reply to the client's call.
 pub fn note_bus_reply<S: BuildHasher + Copy>(
-    waiting: &mut IndexMap<u32, bool, S>,
+    calls: &mut CallTable<S>,
     header: &Header,
     message: &[u8],
     verdict: Verdict,
 )
-    ensures { (s : ℕ) → get nat_eq waiting.new s
-        ≡ call_with_event (judged_event Side.Bus header.now message.now verdict) s
-        (get nat_eq waiting.old s) }
+    ensures { (s : ℕ) → get nat_eq calls.new s
+        ≡ calls_with_event (judged_event Side.Bus header.now message.now verdict) s
+        (get nat_eq calls.old s) }
 {
     if !is_a_reply(header) || !verdict.is_forwarding() {
         return;
     }
     if let Some(serial) = header.reply_serial {
-        waiting.swap_remove(&serial);
+        end_calls(calls, serial);
     }
 }
 

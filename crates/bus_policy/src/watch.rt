@@ -12,6 +12,7 @@ ghost use Rattle.bus_policy.specs.Events.{Judged};
 ghost use Rattle.bus_policy.specs.Verdicts.{has_level, refused, match_call, name_call, driver_call, call_to, client_call, client_reply, client_signal, of_client, bus_reply, owner_signal, broadcast, bus_signal, of_bus, verdict_in};
 ghost use Rattle.bus_policy.specs.Watching.{Owners, WatchAt, rules_of, client_of, known_of, level_if as level_when, sight_of, level_after, verdict_after, event, judged_event};
 
+use crate::calls::{CallTable, has_listed_names, is_awaited};
 use crate::driver::{Handler, handler_of_call, is_text};
 use crate::judging::{holds, is_about_owner, pass_if, replied};
 use crate::level::Level;
@@ -39,9 +40,8 @@ pub struct Watch<S: BuildHasher = FixedHasher> {
     policy: Policy,
     client: Option<Text>,
     peers: Peers<S>,
-    /// The serials of the client's calls that wait, and whether one of the calls with a serial
-    /// lists names.
-    waiting: IndexMap<u32, bool, S>,
+    /// The client's calls that wait, and those that ever listed names.
+    calls: CallTable<S>,
 }
 
 fn level_had<S: BuildHasher>(peer: Option<&Peer<S>>) -> Level
@@ -104,7 +104,7 @@ impl<S: BuildHasher + Copy> Watch<S> {
             policy,
             client,
             peers,
-            waiting: IndexMap::with_hasher(alloc, hash_builder),
+            calls: IndexMap::with_hasher(alloc, hash_builder),
         })
     }
 
@@ -144,7 +144,7 @@ impl<S: BuildHasher + Copy> Watch<S> {
         ensures policy { rules_of self.new ≡ rules_of self.old }
         ensures client { client_of self.new ≡ client_of self.old }
     {
-        note_client_call(&mut self.waiting, header, message, verdict)?;
+        note_client_call(&mut self.calls, header, message, verdict)?;
         note_client_reply(&mut self.peers, header, message, verdict);
         Ok(())
     }
@@ -165,7 +165,7 @@ impl<S: BuildHasher + Copy> Watch<S> {
     {
         let rules = self.policy.rules();
         note_bus_peer(&mut self.peers, rules, header, message, verdict)?;
-        note_bus_reply(&mut self.waiting, header, message, verdict);
+        note_bus_reply(&mut self.calls, header, message, verdict);
         Ok(())
     }
 
@@ -234,12 +234,15 @@ impl<S: BuildHasher> Watch<S> {
         }
     }
 
-    /// Whether calls of the client wait, and if so, whether one of them lists names.
+    /// Where calls of the client wait, whether one with their serial ever listed names.
     #[tactic(auto, unfolding(crate::specs::Watching::sight_of))]
     fn client_waits(&self, serial: u32) -> Option<bool>
         ensures { result ≡ (sight_of self.now).client_waits serial }
     {
-        self.waiting.get(&serial).copied()
+        if !is_awaited(&self.calls, serial) {
+            return None;
+        }
+        Some(has_listed_names(&self.calls, serial))
     }
 
     /// Whether a call of a peer waits.

@@ -279,6 +279,26 @@ b 2 0 14 7 org.freedesktop.DBus :1.1 - M as 00000000 Drop
 c 1 0 8 - - org.freedesktop.DBus org.freedesktop.DBus ListNames - - Pass
 b 3 0 15 8 org.freedesktop.DBus :1.1 - M - - Pass";
 
+/// Serials that are used again after a call listed names: a bus answers such a call that wants no
+/// reply, and both of two calls. No other call with its serial gets the names.
+const SERIALS_AGAIN: &str = "\
+c 1 1 9 - - org.freedesktop.DBus org.freedesktop.DBus ListNames - - Pass
+b 2 0 12 9 org.freedesktop.DBus :1.1 - M as 0c000000070000006f72672e62617200 Drop
+c 1 0 9 - - org.freedesktop.DBus org.freedesktop.DBus GetId - - Pass
+b 2 0 13 9 org.freedesktop.DBus :1.1 - M as 0c000000070000006f72672e62617200 FilterNameList
+b 2 0 14 9 org.freedesktop.DBus :1.1 - M s 070000006f72672e62617200 Drop
+c 1 0 9 - - org.freedesktop.DBus org.freedesktop.DBus GetId - - Pass
+b 2 0 15 9 org.freedesktop.DBus :1.1 - M s 070000006f72672e62617200 Drop
+c 1 0 10 - - org.freedesktop.DBus org.freedesktop.DBus ListActivatableNames - - Pass
+c 1 0 10 - - org.freedesktop.DBus org.freedesktop.DBus ListNames - - Pass
+b 2 0 16 10 org.freedesktop.DBus :1.1 - M as 0c000000070000006f72672e62617200 FilterNameList
+b 2 0 17 10 org.freedesktop.DBus :1.1 - M as 0c000000070000006f72672e62617200 Drop
+c 1 0 10 - - org.foo - M - - Pass
+b 2 0 18 10 org.freedesktop.DBus :1.1 - M as 0c000000070000006f72672e62617200 FilterNameList
+c 1 1 11 - - org.freedesktop.DBus org.freedesktop.DBus GetId - - Pass
+c 1 0 11 - - org.freedesktop.DBus org.freedesktop.DBus GetId - - Pass
+b 2 0 19 11 org.freedesktop.DBus :1.1 - M s 070000006f72672e62617200 Pass";
+
 /// Calls to the client, of which each gets one reply.
 const PEER_CALLS: &str = "\
 b 1 0 3 - :1.9 :1.1 - M - - Pass
@@ -326,7 +346,14 @@ fn agree_from_opening(rt: &impl Abort, alloc: Global, steps: &str) {
 
 #[test]
 fn verdicts(rt: HostRuntime) {
-    for steps in &[CALLS, DRIVER_CALLS, REPLIES, PEER_CALLS, SIGNALS] {
+    for steps in &[
+        CALLS,
+        DRIVER_CALLS,
+        REPLIES,
+        SERIALS_AGAIN,
+        PEER_CALLS,
+        SIGNALS,
+    ] {
         agree_from_opening(&rt, rt.alloc(), steps);
     }
 }

@@ -87,7 +87,7 @@ IsMakeFault bytes NoMemory = Unit {0}
 abbrev pub CanMake : List ℕ → Ref → View → Type 0
 CanMake remote r v = CanExport (made remote) r v
 
--- a store may keep the object: a file's permission bits are within 0775, and a link's text is one
+-- a store may keep the object: a file's permission bits are good, and a link's text is one
 abbrev pub is_keepable : Object → Bool
 is_keepable (objects.Meta bytes) = true
 is_keepable (objects.File mode bytes) = is_permission mode

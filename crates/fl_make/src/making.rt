@@ -98,7 +98,7 @@ fn are_keepable(objects: &[BuiltObject]) -> bool
     true
 }
 
-/// Whether a store may keep the object: a file's permission bits are within 0775, and a link's text
+/// Whether a store may keep the object: a file's permission bits are good, and a link's text
 /// is one.
 fn is_keepable(object: &Object) -> bool
     ensures { result ≡ is_keepable_object object.now }

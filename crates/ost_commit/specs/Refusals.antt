@@ -12,7 +12,7 @@ use Rattle.ost_commit.specs.declared.built.BuildError.TheVariants as error
 use Rattle.ost_commit.specs.Rows.{Said, no_entry, a_directory, content, row_path, says}
 
 -- A row by itself: a directory has at most 64 elements, a file or a link at most 64 directories
--- above it; a file's permission bits are within 0775 (octal), and it has at most 1 GiB; a link's
+-- above it; a file's permission bits are good, and it has at most 1 GiB; a link's
 -- text is one.
 abbrev pub is_good_row : TreeRow → Bool
 is_good_row (row.Dir path) = leb (length path) MOST_LEVELS

@@ -31,7 +31,7 @@ use std::thread::Threads;
 /// The commit of a tree, bound to the ref, with this subject and time, in seconds since the
 /// beginning of 1970. It has no parent and no body. The rows come one after another: `Row` names
 /// the first whose path is there already, unless both are directories; that a file or link stands
-/// above; that is more than 64 directories deep; whose permission bits are not within 0775; whose
+/// above; that is more than 64 directories deep; whose permission bits are not good; whose
 /// text is none of a link; whose file has more than 1 GiB; or with which there would be more than
 /// 40,000 names below the root. The digests of files and links are found by several threads.
 pub fn commit_tree(

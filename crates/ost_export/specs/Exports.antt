@@ -136,7 +136,7 @@ pub record WasExported (have : Have) (root : Elements) (r : Ref) (commit : List 
   pub work : (q : Elements) → IsWork u q → w.names q ≡ absent
   pub shares : Shares (IsExported root r) u w
 
--- and a file's permission bits are within 0775, a link's text is one
+-- and a file's permission bits are good, a link's text is one
 pub record CanExportAll (root : Elements) (r : Ref) (objects : List BuiltObject)
     (v : View) : Type 0 where
   pub keepable : AllByRecursion IsKeepableObject objects

@@ -112,7 +112,7 @@ pub record CanStageOne (t : Elements) (object : Object) (v : View) : Type 0 wher
   pub keepable : IsKeepable object
   pub open_above : AreOpen t v
 
--- a file's permission bits are within 0775, and a link's text is one
+-- a file's permission bits are good, and a link's text is one
 abbrev pub IsKeepableObject : BuiltObject → Type 0
 IsKeepableObject o = IsKeepable o.object
 

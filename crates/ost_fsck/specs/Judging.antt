@@ -29,7 +29,7 @@ keeps_rules kind bytes = not (is_some (broken_rule kind bytes))
 abbrev pub is_true : List ℕ → ObjKind → Option Object → Bool
 is_true d kind object = not (is_some (name_fault d kind object))
 
--- the permission bits of a file are within 0775
+-- the permission bits of a file are good
 abbrev pub has_bits : Stat → Bool
 has_bits Absent = true
 has_bits Dir = true

@@ -26,7 +26,7 @@ pub(crate) struct Seen {
     pub(crate) finding: Option<Finding>,
 }
 
-/// Whether the permission bits of a file are within 0775.
+/// Whether the permission bits of a file are good.
 fn has_bits(stat: Stat) -> bool
     ensures { result ≡ has_bits stat }
 {
@@ -36,7 +36,7 @@ fn has_bits(stat: Stat) -> bool
     }
 }
 
-/// Whether the permission bits of what stands at the path are within 0775.
+/// Whether the permission bits of what stands at the path are good.
 fn are_bits_good<H: Host>(host: &mut H, path: &Path) -> Result<bool, HostEnd>
     ensures unchanged { Unchanged (H.moments host.old) (H.moments host.new) }
     ensures tells { IfOk result (λ are. AtEnd (λ u w. AreBitsAt path.now u are)
@@ -93,7 +93,7 @@ fn has_object<H: Host>(
 }
 
 /// Whether what stands at the object's name in the store in this folder is that object, with
-/// permission bits within 0775.
+/// good permission bits.
 fn is_named<H: Host>(
     alloc: Global,
     host: &mut H,

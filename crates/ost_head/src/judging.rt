@@ -48,7 +48,7 @@ fn check_tree(alloc: Global, digest: &Digest, bytes: &Blob) -> Result<(), WalkEn
     }
 }
 
-/// Checks that the bytes are a dirmeta whose permission bits are within 0775.
+/// Checks that the bytes are a dirmeta whose permission bits are good.
 fn check_meta(alloc: Global, digest: &Digest, bytes: &Blob) -> Result<(), WalkEnd>
     ensures tells { ChecksRules digest.now kinds.DirMeta bytes.now result }
     ensures faults { NoFault result }

@@ -125,7 +125,7 @@ abbrev pub dir_mode_fault : ObjKind → Option Object → Option Fault
 dir_mode_fault kinds.DirMeta (Some (objects.Meta bytes)) = dir_bits (meta_of bytes)
 dir_mode_fault kind object = None
 
--- the same of an object that is to be used: a directory's permission bits are within 0775 too
+-- the same of an object that is to be used: a directory's permission bits are good too
 abbrev pub object_fault : List ℕ → ObjKind → Option Object → Option Fault
 object_fault d kind object = option_or (name_fault d kind object) (dir_mode_fault kind object)
 

@@ -64,7 +64,7 @@ pub(crate) fn whole(alloc: Global, form: &Form, item: &Item) -> Result<Object, A
     }
 }
 
-/// Whether these bytes are a dirmeta whose permission bits are within 0775.
+/// Whether these bytes are a dirmeta whose permission bits are good.
 fn is_dirmeta(alloc: Global, bytes: &[u8]) -> bool
     ensures { IsTrue result → rules_fault kinds.DirMeta (objects.Meta bytes.now) ≡ None }
 {

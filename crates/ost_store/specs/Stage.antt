@@ -82,7 +82,7 @@ pub record Grows (t : Elements) (piece : List ℕ) (u w : View) : Type 0 where
   pub was : IsDirty u (u.names t)
   pub grown : (mode : ℕ) (bytes : List ℕ) → IsOpen t mode bytes u → IsOpen t mode (bytes ++ piece) w
 
--- a file's permission bits are within 0775, and a link's text is one
+-- a file's permission bits are good, and a link's text is one
 abbrev pub IsKeepable : Object → Type 0
 IsKeepable (objects.Meta bytes) = Unit {0}
 IsKeepable (objects.File mode bytes) = is_permission mode ≡ true

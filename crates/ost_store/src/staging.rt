@@ -16,7 +16,7 @@ use std::alloc::Global;
 /// Makes the absent path hold the object, and the folders above it where they are absent. A
 /// metadata object's file has the permission bits 0644. Nothing is synced: that is done before the
 /// object is placed. It is for a path above which each name is absent or a folder, and for a file
-/// whose permission bits are within 0775, or a link whose text may be a link's. All memory is taken
+/// whose permission bits are good, or a link whose text may be a link's. All memory is taken
 /// before the first change.
 pub fn stage<H: Host>(
     alloc: Global,
@@ -85,7 +85,7 @@ fn stage_link<H: Host>(alloc: Global, host: &mut H, tmp: &Path, text: &str) -> R
 
 /// Makes the absent path an empty file with these permission bits, and the folders above it where
 /// they are absent, for a content that comes in pieces. It is for a path above which each name is
-/// absent or a folder, and for permission bits within 0775. All memory is taken before the first
+/// absent or a folder, and for good permission bits. All memory is taken before the first
 /// change.
 pub fn stage_file<H: Host>(
     alloc: Global,

@@ -18,7 +18,7 @@ pub enum ObjectFault {
     Missing,
     /// It has this number of bytes, which are too many.
     TooLong(u64),
-    /// Its permission bits are not within 0775.
+    /// Its permission bits are not good.
     RefusedMode(u32),
     /// This is its digest, and not its name.
     Corrupt(Digest),

@@ -81,7 +81,7 @@ pub(crate) fn check_meta(alloc: Global, bytes: &Blob, digest: &Digest) -> Result
     }
 }
 
-/// Checks that the permission bits of a dirmeta are within 0775.
+/// Checks that the permission bits of a dirmeta are good.
 pub fn check_mode(meta: DirMeta, digest: &Digest) -> Result<(), WalkEnd>
     ensures tells { EndsBy (λ _. dir_bits (Some (meta_view meta)) ≡ None)
         (IsFaultOf digest.now kinds.DirMeta (dir_bits (Some (meta_view meta)))) result }
