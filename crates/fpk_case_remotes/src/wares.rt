@@ -236,19 +236,19 @@ impl Wares {
     }
 
     /// The commit that is called so.
-    fn made(&self, label: &str) -> Option<&MadeCommit> {
+    fn commit_of_label(&self, label: &str) -> Option<&MadeCommit> {
         self.commits
             .iter()
             .find(|made| made.label.as_str() == label)
     }
 
     fn commit_digest(&self, label: &str) -> Option<Digest> {
-        Some(self.made(label)?.built.commit)
+        Some(self.commit_of_label(label)?.built.commit)
     }
 
     /// The object that words name.
     fn object(&self, words: &ObjectWords) -> Option<&BuiltObject> {
-        let made = self.made(&words.label)?;
+        let made = self.commit_of_label(&words.label)?;
         let digest = digest_in(self.alloc, made, words)?;
         object_in(made, &digest, words.kind)
     }

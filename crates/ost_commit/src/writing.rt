@@ -47,7 +47,7 @@ pub(crate) fn dirmeta_bytes(alloc: Global) -> Result<Blob, BuildError>
     let meta = DirMeta {
         mode: DIRECTORY_MODE,
     };
-    written(write_dirmeta(alloc, &meta))
+    object_bytes(write_dirmeta(alloc, &meta))
 }
 
 /// The bytes of a dirtree.
@@ -55,7 +55,7 @@ pub(crate) fn dirtree_bytes(alloc: Global, tree: &DirTree) -> Result<Blob, Build
     ensures reads { IfOk result (λ bytes. tree_read bytes ≡ Ok (tree_view tree.now)) }
     ensures error { IfErr result IsWantOfRoom }
 {
-    written(write_dirtree(alloc, tree))
+    object_bytes(write_dirtree(alloc, tree))
 }
 
 /// The bytes of the commit of a root.
@@ -66,7 +66,7 @@ pub(crate) fn commit_bytes(alloc: Global, heading: Heading, root: Root) -> Resul
     ensures error { IfErr result IsWantOfRoom }
 {
     let commit = commit_of(alloc, heading, root)?;
-    written(write_commit(alloc, &commit))
+    object_bytes(write_commit(alloc, &commit))
 }
 
 /// The commit of a root.
@@ -179,7 +179,7 @@ fn texts_type(alloc: Global) -> Result<GvType, AllocError>
 }
 
 /// The bytes of an object; it is too large where no bytes read as it.
-fn written(bytes: Result<Blob, ObjectError>) -> Result<Blob, BuildError>
+fn object_bytes(bytes: Result<Blob, ObjectError>) -> Result<Blob, BuildError>
     ensures bytes { IfOk result (λ b. bytes ≡ Ok b) }
     ensures error { IfErr result IsWantOfRoom }
 {

@@ -25,7 +25,7 @@ pub fn read_dirmeta(alloc: Global, bytes: &[u8]) -> Result<DirMeta, ObjectError>
     let of = meta_type(alloc)?;
     let value = value_of(alloc, &of, bytes)?;
     let fields = fields_of(&value)?;
-    judged(fields)
+    meta_of_fields(fields)
 }
 
 /// The fields of a value.
@@ -85,7 +85,7 @@ fn is_bare_of_bytes(bytes: &[u8]) -> bool
 }
 
 /// The dirmeta of these fields, or the first rule after `Value` that they break.
-fn judged(fields: MetaFields) -> Result<DirMeta, ObjectError>
+fn meta_of_fields(fields: MetaFields) -> Result<DirMeta, ObjectError>
     ensures { Reads meta_view result (kept (meta_breaks (meta_fields fields))
         (meta_fields fields)) }
 {

@@ -26,7 +26,7 @@ pub fn read_dirtree(alloc: Global, bytes: &[u8]) -> Result<DirTree, ObjectError>
     let of = tree_type(alloc)?;
     let value = value_of(alloc, &of, bytes)?;
     let (files, dirs) = tree_rows(alloc, &value)?;
-    judged(alloc, &files, &dirs)
+    tree_of_rows(alloc, &files, &dirs)
 }
 
 /// The rows of a value.
@@ -62,7 +62,11 @@ fn row_members(
 }
 
 /// The dirtree of these rows, or the first rule after `Value` that they break.
-fn judged(alloc: Global, files: &[FileFields], dirs: &[DirFields]) -> Result<DirTree, ObjectError>
+fn tree_of_rows(
+    alloc: Global,
+    files: &[FileFields],
+    dirs: &[DirFields],
+) -> Result<DirTree, ObjectError>
     ensures { Reads tree_view result (kept (tree_breaks (tree_fields files.now dirs.now))
         (tree_fields files.now dirs.now)) }
 {

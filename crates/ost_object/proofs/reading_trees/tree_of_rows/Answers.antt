@@ -9,7 +9,7 @@ use Rattle.ost_object.specs.declared.error.ObjectError.{ObjectError}
 use Rattle.ost_object.specs.Answers.{Tries, Reads, only}
 use Rattle.ost_object.specs.Views.{file_row, file_fields, dir_fields, tree_fields, tree_view}
 use Rattle.ost_object.proofs.Trees.{only_none, only_some, file_digests, misses_breaks}
-use Rattle.ost_object.proofs.reading_trees.judged.Goals as goal
+use Rattle.ost_object.proofs.reading_trees.tree_of_rows.Goals as goal
 
 pub judged_dirs-requires : goal.judged_dirs-requires
 judged_dirs-requires c =
