@@ -18,7 +18,7 @@ use Rattle.fp_memhost.specs.declared.names.Name.{Name}
 use Rattle.fp_memhost.specs.declared.files.Content.{Content}
 use Rattle.fp_memhost.specs.Names.{IsAscending, slot_of, slot_in, held_in, is_at, name_at, names_of, earlier_of}
 use Rattle.fp_memhost.specs.Files.{has_id, file_at, inode_in, files_of}
-use Rattle.fp_memhost.specs.Images.{listed, slots_of, rows_of, number_for, bytes_for, numbered, chosen_slot, with_bytes, chosen_row, has_entry, is_open_file, can_choose, IsChosen}
+use Rattle.fp_memhost.specs.Images.{listed_slot, slots_of, rows_of, number_for, bytes_for, numbered, chosen_slot, with_bytes, chosen_row, has_entry, is_open_file, can_choose, IsChosen}
 use Rattle.fp_memhost.specs.Choosing.{entry_in, ChoosesNames, ChoosesFiles, bytes_of}
 use Rattle.fp_memhost.proofs.Finding.{append_hit, append_miss, find_none}
 use Rattle.fp_memhost.proofs.Judging.{entry_present}
@@ -62,14 +62,14 @@ numbered_none zero = refl
 numbered_none (suc n) = refl
 
 -- one name more in an image
-listed_next : (xs : List (Elements × Entry)) (y : Elements × Entry) (q : Elements) → listed xs q ≡ absent → path_eq q y.0 ≡ true → listed (xs ++ y ∷ []) q ≡ slot_of (Some y.1)
+listed_next : (xs : List (Elements × Entry)) (y : Elements × Entry) (q : Elements) → listed_slot xs q ≡ absent → path_eq q y.0 ≡ true → listed_slot (xs ++ y ∷ []) q ≡ slot_of (Some y.1)
 listed_next [] y q none t = cond-true (path_eq q y.0) (slot_of (Some y.1)) absent t
 listed_next (x ∷ xs) y q none t = elim (cases_Bool (path_eq q x.0)) [
-  | inl here ↦ absurd (entry_present (Some x.1) refl (sym (cond-true (path_eq q x.0) (slot_of (Some x.1)) (listed xs q) here) ∙ none))
-  | inr f ↦ cond-false (path_eq q x.0) (slot_of (Some x.1)) (listed (xs ++ y ∷ []) q) f ∙ listed_next xs y q (sym (cond-false (path_eq q x.0) (slot_of (Some x.1)) (listed xs q) f) ∙ none) t
+  | inl here ↦ absurd (entry_present (Some x.1) refl (sym (cond-true (path_eq q x.0) (slot_of (Some x.1)) (listed_slot xs q) here) ∙ none))
+  | inr f ↦ cond-false (path_eq q x.0) (slot_of (Some x.1)) (listed_slot (xs ++ y ∷ []) q) f ∙ listed_next xs y q (sym (cond-false (path_eq q x.0) (slot_of (Some x.1)) (listed_slot xs q) f) ∙ none) t
 ]
 
-listed_miss : (xs : List (Elements × Entry)) (y : Elements × Entry) (q : Elements) → path_eq q y.0 ≡ false → listed (xs ++ y ∷ []) q ≡ listed xs q
+listed_miss : (xs : List (Elements × Entry)) (y : Elements × Entry) (q : Elements) → path_eq q y.0 ≡ false → listed_slot (xs ++ y ∷ []) q ≡ listed_slot xs q
 listed_miss [] y q f = cond-false (path_eq q y.0) (slot_of (Some y.1)) absent f
 listed_miss (x ∷ xs) y q f = ap (λ (s : Slot). cond (path_eq q x.0) (slot_of (Some x.1)) s) (listed_miss xs y q f)
 
@@ -80,7 +80,7 @@ pick numbers (Some name) = entry_in name (number_for numbers name.path)
 
 -- so far
 pub record NamesTo (i : ℕ) (names : List Name) (numbers : List (Elements × ℕ)) (chosen : List (Elements × Entry)) : Type 0 where
-  pub each : (q : Elements) → listed chosen q ≡ pick numbers (name_at (take i names) q)
+  pub each : (q : Elements) → listed_slot chosen q ≡ pick numbers (name_at (take i names) q)
 
 pub names_none : (names : List Name) (numbers : List (Elements × ℕ)) → NamesTo 0 names numbers []
 names_none names numbers = record { each = λ q. refl }

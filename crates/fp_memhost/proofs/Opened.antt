@@ -19,7 +19,7 @@ use Rattle.fp_memhost.specs.Scenes.{view_from}
 use Rattle.fp_memhost.specs.Start.{root_alone, empty_view}
 use Rattle.fp_memhost.specs.declared.stood.Stood.{Stood}
 use Rattle.fp_memhost.specs.Stood.{stood_of}
-use Rattle.fp_memhost.specs.Images.{listed, slots_of, rows_of, put_of, opened, IsImage}
+use Rattle.fp_memhost.specs.Images.{listed_slot, slots_of, rows_of, put_of, opened, IsImage}
 use Rattle.fp_memhost.specs.Opening.{is_folder, is_open, may_stand, built, AddsName, AddsNames, OpensFiles}
 use Rattle.fp_memhost.proofs.Quiet.{quiet_tree}
 
@@ -58,7 +58,7 @@ built_none : (all : List (Elements × Entry)) (q : Elements) → root_alone q �
 built_none all [] = refl
 built_none all (x ∷ up) = cond_same (is_open all (x ∷ up)) absent
 
-built_is : (all xs : List (Elements × Entry)) (q : Elements) → built all root_alone xs q ≡ cond (may_stand all q) (listed xs q) (root_alone q)
+built_is : (all xs : List (Elements × Entry)) (q : Elements) → built all root_alone xs q ≡ cond (may_stand all q) (listed_slot xs q) (root_alone q)
 built_is all [] q = built_none all q
 built_is all (x ∷ xs) q = elim (path_cases q x.0) [
   | inl e ↦
@@ -67,27 +67,27 @@ built_is all (x ∷ xs) q = elim (path_cases q x.0) [
       elim (cases_Bool (may_stand all x.0)) [
         | inl m ↦
             cond-true (may_stand all x.0 && path_eq q x.0) (slot_of (Some x.1)) (built all root_alone xs q) (and_from (may_stand all x.0) (path_eq q x.0) m t)
-            ∙ sym (cond-true (path_eq q x.0) (slot_of (Some x.1)) (listed xs q) t)
-            ∙ sym (cond-true (may_stand all q) (listed (x ∷ xs) q) (root_alone q) (stands ∙ m))
+            ∙ sym (cond-true (path_eq q x.0) (slot_of (Some x.1)) (listed_slot xs q) t)
+            ∙ sym (cond-true (may_stand all q) (listed_slot (x ∷ xs) q) (root_alone q) (stands ∙ m))
         | inr n ↦
             cond-false (may_stand all x.0 && path_eq q x.0) (slot_of (Some x.1)) (built all root_alone xs q) (ap (λ b. b && path_eq q x.0) n)
             ∙ built_is all xs q
-            ∙ cond-false (may_stand all q) (listed xs q) (root_alone q) (stands ∙ n)
-            ∙ sym (cond-false (may_stand all q) (listed (x ∷ xs) q) (root_alone q) (stands ∙ n))
+            ∙ cond-false (may_stand all q) (listed_slot xs q) (root_alone q) (stands ∙ n)
+            ∙ sym (cond-false (may_stand all q) (listed_slot (x ∷ xs) q) (root_alone q) (stands ∙ n))
       ]
   | inr ne ↦
       let f = false_from_ne_true (path_eq q x.0) (λ t. ne ((path_decides q x.0).0 t)) in
       cond-false (may_stand all x.0 && path_eq q x.0) (slot_of (Some x.1)) (built all root_alone xs q) (and_false (may_stand all x.0) (path_eq q x.0) f)
       ∙ built_is all xs q
-      ∙ ap (λ (s : Slot). cond (may_stand all q) s (root_alone q)) (sym (cond-false (path_eq q x.0) (slot_of (Some x.1)) (listed xs q) f))
+      ∙ ap (λ (s : Slot). cond (may_stand all q) s (root_alone q)) (sym (cond-false (path_eq q x.0) (slot_of (Some x.1)) (listed_slot xs q) f))
 ]
 
 -- what stands once all were added
 pub built_all : (all : List (Elements × Entry)) (q : Elements) → built all root_alone all q ≡ at (slots_of all) q
 built_all all [] = built_is all all []
 built_all all (x ∷ up) = built_is all all (x ∷ up) ∙ elim (at_open all (x ∷ up)) [
-  | inl h ↦ cond-true (is_open all (x ∷ up)) (listed all (x ∷ up)) absent h.0 ∙ sym h.1
-  | inr h ↦ cond-false (is_open all (x ∷ up)) (listed all (x ∷ up)) absent h.0 ∙ sym h.1
+  | inl h ↦ cond-true (is_open all (x ∷ up)) (listed_slot all (x ∷ up)) absent h.0 ∙ sym h.1
+  | inr h ↦ cond-false (is_open all (x ∷ up)) (listed_slot all (x ∷ up)) absent h.0 ∙ sym h.1
 ]
 
 built_on : (all : List (Elements × Entry)) (f g : Elements → Slot) → ((q : Elements) → f q ≡ g q) → (xs : List (Elements × Entry)) (q : Elements) → built all f xs q ≡ built all g xs q
@@ -96,11 +96,11 @@ built_on all f g same (x ∷ xs) q = ap (λ (s : Slot). cond (may_stand all x.0 
 
 -- one name of the list
 pub listed_step : (names : List (Elements × Entry)) (i : ℕ) (x : Elements × Entry) (text t : List ℕ) (b : Bool) → i < length names → x ≡ get_or names i x → elements_of t ≡ x.0 → b ≡ bytes_eq text t
-    → listed (drop i names) (elements_of text) ≡ cond b (slot_of (Some x.1)) (listed (drop (i + 1) names) (elements_of text))
+    → listed_slot (drop i names) (elements_of text) ≡ cond b (slot_of (Some x.1)) (listed_slot (drop (i + 1) names) (elements_of text))
 listed_step names i x text t b low is back tells =
     let cut : drop i names ≡ x ∷ drop (i + 1) names = drop-cons names i x low ∙ (λ j. sym is j ∷ drop (sym (add-one i) j) names) in
     let test : path_eq (elements_of text) x.0 ≡ b = ap (path_eq (elements_of text)) (sym back) ∙ sym (same_paths text t) ∙ sym tells in
-    ap (λ (l : List (Elements × Entry)). listed l (elements_of text)) cut ∙ ap (λ v. cond v (slot_of (Some x.1)) (listed (drop (i + 1) names) (elements_of text))) test
+    ap (λ (l : List (Elements × Entry)). listed_slot l (elements_of text)) cut ∙ ap (λ v. cond v (slot_of (Some x.1)) (listed_slot (drop (i + 1) names) (elements_of text))) test
 
 -- so far: the names from this place on were added
 pub record BuiltFrom (left : ℕ) (all : List (Elements × Entry)) (old new : List Name) : Type 0 where
@@ -224,14 +224,14 @@ opened_scene image root added now empty files printed nothing stood start adds f
     λ i. record { names = λ q. names q i; files = λ id. opens.files id i; earlier = λ q. forgets.earlier q i; dirty = λ id. opens.dirty id i; printed = none i; stood = put i }
 
 -- what a list says of a path is remembered
-listed_put : (names : List (Elements × Entry)) (q : Elements) → (listed names q ≡ absent) ⊎ Contains (map put_of names) (q, listed names q)
+listed_put : (names : List (Elements × Entry)) (q : Elements) → (listed_slot names q ≡ absent) ⊎ Contains (map put_of names) (q, listed_slot names q)
 listed_put [] q = inl refl
 listed_put (x ∷ xs) q = elim (path_cases q x.0) [
   | inl here ↦
-      let is : listed (x ∷ xs) q ≡ slot_of (Some x.1) = cond-true (path_eq q x.0) (slot_of (Some x.1)) (listed xs q) ((path_decides q x.0).1 here) in
+      let is : listed_slot (x ∷ xs) q ≡ slot_of (Some x.1) = cond-true (path_eq q x.0) (slot_of (Some x.1)) (listed_slot xs q) ((path_decides q x.0).1 here) in
       inr (0, omega arith, λ i. (sym here i, sym is i))
   | inr off ↦
-      let is : listed (x ∷ xs) q ≡ listed xs q = cond-false (path_eq q x.0) (slot_of (Some x.1)) (listed xs q) (false_from_ne_true (path_eq q x.0) (λ t. off ((path_decides q x.0).0 t))) in
+      let is : listed_slot (x ∷ xs) q ≡ listed_slot xs q = cond-false (path_eq q x.0) (slot_of (Some x.1)) (listed_slot xs q) (false_from_ne_true (path_eq q x.0) (λ t. off ((path_decides q x.0).0 t))) in
       elim (listed_put xs q) [
         | inl none ↦ inl (is ∙ none)
         | inr had ↦ inr (subst (λ (s : Slot). Contains (map put_of (x ∷ xs)) (q, s)) (sym is) (suc had.0, omega (arith, had.1), had.2))

@@ -10,17 +10,17 @@ use Rattle.fp_host.specs.declared.host.Entry.{Entry}
 use Rattle.fp_memhost.specs.declared.image.FileRow.{FileRow}
 use Rattle.fp_memhost.specs.declared.image.Image.{Image}
 use Rattle.fp_memhost.specs.Names.{slot_of}
-use Rattle.fp_memhost.specs.Images.{listed, slots_of, rows_of, IsImage}
+use Rattle.fp_memhost.specs.Images.{listed_slot, slots_of, rows_of, IsImage}
 use Rattle.fp_memhost.specs.Soundness.{is_good_slot, is_good_row, are_good_names, are_good_rows}
 
 -- what passes at each member passes at each path where something is listed
-listed_good : (t : Elements → Bool) (xs : List (Elements × Entry)) (q : Elements) → list_all (λ (x : Elements × Entry). t x.0) xs ≡ true → listed xs q ≢ absent → t q ≡ true
+listed_good : (t : Elements → Bool) (xs : List (Elements × Entry)) (q : Elements) → list_all (λ (x : Elements × Entry). t x.0) xs ≡ true → listed_slot xs q ≢ absent → t q ≡ true
 listed_good t [] q all some = absurd (some refl)
 listed_good t (x ∷ xs) q all some =
     let parts = and_parts (t x.0) (list_all (λ (x : Elements × Entry). t x.0) xs) all in
     elim (cases_Bool (path_eq q x.0)) [
       | inl same ↦ ap t ((path_decides q x.0).0 same) ∙ parts.0
-      | inr f ↦ listed_good t xs q parts.1 (λ none. some (cond-false (path_eq q x.0) (slot_of (Some x.1)) (listed xs q) f ∙ none))
+      | inr f ↦ listed_good t xs q parts.1 (λ none. some (cond-false (path_eq q x.0) (slot_of (Some x.1)) (listed_slot xs q) f ∙ none))
     ]
 
 rows_good : (t : ℕ → Bool) (xs : List FileRow) (id : ℕ) → list_all (λ (f : FileRow). t f.id) xs ≡ true → rows_of xs id ≢ None → t id ≡ true

@@ -8,7 +8,7 @@ use Rattle.fp_memhost.specs.declared.names.Name.{Name}
 use Rattle.fp_memhost.specs.declared.files.Content.{Content}
 use Rattle.fp_memhost.specs.Names.{slot_of}
 use Rattle.fp_memhost.specs.Files.{files_of}
-use Rattle.fp_memhost.specs.Images.{listed, rows_of, numbered, chosen_slot, with_bytes, bytes_for}
+use Rattle.fp_memhost.specs.Images.{listed_slot, rows_of, numbered, chosen_slot, with_bytes, bytes_for}
 
 -- the entry of a number
 abbrev pub entry_in : Name → ℕ → Slot
@@ -17,7 +17,7 @@ entry_in name number = numbered (slot_of name.entry) (map slot_of name.earlier.i
 -- the names of a view with the chosen entries
 pub record ChoosesNames (v : View) (numbers : List (Elements × ℕ))
     (chosen : List (Elements × Entry)) : Type 0 where
-  pub names : (q : Elements) → listed chosen q ≡ chosen_slot v numbers q
+  pub names : (q : Elements) → listed_slot chosen q ≡ chosen_slot v numbers q
 
 -- the files with the chosen bytes
 pub record ChoosesFiles (files : List Content) (bytes : List (ℕ × List ℕ))

@@ -14,14 +14,14 @@ use Rattle.fp_memhost.specs.declared.image.Choice.{Choice}
 use Rattle.fp_memhost.specs.Names.{slot_of}
 
 -- what a list says of a path; the first of its names counts
-abbrev pub listed : List (Elements × Entry) → Elements → Slot
-listed [] q = absent
-listed (x ∷ xs) q = if path_eq q x.0 then slot_of (Some x.1) else listed xs q
+abbrev pub listed_slot : List (Elements × Entry) → Elements → Slot
+listed_slot [] q = absent
+listed_slot (x ∷ xs) q = if path_eq q x.0 then slot_of (Some x.1) else listed_slot xs q
 
 -- the root is a folder, listed or not
 abbrev pub slots_of : List (Elements × Entry) → Elements → Slot
 slots_of names [] = dir
-slots_of names (x ∷ up) = listed names (x ∷ up)
+slots_of names (x ∷ up) = listed_slot names (x ∷ up)
 
 -- each file by its id; the first that is listed counts
 abbrev pub rows_of : List FileRow → ℕ → Option Inode

@@ -8,7 +8,7 @@ ghost use Rattle.fp_memhost.specs.Names.{slot_of};
 ghost use Rattle.fp_memhost.specs.Scenes.{seen};
 
 use crate::files::is_new;
-use crate::folders::{above, has_child};
+use crate::folders::{folder_above, has_child};
 use crate::names::entry;
 use crate::scene::Scene;
 use fp_host::{Entry, PERMISSION_BITS, Path, is_link_text};
@@ -24,7 +24,7 @@ pub fn is_dir(entry: Option<&Entry>) -> bool
 pub fn has_folder(scene: &Scene, path: &Path) -> bool
     ensures { IsTrue result ↔ HasFolder (seen scene.now) path.now }
 {
-    match above(path.text()) {
+    match folder_above(path.text()) {
         Some(up) => is_dir(entry(&scene.names, up)),
         None => false,
     }

@@ -10,7 +10,7 @@ use fp_host::Path;
 use std::alloc::{AllocError, Global};
 
 /// The text of the folder above; the root has none.
-pub fn above(text: &str) -> Option<&str>
+pub fn folder_above(text: &str) -> Option<&str>
     requires { IsTrue (list_all is_element (elements_of text.now)) }
     ensures none { IsNone result ↔ (elements_of text.now ≡ []) }
     ensures folder { IfSome result (λ up. elements_of up.now ≡ drop 1 (elements_of text.now)) }
@@ -30,7 +30,7 @@ pub fn above(text: &str) -> Option<&str>
 pub fn is_in(path: &Path, folder: &str) -> bool
     ensures { result ≡ child_in (elements_of folder.now) path.now }
 {
-    match above(path.text()) {
+    match folder_above(path.text()) {
         Some(up) => up == folder,
         None => false,
     }
@@ -41,7 +41,7 @@ pub fn is_below(path: &Path, folder: &str) -> bool
     ensures { result ≡ is_above (elements_of folder.now) path.now }
 {
     let mut text = path.text();
-    while let Some(up) = above(text) {
+    while let Some(up) = folder_above(text) {
         if up == folder {
             return true;
         }

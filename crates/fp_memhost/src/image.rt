@@ -5,7 +5,7 @@ ghost use Rattle.fp_memhost.specs.Names.{slot_of};
 ghost use Rattle.fp_memhost.specs.Images.{slots_of, rows_of, IsImage};
 ghost use Rattle.fp_memhost.specs.Soundness.{row_in, is_good_slot, is_good_row, are_good_names, are_good_rows};
 
-use crate::opening::listed;
+use crate::opening::listed_entry;
 use fp_base::{Blob, Items};
 use fp_host::{Entry, PERMISSION_BITS, Path, is_link_text};
 
@@ -76,7 +76,7 @@ impl Image {
         }
         is_good_entry(
             self.files.as_slice(),
-            listed(self.names.as_slice(), path.text()),
+            listed_entry(self.names.as_slice(), path.text()),
         )
     }
 

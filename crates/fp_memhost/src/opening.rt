@@ -5,14 +5,14 @@ ghost use Rattle.std.specs.Option.{option_copied};
 ghost use Rattle.fp_host.specs.Paths.{Elements, elements_of, is_element};
 ghost use Rattle.fp_memhost.specs.Names.{IsAscending, slot_of};
 ghost use Rattle.fp_memhost.specs.Scenes.{seen};
-ghost use Rattle.fp_memhost.specs.Images.{listed, slots_of, opened, put_of};
+ghost use Rattle.fp_memhost.specs.Images.{listed_slot, slots_of, opened, put_of};
 ghost use Rattle.fp_memhost.specs.Stood.{stood_of};
 ghost use Rattle.fp_memhost.specs.Opening.{is_folder, is_open, may_stand, AddsName, AddsNames, OpensFiles};
 
 use crate::conditions::is_dir;
 use crate::entry::copy_of;
 use crate::files::Content;
-use crate::folders::above;
+use crate::folders::folder_above;
 use crate::image::{FileRow, Image};
 use crate::names::{Name, forget, put, ready};
 use crate::scene::Scene;
@@ -21,8 +21,8 @@ use fp_host::{Entry, Path};
 use std::alloc::{AllocError, Global};
 
 /// What the list says of the path with this text.
-pub fn listed<'a>(names: &'a [(Path, Entry)], text: &str) -> Option<&'a Entry>
-    ensures { slot_of (option_copied result) ≡ listed names.now (elements_of text.now) }
+pub fn listed_entry<'a>(names: &'a [(Path, Entry)], text: &str) -> Option<&'a Entry>
+    ensures { slot_of (option_copied result) ≡ listed_slot names.now (elements_of text.now) }
 {
     for (path, entry) in names {
         if text == path.text() {
@@ -37,8 +37,8 @@ fn is_folder(names: &[(Path, Entry)], text: &str) -> bool
     requires { IsTrue (list_all is_element (elements_of text.now)) }
     ensures { result ≡ is_folder (slots_of names.now (elements_of text.now)) }
 {
-    match above(text) {
-        Some(_) => is_dir(listed(names, text)),
+    match folder_above(text) {
+        Some(_) => is_dir(listed_entry(names, text)),
         None => true,
     }
 }
@@ -48,7 +48,7 @@ fn is_open(names: &[(Path, Entry)], path: &Path) -> bool
     ensures { result ≡ is_open names.now path.now }
 {
     let mut text = path.text();
-    while let Some(up) = above(text) {
+    while let Some(up) = folder_above(text) {
         if !is_folder(names, up) {
             return false;
         }

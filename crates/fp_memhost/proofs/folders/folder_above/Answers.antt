@@ -3,7 +3,7 @@ use Rattle.std.specs.List.{list_all}
 use Rattle.std.proofs.lemmas.Str.Pattern.{rfind_char}
 use Rattle.fp_host.specs.Paths.{elements_of, is_element}
 use Rattle.fp_host.proofs.PathTexts.{from_start, front_is, front_good, none_above}
-use Rattle.fp_memhost.proofs.folders.above.Goals as goal
+use Rattle.fp_memhost.proofs.folders.folder_above.Goals as goal
 
 pub returns-in-Some-clause-folder : goal.returns-in-Some-clause-folder
 returns-in-Some-clause-folder c =
