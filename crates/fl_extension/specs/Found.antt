@@ -16,9 +16,9 @@ abbrev pub row_of : State → Ref → Option RefRow
 row_of state r = find (λ row. bytes_eq (ref_text row.name) (ref_text r)) state.refs
 
 -- the place of the first candidate that the state has
-abbrev pub found : Point → State → Option ℕ
-found point state = position (has_ref state) point.candidates
+abbrev pub found_place : Point → State → Option ℕ
+found_place point state = position (has_ref state) point.candidates
 
 -- the ref that is found for a point
 abbrev pub found_ref : State → Point → Option Ref
-found_ref state point = option_and_then (slice_get point.candidates) (found point state)
+found_ref state point = option_and_then (slice_get point.candidates) (found_place point state)

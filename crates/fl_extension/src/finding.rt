@@ -24,8 +24,8 @@ pub fn row_of<'a>(state: &'a State, name: &RefName) -> Option<&'a RefRow>
 }
 
 /// The place of the first of the point's candidates that is in the state, which takes no memory.
-pub fn found(point: &Point, state: &State) -> Option<usize>
-    ensures { result ≡ spec.found point.now state.now }
+pub fn found_place(point: &Point, state: &State) -> Option<usize>
+    ensures { result ≡ spec.found_place point.now state.now }
 {
     let mut candidates = point.candidates.as_slice().iter();
     candidates.position(|name| has_ref(state, name))
@@ -35,6 +35,6 @@ pub fn found(point: &Point, state: &State) -> Option<usize>
 pub fn found_ref<'a>(state: &State, point: &'a Point) -> Option<&'a RefName>
     ensures { option_copied result ≡ spec.found_ref state.now point.now }
 {
-    let place = found(point, state)?;
+    let place = found_place(point, state)?;
     point.candidates.as_slice().get(place)
 }

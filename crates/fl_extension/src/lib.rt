@@ -8,6 +8,6 @@ pub mod laws;
 mod point;
 mod reading;
 
-pub use finding::{found, found_ref, has_ref, row_of};
+pub use finding::{found_place, found_ref, has_ref, row_of};
 pub use point::Point;
 pub use reading::points;

@@ -2,7 +2,7 @@
 
 use crate::given::{key_file, ref_name, row_of};
 use crate::rows::{agree, agree_at};
-use fl_extension::{Point, found, points};
+use fl_extension::{Point, found_place, points};
 use fp_base::Items;
 use fp_name::RefName;
 use fp_small::{Layout, RefRow, State};
@@ -302,7 +302,7 @@ const FOUND: [(&str, &str, Option<usize>); 9] = [
 /// The place that is found for the one point, or how many there are.
 fn found_in(points: &[Point], state: &State) -> Result<Option<usize>, usize> {
     match points {
-        [point] => Ok(found(point, state)),
+        [point] => Ok(found_place(point, state)),
         others => Err(others.len()),
     }
 }
