@@ -37,8 +37,8 @@ Reads v (Err NoMemory) = Unit {0}
 
 -- ---- the state of its parts
 
-abbrev pub joined : Setup → List RefRow → List OverrideRow → State
-joined setup refs overrides = record {
+abbrev pub state_of_parts : Setup → List RefRow → List OverrideRow → State
+state_of_parts setup refs overrides = record {
   layout = setup.layout;
   refs = refs;
   remotes = setup.settings.remotes;
@@ -53,7 +53,8 @@ first_damaged a b c = lesser (lesser a b) c
 abbrev pub IsJoined : Part Setup → Part (List RefRow) → Part (List OverrideRow)
     → Result State OpenEnd → Type 0
 IsJoined a b c (Ok s) =
-    (first_damaged a.damaged b.damaged c.damaged ≡ None) × (s ≡ joined a.found b.found c.found)
+    (first_damaged a.damaged b.damaged c.damaged ≡ None)
+    × (s ≡ state_of_parts a.found b.found c.found)
 IsJoined a b c (Err (Damaged p)) = first_damaged a.damaged b.damaged c.damaged ≡ Some p
 IsJoined a b c (Err Fault) = ⊥
 IsJoined a b c (Err NoMemory) = ⊥

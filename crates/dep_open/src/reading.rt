@@ -28,11 +28,11 @@ pub fn read_state<H: Host>(alloc: Global, host: &mut H) -> Result<State, OpenEnd
     let settings = read_settings(alloc, host)?;
     let refs = read_refs(alloc, host)?;
     let overrides = read_overrides(alloc, host)?;
-    joined(settings, refs, overrides)
+    state_of_parts(settings, refs, overrides)
 }
 
 /// The state of these parts, or the first path of them that doesn't read.
-fn joined(
+fn state_of_parts(
     settings: Part<Setup>,
     refs: Part<Items<RefRow>>,
     overrides: Part<Items<OverrideRow>>,

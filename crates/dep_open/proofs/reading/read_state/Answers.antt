@@ -43,7 +43,7 @@ returns-clause-tells g c =
     let Found : View → View → Type 0 = λ x y. SetsUp (shows x) c.in_ok-settings.settings × AreRefs (shows x) c.in_ok-refs.refs in
     ends_on c.in_ok-overrides.ensures.tells (ends_both {T = Found} (ends_looks (t c.args.host.now) two) (ends_on c.in_ok-refs.ensures.tells (ends_both (ends_looks (t c.args.host.now) one) c.in_ok-settings.ensures.tells) (t c.read_settings.new.host)
     (λ u v w tree q refs. (q.1, subst (λ x. AreRefs (shows x) c.in_ok-refs.refs) q.0.0 refs)))) (t c.read_refs.new.host)
-    (λ u v w tree q layers. joined_reads u c.in_ok-settings.settings c.in_ok-refs.refs c.in_ok-overrides.overrides c.joined.result q.1.0 q.1.1 (subst (λ x. AreOverrides (shows x) c.in_ok-overrides.overrides) q.0.0 layers) c.in_ok-refs.ensures.good c.in_ok-overrides.ensures.good c.joined.ensures)
+    (λ u v w tree q layers. joined_reads u c.in_ok-settings.settings c.in_ok-refs.refs c.in_ok-overrides.overrides c.state_of_parts.result q.1.0 q.1.1 (subst (λ x. AreOverrides (shows x) c.in_ok-overrides.overrides) q.0.0 layers) c.in_ok-refs.ensures.good c.in_ok-overrides.ensures.good c.state_of_parts.ensures)
 
 pub returns-in_err-overrides-clause-fault_has_cause : goal.returns-in_err-overrides-clause-fault_has_cause
 returns-in_err-overrides-clause-fault_has_cause g c =
