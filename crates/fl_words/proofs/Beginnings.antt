@@ -6,7 +6,7 @@ use Rattle.std.specs.List.{find}
 use Rattle.std.specs.Option.{option_map, is_some}
 use Rattle.fl_words.specs.declared.command.Command.{Command}
 use Rattle.fl_words.specs.declared.forms.Form.{Form}
-use Rattle.fl_words.specs.Forms.{Place, forms, slots_of, made, left_after, reach, reads, most, bad_index}
+use Rattle.fl_words.specs.Forms.{Place, forms, slots_of, form_command, left_after, reach, reads, most, bad_index}
 use Rattle.fl_words.specs.Reasons.{begins}
 use Rattle.fl_words.specs.Words.{Begins}
 use Rattle.fl_words.proofs.Reaching.{ends, samples, samples_fit, clear_places, clear_left, left_append, reach_left, left_reach, reach-within}
@@ -36,13 +36,13 @@ from_form words more n form is = by (left_after (slots_of form) (take n words)) 
 
 -- the command of words, by these forms alone
 abbrev command_by : List Form → List (List ℕ) → Option Command
-command_by fs words = option_map (λ form. made form words) (find (reads words) fs)
+command_by fs words = option_map (λ form. form_command form words) (find (reads words) fs)
 
 -- the first form is tried first
 first_reads : (f : Form) (fs : List Form) (words : List (List ℕ)) → reads words f ≡ true → IsSome (command_by (f ∷ fs) words)
 first_reads f fs words h = rw h (search rules)
 
-some_later : (b : Bool) (f : Form) (o : Option Form) (words : List (List ℕ)) → IsSome (option_map (λ form. made form words) o) → IsSome (option_map (λ form. made form words) (cond b (Some f) o))
+some_later : (b : Bool) (f : Form) (o : Option Form) (words : List (List ℕ)) → IsSome (option_map (λ form. form_command form words) o) → IsSome (option_map (λ form. form_command form words) (cond b (Some f) o))
 some_later true f o words some = search rules
 some_later false f o words some = some
 
@@ -60,7 +60,7 @@ begins_in (f ∷ fs) words i h = elim (cases_lt i (reach (slots_of f) words)) [
 pub goes_on_before : (words : List (List ℕ)) (i : ℕ) → i < bad_index words → Begins (take (i + 1) words)
 goes_on_before words i h = rw add-one (let on = begins_in forms words i h in record { more = on.0; accepted = on.1 })
 
-by_form : (b : Bool) (f : Form) (fs : List Form) (words more : List (List ℕ)) (n : ℕ) → n ≤ length words → reads (take n words ++ more) f ≡ b → IsSome (option_map (λ form. made form (take n words ++ more)) (cond b (Some f) (find (reads (take n words ++ more)) fs)))
+by_form : (b : Bool) (f : Form) (fs : List Form) (words more : List (List ℕ)) (n : ℕ) → n ≤ length words → reads (take n words ++ more) f ≡ b → IsSome (option_map (λ form. form_command form (take n words ++ more)) (cond b (Some f) (find (reads (take n words ++ more)) fs)))
     → (IsSome (command_by fs (take n words ++ more)) → n ≤ most words fs) → n ≤ max (reach (slots_of f) words) (most words fs)
 by_form true f fs words more n h is some next = let far = left_reach (slots_of f) words n h (from_form words more n f is) in omega (arith, far)
 by_form false f fs words more n h is some next = let on = next some in omega (arith, on)

@@ -24,7 +24,7 @@ use Rattle.fl_words.proofs.TypeTexts.{no_text_no_type}
 use Rattle.fl_options.specs.Options.{is_option, is_launch_option}
 use Rattle.fl_options.proofs.Lines.{no_text_no_option, no_text_no_launch_option}
 use Rattle.fl_words.specs.Types.{is_type_text}
-use Rattle.fl_words.specs.Forms.{Place, literal, pattern, remote, url, ref_name, app, app_id, type_string, permission, permissions, launch_options, filter_rules, from_app, app_count, fits, repeats, forms, slots_of, after, left_after, made, reads, command_of}
+use Rattle.fl_words.specs.Forms.{Place, literal, pattern, remote, url, ref_name, app, app_id, type_string, permission, permissions, launch_options, filter_rules, from_app, app_count, fits, repeats, forms, slots_of, left_after_word, left_after, form_command, reads, command_of}
 use Rattle.fl_words.specs.Reading.{IsNoCommand}
 use Rattle.fl_words.specs.Batch.{words_in, change_of, batch_change, IsNoText, IsNoRecord}
 use Rattle.fl_words.proofs.Reaching.{ends, Fit}
@@ -75,7 +75,7 @@ is_plain from_app = false
 is_plain app_count = false
 is_plain _ = true
 
-plain_or : (form : Form) → (list_all is_plain (slots_of form) ≡ true) ⊎ ((words : List (List ℕ)) → change_of (made form words) ≡ None)
+plain_or : (form : Form) → (list_all is_plain (slots_of form) ≡ true) ⊎ ((words : List (List ℕ)) → change_of (form_command form words) ≡ None)
 plain_or Filter = inr (λ words. refl)
 plain_or FilterFrom = inr (λ words. refl)
 plain_or FilterSystemFrom = inr (λ words. refl)
@@ -99,14 +99,14 @@ fit_text app_count text plain fit = absurd (false≢true plain)
 fit_text launch_options text plain fit = text_where is_launch_option no_text_no_launch_option text fit
 
 -- a word that has a place is text, and the places that are left are such
-after_text : (places : List Place) (text : List ℕ) (left : List Place) → list_all is_plain places ≡ true → after places text ≡ Some left → (is_utf8 text ≡ true) × (list_all is_plain left ≡ true)
+after_text : (places : List Place) (text : List ℕ) (left : List Place) → list_all is_plain places ≡ true → left_after_word places text ≡ Some left → (is_utf8 text ≡ true) × (list_all is_plain left ≡ true)
 after_text [] text left plain is = absurd (cc is)
 after_text (p ∷ ps) text left plain is = by (fits p text) (repeats p) refl is (λ on. after_text ps text left parts.1 on)
   where
     parts : (is_plain p ≡ true) × (list_all is_plain ps ≡ true)
     parts = and_parts (is_plain p) (list_all is_plain ps) plain
 
-    by : (b r : Bool) → fits p text ≡ b → cond b (Some (cond r (p ∷ ps) ps)) (cond r (after ps text) None) ≡ Some left → (after ps text ≡ Some left → (is_utf8 text ≡ true) × (list_all is_plain left ≡ true)) → (is_utf8 text ≡ true) × (list_all is_plain left ≡ true)
+    by : (b r : Bool) → fits p text ≡ b → cond b (Some (cond r (p ∷ ps) ps)) (cond r (left_after_word ps text) None) ≡ Some left → (left_after_word ps text ≡ Some left → (is_utf8 text ≡ true) × (list_all is_plain left ≡ true)) → (is_utf8 text ≡ true) × (list_all is_plain left ≡ true)
     by true true fit is next = let same : p ∷ ps ≡ left = cc is in (fit_text p text parts.0 fit, subst (λ (l : List Place). list_all is_plain l ≡ true) same plain)
     by true false fit is next = let same : ps ≡ left = cc is in (fit_text p text parts.0 fit, subst (λ (l : List Place). list_all is_plain l ≡ true) same parts.1)
     by false true fit is next = next is
@@ -114,9 +114,9 @@ after_text (p ∷ ps) text left plain is = by (fits p text) (repeats p) refl is 
 
 fit_texts : (places : List Place) (words : List (List ℕ)) → list_all is_plain places ≡ true → Fit places words → list_all is_utf8 words ≡ true
 fit_texts places [] plain fit = refl
-fit_texts places (text ∷ words) plain fit = by (after places text) refl fit (λ left. fit_texts left words)
+fit_texts places (text ∷ words) plain fit = by (left_after_word places text) refl fit (λ left. fit_texts left words)
   where
-    by : (o : Option (List Place)) → after places text ≡ o → ends (option_and_then (λ left. left_after left words) o) ≡ true → ((left : List Place) → list_all is_plain left ≡ true → Fit left words → list_all is_utf8 words ≡ true) → (is_utf8 text && list_all is_utf8 words) ≡ true
+    by : (o : Option (List Place)) → left_after_word places text ≡ o → ends (option_and_then (λ left. left_after left words) o) ≡ true → ((left : List Place) → list_all is_plain left ≡ true → Fit left words → list_all is_utf8 words ≡ true) → (is_utf8 text && list_all is_utf8 words) ≡ true
     by None at fit next = absurd (false≢true fit)
     by (Some left) at fit next = let on = after_text places text left plain at in rw on.0 (next left on.1 fit)
 
@@ -127,13 +127,13 @@ one_of (first ∷ words) word more h = one_of words word more (and_parts (is_utf
 no_change : (words : List (List ℕ)) (word : List ℕ) (more : List (List ℕ)) → (IsUtf8 word → ⊥) → option_and_then change_of (command_of (words ++ word ∷ more)) ≡ None
 no_change words word more bad = by (find (reads (words ++ word ∷ more)) forms) refl
   where
-    of_form : (form : Form) → reads (words ++ word ∷ more) form ≡ true → change_of (made form (words ++ word ∷ more)) ≡ None
+    of_form : (form : Form) → reads (words ++ word ∷ more) form ≡ true → change_of (form_command form (words ++ word ∷ more)) ≡ None
     of_form form fit = elim (plain_or form) [
       | inl plain ↦ absurd (bad (IsUtf8-from_is_utf8 word (one_of words word more (fit_texts (slots_of form) (words ++ word ∷ more) plain fit))))
       | inr none ↦ none (words ++ word ∷ more)
     ]
 
-    by : (o : Option Form) → find (reads (words ++ word ∷ more)) forms ≡ o → option_and_then change_of (option_map (λ form. made form (words ++ word ∷ more)) o) ≡ None
+    by : (o : Option Form) → find (reads (words ++ word ∷ more)) forms ≡ o → option_and_then change_of (option_map (λ form. form_command form (words ++ word ∷ more)) o) ≡ None
     by None is = refl
     by (Some form) is = of_form form (found (words ++ word ∷ more) forms form is)
 

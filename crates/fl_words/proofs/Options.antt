@@ -18,7 +18,7 @@ use Rattle.fl_words.specs.declared.command.WordsError.{WordsError}
 use Rattle.fl_words.specs.declared.command.WordsError.TheVariants.{BadWords, NoMemory}
 use Rattle.fl_words.specs.declared.forms.Form.{Form}
 use Rattle.fl_words.specs.declared.forms.Form.TheVariants.{OverrideApp}
-use Rattle.fl_words.specs.Forms.{literal, app_id, permission, permissions, slots_of, left_after, word_at, last_place, made, reads}
+use Rattle.fl_words.specs.Forms.{literal, app_id, permission, permissions, slots_of, left_after, word_at, last_place, form_command, reads}
 use Rattle.fl_words.specs.Reading.{IsMisplaced, IsMisfit}
 use Rattle.fl_words.proofs.Reaching.{ends, onto, Fit, next}
 
@@ -84,7 +84,7 @@ last_word all id = ap (λ (n : ℕ). word_at n (all ++ id ∷ [])) (last_is all 
 words_before : (all : List (List ℕ)) (id : List ℕ) → take (last_place (all ++ id ∷ [])) (all ++ id ∷ []) ≡ all
 words_before all id = ap (λ (n : ℕ). take n (all ++ id ∷ [])) (last_is all id) ∙ take_at all (id ∷ []) (length all) refl
 
-pub app_made : (first option : List ℕ) (options : List (List ℕ)) (id : List ℕ) → made OverrideApp (first ∷ option ∷ (options ++ id ∷ [])) ≡ Changing (changes.OverrideChange id (option ∷ options))
+pub app_made : (first option : List ℕ) (options : List (List ℕ)) (id : List ℕ) → form_command OverrideApp (first ∷ option ∷ (options ++ id ∷ [])) ≡ Changing (changes.OverrideChange id (option ∷ options))
 app_made first option options id =
     let all : List (List ℕ) = first ∷ option ∷ options in
     let words : List (List ℕ) = first ∷ option ∷ (options ++ id ∷ []) in

@@ -14,7 +14,7 @@ use Rattle.fl_words.proofs.TypeTexts.{byte_is}
 use Rattle.fl_words.proofs.Counts.{one_is}
 use Rattle.fl_words.specs.declared.forms.Form.{Form}
 use Rattle.fl_words.specs.declared.forms.Form.TheVariants.{OverrideApp}
-use Rattle.fl_words.specs.Forms.{Place, literal, pattern, remote, url, ref_name, app, app_id, type_string, permission, permissions, launch_options, filter_rules, from_app, app_count, fits, repeats, slots_of, after, left_after, reach}
+use Rattle.fl_words.specs.Forms.{Place, literal, pattern, remote, url, ref_name, app, app_id, type_string, permission, permissions, launch_options, filter_rules, from_app, app_count, fits, repeats, slots_of, left_after_word, left_after, reach}
 
 -- no place is left that needs a word
 abbrev pub ends : Option (List Place) → Bool
@@ -33,7 +33,7 @@ onto words left = option_and_then (λ ps. left_after ps words) left
 pub taken : (p : Place) (ps : List Place) (a : List ℕ) (words : List (List ℕ)) → repeats p ≡ false → Fit (p ∷ ps) (a ∷ words) → (fits p a ≡ true) × Fit ps words
 taken p ps a words once fit = by (fits p a) (repeats p) once fit
   where
-    by : (b r : Bool) → r ≡ false → ends (onto words (cond b (Some (cond r (p ∷ ps) ps)) (cond r (after ps a) None))) ≡ true → (b ≡ true) × Fit ps words
+    by : (b r : Bool) → r ≡ false → ends (onto words (cond b (Some (cond r (p ∷ ps) ps)) (cond r (left_after_word ps a) None))) ≡ true → (b ≡ true) × Fit ps words
     by true true once fit = absurd (false≢true (sym once))
     by true false once fit = (refl, fit)
     by false true once fit = absurd (false≢true (sym once))
@@ -150,7 +150,7 @@ passed_over : (p : Place) (ps : List Place) (words : List (List ℕ)) → repeat
 passed_over p ps [] many passed fit = rw many fit
 passed_over p ps (text ∷ words) many passed fit = by (fits p text) (repeats p) many passed
   where
-    by : (b r : Bool) → r ≡ true → not b ≡ true → ends (onto words (cond b (Some (cond r (p ∷ ps) ps)) (cond r (after ps text) None))) ≡ true
+    by : (b r : Bool) → r ≡ true → not b ≡ true → ends (onto words (cond b (Some (cond r (p ∷ ps) ps)) (cond r (left_after_word ps text) None))) ≡ true
     by true r many passed = absurd (false≢true passed)
     by false true many passed = fit
     by false false many passed = absurd (false≢true many)
@@ -170,20 +170,20 @@ samples_fit (p ∷ ps) clear =
 -- after some words and more
 pub left_append : (places : List Place) (words more : List (List ℕ)) → left_after places (words ++ more) ≡ option_and_then (λ left. left_after left more) (left_after places words)
 left_append places [] more = refl
-left_append places (text ∷ words) more = by (after places text) (λ left. left_append left words more)
+left_append places (text ∷ words) more = by (left_after_word places text) (λ left. left_append left words more)
   where
     by : (o : Option (List Place)) → ((left : List Place) → left_after left (words ++ more) ≡ option_and_then (λ ps. left_after ps more) (left_after left words)) → option_and_then (λ left. left_after left (words ++ more)) o ≡ option_and_then (λ left. left_after left more) (option_and_then (λ left. left_after left words) o)
     by None next = refl
     by (Some left) next = next left
 
-clear_after : (places : List Place) (text : List ℕ) (left : List Place) → after places text ≡ Some left → is_clear places ≡ true → is_clear left ≡ true
+clear_after : (places : List Place) (text : List ℕ) (left : List Place) → left_after_word places text ≡ Some left → is_clear places ≡ true → is_clear left ≡ true
 clear_after [] text left is clear = absurd (cc is)
 clear_after (p ∷ ps) text left is clear = by (fits p text) (repeats p) is (λ on. clear_after ps text left on tail)
   where
     tail : is_clear ps ≡ true
     tail = (and_parts (not (repeats p) || passed_by p (samples ps)) (is_clear ps) clear).1
 
-    by : (b r : Bool) → cond b (Some (cond r (p ∷ ps) ps)) (cond r (after ps text) None) ≡ Some left → (after ps text ≡ Some left → is_clear left ≡ true) → is_clear left ≡ true
+    by : (b r : Bool) → cond b (Some (cond r (p ∷ ps) ps)) (cond r (left_after_word ps text) None) ≡ Some left → (left_after_word ps text ≡ Some left → is_clear left ≡ true) → is_clear left ≡ true
     by true true is next = let same : p ∷ ps ≡ left = cc is in subst (λ (l : List Place). is_clear l ≡ true) same clear
     by true false is next = let same : ps ≡ left = cc is in subst (λ (l : List Place). is_clear l ≡ true) same tail
     by false true is next = next is
@@ -191,9 +191,9 @@ clear_after (p ∷ ps) text left is clear = by (fits p text) (repeats p) is (λ 
 
 pub clear_left : (places : List Place) (words : List (List ℕ)) (left : List Place) → left_after places words ≡ Some left → is_clear places ≡ true → is_clear left ≡ true
 clear_left places [] left is clear = let same : places ≡ left = cc is in subst (λ (l : List Place). is_clear l ≡ true) same clear
-clear_left places (text ∷ words) left is clear = by (after places text) refl is (λ ps. clear_left ps words left)
+clear_left places (text ∷ words) left is clear = by (left_after_word places text) refl is (λ ps. clear_left ps words left)
   where
-    by : (o : Option (List Place)) → after places text ≡ o → onto words o ≡ Some left → ((ps : List Place) → left_after ps words ≡ Some left → is_clear ps ≡ true → is_clear left ≡ true) → is_clear left ≡ true
+    by : (o : Option (List Place)) → left_after_word places text ≡ o → onto words o ≡ Some left → ((ps : List Place) → left_after ps words ≡ Some left → is_clear ps ≡ true → is_clear left ≡ true) → is_clear left ≡ true
     by None at is next = absurd (cc is)
     by (Some ps) at is next = next ps is (clear_after places text ps at clear)
 
@@ -202,7 +202,7 @@ clear_left places (text ∷ words) left is clear = by (after places text) refl i
 pub reach_left : (places : List Place) (words : List (List ℕ)) (n : ℕ) → n ≤ reach places words → is_some (left_after places (take n words)) ≡ true
 reach_left places words zero h = refl
 reach_left places [] (suc n) h = absurd (omega (arith, h))
-reach_left places (text ∷ words) (suc n) h = by (after places text) h (λ left. reach_left left words n)
+reach_left places (text ∷ words) (suc n) h = by (left_after_word places text) h (λ left. reach_left left words n)
   where
     by : (o : Option (List Place)) → suc n ≤ option_map_or (λ left. reach left words + 1) o 0 → ((left : List Place) → n ≤ reach left words → is_some (left_after left (take n words)) ≡ true) → is_some (onto (take n words) o) ≡ true
     by None h next = absurd (omega (arith, h))
@@ -211,7 +211,7 @@ reach_left places (text ∷ words) (suc n) h = by (after places text) h (λ left
 pub left_reach : (places : List Place) (words : List (List ℕ)) (n : ℕ) → n ≤ length words → is_some (left_after places (take n words)) ≡ true → n ≤ reach places words
 left_reach places words zero within some = omega arith
 left_reach places [] (suc n) within some = absurd (omega (arith, within))
-left_reach places (text ∷ words) (suc n) within some = by (after places text) some (λ left. left_reach left words n (omega (arith, within)))
+left_reach places (text ∷ words) (suc n) within some = by (left_after_word places text) some (λ left. left_reach left words n (omega (arith, within)))
   where
     by : (o : Option (List Place)) → is_some (onto (take n words) o) ≡ true → ((left : List Place) → is_some (left_after left (take n words)) ≡ true → n ≤ reach left words) → suc n ≤ option_map_or (λ left. reach left words + 1) o 0
     by None some next = absurd (false≢true some)
@@ -219,7 +219,7 @@ left_reach places (text ∷ words) (suc n) within some = by (after places text) 
 
 pub reach-within : (places : List Place) (words : List (List ℕ)) → reach places words ≤ length words
 reach-within places [] = omega arith
-reach-within places (text ∷ words) = by (after places text) (λ left. reach-within left words)
+reach-within places (text ∷ words) = by (left_after_word places text) (λ left. reach-within left words)
   where
     by : (o : Option (List Place)) → ((left : List Place) → reach left words ≤ length words) → option_map_or (λ left. reach left words + 1) o 0 ≤ suc (length words)
     by None next = omega arith

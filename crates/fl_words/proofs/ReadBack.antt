@@ -17,7 +17,7 @@ use Rattle.fl_words.specs.declared.command.Shown.TheVariants as things
 use Rattle.std.proofs.lemmas.Bool.{and_parts, false≢true}
 use Rattle.fl_words.specs.declared.forms.Form.{Form}
 use Rattle.fl_words.specs.declared.forms.Form.TheVariants.{Pin, Unpin, RemoteAdd, RemoteModify, RemoteDelete, Install, UpdateAll, UpdateOne, Uninstall, UninstallUnused, Rollback, Override, OverrideApp, OverrideReset, OverrideResetApp, ListRefs, ListRemotes, ListPins, ListExports, Info, Launch, OverrideShow, OverrideShowApp, Filter, FilterFrom, FilterSystemFrom, Batch, Fsck, Export, Exercise, ShowCommit, ShowDirTree, ShowDirMeta, ShowValue}
-use Rattle.fl_words.specs.Forms.{literal, pattern, remote, url, ref_name, app, app_id, type_string, permission, permissions, launch_options, filter_rules, from_app, app_count, fits, forms, slots_of, made, reads, command_of}
+use Rattle.fl_words.specs.Forms.{literal, pattern, remote, url, ref_name, app, app_id, type_string, permission, permissions, launch_options, filter_rules, from_app, app_count, fits, forms, slots_of, form_command, reads, command_of}
 use Rattle.fp_name.specs.Pins.{is_app}
 use Rattle.fl_options.specs.Options.{is_option, is_launch_option}
 use Rattle.fl_options.proofs.Lines.{uncut_no_option}
@@ -35,7 +35,7 @@ use Rattle.fl_words.proofs.Options.{WithId, with_id, fits_id, no_more_options, a
 
 -- the words of a form are those of its command
 abbrev Speaks : Form → List (List ℕ) → Type 0
-Speaks form words = (words ≡ words_of (made form words)) × (is_command (made form words) ≡ true)
+Speaks form words = (words ≡ words_of (form_command form words)) × (is_command (form_command form words) ≡ true)
 
 is_word : (text w : List ℕ) → bytes_eq text w ≡ true → text ≡ w
 is_word text w h = (bytes_eq-Decides text w).0 h
@@ -126,10 +126,10 @@ pub found : (words : List (List ℕ)) (fs : List Form) (g : Form) → find (read
 found words [] g h = absurd (cc h)
 found words (f ∷ fs) g h = found_by words (reads words f) f g (find (reads words) fs) refl (found words fs g) h
 
-read_by : (words : List (List ℕ)) (o : Option Form) (c : Command) → find (reads words) forms ≡ o → option_map (λ form. made form words) o ≡ Some c → (words ≡ words_of c) × (is_command c ≡ true)
+read_by : (words : List (List ℕ)) (o : Option Form) (c : Command) → find (reads words) forms ≡ o → option_map (λ form. form_command form words) o ≡ Some c → (words ≡ words_of c) × (is_command c ≡ true)
 read_by words None c is h = absurd (cc h)
 read_by words (Some form) c is h =
-    let same : made form words ≡ c = cc h in
+    let same : form_command form words ≡ c = cc h in
     subst (λ (x : Command). (words ≡ words_of x) × (is_command x ≡ true)) same (speaks form words (found words forms form is))
 
 pub read_back : (words : List (List ℕ)) (c : Command) → command_of words ≡ Some c → (words ≡ words_of c) × (is_command c ≡ true)

@@ -150,60 +150,60 @@ abbrev pub last_place : List (List ℕ) → ℕ
 last_place words = length words - 1
 
 -- the command of words of a form
-abbrev pub made : Form → List (List ℕ) → Command
-made Pin words = Changing (changes.Pin (word_at 1 words))
-made Unpin words = Changing (changes.Unpin (word_at 1 words))
-made RemoteAdd words = Changing (changes.RemoteAdd (remote_in words))
-made RemoteModify words = Changing (changes.RemoteModify (remote_in words))
-made RemoteDelete words = Changing (changes.RemoteDelete (word_at 1 words))
-made Install words = Changing (changes.Install (word_at 1 words) (ref_at (word_at 2 words)))
-made UpdateAll words = Changing changes.UpdateAll
-made UpdateOne words = Changing (changes.UpdateOne (ref_at (word_at 1 words)))
-made Uninstall words = Changing (changes.Uninstall (ref_at (word_at 1 words)))
-made UninstallUnused words = Changing changes.UninstallUnused
-made Rollback words = Changing (changes.Rollback (ref_at (word_at 1 words)))
-made Override words = Changing (changes.OverrideChange (codes "global") (drop 1 words))
-made OverrideApp words = Changing
+abbrev pub form_command : Form → List (List ℕ) → Command
+form_command Pin words = Changing (changes.Pin (word_at 1 words))
+form_command Unpin words = Changing (changes.Unpin (word_at 1 words))
+form_command RemoteAdd words = Changing (changes.RemoteAdd (remote_in words))
+form_command RemoteModify words = Changing (changes.RemoteModify (remote_in words))
+form_command RemoteDelete words = Changing (changes.RemoteDelete (word_at 1 words))
+form_command Install words = Changing (changes.Install (word_at 1 words) (ref_at (word_at 2 words)))
+form_command UpdateAll words = Changing changes.UpdateAll
+form_command UpdateOne words = Changing (changes.UpdateOne (ref_at (word_at 1 words)))
+form_command Uninstall words = Changing (changes.Uninstall (ref_at (word_at 1 words)))
+form_command UninstallUnused words = Changing changes.UninstallUnused
+form_command Rollback words = Changing (changes.Rollback (ref_at (word_at 1 words)))
+form_command Override words = Changing (changes.OverrideChange (codes "global") (drop 1 words))
+form_command OverrideApp words = Changing
     (changes.OverrideChange (word_at (last_place words) words)
     (drop 1 (take (last_place words) words)))
-made OverrideReset words = Changing (changes.OverrideReset (codes "global"))
-made OverrideResetApp words = Changing (changes.OverrideReset (word_at 2 words))
-made ListRefs words = Listed listings.Refs
-made ListRemotes words = Listed listings.Remotes
-made ListPins words = Listed listings.Pins
-made ListExports words = Listed listings.Exports
-made Info words = Listed (listings.Info (ref_at (word_at 1 words)))
-made Launch words = Listed (listings.Launch (ref_at (word_at 1 words)) (drop 2 words))
-made OverrideShow words = Listed (listings.OverrideShow (codes "global"))
-made OverrideShowApp words = Listed (listings.OverrideShow (word_at 2 words))
-made Filter words = Filtering (sources.Rules (drop 1 words))
-made FilterFrom words = Filtering (sources.Session (ref_at (drop 7 (word_at 1 words))))
-made FilterSystemFrom words = Filtering (sources.System (ref_at (drop 7 (word_at 2 words))))
-made Batch words = Batched
-made Fsck words = Checked
-made Export words = Exporting (word_at 1 words) (ref_at (word_at 2 words))
-made Exercise words = Exercising (count_at (word_at 1 words))
-made ShowCommit words = Showing things.Commit
-made ShowDirTree words = Showing things.DirTree
-made ShowDirMeta words = Showing things.DirMeta
-made ShowValue words = Showing (things.Value (word_at 2 words))
+form_command OverrideReset words = Changing (changes.OverrideReset (codes "global"))
+form_command OverrideResetApp words = Changing (changes.OverrideReset (word_at 2 words))
+form_command ListRefs words = Listed listings.Refs
+form_command ListRemotes words = Listed listings.Remotes
+form_command ListPins words = Listed listings.Pins
+form_command ListExports words = Listed listings.Exports
+form_command Info words = Listed (listings.Info (ref_at (word_at 1 words)))
+form_command Launch words = Listed (listings.Launch (ref_at (word_at 1 words)) (drop 2 words))
+form_command OverrideShow words = Listed (listings.OverrideShow (codes "global"))
+form_command OverrideShowApp words = Listed (listings.OverrideShow (word_at 2 words))
+form_command Filter words = Filtering (sources.Rules (drop 1 words))
+form_command FilterFrom words = Filtering (sources.Session (ref_at (drop 7 (word_at 1 words))))
+form_command FilterSystemFrom words = Filtering (sources.System (ref_at (drop 7 (word_at 2 words))))
+form_command Batch words = Batched
+form_command Fsck words = Checked
+form_command Export words = Exporting (word_at 1 words) (ref_at (word_at 2 words))
+form_command Exercise words = Exercising (count_at (word_at 1 words))
+form_command ShowCommit words = Showing things.Commit
+form_command ShowDirTree words = Showing things.DirTree
+form_command ShowDirMeta words = Showing things.DirMeta
+form_command ShowValue words = Showing (things.Value (word_at 2 words))
 
 -- ---- words in a form
 
 -- The places that are left once a word has one. It takes the first place where it may stand; a
 -- place of any number of words is passed over by a word that may not stand there, and stays where
 -- one may.
-abbrev pub after : List Place → List ℕ → Option (List Place)
-after [] text = None
-after (place ∷ places) text =
+abbrev pub left_after_word : List Place → List ℕ → Option (List Place)
+left_after_word [] text = None
+left_after_word (place ∷ places) text =
     if fits place text then Some (if repeats place then place ∷ places else places)
-    else (if repeats place then after places text else None)
+    else (if repeats place then left_after_word places text else None)
 
 -- the places that are left once each of the words has one
 abbrev pub left_after : List Place → List (List ℕ) → Option (List Place)
 left_after places [] = Some places
 left_after places (text ∷ words) =
-    option_and_then (λ left. left_after left words) (after places text)
+    option_and_then (λ left. left_after left words) (left_after_word places text)
 
 -- each word has its place, and no place is left that needs one
 abbrev pub reads : List (List ℕ) → Form → Bool
@@ -211,14 +211,15 @@ reads words form = option_map_or (list_all repeats) (left_after (slots_of form) 
 
 -- the command of the words of a command line, where they are one
 abbrev pub command_of : List (List ℕ) → Option Command
-command_of words = option_map (λ form. made form words) (find (reads words) forms)
+command_of words = option_map (λ form. form_command form words) (find (reads words) forms)
 
 -- ---- where words go wrong
 
 -- how many words, from the first on, have places
 abbrev pub reach : List Place → List (List ℕ) → ℕ
 reach places [] = 0
-reach places (text ∷ words) = option_map_or (λ left. reach left words + 1) (after places text) 0
+reach places (text ∷ words) =
+    option_map_or (λ left. reach left words + 1) (left_after_word places text) 0
 
 abbrev pub most : List (List ℕ) → List Form → ℕ
 most words [] = 0

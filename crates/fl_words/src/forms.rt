@@ -1,7 +1,7 @@
 //! The forms of words: what stands at each place of a command line, and the command that it asks
 //! for.
 ghost use Rattle.std.specs.Prelude.{◌≡◌, IfOk, IfErr, map, string_bytes};
-ghost use Rattle.fl_words.specs.Forms.{place_of, repeats as may_repeat, forms, slots_of, made};
+ghost use Rattle.fl_words.specs.Forms.{place_of, repeats as may_repeat, forms, slots_of, form_command};
 ghost use Rattle.fl_words.specs.Reading.{IsMisfit};
 ghost use Rattle.fl_words.specs.Reasons.{change_forms};
 
@@ -247,7 +247,8 @@ impl Form {
 
     /// The command of words of this form. `BadWords` comes only where they aren't of it.
     pub(crate) fn command(self, alloc: Global, words: &[String]) -> Result<Command, WordsError>
-        ensures ok { IfOk result (λ command. command ≡ made self (map string_bytes words.now)) }
+        ensures ok { IfOk result (λ command. command ≡ form_command self
+            (map string_bytes words.now)) }
         ensures bad { IfErr result (IsMisfit self (map string_bytes words.now)) }
     {
         Ok(match self {

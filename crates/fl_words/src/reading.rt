@@ -1,7 +1,7 @@
 //! Reading the words of a command line.
 ghost use Rattle.std.specs.Prelude.{◌≡◌, Some, IfOk, IfErr, map, option_map, string_bytes};
 ghost use Rattle.std.specs.List.{find, list_all};
-ghost use Rattle.fl_words.specs.Forms.{place_of, repeats as may_repeat, command_of, most, after as after_of, left_after as left_of, reach as reach_of, reads as are_read};
+ghost use Rattle.fl_words.specs.Forms.{place_of, repeats as may_repeat, command_of, most, left_after_word as left_of_word, left_after as left_of, reach as reach_of, reads as are_read};
 ghost use Rattle.fl_words.specs.Reading.{IsNoCommand};
 
 use crate::command::{Command, WordsError};
@@ -78,7 +78,7 @@ fn reach(alloc: Global, slots: &[Slot], words: &[String]) -> Result<usize, Alloc
     let mut left = slots;
     let mut count = 0;
     for word in words {
-        match after(alloc, left, word.as_str())? {
+        match left_after_word(alloc, left, word.as_str())? {
             Some(rest) => left = rest,
             None => return Ok(count),
         }
@@ -98,7 +98,7 @@ pub(crate) fn left_after<'a>(
 {
     let mut left = slots;
     for word in words {
-        match after(alloc, left, word.as_str())? {
+        match left_after_word(alloc, left, word.as_str())? {
             Some(rest) => left = rest,
             None => return Ok(None),
         }
@@ -107,8 +107,12 @@ pub(crate) fn left_after<'a>(
 }
 
 /// The places that are left once a word has one.
-fn after<'a>(alloc: Global, slots: &'a [Slot], word: &str) -> Result<Option<&'a [Slot]>, AllocError>
-    ensures { IfOk result (λ left. option_map (λ s. map place_of s.now) left ≡ after_of
+fn left_after_word<'a>(
+    alloc: Global,
+    slots: &'a [Slot],
+    word: &str,
+) -> Result<Option<&'a [Slot]>, AllocError>
+    ensures { IfOk result (λ left. option_map (λ s. map place_of s.now) left ≡ left_of_word
         (map place_of slots.now) word.now) }
 {
     let mut left = slots;
