@@ -26,7 +26,7 @@ use Rattle.fl_plan.specs.Offers.{offer_with, offer_of, first_of, first_offer, in
 use Rattle.fl_installed.specs.Metadata.{runtime_named, points_in}
 use Rattle.fl_plan.specs.Runtimes.{if_offered, runtime_for, if_named, install_in, runtime_install}
 use Rattle.fl_plan.specs.Extensions.{is_done, is_filled, if_any, extension_at, with_points, with_extensions, with_runtime}
-use Rattle.fl_plan.specs.Plans.{within, begun, extended, plan_with, planned, is_at, target_of, planned_at, plan_of}
+use Rattle.fl_plan.specs.Plans.{ops_within_limit, begun, extended, plan_with, planned, is_at, target_of, planned_at, plan_of}
 use Rattle.fl_plan.specs.Allowed.{IsTaken, IsOneOf, IsOfferOf, MayCome, ComesTo, IsPlan}
 use Rattle.fl_plan.specs.declared.offer.Offer.{Offer}
 use Rattle.fl_plan.specs.declared.offer.Chosen.{Chosen}
@@ -37,12 +37,12 @@ use Rattle.fl_plan.proofs.Apart.{offer_among, one_among, absent_may, candidate_c
 -- ---- offers
 
 pub found_among : (rows : List RemoteRow) (i : ℕ) (row : RemoteRow) (name : Ref) (found : Option Offer) → i < length rows → row ≡ get_or rows i row → IfSome found (IsTaken row name) → IfSome found (IsOfferOf rows name)
-found_among rows i row name None within is taken = tt
-found_among rows i row name (Some o) within is taken = offer_among rows i row name o within is taken
+found_among rows i row name None ops_within_limit is taken = tt
+found_among rows i row name (Some o) ops_within_limit is taken = offer_among rows i row name o ops_within_limit is taken
 
 pub candidate_among : (names : List Ref) (i : ℕ) (name : Ref) (remote : RemoteRow) (found : Option Offer) → i < length names → name ≡ get_or names i name → IfSome found (IsTaken remote name) → IfSome found (IsOneOf remote names)
-candidate_among names i name remote None within is taken = tt
-candidate_among names i name remote (Some o) within is taken = one_among names i name remote o within is taken
+candidate_among names i name remote None ops_within_limit is taken = tt
+candidate_among names i name remote (Some o) ops_within_limit is taken = one_among names i name remote o ops_within_limit is taken
 
 -- ---- an extension point
 
@@ -145,15 +145,15 @@ module _ (state : State) (target : Chosen) (runtime : Option Chosen) (start : Li
 module _ (state : State) (target : Chosen) (runtime : Option Chosen) where
   -- the operations of what is to come
   pub with_ok : {u w : Outside} {result : Result (List Op) PullEnd} (plan : List Offer) → Plans (λ held stored. extended held stored state target runtime) (Ok plan) u w
-      → NoFault result → Answers result (within state plan) → Plans (λ held stored. plan_with held stored state target runtime) result u w
+      → NoFault result → Answers result (ops_within_limit state plan) → Plans (λ held stored. plan_with held stored state target runtime) result u w
   with_ok {result = result} plan before none answers =
       plans_to (λ held stored. plan_with held stored state target runtime) plan result before none
-      (λ held stored e. subst (Answers result) (sym (then_ok (extended held stored state target runtime) plan (within state) e)) answers)
+      (λ held stored e. subst (Answers result) (sym (then_ok (extended held stored state target runtime) plan (ops_within_limit state) e)) answers)
 
   pub with_err : {u w : Outside} (end : PullEnd) → Plans (λ held stored. extended held stored state target runtime) (Err end) u w → Plans (λ held stored. plan_with held stored state target runtime) (Err end) u w
   with_err end before =
       plans_err (λ held stored. plan_with held stored state target runtime) end before
-      (λ held stored r e. then_err (extended held stored state target runtime) r (within state) e)
+      (λ held stored r e. then_err (extended held stored state target runtime) r (ops_within_limit state) e)
 
 -- ---- the runtime
 

@@ -23,7 +23,7 @@ use Rattle.fl_plan.specs.Offers.{offer_with, offer_of, first_of, in_turn, first_
 use Rattle.fl_installed.specs.Metadata.{runtime_named, points_in}
 use Rattle.fl_plan.specs.Runtimes.{if_offered, runtime_for, if_named}
 use Rattle.fl_plan.specs.Extensions.{is_done, if_any, extension_at, with_points, with_extensions}
-use Rattle.fl_plan.specs.Plans.{op_of, number_after, within, extended, plan_with, planned, is_at, time_of, target_of, planned_at, plan_of}
+use Rattle.fl_plan.specs.Plans.{op_of, number_after, ops_within_limit, extended, plan_with, planned, is_at, time_of, target_of, planned_at, plan_of}
 use Rattle.fl_plan.specs.Worked.{Heads, IsTarget, Says}
 use Rattle.fl_plan.specs.declared.offer.Offer.{Offer}
 use Rattle.fl_plan.specs.declared.offer.Chosen.{Chosen}
@@ -41,10 +41,10 @@ module _ (held : Holdings) (stored : Have) (state : State) where
   unfolding chosen
   chosen_refused remote name commit r is = ap (mapped (chosen_with (offer_with remote name commit))) is
 
-  few_enough : (plan : List Offer) → number_after state plan ≤ 4096 → within state plan ≡ Ok (map (op_of state) plan)
+  few_enough : (plan : List Offer) → number_after state plan ≤ 4096 → ops_within_limit state plan ≡ Ok (map (op_of state) plan)
   few_enough plan few = ap (λ b. if b then Ok (map (op_of state) plan) else Err (refusals.Limit whats.Refs 4097)) (le-leb (number_after state plan) 4096 few)
 
-  too_many : (plan : List Offer) → 4096 < number_after state plan → within state plan ≡ Err (refusals.Limit whats.Refs 4097)
+  too_many : (plan : List Offer) → 4096 < number_after state plan → ops_within_limit state plan ≡ Err (refusals.Limit whats.Refs 4097)
   too_many plan many = ap (λ b. if b then Ok (map (op_of state) plan) else Err (refusals.Limit whats.Refs 4097)) (lt-leb (number_after state plan) 4096 many)
 
   -- without extensions nothing more comes
@@ -74,7 +74,7 @@ module _ (held : Holdings) (stored : Have) (state : State) where
       ∙ ap (λ x. and_then x (λ m. with_points held stored state owner.offer.remote points (plan ++ option_to_list m))) is
 
   ends_refused : (target : Chosen) (runtime : Option Chosen) (r : Refusal) → extended held stored state target runtime ≡ Err r → plan_with held stored state target runtime ≡ Err r
-  ends_refused target runtime r is = ap (λ x. and_then x (within state)) is
+  ends_refused target runtime r is = ap (λ x. and_then x (ops_within_limit state)) is
 
   no_runtime_refused : (target : Chosen) (r : Refusal) → with_extensions held stored state target (target.offer ∷ []) ≡ Err r → extended held stored state target None ≡ Err r
   unfolding extended
@@ -84,8 +84,8 @@ module _ (held : Holdings) (stored : Have) (state : State) where
   unfolding extended
   with_runtime_refused target runtime r is = ap (λ x. and_then x (with_extensions held stored state target)) is
 
-  extends : (target : Chosen) (runtime : Option Chosen) (plan : List Offer) → extended held stored state target runtime ≡ Ok plan → plan_with held stored state target runtime ≡ within state plan
-  extends target runtime plan is = ap (λ r. and_then r (within state)) is
+  extends : (target : Chosen) (runtime : Option Chosen) (plan : List Offer) → extended held stored state target runtime ≡ Ok plan → plan_with held stored state target runtime ≡ ops_within_limit state plan
+  extends target runtime plan is = ap (λ r. and_then r (ops_within_limit state)) is
 
   no_runtime_more : (target : Chosen) (plan : List Offer) → with_extensions held stored state target (target.offer ∷ []) ≡ Ok plan → extended held stored state target None ≡ Ok plan
   unfolding extended

@@ -32,7 +32,7 @@ use Rattle.fl_plan.specs.Offers.{offer_with, offer_of, first_of, first_offer, in
 use Rattle.fl_installed.specs.Metadata.{runtime_named, points_in}
 use Rattle.fl_plan.specs.Runtimes.{if_offered, runtime_for, if_named}
 use Rattle.fl_plan.specs.Extensions.{is_done, if_any, extension_at, with_points, with_extensions, with_runtime}
-use Rattle.fl_plan.specs.Plans.{op_of, number_after, within, begun, extended, plan_with, planned, is_at, time_of, target_of, planned_at, plan_of}
+use Rattle.fl_plan.specs.Plans.{op_of, number_after, ops_within_limit, begun, extended, plan_with, planned, is_at, time_of, target_of, planned_at, plan_of}
 use Rattle.fl_plan.specs.declared.offer.Offer.{Offer}
 use Rattle.fl_plan.specs.declared.offer.Chosen.{Chosen}
 
@@ -189,7 +189,7 @@ module _ (held : Holdings) (stored : Have) where
     never_with None plan = never_ok plan
     never_with (Some c) plan = never_extensions c plan
 
-    never_within : (plan : List Offer) → Never (within state plan)
+    never_within : (plan : List Offer) → Never (ops_within_limit state plan)
     never_within plan = never_if (leb (number_after state plan) 4096) (Ok (map (op_of state) plan)) (Err (refusals.Limit whats.Refs 4097)) (never_ok (map (op_of state) plan)) (λ r n is. absurd (cc is))
 
     never_extended : (target : Chosen) (runtime : Option Chosen) → Never (extended held stored state target runtime)
@@ -203,7 +203,7 @@ module _ (held : Holdings) (stored : Have) where
         let own = target.offer.remote.name in
         let named = runtime_named target.offer.name target.metadata in
         never_then (if_named held stored state own named) (plan_with held stored state target) (never_named own named)
-        (λ runtime. never_then (extended held stored state target runtime) (within state) (never_extended target runtime) never_within)
+        (λ runtime. never_then (extended held stored state target runtime) (ops_within_limit state) (never_extended target runtime) never_within)
 
     never_at : (offer : Offer) → Never (planned_at held stored state offer)
     unfolding planned_at target_of

@@ -26,7 +26,7 @@ use Rattle.fl_plan.specs.Answers.{and_then, mapped}
 use Rattle.fl_plan.specs.Offers.{offer_with, unless_declined, offer_of, first_of, first_offer, is_remote, in_turn, have_at, chosen_with, chosen}
 use Rattle.fl_plan.specs.Runtimes.{install_of, if_offered, runtime_for, if_named}
 use Rattle.fl_plan.specs.Extensions.{is_done, if_any, extension_at, with_points, with_extensions, with_runtime}
-use Rattle.fl_plan.specs.Plans.{op_of, number_after, within, begun, extended, plan_with, planned, is_at, time_of, target_of, planned_at, plan_of}
+use Rattle.fl_plan.specs.Plans.{op_of, number_after, ops_within_limit, begun, extended, plan_with, planned, is_at, time_of, target_of, planned_at, plan_of}
 use Rattle.fl_plan.specs.declared.offer.Offer.{Offer}
 use Rattle.fl_plan.specs.declared.offer.Chosen.{Chosen}
 use Rattle.fl_plan.specs.Taking.{IsOffered, IsOf, IsAmong, Settles}
@@ -236,7 +236,7 @@ module _ (held : Holdings) where
         plan_taken : (name : Ref) (plan : List Offer) → IsPlanOf held remotes name plan → AreTaken name (map (op_of state) plan)
         plan_taken name plan good = (ops_offered plan good.each, ops_among name plan good.own)
 
-        within_good : (name : Ref) (plan : List Offer) (ops : List Op) → IsPlanOf held remotes name plan → within state plan ≡ Ok ops → AreTaken name ops
+        within_good : (name : Ref) (plan : List Offer) (ops : List Op) → IsPlanOf held remotes name plan → ops_within_limit state plan ≡ Ok ops → AreTaken name ops
         within_good name plan ops good is = by (leb (number_after state plan) 4096) is
           where
             by : (b : Bool) → (if b then Ok (map (op_of state) plan) else Err (refusals.Limit whats.Refs 4097)) ≡ Ok ops → AreTaken name ops
@@ -249,7 +249,7 @@ module _ (held : Holdings) where
             let own = target.offer.remote.name in
             let named = runtime_named target.offer.name target.metadata in
             let one = then_ok (if_named held stored state own named) (plan_with held stored state target) ops is in
-            let two = then_ok (extended held stored state target one.0) (within state) ops one.2 in
+            let two = then_ok (extended held stored state target one.0) (ops_within_limit state) ops one.2 in
             within_good target.offer.name two.0 ops (extended_good target one.0 two.0 (named_good own named one.0 one.1) offer two.1) two.2
 
         abbrev Ends : Ref → List ℕ → List Op → Type 0

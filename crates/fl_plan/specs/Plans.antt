@@ -38,8 +38,9 @@ new_ones state plan = count_by (λ offer. not (has_ref state offer.name)) plan
 abbrev pub number_after : State → List Offer → ℕ
 number_after state plan = length state.refs + new_ones state plan
 
-abbrev pub within : State → List Offer → Result (List Op) Refusal
-within state plan = if leb (number_after state plan) MOST_REFS then Ok (map (op_of state) plan)
+abbrev pub ops_within_limit : State → List Offer → Result (List Op) Refusal
+ops_within_limit state plan =
+    if leb (number_after state plan) MOST_REFS then Ok (map (op_of state) plan)
     else Err (refusals.Limit whats.Refs (MOST_REFS + 1))
 
 -- ---- what is to come
@@ -57,7 +58,7 @@ extended held stored state target runtime = and_then
 
 abbrev pub plan_with : Holdings → Have → State → Chosen → Option Chosen → Result (List Op) Refusal
 plan_with held stored state target runtime =
-    and_then (extended held stored state target runtime) (within state)
+    and_then (extended held stored state target runtime) (ops_within_limit state)
 
 -- the operations of a target that is checked
 unfoldable pub planned : Holdings → Have → State → Chosen → Result (List Op) Refusal

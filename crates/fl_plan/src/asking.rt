@@ -25,7 +25,11 @@ fn declined(end: PullEnd) -> Result<Option<Offer>, PullEnd>
 }
 
 /// The offer of this commit.
-fn taken(remote: &RemoteRow, name: &RefName, commit: Digest) -> Result<Option<Offer>, PullEnd>
+fn offer_of_commit(
+    remote: &RemoteRow,
+    name: &RefName,
+    commit: Digest,
+) -> Result<Option<Offer>, PullEnd>
     ensures tells { Tells (λ found. found ≡ Some (spec.offer_with remote.now name.now commit))
         result }
     ensures faults { NoFault result }
@@ -46,7 +50,7 @@ pub(crate) fn ask<R: Remotes>(
     ensures good { IfOk result (λ found. IfSome found (IsTaken remote.now name.now)) }
 {
     match offer(alloc, remotes, remote, name) {
-        Ok(commit) => taken(remote, name, commit),
+        Ok(commit) => offer_of_commit(remote, name, commit),
         Err(end) => declined(end),
     }
 }

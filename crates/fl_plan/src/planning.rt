@@ -87,8 +87,8 @@ fn number_after(state: &State, plan: &[Offer]) -> u64
 }
 
 /// The operations of what is to come, where no more refs would be deployed than may be.
-fn within(alloc: Global, state: &State, plan: &[Offer]) -> Result<Items<Op>, PullEnd>
-    ensures tells { Answers result (spec.within state.now plan.now) }
+fn ops_within_limit(alloc: Global, state: &State, plan: &[Offer]) -> Result<Items<Op>, PullEnd>
+    ensures tells { Answers result (spec.ops_within_limit state.now plan.now) }
     ensures faults { NoFault result }
     ensures allowed { IsPlan state.now plan.now → IfOk result (AreAllowed state.now) }
     ensures coming { IfOk result (AllByRecursion IsComing) }
@@ -167,7 +167,7 @@ fn plan_with<H: Host, R: Remotes>(
     ensures coming { IfOk result (AllByRecursion IsComing) }
 {
     match extended(alloc, host, remotes, state, target, runtime) {
-        Ok(plan) => within(alloc, state, plan.as_slice()),
+        Ok(plan) => ops_within_limit(alloc, state, plan.as_slice()),
         Err(end) => Err(end),
     }
 }

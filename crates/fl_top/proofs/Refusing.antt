@@ -47,7 +47,7 @@ use Rattle.fl_plan.specs.Answers.{and_then, mapped}
 use Rattle.fl_plan.specs.Offers.{offer_with, offer_of, have_at, chosen_with, chosen, first_of, in_turn as remotes_in_turn, first_offer}
 use Rattle.fl_plan.specs.Runtimes.{if_offered, runtime_for, if_named}
 use Rattle.fl_plan.specs.Extensions.{is_done, if_any, extension_at, with_points, with_extensions, with_runtime}
-use Rattle.fl_plan.specs.Plans.{number_after, op_of, within, begun, extended, plan_with, planned as target_planned, is_at, time_of, target_of, planned_at, plan_of}
+use Rattle.fl_plan.specs.Plans.{number_after, op_of, ops_within_limit, begun, extended, plan_with, planned as target_planned, is_at, time_of, target_of, planned_at, plan_of}
 use Rattle.fl_plan.specs.Targets.{targets_of}
 use Rattle.fl_words.specs.declared.command.Change.{Change}
 use Rattle.fl_words.specs.declared.command.Change.TheVariants.{Pin, Unpin, RemoteAdd, RemoteModify, RemoteDelete, Install, UpdateAll, UpdateOne, Uninstall, UninstallUnused, Rollback, OverrideChange, OverrideReset}
@@ -211,7 +211,7 @@ module _ (held : Holdings) (stored : Have) where
     unfolding extended
     extended_later target runtime = then_later (with_runtime held stored s runtime (begun runtime target)) (with_extensions held stored s target) (of_runtime runtime (begun runtime target)) (extensions_later target)
 
-    within_later : (plan : List _) → Fails (within s plan)
+    within_later : (plan : List _) → Fails (ops_within_limit s plan)
     within_later plan = if_later (leb (number_after s plan) 4096) (Ok (map (op_of s) plan)) (Err (refusals.Limit whats.Refs 4097)) (ok_later (map (op_of s) plan))
         (err_later (refusals.Limit whats.Refs 4097) (record { late = λ none. none; one = refl }))
 
@@ -221,7 +221,7 @@ module _ (held : Holdings) (stored : Have) where
         let own = target.offer.remote.name in
         let named = runtime_named target.offer.name target.metadata in
         then_later (if_named held stored s own named) (plan_with held stored s target) (named_later own named)
-        (λ runtime. then_later (extended held stored s target runtime) (within s) (extended_later target runtime) within_later)
+        (λ runtime. then_later (extended held stored s target runtime) (ops_within_limit s) (extended_later target runtime) within_later)
 
     target_later : (offer : _) → Fails (target_of held stored s offer)
     unfolding target_of

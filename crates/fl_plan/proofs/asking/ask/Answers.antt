@@ -6,7 +6,7 @@ use Rattle.fl_plan.proofs.asking.ask.Goals as goal
 
 pub returns-in-Ok-clause-asks : goal.returns-in-Ok-clause-asks
 returns-in-Ok-clause-asks g c =
-    ask_taken c.args.remote.now c.args.name.now c.in-Ok.ensures.same c.in-Ok.commit c.taken.result c.taken.ensures.tells c.taken.ensures.faults c.in-Ok.ensures.tells c.in-Ok.ensures.fault_has_cause.later
+    ask_taken c.args.remote.now c.args.name.now c.in-Ok.ensures.same c.in-Ok.commit c.offer_of_commit.result c.offer_of_commit.ensures.tells c.offer_of_commit.ensures.faults c.in-Ok.ensures.tells c.in-Ok.ensures.fault_has_cause.later
 
 pub returns-in-Err-clause-asks : goal.returns-in-Err-clause-asks
 returns-in-Err-clause-asks g c =

@@ -1,6 +1,6 @@
 use Rattle.std.proofs.Common.{arith}
 use Rattle.fl_plan.proofs.Turns.{ops_allowed, ops_coming}
-use Rattle.fl_plan.proofs.planning.within.Goals as goal
+use Rattle.fl_plan.proofs.planning.ops_within_limit.Goals as goal
 
 pub returns-clause-allowed : goal.returns-clause-allowed
 returns-clause-allowed c plan_is =
