@@ -13,28 +13,28 @@ use Rattle.ost_object.specs.Views.{root_in, root_view}
 use Rattle.ost_model.specs.Objects.{Have}
 use Rattle.ost_model.specs.Order.{commit_at, tree_at}
 use Rattle.ost_model.specs.Look.{Found, nothing, directory, file_at, find_dir, find_file, either, entry_in, next, at_root, look}
-use Rattle.fl_export.specs.Trees.{dir_tree, root_tree, tree_found, below, tree_look, tree_next}
+use Rattle.fl_export.specs.Trees.{dir_tree, root_tree, tree_found, tree_below, tree_look, tree_next}
 
 either_tree : (have : Have) (d : Option DirRow) (f : Option FileRow) → tree_found have (either d f) ≡ option_and_then (tree_at have) (option_map dir_tree d)
 either_tree have (Some e) f = refl
 either_tree have None (Some f) = refl
 either_tree have None None = refl
 
-entry_tree : (have : Have) (x : List ℕ) (t : Option TreeView) → tree_found have (entry_in x t) ≡ below have x t
+entry_tree : (have : Have) (x : List ℕ) (t : Option TreeView) → tree_found have (entry_in x t) ≡ tree_below have x t
 entry_tree have x None = refl
 entry_tree have x (Some v) = either_tree have (find_dir x v.dirs) (find_file x v.files)
 
-pub next_tree : (have : Have) (x : List ℕ) (f : Found) → tree_found have (next have x f) ≡ below have x (tree_found have f)
+pub next_tree : (have : Have) (x : List ℕ) (f : Found) → tree_found have (next have x f) ≡ tree_below have x (tree_found have f)
 next_tree have x nothing = refl
 next_tree have x (file_at d) = refl
 next_tree have x (directory e) = entry_tree have x (tree_at have e.tree)
 
 -- what is in a directory that was found
-pub look_on : (have : Have) (commit x : List ℕ) (up : Elements) (tree found : Option TreeView) → tree ≡ tree_look have commit up → found ≡ below have x tree → found ≡ tree_look have commit (x ∷ up)
-look_on have commit x up tree found at is = is ∙ ap (below have x) at ∙ sym (next_tree have x (look have commit up))
+pub look_on : (have : Have) (commit x : List ℕ) (up : Elements) (tree found : Option TreeView) → tree ≡ tree_look have commit up → found ≡ tree_below have x tree → found ≡ tree_look have commit (x ∷ up)
+look_on have commit x up tree found at is = is ∙ ap (tree_below have x) at ∙ sym (next_tree have x (look have commit up))
 
-pub next_on : (have : Have) (x : List ℕ) (e : DirRow) (tree found : Option TreeView) → tree ≡ tree_at have e.tree → found ≡ below have x tree → found ≡ tree_next have x e
-next_on have x e tree found at is = is ∙ ap (below have x) at ∙ sym (next_tree have x (directory e))
+pub next_on : (have : Have) (x : List ℕ) (e : DirRow) (tree found : Option TreeView) → tree ≡ tree_at have e.tree → found ≡ tree_below have x tree → found ≡ tree_next have x e
+next_on have x e tree found at is = is ∙ ap (tree_below have x) at ∙ sym (next_tree have x (directory e))
 
 -- ---- the root
 

@@ -30,8 +30,8 @@ abbrev pub digest_below : List ℕ → Option TreeView → Option (List ℕ)
 digest_below name tree =
     option_map dir_tree (option_and_then (λ (v : TreeView). find_dir name v.dirs) tree)
 
-abbrev pub below : Have → List ℕ → Option TreeView → Option TreeView
-below have name tree = option_and_then (tree_at have) (digest_below name tree)
+abbrev pub tree_below : Have → List ℕ → Option TreeView → Option TreeView
+tree_below have name tree = option_and_then (tree_at have) (digest_below name tree)
 
 abbrev pub files_in : Option TreeView → List FileRow
 files_in None = []

@@ -11,7 +11,7 @@ ghost use Rattle.ost_model.specs.Readers.{tree_of, commit_of};
 ghost use Rattle.ost_model.specs.Look.{find_dir};
 ghost use Rattle.ost_model.specs.Remotes.{Stores};
 ghost use Rattle.ost_object.specs.Views.{dir_row, tree_view};
-ghost use Rattle.fl_export.specs.Trees.{dir_tree, root_tree, below, digest_below, tree_look, tree_next};
+ghost use Rattle.fl_export.specs.Trees.{dir_tree, root_tree, tree_below, digest_below, tree_look, tree_next};
 ghost use Rattle.fl_export.specs.Texts.{share, applications, hicolor};
 ghost use Rattle.fl_export.specs.Exported.{in_export};
 
@@ -149,7 +149,7 @@ fn enter<H: Host>(
     ensures unchanged { Unchanged (H.moments host.old) (H.moments host.new) }
     ensures tells { (have : Have) → Stores repo (H.moments host.old) have
         → IfOk result (λ found. option_map tree_view found
-        ≡ below have name.now (option_map tree_view tree.now)) }
+        ≡ tree_below have name.now (option_map tree_view tree.now)) }
     ensures fault_has_cause { IsCounted (IsErrOf result HostEnd.Fault)
         (H.moments host.old) (H.faults host.old) (H.faults host.new) }
 {
