@@ -12,7 +12,7 @@ use Rattle.fp_host.proofs.Separate.{path_decides}
 use Rattle.ost_commit.specs.Rows.{is_above}
 use Rattle.fl_gen.specs.declared.store.Row.{Row}
 use Rattle.fl_gen.proofs.Counting.{in_more}
-use Rattle.fl_gen.specs.Stores.{Entry, found, has_below, AreSettled}
+use Rattle.fl_gen.specs.Stores.{Entry, entry_spot, has_below, AreSettled}
 use Rattle.fl_gen.specs.Keeping.{has_bits, is_row, covers, row_at, row_spot, row_spot_of, spot_in, leaf_spot, Keeps, Adds}
 
 -- ---- options and tests
@@ -46,42 +46,42 @@ or_true false = refl
 abbrev entry_of : Row → Entry
 entry_of row = (row.path, row_spot row)
 
-found_more : (es : List Entry) (e : Entry) (q : Elements) → found (es ++ e ∷ []) q ≡ option_or (found es q) (found (e ∷ []) q)
+found_more : (es : List Entry) (e : Entry) (q : Elements) → entry_spot (es ++ e ∷ []) q ≡ option_or (entry_spot es q) (entry_spot (e ∷ []) q)
 found_more [] e q = refl
-found_more (x ∷ es) e q = ap (cond (path_eq q x.0) (Some x.1)) (found_more es e q) ∙ or_cond (path_eq q x.0) x.1 (found es q) (found (e ∷ []) q)
+found_more (x ∷ es) e q = ap (cond (path_eq q x.0) (Some x.1)) (found_more es e q) ∙ or_cond (path_eq q x.0) x.1 (entry_spot es q) (entry_spot (e ∷ []) q)
 
-here : (e : Entry) → found (e ∷ []) e.0 ≡ Some e.1
+here : (e : Entry) → entry_spot (e ∷ []) e.0 ≡ Some e.1
 here e = cond-true (path_eq e.0 e.0) (Some e.1) None ((path_decides e.0 e.0).1 refl)
 
 -- what an entry stands below is a folder
-below_found : (es : List Entry) (p q : Elements) (s : Spot) → found es p ≡ Some s → is_above q p ≡ true → has_below es q ≡ true
+below_found : (es : List Entry) (p q : Elements) (s : Spot) → entry_spot es p ≡ Some s → is_above q p ≡ true → has_below es q ≡ true
 below_found [] p q s is above = absurd (cc is)
 below_found (x ∷ es) p q s is above = elim (cases_Bool (path_eq p x.0)) [
   | inl same ↦
       let one : is_above q x.0 ≡ true = ap (is_above q) (sym ((path_decides p x.0).0 same)) ∙ above in
       ap (λ (b : Bool). b || has_below es q) one
   | inr other ↦
-      let rest = below_found es p q s (sym (cond-false (path_eq p x.0) (Some x.1) (found es p) other) ∙ is) above in
+      let rest = below_found es p q s (sym (cond-false (path_eq p x.0) (Some x.1) (entry_spot es p) other) ∙ is) above in
       ap (λ (b : Bool). is_above q x.0 || b) rest ∙ or_true (is_above q x.0)
 ]
 
 -- it is new at its path, or the same stands there
-settled_more : (es : List Entry) (e : Entry) → AreSettled es → (found es e.0 ≡ None) ⊎ (found es e.0 ≡ Some e.1) → AreSettled (es ++ e ∷ [])
+settled_more : (es : List Entry) (e : Entry) → AreSettled es → (entry_spot es e.0 ≡ None) ⊎ (entry_spot es e.0 ≡ Some e.1) → AreSettled (es ++ e ∷ [])
 settled_more es e settled was = record {
   each = λ x has. elim (in_more es e x has) [
-    | inl old ↦ found_more es e x.0 ∙ ap (λ (o : Option Spot). option_or o (found (e ∷ []) x.0)) (settled.each x old)
-    | inr is ↦ subst (λ (y : Entry). found (es ++ e ∷ []) y.0 ≡ Some y.1) is (own was)
+    | inl old ↦ found_more es e x.0 ∙ ap (λ (o : Option Spot). option_or o (entry_spot (e ∷ []) x.0)) (settled.each x old)
+    | inr is ↦ subst (λ (y : Entry). entry_spot (es ++ e ∷ []) y.0 ≡ Some y.1) is (own was)
   ];
 }
   where
-    own : (found es e.0 ≡ None) ⊎ (found es e.0 ≡ Some e.1) → found (es ++ e ∷ []) e.0 ≡ Some e.1
-    own (inl none) = found_more es e e.0 ∙ (ap (λ (o : Option Spot). option_or o (found (e ∷ []) e.0)) none ∙ here e)
-    own (inr some) = found_more es e e.0 ∙ ap (λ (o : Option Spot). option_or o (found (e ∷ []) e.0)) some
+    own : (entry_spot es e.0 ≡ None) ⊎ (entry_spot es e.0 ≡ Some e.1) → entry_spot (es ++ e ∷ []) e.0 ≡ Some e.1
+    own (inl none) = found_more es e e.0 ∙ (ap (λ (o : Option Spot). option_or o (entry_spot (e ∷ []) e.0)) none ∙ here e)
+    own (inr some) = found_more es e e.0 ∙ ap (λ (o : Option Spot). option_or o (entry_spot (e ∷ []) e.0)) some
 
 -- ---- a row more
 
 module _ (rows : List Row) (row : Row) where
-  spot_more : (q : Elements) → spot_in (rows ++ row ∷ []) q ≡ option_or (spot_in rows q) (found (entry_of row ∷ []) q)
+  spot_more : (q : Elements) → spot_in (rows ++ row ∷ []) q ≡ option_or (spot_in rows q) (entry_spot (entry_of row ∷ []) q)
   spot_more q =
       ap row_spot_of (find-append (is_row q) rows (row ∷ []))
       ∙ (map_or (row_at rows q) (row_at (row ∷ []) q)
@@ -96,7 +96,7 @@ module _ (rows : List Row) (row : Row) where
   pub adds_pushed : row_at rows row.path ≡ None → Adds ((row.path, leaf_spot row.leaf) ∷ []) rows (rows ++ row ∷ [])
   adds_pushed none = record {
     after = λ es keeps. record {
-      spots = λ q. spot_more q ∙ (ap (λ (o : Option Spot). option_or o (found (entry_of row ∷ []) q)) (keeps.spots q) ∙ sym (found_more es (entry_of row) q));
+      spots = λ q. spot_more q ∙ (ap (λ (o : Option Spot). option_or o (entry_spot (entry_of row ∷ []) q)) (keeps.spots q) ∙ sym (found_more es (entry_of row) q));
       folders = λ q. folder_more es q (keeps.folders q);
       settled = settled_more es (entry_of row) keeps.settled (inl (sym (keeps.spots row.path) ∙ ap row_spot_of none));
     };
@@ -104,15 +104,15 @@ module _ (rows : List Row) (row : Row) where
 
 -- ---- the same once more
 
-module _ (es : List Entry) (e : Entry) (there : found es e.0 ≡ Some e.1) where
-  found_again : (q : Elements) → found es q ≡ found (es ++ e ∷ []) q
+module _ (es : List Entry) (e : Entry) (there : entry_spot es e.0 ≡ Some e.1) where
+  found_again : (q : Elements) → entry_spot es q ≡ entry_spot (es ++ e ∷ []) q
   found_again q = elim (cases_Bool (path_eq q e.0)) [
     | inl same ↦
-        let hit : found es q ≡ Some e.1 = ap (found es) ((path_decides q e.0).0 same) ∙ there in
-        hit ∙ sym (found_more es e q ∙ ap (λ (o : Option Spot). option_or o (found (e ∷ []) q)) hit)
+        let hit : entry_spot es q ≡ Some e.1 = ap (entry_spot es) ((path_decides q e.0).0 same) ∙ there in
+        hit ∙ sym (found_more es e q ∙ ap (λ (o : Option Spot). option_or o (entry_spot (e ∷ []) q)) hit)
     | inr other ↦
-        let miss : found (e ∷ []) q ≡ None = cond-false (path_eq q e.0) (Some e.1) None other in
-        sym (found_more es e q ∙ (ap (option_or (found es q)) miss ∙ or_none (found es q)))
+        let miss : entry_spot (e ∷ []) q ≡ None = cond-false (path_eq q e.0) (Some e.1) None other in
+        sym (found_more es e q ∙ (ap (option_or (entry_spot es q)) miss ∙ or_none (entry_spot es q)))
   ]
 
   below_again : (q : Elements) → has_below es q ≡ has_below (es ++ e ∷ []) q
@@ -132,7 +132,7 @@ adds_again rows p s row there same = record {
   };
 }
   where
-    was : (es : List Entry) → Keeps es rows → found es p ≡ Some s
+    was : (es : List Entry) → Keeps es rows → entry_spot es p ≡ Some s
     was es keeps = sym (keeps.spots p) ∙ (ap row_spot_of there ∙ ap (λ (x : Spot). Some x) same)
 
 -- ---- runs

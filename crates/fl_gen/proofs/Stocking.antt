@@ -6,8 +6,8 @@ use Rattle.fp_host.specs.Outcome.{Spot}
 use Rattle.fl_gen.specs.declared.store.Row.{Row}
 use Rattle.fl_gen.specs.declared.limits.TheConstants.{RUNTIMES}
 use Rattle.fl_gen.specs.Made.{Ware, each_of, wares, runtime_ware, app_ware}
-use Rattle.fl_gen.specs.Stores.{Entry, Offer, IsOfferOf, AreOffersOf, IsStoreOf, config_entry, offer_entries, store_entries, spot_by, found}
-use Rattle.fl_gen.specs.Keeping.{Adds, Brings, Keeps, Stocks, covers, kept}
+use Rattle.fl_gen.specs.Stores.{Entry, Offer, IsOfferOf, AreOffersOf, IsStoreOf, config_entry, offer_entries, store_entries, spot_by, entry_spot}
+use Rattle.fl_gen.specs.Keeping.{Adds, Brings, Keeps, Stocks, covers, disk_of_rows}
 use Rattle.fl_gen.proofs.Entries.{keeps_nothing}
 use Rattle.fl_gen.proofs.Counting.{one_more}
 
@@ -42,12 +42,12 @@ pub brings_more : {version : ℕ} (f : ℕ → Ware) (n : ℕ) {s t u : List Row
 brings_more {version = version} f n {s = s} {u = u} first second = subst (λ (l : List Ware). Brings version l s u) (sym (one_more f n)) (brings_on first second)
 
 pub store_made : (version apps : ℕ) (bare runtimes : List Row) (rows : List Row) → Stocks version [] bare → Brings version (each_of (runtime_ware version) RUNTIMES) bare runtimes → Brings version (each_of (app_ware version) apps) runtimes rows
-    → IsStoreOf version (wares version apps) (kept rows)
+    → IsStoreOf version (wares version apps) (disk_of_rows rows)
 store_made version apps bare runtimes rows stocks first second =
     let s = second.after (each_of (runtime_ware version) RUNTIMES) (first.after [] stocks) in
     record {
       offers = s.offers;
       offered = s.offered;
       settled = s.keeps.settled;
-      shows = λ q. ap (λ (o : Option Spot). spot_by o (list_any (covers q) rows)) (s.keeps.spots q) ∙ ap (spot_by (found (store_entries s.offers) q)) (s.keeps.folders q);
+      shows = λ q. ap (λ (o : Option Spot). spot_by o (list_any (covers q) rows)) (s.keeps.spots q) ∙ ap (spot_by (entry_spot (store_entries s.offers) q)) (s.keeps.folders q);
     }

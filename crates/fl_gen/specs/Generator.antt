@@ -9,7 +9,7 @@ use Rattle.fl_gen.specs.declared.remotes.GenRemotes.{GenRemotes}
 use Rattle.fl_gen.specs.declared.remotes.TheConstants.{FIRST_URL, SECOND_URL}
 use Rattle.fl_gen.specs.Made.{wares}
 use Rattle.fl_gen.specs.Stores.{IsStoreOf}
-use Rattle.fl_gen.specs.Keeping.{kept}
+use Rattle.fl_gen.specs.Keeping.{disk_of_rows}
 
 abbrev pub first_url : List ℕ
 first_url = FIRST_URL.now
@@ -30,7 +30,7 @@ abbrev pub held_by : Disk → Disk → Holdings
 held_by first second url q = held_of (disk_by (at_urls first second url) q)
 
 abbrev pub holdings_of : GenRemotes → Holdings
-holdings_of g = held_by (kept g.first.rows.items) (kept g.second.rows.items)
+holdings_of g = held_by (disk_of_rows g.first.rows.items) (disk_of_rows g.second.rows.items)
 
 -- The remotes of the generator for this number of applications: the stores of its two versions, and
 -- nothing elsewhere.

@@ -9,7 +9,7 @@ use Rattle.fl_gen.specs.declared.store.Leaf.{Leaf}
 use Rattle.fl_gen.specs.declared.store.Leaf.TheVariants as leaf
 use Rattle.fl_gen.specs.declared.store.Row.{Row}
 use Rattle.fl_gen.specs.Made.{Ware}
-use Rattle.fl_gen.specs.Stores.{Entry, Offer, found, has_below, spot_by, AreSettled, AreOffersOf, store_entries}
+use Rattle.fl_gen.specs.Stores.{Entry, Offer, entry_spot, has_below, spot_by, AreSettled, AreOffersOf, store_entries}
 
 abbrev pub leaf_spot : Leaf → Spot
 leaf_spot (leaf.File mode bytes) = holds 0 mode bytes
@@ -42,12 +42,12 @@ abbrev pub spot_in : List Row → Elements → Option Spot
 spot_in rows q = row_spot_of (row_at rows q)
 
 -- what is kept at a path, with folders above it
-abbrev pub kept : List Row → Disk
-kept rows q = spot_by (spot_in rows q) (list_any (covers q) rows)
+abbrev pub disk_of_rows : List Row → Disk
+disk_of_rows rows q = spot_by (spot_in rows q) (list_any (covers q) rows)
 
 -- The rows keep just these entries, each of which is found at its path.
 pub record Keeps (es : List Entry) (rows : List Row) : Type 0 where
-  pub spots : (q : Elements) → spot_in rows q ≡ found es q
+  pub spots : (q : Elements) → spot_in rows q ≡ entry_spot es q
   pub folders : (q : Elements) → list_any (covers q) rows ≡ has_below es q
   pub settled : AreSettled es
 

@@ -26,9 +26,9 @@ abbrev pub Entry : Type 0
 Entry = Elements × Spot
 
 -- what is listed first for the path
-abbrev pub found : List Entry → Elements → Option Spot
-found [] q = None
-found (e ∷ es) q = if path_eq q e.0 then Some e.1 else found es q
+abbrev pub entry_spot : List Entry → Elements → Option Spot
+entry_spot [] q = None
+entry_spot (e ∷ es) q = if path_eq q e.0 then Some e.1 else entry_spot es q
 
 -- an entry stands below the path
 abbrev pub has_below : List Entry → Elements → Bool
@@ -40,11 +40,11 @@ spot_by None below = if below then folder else gone
 
 -- the entries, folders above them, and nothing else
 abbrev pub disk_of : List Entry → Disk
-disk_of es q = spot_by (found es q) (has_below es q)
+disk_of es q = spot_by (entry_spot es q) (has_below es q)
 
 -- each entry is found at its path: where two have one path, they are the same
 pub record AreSettled (es : List Entry) : Type 0 where
-  pub each : (e : Entry) → In es e → found es e.0 ≡ Some e.1
+  pub each : (e : Entry) → In es e → entry_spot es e.0 ≡ Some e.1
 
 -- ---- what an offer puts there
 

@@ -7,7 +7,7 @@ ghost use Rattle.ost_commit.specs.Objects.{IsNamed};
 ghost use Rattle.ost_commit.specs.Built.{BuiltCommit};
 ghost use Rattle.fl_gen.specs.Made.{app_ware, each_of, runtime_ware, wares};
 ghost use Rattle.fl_gen.specs.Stores.{IsStoreOf, Reads, config_entry, file_spot, has_link_text, object_bits, object_entry, object_spot, ref_entry};
-ghost use Rattle.fl_gen.specs.Keeping.{Adds, Brings, Stocks, kept, leaf_bits, leaf_spot};
+ghost use Rattle.fl_gen.specs.Keeping.{Adds, Brings, Stocks, disk_of_rows, leaf_bits, leaf_spot};
 
 use crate::limits::RUNTIMES;
 use crate::naming::{app_ref, path_at_root, runtime_ref};
@@ -193,7 +193,7 @@ pub(crate) fn made_store(
     requires version { version < 2 ^ 8 }
     requires few { apps ≤ 2 ^ 8 }
     ensures { IfOk result (λ store. IsStoreOf version (wares version apps)
-        (kept store.rows.items)) }
+        (disk_of_rows store.rows.items)) }
 {
     let mut store = bare_store(alloc, version)?;
     offer_runtimes(rt, alloc, &mut store, version)?;

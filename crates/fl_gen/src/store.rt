@@ -6,7 +6,7 @@ ghost use Rattle.fp_host.specs.Remote.{IsNode, HasNodeBits, CameFrom, bytes_of};
 ghost use Rattle.fp_host.specs.Outcome.{Spot, holds, points};
 ghost use Rattle.ost_export.specs.Remotes.{held_of};
 ghost use Rattle.fl_gen.specs.Stores.{spot_by};
-ghost use Rattle.fl_gen.specs.Keeping.{Adds, covers as is_below, has_bits, kept, leaf_bits, leaf_spot, row_at, row_spot_of};
+ghost use Rattle.fl_gen.specs.Keeping.{Adds, covers as is_below, has_bits, disk_of_rows, leaf_bits, leaf_spot, row_at, row_spot_of};
 
 use fp_base::{Blob, Text};
 use fp_host::{Node, Path, RemoteError, copy_out};
@@ -164,7 +164,7 @@ impl Store {
 
     /// What stands at the path.
     pub(crate) fn node(&self, path: &Path) -> Result<Node, RemoteError>
-        ensures node { IfOk result (IsNode (held_of (kept self.now.rows.items path.now))) }
+        ensures node { IfOk result (IsNode (held_of (disk_of_rows self.now.rows.items path.now))) }
         ensures bits { IfOk result HasNodeBits }
         ensures never { IsErrOf result RemoteError.Failed → ⊥ }
     {
@@ -175,7 +175,7 @@ impl Store {
     /// Copies bytes of the file at the path, from a place on, as many as there is room for; what is
     /// no file has none.
     pub(crate) fn read_at(&self, path: &Path, at: u64, into: &mut [u8]) -> usize
-        ensures came { CameFrom (bytes_of (held_of (kept self.now.rows.items path.now))) at
+        ensures came { CameFrom (bytes_of (held_of (disk_of_rows self.now.rows.items path.now))) at
             into.new result }
         ensures bound { result ≤ length into.old }
     {
