@@ -28,7 +28,7 @@ use Rattle.fl_override.proofs.Files.{file_good}
 use Rattle.fl_launch.specs.Granted.{gives, gives_known, granted, known, unknown_key, unknown_pair, unknown_pairs, granted_groups, has_session_bus}
 use Rattle.fl_launch.specs.Extensions.{commit_of, extensions_of}
 use Rattle.fl_launch.specs.Launch.{word}
-use Rattle.fl_launch.specs.Groups.{said, application_pairs, instance_pairs, group, launch_groups, GroupsReadBack}
+use Rattle.fl_launch.specs.Groups.{pair_of, application_pairs, instance_pairs, group, launch_groups, GroupsReadBack}
 
 -- ---- some of what can be written
 
@@ -97,11 +97,11 @@ pub record HasKey (l : PermList) : Type 0 where
 all_keyed : AllByRecursion HasKey unknown_lists
 all_keyed = (record { key = refl; text = utf8_ascii _ refl }, (record { key = refl; text = utf8_ascii _ refl }, (record { key = refl; text = utf8_ascii _ refl }, (record { key = refl; text = utf8_ascii _ refl }, (record { key = refl; text = utf8_ascii _ refl }, (record { key = refl; text = utf8_ascii _ refl }, tt))))))
 
-rekeyed : (b : Bool) (one other value : List ℕ) → is_key other ≡ true → is_utf8 other ≡ true → list_all is_good_pair (cond b [] (said one value ∷ [])) ≡ true → list_all is_good_pair (cond b [] (said other value ∷ [])) ≡ true
+rekeyed : (b : Bool) (one other value : List ℕ) → is_key other ≡ true → is_utf8 other ≡ true → list_all is_good_pair (cond b [] (pair_of one value ∷ [])) ≡ true → list_all is_good_pair (cond b [] (pair_of other value ∷ [])) ≡ true
 rekeyed true one other value k u h = refl
 rekeyed false one other value k u h =
-    let good = good_pair_parts (said one value) (and_parts (is_good_pair (said one value)) true h).0 in
-    and_from (is_good_pair (said other value)) true (good_pair_from (said other value) (record { key = k; value = good.value; key_text = u; value_text = good.value_text })) refl
+    let good = good_pair_parts (pair_of one value) (and_parts (is_good_pair (pair_of one value)) true h).0 in
+    and_from (is_good_pair (pair_of other value)) true (good_pair_from (pair_of other value) (record { key = k; value = good.value; key_text = u; value_text = good.value_text })) refl
 
 all_rekeyed : (set : List Mention) (ls : List PermList) → AllByRecursion HasKey ls → list_all is_good_pair (flat_map (list_pair set) ls) ≡ true → list_all is_good_pair (flat_map (unknown_pair set) ls) ≡ true
 all_rekeyed set [] keyed h = refl
@@ -124,13 +124,13 @@ no_key : (n : List ℕ) (set : List Mention) (ls : List PermList) → list_any (
 no_key n set [] h = refl
 no_key n set (l ∷ ls) h =
     let a = or_parts (bytes_eq n (unknown_key l)) (list_any (bytes_eq n) (map unknown_key ls)) h in
-    pair_absent n (length (list_text l set) == 0) (said (unknown_key l) (list_text l set)) (flat_map (unknown_pair set) ls) a.0 (no_key n set ls a.1)
+    pair_absent n (length (list_text l set) == 0) (pair_of (unknown_key l) (list_text l set)) (flat_map (unknown_pair set) ls) a.0 (no_key n set ls a.1)
 
 keys_distinct : (set : List Mention) (ls : List PermList) → are_distinct (map unknown_key ls) ≡ true → are_distinct (keys_of (flat_map (unknown_pair set) ls)) ≡ true
 keys_distinct set [] h = refl
 keys_distinct set (l ∷ ls) h =
     let a = and_parts (not (list_any (bytes_eq (unknown_key l)) (map unknown_key ls))) (are_distinct (map unknown_key ls)) h in
-    pair_distinct (length (list_text l set) == 0) (said (unknown_key l) (list_text l set)) (flat_map (unknown_pair set) ls) (no_key (unknown_key l) set ls (not-true _ a.0)) (keys_distinct set ls a.1)
+    pair_distinct (length (list_text l set) == 0) (pair_of (unknown_key l) (list_text l set)) (flat_map (unknown_pair set) ls) (no_key (unknown_key l) set ls (not-true _ a.0)) (keys_distinct set ls a.1)
 
 -- the group of what isn't known
 if_good : (b : Bool) (g : Group) → is_good_group g ≡ true → list_all is_good_group (cond b [] (g ∷ [])) ≡ true
@@ -186,8 +186,8 @@ application_keys : (name runtime : Ref) (command : Option (List ℕ)) → are_di
 application_keys name runtime None = refl
 application_keys name runtime (Some command) = refl
 
-instance_keys : (b c : Bool) (k l m n x y z : List ℕ) → are_distinct (keys_of (said (codes "app-commit") k ∷ said (codes "runtime-commit") l ∷ said (codes "arch") m ∷ said (codes "branch") n
-    ∷ (cond b [] (said (codes "app-extensions") x ∷ []) ++ (cond c [] (said (codes "runtime-extensions") y ∷ []) ++ said (codes "session-bus-proxy") z ∷ [])))) ≡ true
+instance_keys : (b c : Bool) (k l m n x y z : List ℕ) → are_distinct (keys_of (pair_of (codes "app-commit") k ∷ pair_of (codes "runtime-commit") l ∷ pair_of (codes "arch") m ∷ pair_of (codes "branch") n
+    ∷ (cond b [] (pair_of (codes "app-extensions") x ∷ []) ++ (cond c [] (pair_of (codes "runtime-extensions") y ∷ []) ++ pair_of (codes "session-bus-proxy") z ∷ [])))) ≡ true
 instance_keys true true k l m n x y z = refl
 instance_keys true false k l m n x y z = refl
 instance_keys false true k l m n x y z = refl

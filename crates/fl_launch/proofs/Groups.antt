@@ -12,7 +12,7 @@ use Rattle.fl_override.specs.Written.{pair_if}
 use Rattle.fl_launch.specs.Granted.{granted_groups, has_session_bus}
 use Rattle.fl_launch.specs.Extensions.{commit_of, extensions_of, mount_lines}
 use Rattle.fl_launch.specs.Launch.{header, line, line_if, command_line, application, commits, extension_lines, word, proxy_line, mounts}
-use Rattle.fl_launch.specs.Groups.{said, command_pairs, application_pairs, instance_pairs, group, launch_groups, TextIsOfGroups}
+use Rattle.fl_launch.specs.Groups.{pair_of, command_pairs, application_pairs, instance_pairs, group, launch_groups, TextIsOfGroups}
 
 -- ---- lines
 
@@ -23,22 +23,22 @@ group_as name pairs = ap (λ (t : List ℕ). 91 ∷ t) (append_assoc name (93 �
 command_as : (command : Option (List ℕ)) → command_line command ≡ flat_map pair_text (command_pairs command)
 unfolding command_line line
 command_as None = refl
-command_as (Some command) = sym (append-nil (pair_text (said (codes "command") command)))
+command_as (Some command) = sym (append-nil (pair_text (pair_of (codes "command") command)))
 
 if_as : (key value : List ℕ) → line_if key value ≡ flat_map pair_text (pair_if key value)
 unfolding line_if line
 if_as key value = by (length value == 0)
   where
-    by : (b : Bool) → cond b [] (pair_text (said key value)) ≡ flat_map pair_text (cond b [] (said key value ∷ []))
+    by : (b : Bool) → cond b [] (pair_text (pair_of key value)) ≡ flat_map pair_text (cond b [] (pair_of key value ∷ []))
     by true = refl
-    by false = sym (append-nil (pair_text (said key value)))
+    by false = sym (append-nil (pair_text (pair_of key value)))
 
 -- ---- groups
 
 application_as : (name runtime : Ref) (command : Option (List ℕ)) → application name runtime command ≡ group_text (group (codes "Application") (application_pairs name runtime command))
 unfolding application line
 application_as name runtime command =
-    ap (λ (t : List ℕ). header (codes "Application") ++ (pair_text (said (codes "name") name.id) ++ (pair_text (said (codes "runtime") (ref_text runtime)) ++ t))) (command_as command)
+    ap (λ (t : List ℕ). header (codes "Application") ++ (pair_text (pair_of (codes "name") name.id) ++ (pair_text (pair_of (codes "runtime") (ref_text runtime)) ++ t))) (command_as command)
     ∙ group_as (codes "Application") (application_pairs name runtime command)
 
 -- lines one after another
@@ -53,13 +53,13 @@ instance_as : (state : State) (name runtime : Ref) (app_points runtime_points : 
 unfolding commits extension_lines proxy_line line
 instance_as state name runtime app_points runtime_points grants =
     let h = header (codes "Instance") in
-    let a = pair_text (said (codes "app-commit") (commit_of state name)) in
-    let b = pair_text (said (codes "runtime-commit") (commit_of state runtime)) in
-    let d = pair_text (said (codes "arch") name.arch) in
-    let e = pair_text (said (codes "branch") name.branch) in
+    let a = pair_text (pair_of (codes "app-commit") (commit_of state name)) in
+    let b = pair_text (pair_of (codes "runtime-commit") (commit_of state runtime)) in
+    let d = pair_text (pair_of (codes "arch") name.arch) in
+    let e = pair_text (pair_of (codes "branch") name.branch) in
     let of_app = extensions_of state app_points in
     let of_runtime = extensions_of state runtime_points in
-    let proxy = said (codes "session-bus-proxy") (word (has_session_bus grants)) in
+    let proxy = pair_of (codes "session-bus-proxy") (word (has_session_bus grants)) in
     in_turn h a b d e (line_if (codes "app-extensions") of_app) (line_if (codes "runtime-extensions") of_runtime) (pair_text proxy)
     ∙ ap (λ (t : List ℕ). h ++ (a ++ (b ++ (d ++ (e ++ (t ++ (line_if (codes "runtime-extensions") of_runtime ++ (pair_text proxy ++ [])))))))) (if_as (codes "app-extensions") of_app)
     ∙ ap (λ (t : List ℕ). h ++ (a ++ (b ++ (d ++ (e ++ (flat_map pair_text (pair_if (codes "app-extensions") of_app) ++ (t ++ (pair_text proxy ++ [])))))))) (if_as (codes "runtime-extensions") of_runtime)

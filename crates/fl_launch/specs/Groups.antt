@@ -15,25 +15,25 @@ use Rattle.fl_launch.specs.Granted.{granted_groups, has_session_bus}
 use Rattle.fl_launch.specs.Extensions.{commit_of, extensions_of, mount_lines}
 use Rattle.fl_launch.specs.Launch.{word, mounts, text_with}
 
-abbrev pub said : List ℕ → List ℕ → Pair
-said key value = record { key = key; value = value }
+abbrev pub pair_of : List ℕ → List ℕ → Pair
+pair_of key value = record { key = key; value = value }
 
 abbrev pub command_pairs : Option (List ℕ) → List Pair
 command_pairs None = []
-command_pairs (Some command) = said (codes "command") command ∷ []
+command_pairs (Some command) = pair_of (codes "command") command ∷ []
 
 abbrev pub application_pairs : Ref → Ref → Option (List ℕ) → List Pair
 application_pairs name runtime command =
-    said (codes "name") name.id ∷ said (codes "runtime") (ref_text runtime) ∷ command_pairs command
+    pair_of (codes "name") name.id ∷ pair_of (codes "runtime") (ref_text runtime) ∷ command_pairs command
 
 abbrev pub instance_pairs : State → Ref → Ref → List Point → List Point → List Mention → List Pair
 instance_pairs state name runtime app_points runtime_points grants =
-    said (codes "app-commit") (commit_of state name)
-    ∷ said (codes "runtime-commit") (commit_of state runtime) ∷ said (codes "arch") name.arch
-    ∷ said (codes "branch") name.branch
+    pair_of (codes "app-commit") (commit_of state name)
+    ∷ pair_of (codes "runtime-commit") (commit_of state runtime) ∷ pair_of (codes "arch") name.arch
+    ∷ pair_of (codes "branch") name.branch
     ∷ (pair_if (codes "app-extensions") (extensions_of state app_points)
     ++ (pair_if (codes "runtime-extensions") (extensions_of state runtime_points)
-    ++ said (codes "session-bus-proxy") (word (has_session_bus grants)) ∷ []))
+    ++ pair_of (codes "session-bus-proxy") (word (has_session_bus grants)) ∷ []))
 
 abbrev pub group : List ℕ → List Pair → Group
 group name pairs = record { name = name; pairs = pairs }
