@@ -18,25 +18,25 @@ use Rattle.dep_states.specs.After.{row_at}
 use Rattle.dep_states.specs.Frames.{KeptIn}
 use Rattle.dep_states.specs.Sound.{IsPrevious, IsKeptBy}
 use Rattle.dep_states.proofs.Single.{some_is, some_none, none_some, none_before, at_head}
-use Rattle.dep_tidy.specs.Kept.{before, kept_by, kept_of}
+use Rattle.dep_tidy.specs.Kept.{previous_commits, kept_by, kept_of}
 use Rattle.dep_tidy.specs.Tidy.{IsFrom}
 
 -- ---- what rows keep
 
 module _ (commit : List ℕ) where
-  from_before : (o : Option Previous) → Contains (before o) commit → IsPrevious o commit
+  from_before : (o : Option Previous) → Contains (previous_commits o) commit → IsPrevious o commit
   from_before None has = absurd (in_none commit has)
   from_before (Some p) has = (p, refl, sym (in_one p.commit commit has))
 
-  to_before : (o : Option Previous) → IsPrevious o commit → Contains (before o) commit
-  to_before o (p, is, same) = subst (λ x. Contains (before x) commit) (sym is) (subst (Contains (p.commit ∷ [])) same (in_first p.commit []))
+  to_before : (o : Option Previous) → IsPrevious o commit → Contains (previous_commits o) commit
+  to_before o (p, is, same) = subst (λ x. Contains (previous_commits x) commit) (sym is) (subst (Contains (p.commit ∷ [])) same (in_first p.commit []))
 
   from_row : (row : RefRow) → Contains (kept_by row) commit → IsKeptBy row commit
-  from_row row has = elim (in_cases row.commit (before row.previous) commit has) [ inl is ↦ inl (sym is) | inr b ↦ inr (from_before row.previous b) ]
+  from_row row has = elim (in_cases row.commit (previous_commits row.previous) commit has) [ inl is ↦ inl (sym is) | inr b ↦ inr (from_before row.previous b) ]
 
   to_row : (row : RefRow) → IsKeptBy row commit → Contains (kept_by row) commit
-  to_row row (inl is) = subst (Contains (kept_by row)) is (in_first row.commit (before row.previous))
-  to_row row (inr p) = in_rest row.commit (before row.previous) commit (to_before row.previous p)
+  to_row row (inl is) = subst (Contains (kept_by row)) is (in_first row.commit (previous_commits row.previous))
+  to_row row (inr p) = in_rest row.commit (previous_commits row.previous) commit (to_before row.previous p)
 
   pub from_kept : (rows : List RefRow) → Contains (kept_of rows) commit → (row : RefRow) × Contains rows row × IsKeptBy row commit
   from_kept [] has = absurd (in_none commit has)

@@ -5,12 +5,12 @@ use Rattle.fp_small.specs.declared.state.Previous.{Previous}
 use Rattle.ost_model.specs.Order.{each_in}
 use Rattle.dep_states.specs.Sound.{IsKeptBy}
 
-abbrev pub before : Option Previous → List (List ℕ)
-before None = []
-before (Some p) = p.commit ∷ []
+abbrev pub previous_commits : Option Previous → List (List ℕ)
+previous_commits None = []
+previous_commits (Some p) = p.commit ∷ []
 
 abbrev pub kept_by : RefRow → List (List ℕ)
-kept_by row = row.commit ∷ before row.previous
+kept_by row = row.commit ∷ previous_commits row.previous
 
 -- row by row the commit, and the previous one
 abbrev pub kept_of : List RefRow → List (List ℕ)

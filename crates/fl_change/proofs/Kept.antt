@@ -12,7 +12,7 @@ use Rattle.ost_model.specs.Order.{In}
 use Rattle.ost_model.proofs.Places.{in_left, in_right}
 use Rattle.dep_states.specs.Shown.{at_name, ref_key}
 use Rattle.dep_states.specs.After.{row_at, after_op, updated, rolled_back, back, moved, exchanged}
-use Rattle.dep_tidy.specs.Kept.{before, kept_by, kept_of}
+use Rattle.dep_tidy.specs.Kept.{previous_commits, kept_by, kept_of}
 use Rattle.fl_change.specs.World.{kept_commits}
 
 -- ---- rows
@@ -83,7 +83,7 @@ module _ (s : State) (c : List ℕ) where
   back_by name row is None was has = has
   back_by name row is (Some p) was has = elim (in_replaced c s.refs (exchanged row p) has) [
     | inl new ↦ in_row c s.refs (ref_text name) row is (elim new [
-      | inl it ↦ inr (subst (λ (q : Option Previous). In (before q) c) (sym was) (inl it))
+      | inl it ↦ inr (subst (λ (q : Option Previous). In (previous_commits q) c) (sym was) (inl it))
       | inr old ↦ elim old [ inl it ↦ inl it | inr none ↦ absurd none ]
     ])
     | inr old ↦ old
