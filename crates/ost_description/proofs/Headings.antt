@@ -3,7 +3,7 @@ use Rattle.std.proofs.Common.{◌≡◌, ℕ, List, Some, None, Option, Err, Res
 use Rattle.ost_commit.specs.declared.row.TreeRow.{TreeRow}
 use Rattle.ost_commit.specs.Refusals.{first_refused}
 use Rattle.ost_description.specs.declared.description.Description.{Description}
-use Rattle.ost_description.specs.Descriptions.{pieces, first_by, timestamp_in, subject_in, or_bad, with_rows, rows_in, unformed_in, judged, described}
+use Rattle.ost_description.specs.Descriptions.{pieces, first_by, timestamp_in, subject_in, or_bad, with_rows, rows_in, unformed_in, checked_description, described}
 
 after_time : Option (ℕ × List (List ℕ)) → Result Description ℕ
 after_time first = or_bad 1 first λ first. or_bad 2 (first_by subject_in first.1) λ second. with_rows first.0 second.0 second.1
@@ -34,5 +34,5 @@ unfolding after_subject
 good_heading bytes remainder rest s t e f = by_subject bytes t (pieces remainder) (Some (s, pieces rest)) e f
 
 pub draft_is : (t : ℕ) (s : List ℕ) (lines : List (List ℕ)) (rows : List TreeRow) (unformed : Option ℕ) → rows ≡ rows_in lines → unformed ≡ unformed_in 3 lines
-    → with_rows t s lines ≡ judged (record { timestamp = t; subject = s; rows = rows }) unformed (first_refused rows)
-draft_is t s lines rows unformed e f = λ i. judged (record { timestamp = t; subject = s; rows = sym e i }) (sym f i) (first_refused (sym e i))
+    → with_rows t s lines ≡ checked_description (record { timestamp = t; subject = s; rows = rows }) unformed (first_refused rows)
+draft_is t s lines rows unformed e f = λ i. checked_description (record { timestamp = t; subject = s; rows = sym e i }) (sym f i) (first_refused (sym e i))

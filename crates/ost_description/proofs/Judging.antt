@@ -9,7 +9,7 @@ use Rattle.ost_commit.specs.Built.{IsBuildFault}
 use Rattle.ost_commit.specs.Refusals.{is_taken, new_names, refused_remainder, first_refused}
 use Rattle.ost_description.specs.declared.description.Description.{Description}
 use Rattle.ost_description.specs.declared.description.DescriptionError.{DescriptionError}
-use Rattle.ost_description.specs.Descriptions.{judged}
+use Rattle.ost_description.specs.Descriptions.{checked_description}
 use Rattle.ost_description.specs.Commits.{IsFaultOf}
 
 step : (b : Bool) (o : Option ℕ) (k n m : ℕ) → (o ≡ Some n → n ≤ m) → k ≤ m → (if b then o else Some k) ≡ Some n → n ≤ m
@@ -27,19 +27,19 @@ refused_within before names (r ∷ rs) n e =
 pub refused_among : (rs : List TreeRow) (n : ℕ) → first_refused rs ≡ Some n → n ≤ length rs
 refused_among rs n e = let h = refused_within [] 0 rs n e in omega (arith, h)
 
-pub refused_row : (d : Description) (unformed : Option ℕ) (n : ℕ) → first_refused d.rows ≡ Some n → judged d unformed (first_refused d.rows) ≡ Err (n + 2)
-refused_row d unformed n e = ap (judged d unformed) e
+pub refused_row : (d : Description) (unformed : Option ℕ) (n : ℕ) → first_refused d.rows ≡ Some n → checked_description d unformed (first_refused d.rows) ≡ Err (n + 2)
+refused_row d unformed n e = ap (checked_description d unformed) e
 
-pub unformed_line : (d : Description) (n : ℕ) → first_refused d.rows ≡ None → judged d (Some n) (first_refused d.rows) ≡ Err n
-unformed_line d n e = ap (judged d (Some n)) e
+pub unformed_line : (d : Description) (n : ℕ) → first_refused d.rows ≡ None → checked_description d (Some n) (first_refused d.rows) ≡ Err n
+unformed_line d n e = ap (checked_description d (Some n)) e
 
-pub whole : (d : Description) → first_refused d.rows ≡ None → judged d None (first_refused d.rows) ≡ Ok d
-whole d e = ap (judged d None) e
+pub whole : (d : Description) → first_refused d.rows ≡ None → checked_description d None (first_refused d.rows) ≡ Ok d
+whole d e = ap (checked_description d None) e
 
 -- ---- why there is no commit
 
-pub in_front : (d : Description) (unformed : Option ℕ) (reason : DescriptionError) → first_refused d.rows ≡ None → IsFaultOf (judged d unformed None) reason → IsFaultOf (judged d unformed (first_refused d.rows)) reason
-in_front d unformed reason e h = subst (λ (o : Option ℕ). IsFaultOf (judged d unformed o) reason) (sym e) h
+pub in_front : (d : Description) (unformed : Option ℕ) (reason : DescriptionError) → first_refused d.rows ≡ None → IsFaultOf (checked_description d unformed None) reason → IsFaultOf (checked_description d unformed (first_refused d.rows)) reason
+in_front d unformed reason e h = subst (λ (o : Option ℕ). IsFaultOf (checked_description d unformed o) reason) (sym e) h
 
 pub as_read : (read : Result Description ℕ) (other : Result Description ℕ) (reason : DescriptionError) → read ≡ other → IsFaultOf other reason → IsFaultOf read reason
 as_read read other reason e h = subst (λ (r : Result Description ℕ). IsFaultOf r reason) (sym e) h

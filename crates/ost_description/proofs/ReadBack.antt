@@ -19,7 +19,7 @@ use Rattle.fp_base.specs.Steps.{◌>>=◌, where_it}
 use Rattle.ost_description.specs.Parts.{number_in, mode_in, content_in, path_in, text_in, is_subject}
 use Rattle.fp_base.specs.Parts.{is_control}
 use Rattle.fp_base.specs.Parts.{parts_at, is_lower_digit}
-use Rattle.ost_description.specs.Descriptions.{timestamp_in, subject_in, folder_in, file_in, link_in, row_in, pieces, row_before, rows_in, unformed_in, first_by, judged, with_rows, described}
+use Rattle.ost_description.specs.Descriptions.{timestamp_in, subject_in, folder_in, file_in, link_in, row_in, pieces, row_before, rows_in, unformed_in, first_by, checked_description, with_rows, described}
 use Rattle.ost_description.specs.Writing.{is_newline, mode_text, content_text, row_text, rows_text, with_newline, description_text, IsWritablePath, IsWritableFile, IsWritableLink, IsWritableRow, IsWritable}
 use Rattle.ost_description.proofs.Cuts.{pieces_of, parts_of}
 use Rattle.ost_description.proofs.LineLemmas.{first_cons, rows_cons, unformed_cons, some_pieces}
@@ -170,14 +170,14 @@ heading_back d tail w =
     (first_back timestamp_in time (subject ++ 10 ∷ rest) d.timestamp (decimal_line d.timestamp w.timestamp) (time_back d.timestamp w.timestamp))
     (first_back subject_in subject rest d.subject (subject_line d.subject w.subject) (subject_back d.subject w.utf8 w.subject))
 
-pub reads_back : (d : Description) → IsWritable d → described (description_text d) ≡ judged d None (first_refused d.rows)
+pub reads_back : (d : Description) → IsWritable d → described (description_text d) ≡ checked_description d None (first_refused d.rows)
 reads_back d w =
     let P = pieces (rows_text d.rows ++ []) in
     ap described (sym (append-nil (description_text d))) ∙ heading_back d [] w
     ∙ draft_is d.timestamp d.subject P d.rows None (sym (rows_back d.rows [] w.rows ∙ append-nil d.rows)) (sym (unformed_back 3 d.rows [] w.rows))
 
 pub stops_remainder : (d : Description) (line rest : List ℕ) → IsWritable d → list_any is_newline line ≡ false → row_in line ≡ None
-    → described (description_text d ++ (line ++ 10 ∷ rest)) ≡ judged d (Some (length d.rows + 3)) (first_refused d.rows)
+    → described (description_text d ++ (line ++ 10 ∷ rest)) ≡ checked_description d (Some (length d.rows + 3)) (first_refused d.rows)
 stops_remainder d line rest w none bad =
     let tail = line ++ 10 ∷ rest in
     let rows : rows_in (pieces (rows_text d.rows ++ tail)) ≡ d.rows =

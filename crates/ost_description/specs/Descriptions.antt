@@ -83,14 +83,14 @@ unformed_in number (line ∷ next ∷ more) =
 -- ---- the whole
 
 -- The rows begin at line 3. A row that is refused stands before the line that isn't formed as one.
-abbrev pub judged : Description → Option ℕ → Option ℕ → Result Description ℕ
-judged d unformed (Some k) = Err (k + 2)
-judged d (Some number) None = Err number
-judged d None None = Ok d
+abbrev pub checked_description : Description → Option ℕ → Option ℕ → Result Description ℕ
+checked_description d unformed (Some k) = Err (k + 2)
+checked_description d (Some number) None = Err number
+checked_description d None None = Ok d
 
 abbrev pub with_rows : ℕ → List ℕ → List (List ℕ) → Result Description ℕ
 with_rows timestamp subject lines =
-    judged (record { timestamp = timestamp; subject = subject; rows = rows_in lines })
+    checked_description (record { timestamp = timestamp; subject = subject; rows = rows_in lines })
     (unformed_in 3 lines) (first_refused (rows_in lines))
 
 abbrev pub or_bad : {A B : Type 0} → ℕ → Option A → (A → Result B ℕ) → Result B ℕ

@@ -5,7 +5,7 @@ ghost use Rattle.ost_commit.specs.declared.built.BuildError.TheVariants as error
 ghost use Rattle.ost_commit.specs.Built.{IsBuildFault};
 ghost use Rattle.ost_commit.specs.Refusals.{first_refused};
 ghost use Rattle.ost_description.specs.declared.description.Description.{Description};
-ghost use Rattle.ost_description.specs.Descriptions.{judged};
+ghost use Rattle.ost_description.specs.Descriptions.{checked_description};
 ghost use Rattle.ost_description.specs.Commits.{IsDescribed, IsDescriptionFault, IsFaultOf};
 
 use crate::description::DescriptionError;
@@ -52,7 +52,7 @@ pub fn commit_description(
 fn refusal(error: BuildError, unformed: Option<u64>) -> DescriptionError
     requires small { (number : ℕ) → error ≡ errors.Row number → number + 2 < 2 ^ 64 }
     ensures { (d : Description) → IsBuildFault d.rows error
-        → IsFaultOf (judged d unformed (first_refused d.rows)) result }
+        → IsFaultOf (checked_description d unformed (first_refused d.rows)) result }
 {
     match error {
         BuildError::Row(number) => DescriptionError::Record(number + 2),
@@ -64,8 +64,8 @@ fn refusal(error: BuildError, unformed: Option<u64>) -> DescriptionError
 
 /// The line that isn't formed as a row, or else this reason.
 fn unformed_or(unformed: Option<u64>, reason: DescriptionError) -> DescriptionError
-    ensures { (d : Description) → IsFaultOf (judged d None None) reason
-        → IsFaultOf (judged d unformed None) result }
+    ensures { (d : Description) → IsFaultOf (checked_description d None None) reason
+        → IsFaultOf (checked_description d unformed None) result }
 {
     match unformed {
         Some(number) => DescriptionError::Record(number),

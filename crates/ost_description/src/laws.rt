@@ -5,7 +5,7 @@ ghost use Rattle.std.specs.Prelude.{◌≡◌, ◌∷◌, ◌++◌, ◌+◌, ℕ
 ghost use Rattle.std.specs.List.{list_any};
 ghost use Rattle.ost_commit.specs.Refusals.{first_refused};
 ghost use Rattle.ost_description.specs.declared.description.Description.{Description};
-ghost use Rattle.ost_description.specs.Descriptions.{described, judged, row_in};
+ghost use Rattle.ost_description.specs.Descriptions.{described, checked_description, row_in};
 ghost use Rattle.ost_description.specs.Writing.{IsWritable, description_text, is_newline};
 
 /// A written description reads back, or is refused at the first row that `commit_tree` refuses.
@@ -13,9 +13,9 @@ ghost use Rattle.ost_description.specs.Writing.{IsWritable, description_text, is
 /// row comes before; so there is a bad description for each line.
 pub fn written_descriptions_read_back()
     ensures reads { (d : Description) → IsWritable d
-        → described (description_text d) ≡ judged d None (first_refused d.rows) }
+        → described (description_text d) ≡ checked_description d None (first_refused d.rows) }
     ensures stops { (d : Description) (line rest : List ℕ) → IsWritable d
         → list_any is_newline line ≡ false → row_in line ≡ None
         → described (description_text d ++ (line ++ 10 ∷ rest))
-        ≡ judged d (Some (length d.rows + 3)) (first_refused d.rows) }
+        ≡ checked_description d (Some (length d.rows + 3)) (first_refused d.rows) }
 {}

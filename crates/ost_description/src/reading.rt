@@ -4,7 +4,7 @@ ghost use Rattle.std.specs.Prelude.{◌≡◌, ◌<◌, ◌≤◌, ◌+◌, ◌^
 ghost use Rattle.ost_commit.specs.Refusals.{first_refused};
 ghost use Rattle.fp_base.specs.Steps.{Gives};
 ghost use Rattle.ost_description.specs.Commits.{IsDescriptionFault};
-ghost use Rattle.ost_description.specs.Descriptions.{said_after, timestamp_in, subject_in, folder_in, file_in, link_in, row_in, pieces, first_by, rows_in, unformed_in, judged, with_rows, described};
+ghost use Rattle.ost_description.specs.Descriptions.{said_after, timestamp_in, subject_in, folder_in, file_in, link_in, row_in, pieces, first_by, rows_in, unformed_in, checked_description, with_rows, described};
 
 use crate::description::{Description, DescriptionError};
 use crate::parts::{content, is_subject, mode, number, path, text};
@@ -209,7 +209,7 @@ pub(crate) struct Draft {
 /// Reads a description up to the first row that isn't formed as one.
 pub(crate) fn draft_of(alloc: Global, bytes: &[u8]) -> Result<Draft, DescriptionError>
     ensures reads { IfOk result (λ d. described bytes.now
-        ≡ judged d.description d.unformed (first_refused d.description.rows)) }
+        ≡ checked_description d.description d.unformed (first_refused d.description.rows)) }
     ensures few { IfOk result (λ d. length d.description.rows < length bytes.now) }
     ensures bad { IfErr result (IsDescriptionFault bytes.now) }
 {

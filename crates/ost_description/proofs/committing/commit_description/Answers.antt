@@ -1,6 +1,6 @@
 use Rattle.std.proofs.Common.{arith}
 use Rattle.ost_commit.specs.Refusals.{first_refused}
-use Rattle.ost_description.specs.Descriptions.{described, judged}
+use Rattle.ost_description.specs.Descriptions.{described, checked_description}
 use Rattle.ost_description.proofs.Judging.{as_read, fault_of, number_within}
 use Rattle.ost_description.proofs.committing.commit_description.Goals as goal
 
@@ -18,4 +18,4 @@ pub returns-clause-error : goal.returns-clause-error
 returns-clause-error g c =
     let d = c.in_ok-draft.draft.description in
     let fault = fault_of c.as_slice-rows.result.now d.rows c.in-Err.error c.as_slice-rows.ensures c.in-Err.ensures.error in
-    as_read (described c.args.bytes.now) (judged d c.in_ok-draft.draft.unformed (first_refused d.rows)) c.refusal.result c.in_ok-draft.ensures.reads (c.refusal.ensures d fault)
+    as_read (described c.args.bytes.now) (checked_description d c.in_ok-draft.draft.unformed (first_refused d.rows)) c.refusal.result c.in_ok-draft.ensures.reads (c.refusal.ensures d fault)
