@@ -20,7 +20,7 @@ use Rattle.ost_fsck.specs.declared.report.Finding.{Finding}
 use Rattle.ost_fsck.specs.declared.row.Row.{Row}
 use Rattle.ost_fsck.specs.declared.row.Row.TheVariants as rows
 use Rattle.ost_fsck.specs.Judging.{is_named, bad_unless, Looks}
-use Rattle.ost_fsck.specs.Batches.{is_same, seen_by, listed, findings_by, objects_by, Grows, IsItemAt, IsRow, IsRowAt, AreRows, ChecksMore}
+use Rattle.ost_fsck.specs.Batches.{is_same, seen_by, finding_list, findings_by, objects_by, Grows, IsItemAt, IsRow, IsRowAt, AreRows, ChecksMore}
 use Rattle.ost_fsck.proofs.Reporting.{SoFar, more_seen}
 
 -- ---- a row
@@ -138,7 +138,7 @@ checked root paths v items read digests found found' objects of is added counted
 
 -- ---- batch after batch
 
-pub pushed_as : (found : List Finding) (finding : Option Finding) → with_found found finding ≡ found ++ listed finding
+pub pushed_as : (found : List Finding) (finding : Option Finding) → with_found found finding ≡ found ++ finding_list finding
 pushed_as found None = sym (append-nil found)
 pushed_as found (Some finding) = refl
 
@@ -167,13 +167,13 @@ module _ (root : Elements) (all : List Elements) (v : View) (digests : List (Lis
       let head : p ∷ (ps ++ rest) ≡ get_or all i p ∷ drop (i + 1) all = sym cut ∙ drop_more all i p low in
       let is : p ≡ get_or all i p = cc head in
       let tail : drop (i + 1) all ≡ ps ++ rest = cc head in
-      let one = more_seen root all i p v found objects low is so_far seen.is_object seen.finding (found ++ listed seen.finding) (objects + from_bool seen.is_object) looks.0 (sym (pushed_as found seen.finding)) refl in
-      let more = steps (i + 1) ps rest rs (found ++ listed seen.finding) (objects + from_bool seen.is_object) tail looks.1 one in
+      let one = more_seen root all i p v found objects low is so_far seen.is_object seen.finding (found ++ finding_list seen.finding) (objects + from_bool seen.is_object) looks.0 (sym (pushed_as found seen.finding)) refl in
+      let more = steps (i + 1) ps rest rs (found ++ finding_list seen.finding) (objects + from_bool seen.is_object) tail looks.1 one in
       let long : (i + 1) + length ps ≡ i + length (p ∷ ps) = omega arith in
       let counted : (objects + from_bool seen.is_object) + objects_by digests rs ≡ objects + objects_by digests (r ∷ rs) = omega (arith, count_first (λ row. (seen_by digests row).is_object) r rs) in
       subst (λ (k : ℕ). SoFar root all k v (found ++ findings_by digests (r ∷ rs)) (objects + objects_by digests (r ∷ rs))) long
       (subst (λ (n : ℕ). SoFar root all ((i + 1) + length ps) v (found ++ findings_by digests (r ∷ rs)) n) counted
-      (subst (λ (l : List Finding). SoFar root all ((i + 1) + length ps) v l ((objects + from_bool seen.is_object) + objects_by digests rs)) (append_assoc found (listed seen.finding) (findings_by digests rs)) more))
+      (subst (λ (l : List Finding). SoFar root all ((i + 1) + length ps) v l ((objects + from_bool seen.is_object) + objects_by digests rs)) (append_assoc found (finding_list seen.finding) (findings_by digests rs)) more))
 
 -- a batch was checked after the first i paths
 pub more_checked : (root : Elements) (all : List Elements) (i end : ℕ) (batch : List Elements) (v : View) (found found' : List Finding) (objects more : ℕ) → i ≤ end → end ≤ length all → batch ≡ slice_range all i end → ChecksMore root batch v found found' more

@@ -96,12 +96,12 @@ seen_by digests (rows.Answer seen) = seen
 seen_by digests (rows.Question d kind number) =
     record { is_object = true; finding = bad_unless (is_at digests number d) d kind }
 
-abbrev pub listed : Option Finding → List Finding
-listed None = []
-listed (Some finding) = finding ∷ []
+abbrev pub finding_list : Option Finding → List Finding
+finding_list None = []
+finding_list (Some finding) = finding ∷ []
 
 abbrev pub findings_by : List (List ℕ) → List Row → List Finding
-findings_by digests read = flat_map (λ row. listed (seen_by digests row).finding) read
+findings_by digests read = flat_map (λ row. finding_list (seen_by digests row).finding) read
 
 abbrev pub objects_by : List (List ℕ) → List Row → ℕ
 objects_by digests read = count_by (λ row. (seen_by digests row).is_object) read
