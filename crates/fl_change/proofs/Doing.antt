@@ -31,7 +31,7 @@ use Rattle.op_bring.specs.Bringing.{AreTold, WasLeft}
 use Rattle.op_change.specs.Applied.{Brings, have_for, op_refusal, done_with, AppliesWith, Applies, WasApplied}
 use Rattle.fl_lines.specs.Lines.{op_text}
 use Rattle.fl_change.specs.World.{World, world_at, world_after, worlds_after, supplied}
-use Rattle.fl_change.specs.Answer.{Answer, Piece, lines_of, joined, ops_in, ops_of, done_answer, refusal_answer, unless, sets_config, set_config, keeps_commits}
+use Rattle.fl_change.specs.Answer.{Answer, Piece, lines_of, pieces_text, ops_in, ops_of, done_answer, refusal_answer, unless, sets_config, set_config, keeps_commits}
 use Rattle.fl_change.specs.Refs.{op_over}
 use Rattle.fl_change.specs.Changes.{HasText}
 use Rattle.fl_change.specs.Created.{LacksFor}
@@ -79,7 +79,7 @@ pub none_done : (held : Holdings) (a : Answer) (x : World) (v : View) → a.piec
 none_done held a x v none holds settled = record {
   only_tidied = λ no. tidied_not;
   still = λ no was. still_not;
-  printed = sym (append-nil v.printed) ∙ ap (λ (l : List Piece). v.printed ++ joined l) (sym none);
+  printed = sym (append-nil v.printed) ∙ ap (λ (l : List Piece). v.printed ++ pieces_text l) (sym none);
   holds = subst (λ (l : List Piece). Holds (worlds_after held x (ops_in l)) v) (sym none) holds;
   tidied = settled;
   text = λ some. absurd (let both : false ≡ true = ap (λ (l : List Piece). set_config (ops_in l)) (sym none) ∙ some in cc both);

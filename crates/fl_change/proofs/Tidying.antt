@@ -23,7 +23,7 @@ use Rattle.dep_states.specs.Sound.{Opens}
 use Rattle.dep_states.specs.Settled.{Settled}
 use Rattle.dep_tidy.specs.Tidy.{Tidies, WasTidied}
 use Rattle.fl_change.specs.World.{World, world_at}
-use Rattle.fl_change.specs.Answer.{Answer, Piece, joined, ops_of}
+use Rattle.fl_change.specs.Answer.{Answer, Piece, pieces_text, ops_of}
 use Rattle.fl_change.specs.Ends.{end_of_host}
 use Rattle.fl_change.specs.Performs.{Printed, Performs, IsDone, IsHalted, Performed, PerformsOver, PerformedOver, Works, Acts, Rests}
 use Rattle.fl_change.specs.declared.end.RunEnd.{RunEnd}
@@ -41,7 +41,7 @@ pub tidying_of : {Q : View → View → Type 0} (s : State) (result : Result Sta
 tidying_of s result moments success state cause holdings remote = record { moments = moments; success = success; state = state; host = cause; holdings = holdings; remote_faults = remote }
 
 first_moved : {a : Answer} {said : List Piece} {u v w : View} → v.printed ≡ u.printed → Printed a said v w → Printed a said u w
-first_moved {said = said} same printed = record { left = printed.left; pieces = printed.pieces; printed = printed.printed ∙ ap (λ (p : List ℕ). p ++ joined said) same }
+first_moved {said = said} same printed = record { left = printed.left; pieces = printed.pieces; printed = printed.printed ∙ ap (λ (p : List ℕ). p ++ pieces_text said) same }
 
 module _ (s : State) {u v : View} (tidies : Tidies s u v) (opens : Opens s u) where
   -- the world after a tidying is that of before
@@ -77,7 +77,7 @@ module _ (s : State) {u v : View} (tidies : Tidies s u v) (opens : Opens s u) wh
     done_moved a kept done = record {
       only_tidied = λ idle. tidied_on (tidies_only tidies) (done.only_tidied idle);
       still = λ idle before. still_on (tidies_still tidies opens before) (done.still idle settled) kept;
-      printed = done.printed ∙ ap (λ (p : List ℕ). p ++ joined a.pieces) tidies.printed;
+      printed = done.printed ∙ ap (λ (p : List ℕ). p ++ pieces_text a.pieces) tidies.printed;
       holds = done.holds;
       tidied = done.tidied;
       text = done.text;

@@ -22,7 +22,7 @@ use Rattle.dep_states.specs.Shown.{Shows, settings_of}
 use Rattle.dep_states.specs.Sound.{Opens}
 use Rattle.dep_states.specs.After.{Done, row_at, after, after_all, after_op, updated, rolled_back, back}
 use Rattle.fl_change.specs.World.{World, world_at, world_after, worlds_after}
-use Rattle.fl_change.specs.Answer.{Answer, Piece, lines_of, last_of, joined, ops_in, ops_of, nothing, continued, followed, then_over, each_over, sets_config, set_config, IsUnpulled}
+use Rattle.fl_change.specs.Answer.{Answer, Piece, lines_of, last_of, pieces_text, ops_in, ops_of, nothing, continued, followed, then_over, each_over, sets_config, set_config, IsUnpulled}
 use Rattle.fl_change.specs.Changes.{HasText, OnlyTidied}
 use Rattle.fl_change.specs.Performs.{Printed, IsSome, Performs, Holds, IsDone, Performed, Rests}
 use Rattle.fl_change.specs.declared.end.RunEnd.{RunEnd}
@@ -34,7 +34,7 @@ use Rattle.fl_change.proofs.Worlds.{holds_at, world_held, worlds_state}
 
 -- ---- pieces, and the worlds that operations make
 
-pub joined-append : (xs ys : List Piece) → joined (xs ++ ys) ≡ joined xs ++ joined ys
+pub joined-append : (xs ys : List Piece) → pieces_text (xs ++ ys) ≡ pieces_text xs ++ pieces_text ys
 joined-append xs ys = flat_map-append (λ (piece : Piece). piece.text) xs ys
 
 pub ops-append : (xs ys : List Piece) → ops_in (xs ++ ys) ≡ ops_in xs ++ ops_in ys
@@ -117,11 +117,11 @@ failed_followed held a b x e v w failed = failed_continued held a.pieces a.refus
 -- ---- the second of two
 
 -- what was printed of the second answer
-printed_second : (pieces : List Piece) (b : Answer) (said : List Piece) {v w x : View} → w.printed ≡ v.printed ++ joined pieces → Printed b said w x → Printed (continued pieces None b) (pieces ++ said) v x
+printed_second : (pieces : List Piece) (b : Answer) (said : List Piece) {v w x : View} → w.printed ≡ v.printed ++ pieces_text pieces → Printed b said w x → Printed (continued pieces None b) (pieces ++ said) v x
 printed_second pieces b said {v = v} first printed = record {
   left = printed.left;
   pieces = append_assoc pieces b.pieces (last_of b.refusal) ∙ ap (λ (l : List Piece). pieces ++ l) printed.pieces ∙ sym (append_assoc pieces said printed.left);
-  printed = printed.printed ∙ ap (λ (p : List ℕ). p ++ joined said) first ∙ append_assoc v.printed (joined pieces) (joined said) ∙ ap (λ (p : List ℕ). v.printed ++ p) (sym (joined-append pieces said));
+  printed = printed.printed ∙ ap (λ (p : List ℕ). p ++ pieces_text said) first ∙ append_assoc v.printed (pieces_text pieces) (pieces_text said) ∙ ap (λ (p : List ℕ). v.printed ++ p) (sym (joined-append pieces said));
 }
 
 some_second : (pieces : List Piece) (b : Answer) (said : List Piece) (s t : State) {disk : Disk} → t ≡ after_all s (ops_in pieces) → IsSome b (ops_in said) t disk → IsSome (continued pieces None b) (ops_in (pieces ++ said)) s disk
@@ -202,7 +202,7 @@ done_onto : (held : Holdings) (pieces : List Piece) (b : Answer) (x y : World) {
 done_onto held pieces b x y {v = v} {w = w} {z = z} is done next before kept = record {
   only_tidied = λ idle. let both = no_ops pieces b idle.0 in tidied_on (done.only_tidied (both.0, tt)) (subst (λ (s : State). OnlyTidied s w z) (same_state held pieces x y is both.0) (next.only_tidied (both.1, idle.1)));
   still = λ idle settled. let both = no_ops pieces b idle.0 in still_on (done.still (both.0, tt) settled) (next.still (both.1, idle.1) done.tidied) kept;
-  printed = next.printed ∙ ap (λ (p : List ℕ). p ++ joined b.pieces) done.printed ∙ append_assoc v.printed (joined pieces) (joined b.pieces) ∙ ap (λ (p : List ℕ). v.printed ++ p) (sym (joined-append pieces b.pieces));
+  printed = next.printed ∙ ap (λ (p : List ℕ). p ++ pieces_text b.pieces) done.printed ∙ append_assoc v.printed (pieces_text pieces) (pieces_text b.pieces) ∙ ap (λ (p : List ℕ). v.printed ++ p) (sym (joined-append pieces b.pieces));
   holds = subst (λ (q : World). Holds q z) (worlds_pieces held x y pieces b.pieces is) next.holds;
   text = λ some. subst (λ (q : State). HasText q z) after_both (text_by (set_config (ops_of b)) refl (set_both some));
   config = λ not. let none = none_set not in next.config none.1 ∙ done.config none.0;

@@ -32,8 +32,8 @@ last_of (Some refusal) = record { text = refusal_text refusal; op = None } ∷ [
 abbrev pub lines_of : Answer → List Piece
 lines_of a = a.pieces ++ last_of a.refusal
 
-abbrev pub joined : List Piece → List ℕ
-joined pieces = flat_map (λ piece. piece.text) pieces
+abbrev pub pieces_text : List Piece → List ℕ
+pieces_text pieces = flat_map (λ piece. piece.text) pieces
 
 -- the operations that pieces acknowledge
 abbrev pub ops_in : List Piece → List Done

@@ -25,7 +25,7 @@ use Rattle.op_bring.specs.Bringing.{AreTold}
 use Rattle.op_change.specs.Applied.{Brings, op_refusal, done_with}
 use Rattle.fl_lines.specs.Lines.{op_text}
 use Rattle.fl_change.specs.World.{World, world_at, used_of, supplied, world_after, worlds_after}
-use Rattle.fl_change.specs.Answer.{Answer, Piece, joined, ops_in, ops_of, lines_of, sets_config, set_config, keeps_commits, IsUnpulled, IsIdle}
+use Rattle.fl_change.specs.Answer.{Answer, Piece, pieces_text, ops_in, ops_of, lines_of, sets_config, set_config, keeps_commits, IsUnpulled, IsIdle}
 use Rattle.fl_change.specs.Refs.{op_over}
 use Rattle.fl_change.specs.Changes.{Changes, OnlyTidied, IsStill, HasText}
 use Rattle.fl_change.specs.Created.{LacksFor, CreatesInTurn}
@@ -36,7 +36,7 @@ use Rattle.fl_change.specs.declared.end.RunEnd.TheVariants.{Refused, Fault, Remo
 pub record Printed (a : Answer) (said : List Piece) (u w : View) : Type 0 where
   pub left : List Piece
   pub pieces : lines_of a ≡ said ++ left
-  pub printed : w.printed ≡ u.printed ++ joined said
+  pub printed : w.printed ≡ u.printed ++ pieces_text said
 
 -- the image shows the state after a prefix of the operations that holds the acknowledged ones
 pub record IsSome (a : Answer) (acknowledged : List Done) (s : State) (disk : Disk) : Type 0 where
@@ -71,7 +71,7 @@ pub record Holds (x : World) (v : View) : Type 0 where
 -- as it was. Where nothing was pulled before a refusal, each new file that has bytes came to a
 -- lasting name, and each operation in turn made just the objects that it lacked.
 pub record IsDone (held : Holdings) (a : Answer) (x : World) (v w : View) : Type 0 where
-  pub printed : w.printed ≡ v.printed ++ joined a.pieces
+  pub printed : w.printed ≡ v.printed ++ pieces_text a.pieces
   pub only_tidied : IsIdle a → OnlyTidied x.state v w
   pub still : IsIdle a → Settled (shows v) → IsStill v w
   pub holds : Holds (worlds_after held x (ops_of a)) w

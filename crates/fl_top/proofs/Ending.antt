@@ -38,7 +38,7 @@ use Rattle.fl_launch.specs.declared.launching.LaunchText.{LaunchText}
 use Rattle.fl_sandbox.specs.Refusals.{MayRefuse}
 use Rattle.fl_sandbox.proofs.Refusing.{launch_refuses}
 use Rattle.fl_change.specs.World.{World, world_at}
-use Rattle.fl_change.specs.Answer.{Answer, Piece, lines_of, last_of, joined, ops_in, ops_of, text_answer, refusal_answer}
+use Rattle.fl_change.specs.Answer.{Answer, Piece, lines_of, last_of, pieces_text, ops_in, ops_of, text_answer, refusal_answer}
 use Rattle.fl_export.specs.Exported.{exported}
 use Rattle.fl_top.specs.Fsck.{report_text}
 use Rattle.fl_top.specs.Exports.{exports_text}
@@ -118,21 +118,21 @@ prefix_all a said all just = record {
 }
 
 -- the pieces before the line of the refusal
-pub before_last : (a : Answer) {u w : View} → w.printed ≡ u.printed ++ joined a.pieces → Printed a a.pieces u w
+pub before_last : (a : Answer) {u w : View} → w.printed ≡ u.printed ++ pieces_text a.pieces → Printed a a.pieces u w
 before_last a printed = record { left = last_of a.refusal; pieces = refl; printed = printed }
 
 -- and all of them
-all_lines : (a : Answer) {u w : View} → w.printed ≡ u.printed ++ joined (lines_of a) → Printed a (lines_of a) u w
+all_lines : (a : Answer) {u w : View} → w.printed ≡ u.printed ++ pieces_text (lines_of a) → Printed a (lines_of a) u w
 all_lines a printed = record { left = []; pieces = sym (append-nil (lines_of a)); printed = printed }
 
 -- what is printed with the line of the refusal
-with_last : (a : Answer) (r : Refusal) (u v w : View) → a.refusal ≡ Some r → v.printed ≡ u.printed ++ joined a.pieces → w.printed ≡ v.printed ++ refusal_text r → w.printed ≡ u.printed ++ joined (lines_of a)
+with_last : (a : Answer) (r : Refusal) (u v w : View) → a.refusal ≡ Some r → v.printed ≡ u.printed ++ pieces_text a.pieces → w.printed ≡ v.printed ++ refusal_text r → w.printed ≡ u.printed ++ pieces_text (lines_of a)
 with_last a r u v w is first more =
-    more ∙ ap (λ (p : List ℕ). p ++ refusal_text r) first ∙ append_assoc u.printed (joined a.pieces) (refusal_text r)
-    ∙ ap (λ (t : List ℕ). u.printed ++ t) (ap (λ (t : List ℕ). joined a.pieces ++ t) (last_text a r is) ∙ sym (joined-append a.pieces (last_of a.refusal)))
+    more ∙ ap (λ (p : List ℕ). p ++ refusal_text r) first ∙ append_assoc u.printed (pieces_text a.pieces) (refusal_text r)
+    ∙ ap (λ (t : List ℕ). u.printed ++ t) (ap (λ (t : List ℕ). pieces_text a.pieces ++ t) (last_text a r is) ∙ sym (joined-append a.pieces (last_of a.refusal)))
   where
-    last_text : (a : Answer) (r : Refusal) → a.refusal ≡ Some r → refusal_text r ≡ joined (last_of a.refusal)
-    last_text a r is = sym (append-nil (refusal_text r)) ∙ ap (λ (o : Option Refusal). joined (last_of o)) (sym is)
+    last_text : (a : Answer) (r : Refusal) → a.refusal ≡ Some r → refusal_text r ≡ pieces_text (last_of a.refusal)
+    last_text a r is = sym (append-nil (refusal_text r)) ∙ ap (λ (o : Option Refusal). pieces_text (last_of o)) (sym is)
 
 pub untouched_on : {text : List ℕ} {u v w : View} → IsUntouched u v → Says text v w → IsUntouched u w
 untouched_on is says = untouched_both is says.untouched
@@ -182,7 +182,7 @@ pub ran_done : (held : Holdings) (a : Answer) {u w : View} → Runs a u w → En
 ran_done held a {u = u} runs ended = record {
   answers = λ answered. record {
     status_is = ap status_by (sym ended.0);
-    printed = ended.1.printed ∙ ap (λ (t : List Piece). u.printed ++ joined t) (sym (append-nil a.pieces) ∙ ap (λ (o : Option Refusal). a.pieces ++ last_of o) (sym ended.0));
+    printed = ended.1.printed ∙ ap (λ (t : List Piece). u.printed ++ pieces_text t) (sym (append-nil a.pieces) ∙ ap (λ (o : Option Refusal). a.pieces ++ last_of o) (sym ended.0));
     shown = ended.1.shown;
     tidied = ended.1.tidied;
     text = ended.1.text;

@@ -26,7 +26,7 @@ use Rattle.fl_words.specs.declared.command.Command.{Command}
 use Rattle.fl_words.specs.declared.command.Command.TheVariants.{Filter as Filtering}
 use Rattle.fl_words.specs.declared.command.PolicySource.{PolicySource}
 use Rattle.fl_change.specs.World.{World, world_at}
-use Rattle.fl_change.specs.Answer.{Answer, Piece, joined, ops_in, ops_of, set_config, refusal_answer, last_of}
+use Rattle.fl_change.specs.Answer.{Answer, Piece, pieces_text, ops_in, ops_of, set_config, refusal_answer, last_of}
 use Rattle.fl_change.specs.Changes.{IsUntouched}
 use Rattle.fl_change.specs.Performs.{Printed as SaysPieces}
 use Rattle.fl_change.specs.declared.end.RunEnd.{RunEnd}
@@ -55,7 +55,7 @@ ops_none : (lines : List (List ℕ)) → ops_in (map piece_of lines) ≡ []
 ops_none [] = refl
 ops_none (line ∷ lines) = ops_none lines
 
-joined_is : (lines : List (List ℕ)) → concat lines ≡ joined (map piece_of lines)
+joined_is : (lines : List (List ℕ)) → concat lines ≡ pieces_text (map piece_of lines)
 joined_is [] = refl
 joined_is (line ∷ lines) = ap (λ (l : List ℕ). line ++ l) (joined_is lines)
 
@@ -70,7 +70,7 @@ follows_by said {u = u} is = subst (Follows Nothing u) (sym is) (follows_say u (
 seen_by : (said : List (List ℕ)) (u w : View) → w ≡ with_lines said u → (q : Elements) → shows w q ≡ shows u q
 seen_by said u w is = subst (λ (x : View). (q : Elements) → shows x q ≡ shows u q) (sym is) (λ q. refl)
 
-printed_by : (said : List (List ℕ)) (u w : View) → w ≡ with_lines said u → w.printed ≡ u.printed ++ joined (map piece_of said)
+printed_by : (said : List (List ℕ)) (u w : View) → w ≡ with_lines said u → w.printed ≡ u.printed ++ pieces_text (map piece_of said)
 printed_by said u w is = ap (λ (x : View). x.printed) is ∙ ap (λ (l : List ℕ). u.printed ++ l) (joined_is said)
 
 -- ---- the answer of lines

@@ -25,7 +25,7 @@ use Rattle.dep_open.specs.Open.{NotShown, IsOpened, Opened, StaysUnread}
 use Rattle.dep_open.specs.declared.open_end.OpenEnd.{OpenEnd}
 use Rattle.dep_open.specs.declared.open_end.OpenEnd.TheVariants as open_end
 use Rattle.fl_change.specs.World.{World, world, world_at}
-use Rattle.fl_change.specs.Answer.{Answer, Piece, joined, ops_in, ops_of, refusal_answer}
+use Rattle.fl_change.specs.Answer.{Answer, Piece, pieces_text, ops_in, ops_of, refusal_answer}
 use Rattle.fl_top.specs.Answer.{over, IsAtOnce}
 use Rattle.fl_change.specs.Ends.{end_of_open}
 use Rattle.fl_top.specs.Asked.{AreToldFor}
@@ -112,7 +112,7 @@ shown_after u s [] disk at shown = (shows u, now_left u, s, at, shown)
 shown_after u s (op ∷ ops) disk at shown = (s, at, shown)
 
 moved : {a : Answer} {said : List Piece} {u v w : View} → v.printed ≡ u.printed → Printed a said v w → Printed a said u w
-moved {said = said} same printed = record { left = printed.left; pieces = printed.pieces; printed = printed.printed ∙ ap (λ (p : List ℕ). p ++ joined said) same }
+moved {said = said} same printed = record { left = printed.left; pieces = printed.pieces; printed = printed.printed ∙ ap (λ (p : List ℕ). p ++ pieces_text said) same }
 
 -- an installation that was opened, with the trees before and after
 pub record Begun (s : State) (u v : View) : Type 0 where
@@ -177,7 +177,7 @@ runs_over holds May f s {u = u} {v = v} {w = w} late begun tree work = record {
 
 completes : (held : Holdings) (a : Answer) (s : State) (x : World) {u v w : View} → x.state ≡ s → IsOpened s u v → Keeping u v → KeepsFiles v w → world_at s u ≡ x → IsDone held a x v w → Completes held a u w
 completes held a s x {u = u} {w = w} same opened keeping files here is = record {
-  printed = is.printed ∙ ap (λ (p : List ℕ). p ++ joined a.pieces) keeping.printed;
+  printed = is.printed ∙ ap (λ (p : List ℕ). p ++ pieces_text a.pieces) keeping.printed;
   just = λ sound disk left. record { shown = shown_after u s (ops_of a) disk opened.shown (opens.shown disk left); sound = opens.sound disk left };
   shown = λ sound t at.
       let one : s ≡ t = one_state (shows u) s t opened.shown at in

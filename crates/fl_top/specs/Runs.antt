@@ -18,7 +18,7 @@ use Rattle.fl_words.specs.declared.command.Command.{Command}
 use Rattle.fl_words.specs.declared.command.Command.TheVariants.{Change as Changing, List as Listed, Show as Showing, Filter as Filtering, Batch, Fsck, Export as Exporting, Exercise as Exercising}
 use Rattle.fl_words.specs.Forms.{command_of}
 use Rattle.fl_change.specs.World.{World, world_at}
-use Rattle.fl_change.specs.Answer.{Answer, Piece, lines_of, joined, ops_in, ops_of, set_config, IsUnpulled, IsIdle}
+use Rattle.fl_change.specs.Answer.{Answer, Piece, lines_of, pieces_text, ops_in, ops_of, set_config, IsUnpulled, IsIdle}
 use Rattle.fl_top.specs.Answer.{Given, answer, IsOver, IsAtOnce}
 use Rattle.fl_top.specs.Input.{IsDrained}
 use Rattle.fl_change.specs.Changes.{IsUntouched, HasText}
@@ -84,7 +84,7 @@ pub record Stands (a : Answer) (u w : View) : Type 0 where
 -- lacked, by what the remotes hold.
 pub record Answers (held : Holdings) (a : Answer) (status : ℕ) (u w : View) : Type 0 where
   pub status_is : status ≡ status_at a
-  pub printed : w.printed ≡ u.printed ++ joined (lines_of a)
+  pub printed : w.printed ≡ u.printed ++ pieces_text (lines_of a)
   pub shown : IsSound u → (s : State) → Shows (shows u) s → Shows (shows w) (after_all s (ops_of a))
   pub tidied : IsSound u → Settled (shows u) ⊎ (ops_of a ≢ []) → Settled (shows w)
   pub text : set_config (ops_of a) ≡ true → (s : State) → Shows (shows u) s

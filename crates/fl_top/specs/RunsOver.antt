@@ -16,7 +16,7 @@ use Rattle.dep_open.specs.Open.{NotShown}
 use Rattle.dep_states.specs.Settled.{Settled}
 use Rattle.fl_words.specs.declared.command.Command.{Command}
 use Rattle.fl_change.specs.World.{World, world_at}
-use Rattle.fl_change.specs.Answer.{Answer, joined, ops_of, set_config, IsUnpulled}
+use Rattle.fl_change.specs.Answer.{Answer, pieces_text, ops_of, set_config, IsUnpulled}
 use Rattle.fp_small.specs.declared.op.Op.{Op}
 use Rattle.fl_top.specs.Answer.{Given, over, answer_over, checked, IsOver}
 use Rattle.fl_top.specs.Fsck.{Finds, HasReport}
@@ -59,7 +59,7 @@ pub record LooksOver (f : World → Answer) (u w : View) : Type 0 where
 -- each new file that has bytes came to a lasting name, and each operation in turn made just the
 -- objects that it lacked, by what the remotes hold.
 pub record Completes (held : Holdings) (a : Answer) (u w : View) : Type 0 where
-  pub printed : w.printed ≡ u.printed ++ joined a.pieces
+  pub printed : w.printed ≡ u.printed ++ pieces_text a.pieces
   pub just : IsSound u → (disk : Disk) → Leaves w disk → IsJust (ops_of a) u disk
   pub shown : IsSound u → (s : State) → Shows (shows u) s → Shows (shows w) (after_all s (ops_of a))
   pub tidied : IsSound u → Settled (shows u) ⊎ (ops_of a ≢ []) → Settled (shows w)
