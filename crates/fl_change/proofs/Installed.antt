@@ -33,7 +33,7 @@ use Rattle.fl_change.specs.World.{used_of}
 use Rattle.fl_plan.specs.Plans.{plan_of}
 use Rattle.fl_plan.specs.Worked.{Says}
 use Rattle.fl_plan.proofs.Rows.{runtime_alone, head_refuses}
-use Rattle.fl_change.specs.Sample.{holdings, fresh, install, installed, since, update}
+use Rattle.fl_change.specs.Sample.{holdings, fresh, install, installed, world_since, update}
 
 pub offers : offered holdings hub platform ≡ Ok commit
 unfolding file_of line_says with_pair with_group value_at hex unhex bytes_of is_utf8 chars encode
@@ -80,8 +80,8 @@ is_done = rw time_is refl
 
 -- ---- where it is deployed at another commit
 
-pub update_plan : plan_of holdings (since 7).have (since 7).state hub platform ≡ Ok (Update platform (codes "hub") commit ∷ [])
-update_plan = runtime_alone holdings (since 7).have (since 7).state hub platform commit head (record { heads = record { offers = offers; heads = head_same }; moves = refl }) says (omega arith)
+pub update_plan : plan_of holdings (world_since 7).have (world_since 7).state hub platform ≡ Ok (Update platform (codes "hub") commit ∷ [])
+update_plan = runtime_alone holdings (world_since 7).have (world_since 7).state hub platform commit head (record { heads = record { offers = offers; heads = head_same }; moves = refl }) says (omega arith)
 
 pub update_not_refused : op_refusal have (Update platform (codes "hub") commit) ≡ None
 update_not_refused = rw (head_is, no_fault) refl
@@ -89,8 +89,8 @@ update_not_refused = rw (head_is, no_fault) refl
 pub update_is_done : done_with have (Update platform (codes "hub") commit) ≡ update
 update_is_done = rw time_is refl
 
-pub older_plan : plan_of holdings (since 8).have (since 8).state hub platform ≡ Err (refusals.Older platform 8 7)
-older_plan = head_refuses holdings (since 8).have (since 8).state hub platform commit (refusals.Older platform 8 7) offers refl head_old
+pub older_plan : plan_of holdings (world_since 8).have (world_since 8).state hub platform ≡ Err (refusals.Older platform 8 7)
+older_plan = head_refuses holdings (world_since 8).have (world_since 8).state hub platform commit (refusals.Older platform 8 7) offers refl head_old
 
 -- ---- where it is installed
 

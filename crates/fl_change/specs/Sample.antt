@@ -41,14 +41,14 @@ abbrev pub uninstalled : World
 uninstalled = world_after holdings installed (plain (Uninstall platform))
 
 -- the ref is deployed at another commit of this time, of which there is no object
-abbrev pub since : ℕ → World
-since time = record { state = shop.with_rows (shop.since time ∷ []); have = λ d kind. None }
+abbrev pub world_since : ℕ → World
+world_since time = record { state = shop.with_rows (shop.row_since time ∷ []); have = λ d kind. None }
 
 abbrev pub update : Done
 update = record { op = Update platform (codes "hub") commit; timestamp = 7 }
 
 abbrev pub updated : World
-updated = world_after holdings (since 7) update
+updated = world_after holdings (world_since 7) update
 
 -- the commit of before is the previous one
 abbrev pub updated_state : State

@@ -286,16 +286,16 @@ pub fn sample_runtime_is_installed()
 /// A runtime is updated from the same remote, by an update of the ref and by one of all: the commit
 /// of before becomes the previous one. An older commit that the remote offers is refused by both.
 pub fn sample_runtime_is_updated()
-    ensures done { change_over (changes.UpdateOne platform) sample.holdings (sample.since 7)
+    ensures done { change_over (changes.UpdateOne platform) sample.holdings (sample.world_since 7)
         ≡ done_answer sample.update }
-    ensures done_of_all { change_over changes.UpdateAll sample.holdings (sample.since 7)
+    ensures done_of_all { change_over changes.UpdateAll sample.holdings (sample.world_since 7)
         ≡ done_answer sample.update }
     ensures text { op_text sample.update.op
         ≡ codes "updated runtime/org.x.Platform/x86_64/1 " ++ (commit_text ++ 10 ∷ []) }
     ensures state { sample.updated.state ≡ sample.updated_state }
-    ensures older { change_over (changes.UpdateOne platform) sample.holdings (sample.since 8)
+    ensures older { change_over (changes.UpdateOne platform) sample.holdings (sample.world_since 8)
         ≡ refusal_answer (refusals.Older platform 8 7) }
-    ensures older_of_all { change_over changes.UpdateAll sample.holdings (sample.since 8)
+    ensures older_of_all { change_over changes.UpdateAll sample.holdings (sample.world_since 8)
         ≡ refusal_answer (refusals.Older platform 8 7) }
 {}
 

@@ -22,7 +22,7 @@ use Rattle.fl_plan.specs.Offers.{have_at}
 use Rattle.fl_installed.specs.Metadata.{runtime_named, points_in}
 use Rattle.fl_plan.specs.Plans.{plan_of}
 use Rattle.fl_plan.specs.Worked.{Says}
-use Rattle.fl_plan.specs.Offered.{stored, holdings, since, with_rows}
+use Rattle.fl_plan.specs.Offered.{stored, holdings, row_since, with_rows}
 use Rattle.fl_plan.proofs.Rows.{runtime_alone, head_refuses, up_to_date}
 
 pub offers : offered holdings hub platform ≡ Ok commit
@@ -54,11 +54,11 @@ says = record { runtime_is = refl; points_are = refl }
 pub installs : plan_of holdings stored (with_rows []) hub platform ≡ Ok (Install platform (codes "hub") commit ∷ [])
 installs = runtime_alone holdings stored (with_rows []) hub platform commit head (record { heads = record { offers = offers; heads = head_new }; moves = refl }) says (omega arith)
 
-pub updates : plan_of holdings stored (with_rows (since 7 ∷ [])) hub platform ≡ Ok (Update platform (codes "hub") commit ∷ [])
-updates = runtime_alone holdings stored (with_rows (since 7 ∷ [])) hub platform commit head (record { heads = record { offers = offers; heads = head_same }; moves = refl }) says (omega arith)
+pub updates : plan_of holdings stored (with_rows (row_since 7 ∷ [])) hub platform ≡ Ok (Update platform (codes "hub") commit ∷ [])
+updates = runtime_alone holdings stored (with_rows (row_since 7 ∷ [])) hub platform commit head (record { heads = record { offers = offers; heads = head_same }; moves = refl }) says (omega arith)
 
-pub refuses_older : plan_of holdings stored (with_rows (since 8 ∷ [])) hub platform ≡ Err (refusals.Older platform 8 7)
-refuses_older = head_refuses holdings stored (with_rows (since 8 ∷ [])) hub platform commit (refusals.Older platform 8 7) offers refl head_old
+pub refuses_older : plan_of holdings stored (with_rows (row_since 8 ∷ [])) hub platform ≡ Err (refusals.Older platform 8 7)
+refuses_older = head_refuses holdings stored (with_rows (row_since 8 ∷ [])) hub platform commit (refusals.Older platform 8 7) offers refl head_old
 
 pub stays : plan_of holdings stored deployed_state hub platform ≡ Ok []
 stays = up_to_date holdings stored deployed_state hub platform commit offers refl

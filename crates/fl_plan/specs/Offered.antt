@@ -22,8 +22,8 @@ holdings url path =
     else nothing
 
 -- deployed at another commit of this time
-abbrev pub since : ℕ → RefRow
-since time =
+abbrev pub row_since : ℕ → RefRow
+row_since time =
     record { name = platform; origin = codes "hub"; commit = []; timestamp = time; previous = None }
 
 abbrev pub with_rows : List RefRow → State

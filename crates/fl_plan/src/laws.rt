@@ -279,9 +279,9 @@ pub fn small_plans()
 pub fn plans_can_be_made()
     ensures installs { plan_of shop.holdings shop.stored (shop.with_rows []) hub platform
         ≡ Ok (Install platform (codes "hub") commit ∷ []) }
-    ensures updates { plan_of shop.holdings shop.stored (shop.with_rows (shop.since 7 ∷ []))
+    ensures updates { plan_of shop.holdings shop.stored (shop.with_rows (shop.row_since 7 ∷ []))
         hub platform ≡ Ok (Update platform (codes "hub") commit ∷ []) }
-    ensures older { plan_of shop.holdings shop.stored (shop.with_rows (shop.since 8 ∷ []))
+    ensures older { plan_of shop.holdings shop.stored (shop.with_rows (shop.row_since 8 ∷ []))
         hub platform ≡ Err (refusals.Older platform 8 7) }
     ensures stays { plan_of shop.holdings shop.stored deployed_state hub platform ≡ Ok [] }
 {}
