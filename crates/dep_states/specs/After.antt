@@ -105,13 +105,13 @@ after_op s timestamp (Rollback name commit) = rolled_back s (row_at s name)
 abbrev pub plain : Op → Done
 plain op = record { op = op; timestamp = 0 }
 
-abbrev pub after : State → Done → State
-after s done = after_op s done.timestamp done.op
+abbrev pub state_after : State → Done → State
+state_after s done = after_op s done.timestamp done.op
 
 -- the state after operations in turn
 abbrev pub after_all : State → List Done → State
 after_all s [] = s
-after_all s (done ∷ more) = after_all (after s done) more
+after_all s (done ∷ more) = after_all (state_after s done) more
 
 -- ---- what the refusals leave
 

@@ -13,7 +13,7 @@ use Rattle.ost_model.specs.Objects.{Have, store, supply}
 use Rattle.ost_model.specs.Order.{Place, In, order, Agree}
 use Rattle.ost_model.specs.Remotes.{remote}
 use Rattle.ost_model.proofs.Places.{order_same}
-use Rattle.dep_states.specs.After.{plain, after, after_op}
+use Rattle.dep_states.specs.After.{plain, state_after, after_op}
 use Rattle.op_deploy.specs.Applied.{SameObjects}
 use Rattle.op_bring.specs.Brought.{HasObjects}
 use Rattle.op_change.specs.Applied.{Brings, url_for, have_for, op_refusal, done_with, HasObjectsFor}
@@ -136,25 +136,25 @@ brought_after held op s t commit timestamp is one rests has =
 
 -- its objects are those of the view
 pub world_is : (held : Holdings) (op : Op) (s : State) {v : View} (w : View) → Rests s v → HasObjectsFor (have_for s op held v) op v w
-    → (world_after held (world_at s v) (done_of op held (world_at s v))).have ≡ used_of (after s (done_of op held (world_at s v))) (store repo (shows w))
+    → (world_after held (world_at s v) (done_of op held (world_at s v))).have ≡ used_of (state_after s (done_of op held (world_at s v))) (store repo (shows w))
 world_is held (Install name origin commit) s {v = v} w rests has =
     let op = Install name origin commit in
     let d = done_of op held (world_at s v) in
-    brought_after held op s (after s d) commit d.timestamp refl (λ c is. is) rests has
+    brought_after held op s (state_after s d) commit d.timestamp refl (λ c is. is) rests has
 world_is held (Update name origin commit) s {v = v} w rests has =
     let op = Update name origin commit in
     let d = done_of op held (world_at s v) in
-    brought_after held op s (after s d) commit d.timestamp refl (λ c is. is) rests has
-world_is held (Uninstall name) s w rests has = plain_after held (Uninstall name) s (after s (plain (Uninstall name))) w refl (λ c b. b) rests has
-world_is held (AddPin pin) s w rests has = plain_after held (AddPin pin) s (after s (plain (AddPin pin))) w refl (λ c b. b) rests has
-world_is held (DropPin pin) s w rests has = plain_after held (DropPin pin) s (after s (plain (DropPin pin))) w refl (λ c b. b) rests has
-world_is held (AddRemote row) s w rests has = plain_after held (AddRemote row) s (after s (plain (AddRemote row))) w refl (λ c b. b) rests has
-world_is held (ModifyRemote row) s w rests has = plain_after held (ModifyRemote row) s (after s (plain (ModifyRemote row))) w refl (λ c b. b) rests has
-world_is held (DropRemote name) s w rests has = plain_after held (DropRemote name) s (after s (plain (DropRemote name))) w refl (λ c b. b) rests has
-world_is held (SetOverride row) s w rests has = plain_after held (SetOverride row) s (after s (plain (SetOverride row))) w refl (λ c b. b) rests has
-world_is held (DropOverride name) s w rests has = plain_after held (DropOverride name) s (after s (plain (DropOverride name))) w refl (λ c b. b) rests has
-world_is held Migrate s w rests has = plain_after held Migrate s (after s (plain Migrate)) w refl (λ c b. b) rests has
-world_is held (Rollback name commit) s w rests has = plain_after held (Rollback name commit) s (after s (plain (Rollback name commit))) w refl (λ c b. b) rests has
+    brought_after held op s (state_after s d) commit d.timestamp refl (λ c is. is) rests has
+world_is held (Uninstall name) s w rests has = plain_after held (Uninstall name) s (state_after s (plain (Uninstall name))) w refl (λ c b. b) rests has
+world_is held (AddPin pin) s w rests has = plain_after held (AddPin pin) s (state_after s (plain (AddPin pin))) w refl (λ c b. b) rests has
+world_is held (DropPin pin) s w rests has = plain_after held (DropPin pin) s (state_after s (plain (DropPin pin))) w refl (λ c b. b) rests has
+world_is held (AddRemote row) s w rests has = plain_after held (AddRemote row) s (state_after s (plain (AddRemote row))) w refl (λ c b. b) rests has
+world_is held (ModifyRemote row) s w rests has = plain_after held (ModifyRemote row) s (state_after s (plain (ModifyRemote row))) w refl (λ c b. b) rests has
+world_is held (DropRemote name) s w rests has = plain_after held (DropRemote name) s (state_after s (plain (DropRemote name))) w refl (λ c b. b) rests has
+world_is held (SetOverride row) s w rests has = plain_after held (SetOverride row) s (state_after s (plain (SetOverride row))) w refl (λ c b. b) rests has
+world_is held (DropOverride name) s w rests has = plain_after held (DropOverride name) s (state_after s (plain (DropOverride name))) w refl (λ c b. b) rests has
+world_is held Migrate s w rests has = plain_after held Migrate s (state_after s (plain Migrate)) w refl (λ c b. b) rests has
+world_is held (Rollback name commit) s w rests has = plain_after held (Rollback name commit) s (state_after s (plain (Rollback name commit))) w refl (λ c b. b) rests has
 
 -- where the objects are the same, and the state is
 pub same_world : (s : State) {v : View} (w : View) → Rests s v → SameObjects v w → used_of s (store repo (shows v)) ≡ used_of s (store repo (shows w))

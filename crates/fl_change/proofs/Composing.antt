@@ -22,7 +22,7 @@ use Rattle.fp_small.specs.declared.refusal.Refusal.{Refusal}
 use Rattle.ost_model.specs.Objects.{Have}
 use Rattle.ost_model.specs.Remotes.{Supplies}
 use Rattle.ost_walk.specs.Ends.{IsRemotes, Outside}
-use Rattle.dep_states.specs.After.{May, plain, after}
+use Rattle.dep_states.specs.After.{May, plain, state_after}
 use Rattle.dep_states.specs.Sound.{Opens}
 use Rattle.dep_tidy.specs.Tidy.{Tidies}
 use Rattle.op_bring.specs.Bringing.{AreTold, WasLeft}
@@ -111,8 +111,8 @@ module _ (op : Op) (s : State) (u v : Outside) where
         subst (λ (z : State). Opens z y) (sym a.1) (was.opens told.0 (λ b. told.1) opens)
     | inr none ↦
         let held : Holdings = λ url path. no_entry in
-        let is : t ≡ after s (plain op) = clauses.plain none in
-        subst (λ (z : State). Opens z y) (ap (after s) (plainly (have_for s op held x) op none).done ∙ sym is) (was.opens held (λ b. absurd (none b)) opens)
+        let is : t ≡ state_after s (plain op) = clauses.plain none in
+        subst (λ (z : State). Opens z y) (ap (state_after s) (plainly (have_for s op held x) op none).done ∙ sym is) (was.opens held (λ b. absurd (none b)) opens)
   ]
 
   -- ---- it is done

@@ -24,7 +24,7 @@ use Rattle.dep_states.specs.Names.{config}
 use Rattle.dep_states.specs.Shown.{settings_of}
 use Rattle.dep_states.specs.Settled.{Settled}
 use Rattle.dep_states.specs.Sound.{Opens}
-use Rattle.dep_states.specs.After.{Done, May, plain, after, IsOnConfig}
+use Rattle.dep_states.specs.After.{Done, May, plain, state_after, IsOnConfig}
 use Rattle.dep_states.specs.Switch.{OpensEither}
 use Rattle.dep_tidy.specs.Tidy.{Tidies, SettledButWork}
 use Rattle.op_bring.specs.Bringing.{AreTold, WasLeft}
@@ -124,7 +124,7 @@ refused_keeps h (Rollback name commit) r is = absurd (cc is)
 
 -- ---- while it is applied
 
-one_of : (done : Done) (s : State) {w : View} (disk : Disk) → OpensEither s (after s done) w → Leaves w disk → IsSome (done_answer done) [] s disk
+one_of : (done : Done) (s : State) {w : View} (disk : Disk) → OpensEither s (state_after s done) w → Leaves w disk → IsSome (done_answer done) [] s disk
 one_of done s disk one left = elim (one.shown disk left) [
   | inl shown ↦ record { done = []; undone = done ∷ []; prefix = refl; more = []; holds = refl; shown = shown; sound = one.sound disk left }
   | inr shown ↦ record { done = done ∷ []; undone = []; prefix = refl; more = done ∷ []; holds = refl; shown = shown; sound = one.sound disk left }
@@ -221,7 +221,7 @@ written {s = s} {v = v} new = text_in v s (v.names []) (new.each (shows v) (now_
 -- what is known of it before its line is said
 pub record Applied (held : Holdings) (op : Op) (s t : State) (v w : View) : Type 0 where
   pub allowed : op_refusal (supplied held (world_at s v) op) op ≡ None
-  pub state : t ≡ after s (done_of op held (world_at s v))
+  pub state : t ≡ state_after s (done_of op held (world_at s v))
   pub printed : w.printed ≡ v.printed
   pub files : KeepsFiles v w
   pub holds : Holds (world_after held (world_at s v) (done_of op held (world_at s v))) w
@@ -254,19 +254,19 @@ pub applied : (holds : Option Holdings) (held : Holdings) → holds ≡ Some hel
 applied holds held told op s t {v = v} {w = w} may tree next rests applies was answers =
     let changes = applies.changes (λ b. rests.opens) in
     let is = supplied_is held op s rests in
-    let state : t ≡ after s (done_of op held (world_at s v)) = answers.1 ∙ ap (after s) (sym is.done) in
+    let state : t ≡ state_after s (done_of op held (world_at s v)) = answers.1 ∙ ap (state_after s) (sym is.done) in
     record {
       allowed = is.refused ∙ answers.0;
       state = state;
       printed = changes.printed;
       files = changes.files;
       holds = record {
-        opens = subst (λ (d : Done). Opens (after s d) w) (sym is.done) (was.opens held (λ b. told) rests.opens);
+        opens = subst (λ (d : Done). Opens (state_after s d) w) (sym is.done) (was.opens held (λ b. told) rests.opens);
         have = world_is held op s w rests (was.objects held (λ b. told) (λ b. rests.opens));
       };
       text = λ sets.
           let on = on_config op sets in
-          let plain_is : t ≡ after s (plain op) = answers.1 ∙ ap (after s) (plainly (have_for s op held v) op on.brings).done in
+          let plain_is : t ≡ state_after s (plain op) = answers.1 ∙ ap (state_after s) (plainly (have_for s op held v) op on.brings).done in
           subst (λ (x : State). HasText x w) (sym plain_is) (written (was.settings on.is).text);
       config = λ not. config_kept s op not changes;
       rest = small_rest s op may tree next rests changes;
@@ -299,7 +299,7 @@ module _ (held : Holdings) (op : Op) (s t : State) (v : View) where
   }
 
   -- and the state after it stands
-  all_done : (said : List Done) (more : List Done) → (d ∷ [] ≡ said ++ more) → {w : View} (disk : Disk) → Opens (after s d) w → Leaves w disk → IsSome (done_answer d) said s disk
+  all_done : (said : List Done) (more : List Done) → (d ∷ [] ≡ said ++ more) → {w : View} (disk : Disk) → Opens (state_after s d) w → Leaves w disk → IsSome (done_answer d) said s disk
   all_done said more is disk opens left = record { done = d ∷ []; undone = []; prefix = refl; more = more; holds = is; shown = opens.shown disk left; sound = opens.sound disk left }
 
   -- while its line is said
@@ -341,7 +341,7 @@ module _ (held : Holdings) (op : Op) (s t : State) (v : View) where
   -- ---- tidying after it
 
   abbrev after_it : State
-  after_it = after s d
+  after_it = state_after s d
 
   tidies_it : {w z : View} → WasDone held op s t v w → Tidies t w z → Tidies after_it w z
   tidies_it {w = w} {z = z} done tidies = subst (λ (q : State). Tidies q w z) done.state tidies

@@ -20,7 +20,7 @@ use Rattle.fp_small.proofs.Keeping.{files_stay, files_on}
 use Rattle.fp_small.proofs.Sharing.{shares_on}
 use Rattle.dep_states.specs.Shown.{Shows, settings_of}
 use Rattle.dep_states.specs.Sound.{Opens}
-use Rattle.dep_states.specs.After.{Done, row_at, after, after_all, after_op, updated, rolled_back, back}
+use Rattle.dep_states.specs.After.{Done, row_at, state_after, after_all, after_op, updated, rolled_back, back}
 use Rattle.fl_change.specs.World.{World, world_at, world_after, worlds_after}
 use Rattle.fl_change.specs.Answer.{Answer, Piece, lines_of, last_of, pieces_text, ops_in, ops_of, nothing, continued, followed, then_over, each_over, sets_config, set_config, IsUnpulled}
 use Rattle.fl_change.specs.Changes.{HasText, OnlyTidied}
@@ -42,7 +42,7 @@ ops-append xs ys = filter_map-append (λ (piece : Piece). piece.op) xs ys
 
 pub after-append : (xs ys : List Done) (s : State) → after_all s (xs ++ ys) ≡ after_all (after_all s xs) ys
 after-append [] ys s = refl
-after-append (op ∷ xs) ys s = after-append xs ys (after s op)
+after-append (op ∷ xs) ys s = after-append xs ys (state_after s op)
 
 worlds-append : (held : Holdings) (xs ys : List Done) (x : World) → worlds_after held x (xs ++ ys) ≡ worlds_after held (worlds_after held x xs) ys
 worlds-append held [] ys x = refl
@@ -193,7 +193,7 @@ first_true false c is none = absurd (let both : false ≡ true = sym none ∙ is
 
 settings_kept : (s : State) (ops : List Done) → set_config ops ≡ false → settings_of (after_all s ops) ≡ settings_of s
 settings_kept s [] not = refl
-settings_kept s (d ∷ ops) not = let none = both_false (sets_config d.op) (set_config ops) not in settings_kept (after s d) ops none.1 ∙ settings_after s d.op d.timestamp none.0
+settings_kept s (d ∷ ops) not = let none = both_false (sets_config d.op) (set_config ops) not in settings_kept (state_after s d) ops none.1 ∙ settings_after s d.op d.timestamp none.0
 
 text_same : {s t : State} {v : View} → settings_of t ≡ settings_of s → HasText s v → HasText t v
 text_same {v = v} same text = record { id = text.id; name = text.name; row = text.row ∙ ap (λ (x : Settings). Some (record { mode = 420; bytes = config_text x })) (sym same) }

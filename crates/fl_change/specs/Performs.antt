@@ -18,7 +18,7 @@ use Rattle.dep_states.specs.Lasting.{IsLasting}
 use Rattle.dep_states.specs.Names.{config}
 use Rattle.dep_states.specs.Shown.{Shows}
 use Rattle.dep_states.specs.Sound.{Sound, Opens}
-use Rattle.dep_states.specs.After.{Done, after, after_all}
+use Rattle.dep_states.specs.After.{Done, state_after, after_all}
 use Rattle.dep_states.specs.Settled.{Settled}
 use Rattle.dep_tidy.specs.Tidy.{SettledButWork}
 use Rattle.op_bring.specs.Bringing.{AreTold}
@@ -165,7 +165,7 @@ done_of op held x = done_with (supplied held x op) op
 -- objects were made that the operation lacked.
 pub record WasDone (held : Holdings) (op : Op) (s t : State) (v w : View) : Type 0 where
   pub allowed : op_refusal (supplied held (world_at s v) op) op ≡ None
-  pub state : t ≡ after s (done_of op held (world_at s v))
+  pub state : t ≡ state_after s (done_of op held (world_at s v))
   pub printed : w.printed ≡ v.printed ++ op_text op
   pub files : KeepsFiles v w
   pub holds : Holds (world_after held (world_at s v) (done_of op held (world_at s v))) w

@@ -15,7 +15,7 @@ use Rattle.fp_small.specs.declared.op.Op.TheVariants.{Install, Update}
 use Rattle.ost_model.specs.Objects.{Have, store, supply}
 use Rattle.ost_model.specs.Order.{Place, order}
 use Rattle.ost_model.specs.Remotes.{remote}
-use Rattle.dep_states.specs.After.{Done, after}
+use Rattle.dep_states.specs.After.{Done, state_after}
 use Rattle.dep_tidy.specs.Kept.{kept_of}
 use Rattle.op_change.specs.Applied.{url_for}
 
@@ -67,7 +67,7 @@ supplied held x (Update name origin commit) =
 supplied held x _ = x.have
 
 abbrev pub world_after : Holdings → World → Done → World
-world_after held x done = world (after x.state done) (supplied held x done.op)
+world_after held x done = world (state_after x.state done) (supplied held x done.op)
 
 -- the world after operations in turn
 abbrev pub worlds_after : Holdings → World → List Done → World

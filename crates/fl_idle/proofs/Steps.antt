@@ -16,7 +16,7 @@ use Rattle.fp_small.specs.declared.state.State.{State}
 use Rattle.fp_small.specs.declared.state.RefRow.{RefRow}
 use Rattle.fp_small.specs.declared.state.RemoteRow.{RemoteRow}
 use Rattle.ost_head.specs.Offers.{offered}
-use Rattle.dep_states.specs.After.{Done, row_at, with_refs, moved, updated, after, after_op, after_all}
+use Rattle.dep_states.specs.After.{Done, row_at, with_refs, moved, updated, state_after, after_op, after_all}
 use Rattle.dep_states.specs.Shown.{at_name, ref_key}
 use Rattle.dep_states.proofs.Changes.{at_replaced}
 use Rattle.op_change.specs.Applied.{op_refusal, done_with}
@@ -150,15 +150,15 @@ module _ (held : Holdings) where
     goes : Goes held s t
     own : (name : Ref) → IsOf name op → Current held t name
 
-  one_brought : (op : Op) (x : World) → IsOffered held x.state.remotes op → BroughtOne op x.state (after x.state (done_with (supplied held x op) op))
+  one_brought : (op : Op) (x : World) → IsOffered held x.state.remotes op → BroughtOne op x.state (state_after x.state (done_with (supplied held x op) op))
   one_brought (Install own origin commit) x offer =
       let d = done_with (supplied held x (Install own origin commit)) (Install own origin commit) in
       let brought = install_brings x.state d.timestamp own origin commit offer in
-      record { goes = brought.goes; own = λ name is. subst (Current held (after x.state d)) is brought.own_current }
+      record { goes = brought.goes; own = λ name is. subst (Current held (state_after x.state d)) is brought.own_current }
   one_brought (Update own origin commit) x offer =
       let d = done_with (supplied held x (Update own origin commit)) (Update own origin commit) in
       let brought = update_brings x.state d.timestamp own origin commit offer in
-      record { goes = brought.goes; own = λ name is. subst (Current held (after x.state d)) is brought.own_current }
+      record { goes = brought.goes; own = λ name is. subst (Current held (state_after x.state d)) is brought.own_current }
   one_brought (Uninstall name) x none = absurd none
   one_brought (AddPin pin) x none = absurd none
   one_brought (DropPin pin) x none = absurd none

@@ -29,7 +29,7 @@ use Rattle.ost_head.specs.Heads.{unless_refused}
 use Rattle.ost_head.specs.Ends.{RefusesBy}
 use Rattle.ost_head.specs.declared.ends.PullEnd.{PullEnd}
 use Rattle.ost_head.specs.declared.ends.PullEnd.TheVariants as pulls
-use Rattle.dep_states.specs.After.{after_op, row_at, with_refs, updated, after, HasRow, IsOnConfig}
+use Rattle.dep_states.specs.After.{after_op, row_at, with_refs, updated, state_after, HasRow, IsOnConfig}
 use Rattle.dep_states.specs.Shown.{at_name, ref_key}
 use Rattle.dep_states.specs.Sound.{Opens}
 use Rattle.dep_states.specs.Switch.{OpensEither}
@@ -97,7 +97,7 @@ pub record IsBringing (s : State) (op : Op) (name : Ref) (commit : List ℕ) (ro
   pub brings : Brings op
   pub off : IsOnConfig op → ⊥
   pub refusal : (have : Have) → op_refusal have op ≡ brought_refusal have name commit
-  pub state : (have : Have) → state_brought have s name row.name commit ≡ after s (done_with have op)
+  pub state : (have : Have) → state_brought have s name row.name commit ≡ state_after s (done_with have op)
   pub made : (time : ℕ) → with_row s (row_brought s name row.name commit time) ≡ after_op s time op
   pub may : (u : View) (q : Elements) (e : Slot) → BringsName s name commit q e → MayChange s op u q e
   pub objects : (have : Have) (u w : View) → HasObjects have commit u w → HasObjectsFor have op u w
@@ -135,7 +135,7 @@ bringing_as {s = s} {name = name} {commit = commit} {row = row} op x is b = subs
 -- ---- so it is applied
 
 module _ {s : State} {op : Op} {name : Ref} {commit : List ℕ} {row : RemoteRow} (b : IsBringing s op name commit row) where
-  state_as : (held : Holdings) (u : View) → state_brought (supply_at held (Some row.url) u) s name row.name commit ≡ after s (done_with (supply_at held (url_for s op) u) op)
+  state_as : (held : Holdings) (u : View) → state_brought (supply_at held (Some row.url) u) s name row.name commit ≡ state_after s (done_with (supply_at held (url_for s op) u) op)
   state_as held u = ap (λ (url : Option (List ℕ)). state_brought (supply_at held url u) s name row.name commit) (sym b.url) ∙ b.state (supply_at held (url_for s op) u)
 
   refusal_as : (held : Holdings) (u : View) (r : Refusal) → op_refusal (have_for s op held u) op ≡ Some r → brought_refusal (supply_at held (Some row.url) u) name commit ≡ Some r
@@ -172,7 +172,7 @@ module _ {s : State} {op : Op} {name : Ref} {commit : List ℕ} {row : RemoteRow
   pub end_faulted : {F : Type 0} {holds : Option Holdings} {a : Option Moments} {C : View → Type 0} {before now : ℕ} → IsCaused (AreTold holds × F) a C before now → IsCaused ((Brings op → AreTold holds) × F) a C before now
   end_faulted cause = record { later = cause.later; fault = λ f. cause.fault (f.0 b.brings, f.1) }
 
-  answer_ok : (have : Have) (t : State) (o : Option Refusal) → op_refusal have op ≡ o → unless_refused o (Ok (state_brought have s name row.name commit)) ≡ Ok t → (op_refusal have op ≡ None) × (t ≡ after s (done_with have op))
+  answer_ok : (have : Have) (t : State) (o : Option Refusal) → op_refusal have op ≡ o → unless_refused o (Ok (state_brought have s name row.name commit)) ≡ Ok t → (op_refusal have op ≡ None) × (t ≡ state_after s (done_with have op))
   answer_ok have t None at is = (at, let same : state_brought have s name row.name commit ≡ t = cc is in sym same ∙ b.state have)
   answer_ok have t (Some r) at is = absurd (cc is)
 

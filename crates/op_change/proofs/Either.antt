@@ -28,7 +28,7 @@ use Rattle.dep_states.specs.Shown.{bad, there, read_of, config_at, config_most, 
 use Rattle.dep_states.specs.Small.{IsSetting}
 use Rattle.dep_states.specs.Zones.{Allowed, IsFileOrGone, IsFolderOrGone}
 use Rattle.dep_states.specs.Sound.{Sound, Fixed, Permits, Opens, IsOld, is_remotes, is_pins}
-use Rattle.dep_states.specs.After.{after, plain, May, IsOnConfig, IsGoodRow, IsGoodLayer, IsGood}
+use Rattle.dep_states.specs.After.{state_after, plain, May, IsOnConfig, IsGoodRow, IsGoodLayer, IsGood}
 use Rattle.dep_states.proofs.Deployed.{top}
 use Rattle.dep_states.proofs.Law.{shows_same}
 use Rattle.dep_states.proofs.Small.{shows_settings, sound_settings}
@@ -244,9 +244,9 @@ module _ {s t : State} {u w : View} (next : IsNext s t) (reads : ReadsBack t) (r
   opens_after was_replaced = record { shown = λ disk left. new_there disk left (was_replaced.new.each disk left); sound = sound_there }
 
 abbrev Changes : State → Op → View → View → Type 0
-Changes s op = Does s (after s (plain op)) (ReplacesName config)
+Changes s op = Does s (state_after s (plain op)) (ReplacesName config)
 
-pub applies : {s : State} {t : State} {u w : View} (op : Op) → t ≡ after s (plain op) → IsNext s t → ReadsBack t → Replaces config (config_text (settings_of t)) u w → Changes s op u w
+pub applies : {s : State} {t : State} {u w : View} (op : Op) → t ≡ state_after s (plain op) → IsNext s t → ReadsBack t → Replaces config (config_text (settings_of t)) u w → Changes s op u w
 applies {s = s} {w = w} op is next reads replaces = record {
   either = λ opens. subst (λ x. OpensEither s x w) is (either next reads replaces opens);
   names = replaces.keeps.names;
@@ -267,7 +267,7 @@ no_stored u q id below (inl new) = off_settings q below new.0
 no_stored u q id below (inr (inl made)) = cc made.1
 no_stored u q id below (inr (inr work)) = off_work q below (subst (IsWithin tmp) (sym work.is) (inr (inl refl)))
 
-pub was_applied : {s : State} {t : State} {u w : View} (op : Op) → IsTree u → IsTree w → t ≡ after s (plain op) → IsNext s t → ReadsBack t → Replaces config (config_text (settings_of t)) u w → WasReplaced config (config_text (settings_of t)) u w → SettingsDone s (after s (plain op)) u w
+pub was_applied : {s : State} {t : State} {u w : View} (op : Op) → IsTree u → IsTree w → t ≡ state_after s (plain op) → IsNext s t → ReadsBack t → Replaces config (config_text (settings_of t)) u w → WasReplaced config (config_text (settings_of t)) u w → SettingsDone s (state_after s (plain op)) u w
 was_applied {t = t} {u = u} {w = w} op start after_ is next reads replaces put = record {
   done = record {
     opens = λ opens. subst (λ x. Opens x w) is (opens_after next reads replaces opens put);
@@ -321,7 +321,7 @@ can_replace v tree opens =
 
 -- ---- what the state after is
 
-pub next_after : (s : State) (op : Op) → May s op → IsOnConfig op → IsGood s → IsNext s (after s (plain op))
+pub next_after : (s : State) (op : Op) → May s op → IsOnConfig op → IsGood s → IsNext s (state_after s (plain op))
 next_after s (AddPin pin) may on good = record { settings = added (settings_of s) pin good.settings may.allows.0 may.allows.1 may.allows.2; layout = may.layout; refs = refl; overrides = refl }
 next_after s (DropPin pin) may on good = record { settings = dropped (settings_of s) pin good.settings; layout = may.layout; refs = refl; overrides = refl }
 next_after s (AddRemote row) may on good = record { settings = remotes.added (settings_of s) row good.settings may.allows.0 may.allows.1 may.allows.2; layout = may.layout; refs = refl; overrides = refl }
@@ -337,12 +337,12 @@ next_after s (Rollback name commit) may on good = absurd on
 
 -- ---- what the parts of the call tell of it
 
-pub moments_applied : {a b : Option Moments} {s : State} {t : State} (op : Op) → IsTold a → t ≡ after s (plain op) → IsNext s t → ReadsBack t
+pub moments_applied : {a b : Option Moments} {s : State} {t : State} (op : Op) → IsTold a → t ≡ state_after s (plain op) → IsNext s t → ReadsBack t
     → Goes a b (Replaces config (config_text (settings_of t))) (Replaces config (config_text (settings_of t))) → Goes a b (Changes s op) (Changes s op)
 moments_applied op tree is next reads goes = begins tree goes (λ u w here replaces. applies op is next reads replaces) (λ u w here replaces end. applies op is next reads replaces)
 
-pub ends_applied : {a b : Option Moments} {s : State} {t : State} (op : Op) → IsTold a → IsTold b → t ≡ after s (plain op) → IsNext s t → ReadsBack t
-    → Goes a b (Replaces config (config_text (settings_of t))) (Replaces config (config_text (settings_of t))) → AtEnd (WasReplaced config (config_text (settings_of t))) a b → AtEnd (SettingsDone s (after s (plain op))) a b
+pub ends_applied : {a b : Option Moments} {s : State} {t : State} (op : Op) → IsTold a → IsTold b → t ≡ state_after s (plain op) → IsNext s t → ReadsBack t
+    → Goes a b (Replaces config (config_text (settings_of t))) (Replaces config (config_text (settings_of t))) → AtEnd (WasReplaced config (config_text (settings_of t))) a b → AtEnd (SettingsDone s (state_after s (plain op))) a b
 ends_applied {t = t} op tree last is next reads goes done =
     let bytes = config_text (settings_of t) in
     ends_in_tree {Q = λ u w. IsTree u × Replaces config bytes u w × WasReplaced config bytes u w} last

@@ -12,7 +12,7 @@ use Rattle.fp_small.specs.declared.state.Previous.{Previous}
 use Rattle.fp_small.specs.declared.state.RefRow.{RefRow}
 use Rattle.fp_small.specs.declared.state.State.{State}
 use Rattle.fp_small.proofs.Ordered.{bytes_eq-differ}
-use Rattle.dep_states.specs.After.{with_refs, exchanged, back, rolled_back, after, plain, HasRow, HasPrevious, IsGoodPrevious, IsGoodRow, IsGoodLayer, IsGood}
+use Rattle.dep_states.specs.After.{with_refs, exchanged, back, rolled_back, state_after, plain, HasRow, HasPrevious, IsGoodPrevious, IsGoodRow, IsGoodLayer, IsGood}
 use Rattle.dep_states.specs.Deploy.{goes_back_to}
 use Rattle.fp_name.specs.Grammar.{is_override}
 use Rattle.dep_states.specs.Shown.{ref_key, override_key}
@@ -40,7 +40,7 @@ module _ {A : Type 0} (name : A → List ℕ) (P : A → Type 0) where
 
 -- ---- overrides
 
-pub good_set : (s : State) (row : OverrideRow) → is_override row.name ≡ true → is_good row.file ≡ true → IsGood s → IsGood (after s (plain (SetOverride row)))
+pub good_set : (s : State) (row : OverrideRow) → is_override row.name ≡ true → is_good row.file ≡ true → IsGood s → IsGood (state_after s (plain (SetOverride row)))
 good_set s row name file good = record {
   settings = good.settings;
   rows = good.rows;
@@ -49,7 +49,7 @@ good_set s row name file good = record {
   overrides_ascend = replaced_ascends override_key s.overrides row good.overrides_ascend;
 }
 
-pub good_drop : (s : State) (name : List ℕ) → IsGood s → IsGood (after s (plain (DropOverride name)))
+pub good_drop : (s : State) (name : List ℕ) → IsGood s → IsGood (state_after s (plain (DropOverride name)))
 good_drop s name good = record {
   settings = good.settings;
   rows = good.rows;
@@ -60,7 +60,7 @@ good_drop s name good = record {
 
 -- ---- refs
 
-pub good_uninstall : (s : State) (name : Ref) → IsGood s → IsGood (after s (plain (Uninstall name)))
+pub good_uninstall : (s : State) (name : Ref) → IsGood s → IsGood (state_after s (plain (Uninstall name)))
 good_uninstall s name good = record {
   settings = good.settings;
   rows = all_removed ref_key IsGoodRow s.refs (ref_text name) good.rows;
@@ -96,7 +96,7 @@ with_good s new fine good = record {
   overrides_ascend = good.overrides_ascend;
 }
 
-pub good_rollback : (s : State) (name : Ref) (commit : List ℕ) → HasRow s name (HasPrevious commit) → IsGood s → IsGood (after s (plain (Rollback name commit)))
+pub good_rollback : (s : State) (name : Ref) (commit : List ℕ) → HasRow s name (HasPrevious commit) → IsGood s → IsGood (state_after s (plain (Rollback name commit)))
 good_rollback s name commit has good =
     let row = has.0 in
     let p = has.2.0 in

@@ -12,7 +12,7 @@ use Rattle.fp_small.specs.Replace.{ReplacesName}
 use Rattle.fp_small.specs.declared.op.Op.{Op}
 use Rattle.fp_small.specs.declared.op.Op.TheVariants.{Install, Update, Uninstall, AddPin, DropPin, AddRemote, ModifyRemote, DropRemote, SetOverride, DropOverride, Migrate, Rollback}
 use Rattle.fp_small.specs.declared.state.State.{State}
-use Rattle.dep_states.specs.After.{after, plain, IsOnConfig, IsGood, Allows, May}
+use Rattle.dep_states.specs.After.{state_after, plain, IsOnConfig, IsGood, Allows, May}
 use Rattle.dep_states.specs.Names.{config}
 use Rattle.dep_states.specs.Sound.{Opens}
 use Rattle.op_deploy.specs.Applied.{Does, WasDone}
@@ -35,7 +35,7 @@ on_config s (DropOverride name) on u q e put = absurd on
 on_config s (Rollback name commit) on u q e put = absurd on
 
 module _ (s : State) (op : Op) where
-  pub does_applies : {W : View → Elements → Slot → Type 0} → ((u : View) (q : Elements) (e : Slot) → W u q e → MayChange s op u q e) → {u w : View} → Does s (after s (plain op)) W u w → DoesPlainly s op u w
+  pub does_applies : {W : View → Elements → Slot → Type 0} → ((u : View) (q : Elements) (e : Slot) → W u q e → MayChange s op u q e) → {u w : View} → Does s (state_after s (plain op)) W u w → DoesPlainly s op u w
   does_applies may {u = u} does = record {
     either = does.either;
     names = λ q. elim (does.names q) [ inl same ↦ inl same | inr put ↦ inr (may u q _ put) ];
@@ -43,13 +43,13 @@ module _ (s : State) (op : Op) where
     printed = does.printed;
   }
 
-  pub goes_applies : {W : View → Elements → Slot → Type 0} {a b : Option Moments} → IsTold a → ((u : View) (q : Elements) (e : Slot) → W u q e → MayChange s op u q e) → Goes a b (Does s (after s (plain op)) W) (Does s (after s (plain op)) W) → Goes a b (DoesPlainly s op) (DoesPlainly s op)
+  pub goes_applies : {W : View → Elements → Slot → Type 0} {a b : Option Moments} → IsTold a → ((u : View) (q : Elements) (e : Slot) → W u q e → MayChange s op u q e) → Goes a b (Does s (state_after s (plain op)) W) (Does s (state_after s (plain op)) W) → Goes a b (DoesPlainly s op) (DoesPlainly s op)
   goes_applies told may goes = begins told goes (λ u w t r. does_applies may r) (λ u w t r e. does_applies may e)
 
-  pub ends_done : {a b : Option Moments} → (IsOnConfig op → ⊥) → AtEnd (WasDone s (after s (plain op))) a b → AtEnd (WasDonePlainly s op) a b
+  pub ends_done : {a b : Option Moments} → (IsOnConfig op → ⊥) → AtEnd (WasDone s (state_after s (plain op))) a b → AtEnd (WasDonePlainly s op) a b
   ends_done off done = ends_to done (λ u w d. record { opens = d.opens; settled = d.settled; objects = d.objects; shares = d.shares; creates = d.creates; settings = λ on. absurd (off on) })
 
-  pub ends_settings : {a b : Option Moments} → AtEnd (SettingsDone s (after s (plain op))) a b → AtEnd (WasDonePlainly s op) a b
+  pub ends_settings : {a b : Option Moments} → AtEnd (SettingsDone s (state_after s (plain op))) a b → AtEnd (WasDonePlainly s op) a b
   ends_settings done = ends_to done (λ u w d. record { opens = d.done.opens; settled = d.done.settled; objects = d.done.objects; shares = d.done.shares; creates = d.done.creates; settings = λ on. d.settings })
 
   pub starved_same : {a b : Option Moments} → AtEnd (λ u w. w ≡ u) a b → AtEnd (IsStarvedPlainly s op) a b
@@ -60,19 +60,19 @@ module _ (s : State) (op : Op) where
 
 -- what an operation's case says of it
 module _ (s : State) (o x : Op) (e : o ≡ x) where
-  pub goes_as : {W : View → Elements → Slot → Type 0} {a b : Option Moments} → IsTold a → ((u : View) (q : Elements) (e : Slot) → W u q e → MayChange s x u q e) → Goes a b (Does s (after s (plain x)) W) (Does s (after s (plain x)) W) → Goes a b (DoesPlainly s o) (DoesPlainly s o)
+  pub goes_as : {W : View → Elements → Slot → Type 0} {a b : Option Moments} → IsTold a → ((u : View) (q : Elements) (e : Slot) → W u q e → MayChange s x u q e) → Goes a b (Does s (state_after s (plain x)) W) (Does s (state_after s (plain x)) W) → Goes a b (DoesPlainly s o) (DoesPlainly s o)
   goes_as {a = a} {b = b} told may goes = subst (λ (y : Op). Goes a b (DoesPlainly s y) (DoesPlainly s y)) (sym e) (goes_applies s x told may goes)
 
-  pub done_as : {a b : Option Moments} → (IsOnConfig x → ⊥) → AtEnd (WasDone s (after s (plain x))) a b → AtEnd (WasDonePlainly s o) a b
+  pub done_as : {a b : Option Moments} → (IsOnConfig x → ⊥) → AtEnd (WasDone s (state_after s (plain x))) a b → AtEnd (WasDonePlainly s o) a b
   done_as {a = a} {b = b} off done = subst (λ (y : Op). AtEnd (WasDonePlainly s y) a b) (sym e) (ends_done s x off done)
 
   pub opens_as : {a b : Option Moments} → (IsOnConfig x → ⊥) → AtEnd (λ u w. Opens s u → Opens s w) a b → AtEnd (IsStarvedPlainly s o) a b
   opens_as {a = a} {b = b} off opens = subst (λ (y : Op). AtEnd (IsStarvedPlainly s y) a b) (sym e) (starved_opens s x off opens)
 
-  pub state_as : {r : State} → r ≡ after s (plain x) → r ≡ after s (plain o)
-  state_as {r = r} is = subst (λ (y : Op). r ≡ after s (plain y)) (sym e) is
+  pub state_as : {r : State} → r ≡ state_after s (plain x) → r ≡ state_after s (plain o)
+  state_as {r = r} is = subst (λ (y : Op). r ≡ state_after s (plain y)) (sym e) is
 
-  pub good_as : {r : State} → r ≡ after s (plain x) → IsGood (after s (plain x)) → IsGood r
+  pub good_as : {r : State} → r ≡ state_after s (plain x) → IsGood (state_after s (plain x)) → IsGood r
   good_as is good = subst IsGood (sym is) good
 
   pub allowed : May s o → Allows s x

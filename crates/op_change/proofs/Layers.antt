@@ -38,7 +38,7 @@ use Rattle.fp_small.proofs.Ordered.{bytes_eq-itself}
 use Rattle.fp_small.proofs.Sharing.{shares_empty, shares_made}
 use Rattle.fp_small.proofs.Staging.{synced}
 use Rattle.ost_model.specs.Objects.{object_path}
-use Rattle.dep_states.specs.After.{after, plain}
+use Rattle.dep_states.specs.After.{state_after, plain}
 use Rattle.dep_states.specs.Lasting.IsLasting.{an_override}
 use Rattle.dep_states.specs.Names.{overrides_folder, override_path, commit_dir, deploy}
 use Rattle.fp_name.specs.Grammar.{is_override}
@@ -166,7 +166,7 @@ given_here name bytes u spot given = elim given [
 -- ---- an override that is set
 
 abbrev set_state : State → OverrideRow → State
-set_state s row = after s (plain (SetOverride row))
+set_state s row = state_after s (plain (SetOverride row))
 
 file_reads : (row : OverrideRow) (id : ℕ) → file_of (text_of row.file) ≡ Ok row.file → length (text_of row.file) ≤ small_most → override_at row.name (holds id 420 (text_of row.file)) ≡ there row
 unfolding override_at
@@ -288,7 +288,7 @@ can_set name {v = v} good tree opens =
 -- ---- an override that is dropped
 
 abbrev drop_state : State → List ℕ → State
-drop_state s name = after s (plain (DropOverride name))
+drop_state s name = state_after s (plain (DropOverride name))
 
 gone_away : (name : List ℕ) → override_at name gone ≡ away
 unfolding override_at

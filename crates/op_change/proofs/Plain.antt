@@ -20,7 +20,7 @@ use Rattle.fp_small.specs.declared.op.Op.TheVariants.{Install, Update, Uninstall
 use Rattle.fp_small.specs.declared.refusal.Refusal.{Refusal}
 use Rattle.fp_small.specs.declared.state.State.{State}
 use Rattle.ost_model.specs.Objects.{Have}
-use Rattle.dep_states.specs.After.{after, plain}
+use Rattle.dep_states.specs.After.{state_after, plain}
 use Rattle.dep_states.specs.Lasting.{IsLasting}
 use Rattle.dep_states.specs.Lasting.IsLasting.{the_settings, an_override}
 use Rattle.dep_states.specs.Links.{Links}
@@ -128,8 +128,8 @@ brings_none have (Rollback name commit) u o off is = is
 -- ---- so it is applied
 
 module _ (s : State) (op : Op) (off : Brings op → ⊥) where
-  after_is : (have : Have) → after s (plain op) ≡ after s (done_with have op)
-  after_is have = sym (ap (after s) (done_plain have op off))
+  after_is : (have : Have) → state_after s (plain op) ≡ state_after s (done_with have op)
+  after_is have = sym (ap (state_after s) (done_plain have op off))
 
   applies : {holds : Option Holdings} {u w : View} → DoesPlainly s op u w → Applies s op holds u w
   applies {u = u} {w = w} does = record {
@@ -151,7 +151,7 @@ module _ (s : State) (op : Op) (off : Brings op → ⊥) where
     settings = d.settings;
   })
 
-  pub ok_plain : (have : Have) (t : State) → t ≡ after s (plain op) → AppliesWith have s op (Ok t)
+  pub ok_plain : (have : Have) (t : State) → t ≡ state_after s (plain op) → AppliesWith have s op (Ok t)
   ok_plain have t is = (none_refused have op off, is ∙ after_is have)
 
 pub starved_plain : {s : State} {op : Op} {holds : Option Holdings} {a b : Option Moments} → AtEnd (IsStarvedPlainly s op) a b → AtEnd (IsStarved s op holds) a b

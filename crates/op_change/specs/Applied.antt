@@ -21,7 +21,7 @@ use Rattle.fp_small.specs.Places.{repo}
 use Rattle.ost_model.specs.Objects.{Have}
 use Rattle.ost_pull.specs.Pulls.{IsLacked}
 use Rattle.ost_store.specs.Created.{Creates}
-use Rattle.dep_states.specs.After.{Done, after, plain, IsOnConfig}
+use Rattle.dep_states.specs.After.{Done, state_after, plain, IsOnConfig}
 use Rattle.dep_states.specs.Lasting.{IsLasting}
 use Rattle.dep_states.specs.Links.{Links}
 use Rattle.dep_states.specs.Names.{config, override_path, active}
@@ -100,7 +100,7 @@ op_refusal have op = None
 -- What was answered is the state after, or what the operation is refused for. Nothing is said of
 -- faults and of running out of memory.
 abbrev pub AppliesWith : Have → State → Op → Result State ApplyEnd → Type 0
-AppliesWith have s op (Ok t) = (op_refusal have op ≡ None) × (t ≡ after s (done_with have op))
+AppliesWith have s op (Ok t) = (op_refusal have op ≡ None) × (t ≡ state_after s (done_with have op))
 AppliesWith have s op (Err (ends.Refused refusal)) = op_refusal have op ≡ Some refusal
 AppliesWith have s op (Err ends.Fault) = ⊤
 AppliesWith have s op (Err ends.RemoteFault) = ⊤
@@ -108,7 +108,7 @@ AppliesWith have s op (Err ends.NoMemory) = ⊤
 
 -- the state after, and no refusal and no remote's fault, where no commit is brought
 abbrev pub AppliesPlainly : State → Op → Result State ApplyEnd → Type 0
-AppliesPlainly s op (Ok t) = t ≡ after s (plain op)
+AppliesPlainly s op (Ok t) = t ≡ state_after s (plain op)
 AppliesPlainly s op (Err (ends.Refused refusal)) = ⊥
 AppliesPlainly s op (Err ends.Fault) = ⊤
 AppliesPlainly s op (Err ends.RemoteFault) = ⊥
@@ -147,7 +147,7 @@ IsHeldFor op holds held = Brings op → holds ≡ Some held
 -- of before.
 pub record Applies (s : State) (op : Op) (holds : Option Holdings) (u w : View) : Type 0 where
   pub either : (held : Holdings) → IsHeldFor op holds held → Opens s u
-      → OpensEither s (after s (done_with (have_for s op held u) op)) w
+      → OpensEither s (state_after s (done_with (have_for s op held u) op)) w
   pub refused : (held : Holdings) → IsHeldFor op holds held → (r : Refusal)
       → op_refusal (have_for s op held u) op ≡ Some r → Opens s u → Opens s w
   pub changes : (Brings op → Opens s u) → ChangesBy s op u w
@@ -190,7 +190,7 @@ IsBroughtFor have (Rollback name commit) u o = ⊥
 -- name, and just the objects were made that were brought and that the store lacked.
 pub record WasApplied (s : State) (op : Op) (holds : Option Holdings) (u w : View) : Type 0 where
   pub opens : (held : Holdings) → IsHeldFor op holds held → Opens s u
-      → Opens (after s (done_with (have_for s op held u) op)) w
+      → Opens (state_after s (done_with (have_for s op held u) op)) w
   pub objects : (held : Holdings) → IsHeldFor op holds held → (Brings op → Opens s u)
       → HasObjectsFor (have_for s op held u) op u w
   pub shares : (held : Holdings) → IsHeldFor op holds held → (Brings op → Opens s u)
@@ -198,7 +198,7 @@ pub record WasApplied (s : State) (op : Op) (holds : Option Holdings) (u w : Vie
   pub creates : (held : Holdings) → IsHeldFor op holds held → (Brings op → Opens s u)
       → Creates repo (IsBroughtFor (have_for s op held u) op u) u w
   pub settled : IsSettled w
-  pub settings : IsOnConfig op → HasSettings (after s (plain op)) u w
+  pub settings : IsOnConfig op → HasSettings (state_after s (plain op)) u w
 
 -- where memory ran out: the state of before
 pub record IsStarved (s : State) (op : Op) (holds : Option Holdings) (u w : View) : Type 0 where

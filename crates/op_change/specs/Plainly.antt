@@ -7,24 +7,24 @@ use Rattle.fp_small.specs.Shares.{Shares}
 use Rattle.ost_store.specs.Created.{Creates, NoObject}
 use Rattle.fp_small.specs.declared.state.State.{State}
 use Rattle.fp_small.specs.declared.op.Op.{Op}
-use Rattle.dep_states.specs.After.{after, plain, IsOnConfig}
+use Rattle.dep_states.specs.After.{state_after, plain, IsOnConfig}
 use Rattle.dep_states.specs.Lasting.{IsLasting}
 use Rattle.dep_states.specs.Sound.{Opens}
 use Rattle.op_deploy.specs.Applied.{Does, SameObjects}
 use Rattle.op_change.specs.Applied.{MayChange, HasSettings}
 
 abbrev pub DoesPlainly : State → Op → View → View → Type 0
-DoesPlainly s op = Does s (after s (plain op)) (MayChange s op)
+DoesPlainly s op = Does s (state_after s (plain op)) (MayChange s op)
 
 -- The state after, and what stands. Each new file that has bytes came to a lasting name, and no
 -- object was made.
 pub record WasDonePlainly (s : State) (op : Op) (u w : View) : Type 0 where
-  pub opens : Opens s u → Opens (after s (plain op)) w
+  pub opens : Opens s u → Opens (state_after s (plain op)) w
   pub settled : IsSettled w
   pub objects : SameObjects u w
   pub shares : Shares IsLasting u w
   pub creates : Creates repo NoObject u w
-  pub settings : IsOnConfig op → HasSettings (after s (plain op)) u w
+  pub settings : IsOnConfig op → HasSettings (state_after s (plain op)) u w
 
 -- where memory ran out: the state of before
 pub record IsStarvedPlainly (s : State) (op : Op) (u w : View) : Type 0 where

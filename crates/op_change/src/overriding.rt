@@ -7,7 +7,7 @@ ghost use Rattle.fp_keyfile.specs.KeyFile.{text_of, is_good};
 ghost use Rattle.fp_small.specs.Clear.{AbsentAt};
 ghost use Rattle.fp_small.specs.Replace.{Replaces, ReplacesName, WasReplaced, CanReplace};
 ghost use Rattle.fp_small.specs.declared.op.Op.TheVariants.{SetOverride, DropOverride};
-ghost use Rattle.dep_states.specs.After.{after, plain};
+ghost use Rattle.dep_states.specs.After.{state_after, plain};
 ghost use Rattle.dep_states.specs.Names.{override_path};
 ghost use Rattle.fp_name.specs.Grammar.{is_override};
 ghost use Rattle.dep_states.specs.Shown.{small_most};
@@ -98,11 +98,11 @@ pub(crate) fn set_override<H: Host>(
     requires name { is_override row.now.name ≡ true }
     requires file { is_good row.now.file ≡ true }
     requires short { length (text_of row.now.file) ≤ small_most }
-    ensures state { IfOk result (λ o. o ≡ after opened (plain (SetOverride row.now))) }
-    ensures any_moment { Always (Does opened (after opened (plain (SetOverride row.now)))
+    ensures state { IfOk result (λ o. o ≡ state_after opened (plain (SetOverride row.now))) }
+    ensures any_moment { Always (Does opened (state_after opened (plain (SetOverride row.now)))
         (ReplacesName (override_path row.now.name))) (H.moments host.old) (H.moments host.new) }
     ensures on_success { OnOk result (AtEnd (WasDone opened
-        (after opened (plain (SetOverride row.now)))) (H.moments host.old) (H.moments host.new)) }
+        (state_after opened (plain (SetOverride row.now)))) (H.moments host.old) (H.moments host.new)) }
     ensures fault_has_cause { IsCaused (IsErrOf result HostEnd.Fault) (H.moments host.old)
         (Opens opened) (H.faults host.old) (H.faults host.new) }
     ensures starved_unchanged { IsErrOf result HostEnd.NoMemory → AtEnd (λ u w. w ≡ u)
@@ -121,11 +121,11 @@ pub(crate) fn drop_override<H: Host>(
     name: &Text,
 ) -> Result<Opened, HostEnd>
     requires { is_override name.now ≡ true }
-    ensures state { IfOk result (λ o. o ≡ after opened (plain (DropOverride name.now))) }
-    ensures any_moment { Always (Does opened (after opened (plain (DropOverride name.now)))
+    ensures state { IfOk result (λ o. o ≡ state_after opened (plain (DropOverride name.now))) }
+    ensures any_moment { Always (Does opened (state_after opened (plain (DropOverride name.now)))
         (AbsentAtPath (override_path name.now))) (H.moments host.old) (H.moments host.new) }
     ensures on_success { OnOk result (AtEnd (WasDone opened
-        (after opened (plain (DropOverride name.now)))) (H.moments host.old) (H.moments host.new)) }
+        (state_after opened (plain (DropOverride name.now)))) (H.moments host.old) (H.moments host.new)) }
     ensures fault_has_cause { IsCaused (IsErrOf result HostEnd.Fault) (H.moments host.old)
         (Opens opened) (H.faults host.old) (H.faults host.new) }
     ensures starved_unchanged { IsErrOf result HostEnd.NoMemory → AtEnd (λ u w. w ≡ u)

@@ -4,7 +4,7 @@ ghost use Rattle.fp_host.specs.Causes.{IsCaused};
 ghost use Rattle.fp_host.specs.Frame.{AtEnd};
 ghost use Rattle.fp_host.specs.Moments.{Always};
 ghost use Rattle.dep_states.specs.Sound.{Opens};
-ghost use Rattle.dep_states.specs.After.{after, plain, May, IsGood};
+ghost use Rattle.dep_states.specs.After.{state_after, plain, May, IsGood};
 ghost use Rattle.op_change.specs.Applied.{Brings, IsShort};
 ghost use Rattle.op_change.specs.Plainly.{DoesPlainly, WasDonePlainly, IsStarvedPlainly};
 
@@ -28,7 +28,7 @@ pub(crate) fn apply_plainly<H: Host>(
     requires good { IsGood opened }
     requires short { IsShort op.now }
     requires brings_none { Brings op.now → ⊥ }
-    ensures state { IfOk result (λ o. o ≡ after opened (plain op.now)) }
+    ensures state { IfOk result (λ o. o ≡ state_after opened (plain op.now)) }
     ensures good { IfOk result IsGood }
     // A stop at any moment leaves the one state or the other.
     ensures any_moment { Always (DoesPlainly opened op.now)

@@ -8,7 +8,7 @@ ghost use Rattle.fp_small.specs.Replace.{Replaces, ReplacesName, WasReplaced, Ca
 ghost use Rattle.dep_states.specs.Names.{config};
 ghost use Rattle.dep_states.specs.Shown.{settings_of};
 ghost use Rattle.dep_states.specs.Sound.{Opens};
-ghost use Rattle.dep_states.specs.After.{after, plain, May, IsOnConfig, IsGood};
+ghost use Rattle.dep_states.specs.After.{state_after, plain, May, IsOnConfig, IsGood};
 ghost use Rattle.op_deploy.specs.Applied.{Does};
 ghost use Rattle.op_change.specs.Applied.{SettingsDone};
 
@@ -33,12 +33,12 @@ pub(crate) fn change_settings<H: Host>(
     requires may { May opened op.now }
     requires here { IsOnConfig op.now }
     requires good { IsGood opened }
-    ensures state { IfOk result (λ o. o ≡ after opened (plain op.now)) }
+    ensures state { IfOk result (λ o. o ≡ state_after opened (plain op.now)) }
     ensures good { IfOk result IsGood }
     // A stop at any moment leaves the one state or the other.
-    ensures any_moment { Always (Does opened (after opened (plain op.now)) (ReplacesName config))
+    ensures any_moment { Always (Does opened (state_after opened (plain op.now)) (ReplacesName config))
         (H.moments host.old) (H.moments host.new) }
-    ensures on_success { OnOk result (AtEnd (SettingsDone opened (after opened (plain op.now)))
+    ensures on_success { OnOk result (AtEnd (SettingsDone opened (state_after opened (plain op.now)))
         (H.moments host.old) (H.moments host.new)) }
     ensures fault_has_cause { IsCaused (IsErrOf result HostEnd.Fault) (H.moments host.old)
         (Opens opened) (H.faults host.old) (H.faults host.new) }
@@ -53,7 +53,7 @@ pub(crate) fn change_settings<H: Host>(
 /// The state after the operation.
 fn changed(state: State, op: &Op) -> Result<State, AllocError>
     requires { IsOnConfig op.now }
-    ensures { IfOk result (λ s. s ≡ after state (plain op.now)) }
+    ensures { IfOk result (λ s. s ≡ state_after state (plain op.now)) }
 {
     let mut pins = state.pins.into_vec();
     let mut remotes = state.remotes.into_vec();

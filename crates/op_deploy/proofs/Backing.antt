@@ -27,7 +27,7 @@ use Rattle.fp_small.proofs.Sharing.{shares_empty, shares_on}
 use Rattle.fp_small.proofs.Ordered.{bytes_eq-is, bytes_eq-differ}
 use Rattle.ost_model.specs.Objects.{object_path}
 use Rattle.ost_store.proofs.Creating.{creates_off, creates_frame}
-use Rattle.dep_states.specs.After.{row_at, exchanged, back, rolled_back, plain, after, HasRow, HasPrevious, IsGood, IsGoodRow}
+use Rattle.dep_states.specs.After.{row_at, exchanged, back, rolled_back, plain, state_after, HasRow, HasPrevious, IsGood, IsGoodRow}
 use Rattle.dep_states.specs.Deploy.{goes_back_to}
 use Rattle.dep_states.specs.Frames.{KeptIn}
 use Rattle.dep_states.specs.Names.{active, commit_dir, deploy}
@@ -91,7 +91,7 @@ is_back {s = s} {name = name} commit state has found =
 pub back_moves : {s : State} {name : Ref} {commit : List ℕ} {new : RefRow} → IsBack s name commit new → goes_back_to new.commit new.previous ≡ false
 back_moves b = ap (λ (r : RefRow). goes_back_to r.commit r.previous) b.is ∙ bytes_eq-differ b.previous.commit b.row.commit b.moves
 
-pub back_state : {s : State} {name : Ref} {commit : List ℕ} {new : RefRow} → IsBack s name commit new → with_row s new ≡ after s (plain (Rollback name commit))
+pub back_state : {s : State} {name : Ref} {commit : List ℕ} {new : RefRow} → IsBack s name commit new → with_row s new ≡ state_after s (plain (Rollback name commit))
 back_state {s = s} b = ap (with_row s) b.is ∙ sym (ap (rolled_back s) b.has ∙ ap (λ o. back s b.row o) b.was)
 
 back_named : {s : State} {name : Ref} {commit : List ℕ} {new : RefRow} → IsBack s name commit new → new.name ≡ name
@@ -155,7 +155,7 @@ can_back {s = s} {name = name} {v = v} good tree b opens cleared = subst (λ (r 
 -- ---- step by step
 
 abbrev after_back : State → Ref → List ℕ → State
-after_back s name commit = after s (plain (Rollback name commit))
+after_back s name commit = state_after s (plain (Rollback name commit))
 
 module _ {s : State} {name : Ref} {commit : List ℕ} {new : RefRow} (good : is_ref name ≡ true) (b : IsBack s name commit new) where
   abbrev Backs : View → View → Type 0
@@ -198,10 +198,10 @@ module _ {s : State} {name : Ref} {commit : List ℕ} {new : RefRow} (good : is_
   no_object d kind e (at_active at is) = cc at
 
   was_backed : {u v w : View} → IsTree u → IsTree v → IsTree w → Keeps (GoneWithin new_link) (AbsentWithin new_link) NoPath u v → IsCleared new_link v → Deploys s new v w → WasDeployed s new v w → WasDone s (after_back s name commit) u w
-  was_backed {w = w} before between after keeps cleared deploys done = record {
+  was_backed {w = w} before between state_after keeps cleared deploys done = record {
     opens = λ opens. subst (λ (t : State). Opens t w) (back_state b) (done.opens (can_back good between b (frame_law link_spares keeps.follows opens) cleared));
     settled = done.settled;
-    objects = let backs = backs_deploys between keeps cleared deploys in same_objects (DeploysName name commit) before after backs.files backs.names no_object;
+    objects = let backs = backs_deploys between keeps cleared deploys in same_objects (DeploysName name commit) before state_after backs.files backs.names no_object;
     shares = shares_on (shares_empty keeps) deploys.shares deploys.files;
     creates = creates_off (creates_frame (AbsentWithin new_link) keeps (λ q id below away. cc away.1)) deploys.creates (files_kept keeps) deploys.files;
   }
@@ -231,7 +231,7 @@ module _ {s : State} {name : Ref} {commit : List ℕ} {new : RefRow} (good : is_
       let start : AtEnd (λ u w. IsTree u × Ready u w) a c = record { goes = begins told (goes_known frame.goes cleared) (λ u w t k. tt) (λ u w t k q. (t, q)) } in
       ends_in_tree {Q = λ u w. (v : View) × IsTree u × IsTree v × Ready u v × Deploys s new v w × WasDeployed s new v w} last
       (ends_on (ends_both (ends_goes mid deploys) done) start mid (λ u v w tree q e. (v, q.0, tree, q.1, e.0, e.1)))
-      (λ u w after q. was_backed q.1 q.2 after q.3.0 q.3.1 q.4 q.5)
+      (λ u w state_after q. was_backed q.1 q.2 state_after q.3.0 q.3.1 q.4 q.5)
 
 pub within_at : {p q : Elements} {a b : Option Moments} → p ≡ q → Frame (GoneWithin p) (AbsentWithin p) NoPath a b → Frame (GoneWithin q) (AbsentWithin q) NoPath a b
 within_at {a = a} {b = b} is frame = subst (λ (r : Elements). Frame (GoneWithin r) (AbsentWithin r) NoPath a b) is frame

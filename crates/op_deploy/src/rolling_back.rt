@@ -4,7 +4,7 @@ ghost use Rattle.fp_host.specs.Causes.{IsCaused};
 ghost use Rattle.fp_host.specs.Frame.{AtEnd};
 ghost use Rattle.fp_host.specs.Moments.{Always};
 ghost use Rattle.fp_small.specs.declared.op.Op.TheVariants.{Rollback};
-ghost use Rattle.dep_states.specs.After.{after, plain, exchanged, HasRow, HasPrevious, IsGood};
+ghost use Rattle.dep_states.specs.After.{state_after, plain, exchanged, HasRow, HasPrevious, IsGood};
 ghost use Rattle.dep_states.specs.Sound.{Opens};
 ghost use Rattle.op_deploy.specs.Applied.{Does, DeploysName, WasDone, HasBack, IsRowBack};
 
@@ -58,11 +58,11 @@ pub fn roll_back<H: Host>(
 ) -> Result<Opened, HostEnd>
     requires back { HasRow opened name.now (HasPrevious commit.now) }
     requires good { IsGood opened }
-    ensures state { IfOk result (λ o. o ≡ after opened (plain (Rollback name.now commit.now))) }
-    ensures any_moment { Always (Does opened (after opened (plain (Rollback name.now commit.now)))
+    ensures state { IfOk result (λ o. o ≡ state_after opened (plain (Rollback name.now commit.now))) }
+    ensures any_moment { Always (Does opened (state_after opened (plain (Rollback name.now commit.now)))
         (λ u. DeploysName name.now commit.now)) (H.moments host.old) (H.moments host.new) }
     ensures on_success { OnOk result (AtEnd (WasDone opened
-        (after opened (plain (Rollback name.now commit.now))))
+        (state_after opened (plain (Rollback name.now commit.now))))
         (H.moments host.old) (H.moments host.new)) }
     ensures fault_has_cause { IsCaused (IsErrOf result HostEnd.Fault) (H.moments host.old)
         (Opens opened) (H.faults host.old) (H.faults host.new) }

@@ -5,7 +5,7 @@ ghost use Rattle.fp_host.specs.Frame.{AtEnd};
 ghost use Rattle.fp_host.specs.Moments.{Always};
 ghost use Rattle.fp_small.specs.Clear.{AbsentAt};
 ghost use Rattle.fp_small.specs.declared.op.Op.TheVariants.{Uninstall};
-ghost use Rattle.dep_states.specs.After.{after, plain, row_at};
+ghost use Rattle.dep_states.specs.After.{state_after, plain, row_at};
 ghost use Rattle.dep_states.specs.Names.{active};
 ghost use Rattle.dep_states.specs.Sound.{Opens};
 ghost use Rattle.dep_switch.specs.Retiring.{IsPlanOf};
@@ -38,11 +38,11 @@ pub fn uninstall<H: Host>(
     name: &RefName,
 ) -> Result<Opened, HostEnd>
     requires there { row_at opened name.now ≢ None }
-    ensures state { IfOk result (λ o. o ≡ after opened (plain (Uninstall name.now))) }
-    ensures any_moment { Always (Does opened (after opened (plain (Uninstall name.now)))
+    ensures state { IfOk result (λ o. o ≡ state_after opened (plain (Uninstall name.now))) }
+    ensures any_moment { Always (Does opened (state_after opened (plain (Uninstall name.now)))
         (λ u. AbsentAt (active name.now))) (H.moments host.old) (H.moments host.new) }
     ensures on_success { OnOk result (AtEnd (WasDone opened
-        (after opened (plain (Uninstall name.now)))) (H.moments host.old) (H.moments host.new)) }
+        (state_after opened (plain (Uninstall name.now)))) (H.moments host.old) (H.moments host.new)) }
     ensures fault_has_cause { IsCaused (IsErrOf result HostEnd.Fault) (H.moments host.old)
         (Opens opened) (H.faults host.old) (H.faults host.new) }
     ensures starved_unchanged { IsErrOf result HostEnd.NoMemory → AtEnd (λ u w. w ≡ u)

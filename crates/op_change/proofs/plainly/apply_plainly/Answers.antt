@@ -1,7 +1,7 @@
 use Rattle.std.proofs.Common.{inl, inr, sym, subst}
 use Rattle.std.proofs.lemmas.Result.{on_ok_weaker}
 use Rattle.fp_small.specs.declared.op.Op.TheVariants.{Uninstall, SetOverride, DropOverride, Rollback}
-use Rattle.dep_states.specs.After.{after, plain, IsOnConfig}
+use Rattle.dep_states.specs.After.{state_after, plain, IsOnConfig}
 use Rattle.op_change.proofs.Grown.{good_set, good_drop, good_uninstall, good_rollback}
 use Rattle.op_change.proofs.Joined.{on_config, goes_applies, ends_settings, goes_as, done_as, good_if, allowed}
 use Rattle.op_change.proofs.plainly.apply_plainly.Goals as goal
@@ -10,7 +10,7 @@ use Rattle.op_change.proofs.plainly.apply_plainly.Goals as goal
 
 pub returns-in-Uninstall-clause-good : goal.returns-in-Uninstall-clause-good
 returns-in-Uninstall-clause-good g c =
-    good_if c.uninstall.result (after c.args.opened (plain (Uninstall c.in-Uninstall.name))) (good_uninstall c.args.opened c.in-Uninstall.name c.requires.good) c.uninstall.ensures.state
+    good_if c.uninstall.result (state_after c.args.opened (plain (Uninstall c.in-Uninstall.name))) (good_uninstall c.args.opened c.in-Uninstall.name c.requires.good) c.uninstall.ensures.state
 
 pub returns-in-Uninstall-clause-any_moment : goal.returns-in-Uninstall-clause-any_moment
 returns-in-Uninstall-clause-any_moment g c =
@@ -23,7 +23,7 @@ returns-in-Uninstall-clause-on_success g c =
 pub returns-in-Rollback-clause-good : goal.returns-in-Rollback-clause-good
 returns-in-Rollback-clause-good g c =
     let op = Rollback c.in-Rollback.name c.in-Rollback.commit in
-    good_if c.roll_back.result (after c.args.opened (plain op)) (good_rollback c.args.opened c.in-Rollback.name c.in-Rollback.commit (allowed c.args.opened c.args.op.now op c.in-Rollback.is c.requires.may) c.requires.good) c.roll_back.ensures.state
+    good_if c.roll_back.result (state_after c.args.opened (plain op)) (good_rollback c.args.opened c.in-Rollback.name c.in-Rollback.commit (allowed c.args.opened c.args.op.now op c.in-Rollback.is c.requires.may) c.requires.good) c.roll_back.ensures.state
 
 pub returns-in-Rollback-clause-any_moment : goal.returns-in-Rollback-clause-any_moment
 returns-in-Rollback-clause-any_moment g c =
@@ -39,7 +39,7 @@ pub returns-in-SetOverride-clause-good : goal.returns-in-SetOverride-clause-good
 returns-in-SetOverride-clause-good g c =
     let op = SetOverride c.in-SetOverride.row in
     let allows = allowed c.args.opened c.args.op.now op c.in-SetOverride.is c.requires.may in
-    good_if c.set_override.result (after c.args.opened (plain op)) (good_set c.args.opened c.in-SetOverride.row allows.0 allows.1 c.requires.good) c.set_override.ensures.state
+    good_if c.set_override.result (state_after c.args.opened (plain op)) (good_set c.args.opened c.in-SetOverride.row allows.0 allows.1 c.requires.good) c.set_override.ensures.state
 
 pub returns-in-SetOverride-clause-any_moment : goal.returns-in-SetOverride-clause-any_moment
 returns-in-SetOverride-clause-any_moment g c =
@@ -51,7 +51,7 @@ returns-in-SetOverride-clause-on_success g c =
 
 pub returns-in-DropOverride-clause-good : goal.returns-in-DropOverride-clause-good
 returns-in-DropOverride-clause-good g c =
-    good_if c.drop_override.result (after c.args.opened (plain (DropOverride c.in-DropOverride.name))) (good_drop c.args.opened c.in-DropOverride.name c.requires.good) c.drop_override.ensures.state
+    good_if c.drop_override.result (state_after c.args.opened (plain (DropOverride c.in-DropOverride.name))) (good_drop c.args.opened c.in-DropOverride.name c.requires.good) c.drop_override.ensures.state
 
 pub returns-in-DropOverride-clause-any_moment : goal.returns-in-DropOverride-clause-any_moment
 returns-in-DropOverride-clause-any_moment g c =
