@@ -36,7 +36,7 @@ use Rattle.fl_change.proofs.Saying.{says_step, was_said}
 use Rattle.fl_change.proofs.Changing.{same_untouched}
 use Rattle.fl_top.proofs.Altering.{alter_untouched}
 use Rattle.fl_change.proofs.Working.{is_err}
-use Rattle.fl_top.specs.Answer.{Given, over, checked, IsOver}
+use Rattle.fl_top.specs.Answer.{Given, shown_answer, checked, IsOver}
 use Rattle.fl_top.specs.Fsck.{report_text, Finds, HasReport, IsListable, IsReportText}
 use Rattle.fl_top.specs.Status.{checks_store}
 use Rattle.fl_top.specs.Ends.{end_of_run}
@@ -113,7 +113,7 @@ module _ (s : State) where
       | inr none ↦ absurd (none s q.shown)
     ]
 
-    answer_is : {u v : View} → HasChecked u v → (report : Report) → Finds (shows u) report → (shown : Result World Elements) → IsOver (over (checked report)) (shows u) shown → text_answer text ≡ over (checked report) shown
+    answer_is : {u v : View} → HasChecked u v → (report : Report) → Finds (shows u) report → (shown : Result World Elements) → IsOver (shown_answer (checked report)) (shows u) shown → text_answer text ≡ shown_answer (checked report) shown
     answer_is {u = u} q report finds shown counts = ap text_answer (text_is q report finds) ∙ sym (over_is (checked report) (shows u) shown s q.shown counts)
 
     is_told : {u v w : View} → HasChecked u v → Says text v w → ChecksOver u w
@@ -127,7 +127,7 @@ module _ (s : State) where
     was_told : {u v w : View} → HasChecked u v → WasSaid text v w → CheckedOver (Ok tt) u w
     was_told {u = u} {w = w} q said_it = record {
       ended = λ report finds shown counts held. subst (λ (a : Answer). Ended held a (Ok tt) u w) (answer_is q report finds shown counts) (refl, tells held text (subst (λ (x : View). WasSaid text x w) q.same said_it));
-      given = λ report by. counts_shown (over (checked report)) (shows u) s q.shown;
+      given = λ report by. counts_shown (shown_answer (checked report)) (shows u) s q.shown;
       found = λ by. (q.read.report, inl q.read.reports);
     }
 
@@ -169,7 +169,7 @@ runs_checked t u w found p = record {
 
 ended_checked : (t : Told) (r : Result (Unit {0}) RunEnd) (s : Result (Unit {0}) CommandEnd) (u w : View) → ((held : Holdings) (a : Answer) → Ended held a r u w → Closed held a s u w) → (IsClosedBy s → IsGivenBy r) → IsFoundIn t u → CheckedOver r u w → EndedOn Fsck t s u w
 ended_checked t r s u w close give found q = record {
-  ended = λ given gave shown counts may. close given.held (over (checked given.report) shown) (q.ended given.report (found given gave) shown counts given.held);
+  ended = λ given gave shown counts may. close given.held (shown_answer (checked given.report) shown) (q.ended given.report (found given gave) shown counts given.held);
   given = λ given gave by. q.given given.report (give by);
   made = made_where s Fsck t.left u w tt;
 }

@@ -37,7 +37,7 @@ use Rattle.fl_change.proofs.Worlds.{used_kept}
 use Rattle.fl_export.specs.Exported.{exported}
 use Rattle.fl_export.specs.declared.rows.ExportRow.{ExportRow}
 use Rattle.fl_export.proofs.Local.{exported_is_local}
-use Rattle.fl_top.specs.Answer.{told_of, launched_of, listed}
+use Rattle.fl_top.specs.Answer.{told_of, launched_of, listing_answer}
 use Rattle.fl_top.specs.Exports.{exports_text}
 
 -- ---- lists that are searched
@@ -208,7 +208,7 @@ pub exported_world : (s : State) (have : Have) → exported (used_of s have) s �
 exported_world s have = exported_is_local have (used_of s have) s (λ row h p inside. used_kept s have row.commit (commit_kept s.refs row h) p inside)
 
 -- what is listed over the world of an image is what is listed over its store
-pub listed_world : (listing : Listing) (s : State) (disk : Disk) → listed listing (world_in s disk) ≡ listed listing (record { state = s; have = store repo disk })
+pub listed_world : (listing : Listing) (s : State) (disk : Disk) → listing_answer listing (world_in s disk) ≡ listing_answer listing (record { state = s; have = store repo disk })
 listed_world listings.Refs s disk = refl
 listed_world listings.Pins s disk = refl
 listed_world listings.Remotes s disk = refl

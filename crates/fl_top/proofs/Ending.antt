@@ -42,7 +42,7 @@ use Rattle.fl_change.specs.Answer.{Answer, Piece, lines_of, last_of, pieces_text
 use Rattle.fl_export.specs.Exported.{exported}
 use Rattle.fl_top.specs.Fsck.{report_text}
 use Rattle.fl_top.specs.Exports.{exports_text}
-use Rattle.fl_top.specs.Answer.{Given, listed, checked, override_text, shown_by, over, of_batch, answer_over, by_read, by_value, by_type, commit_shown, tree_shown, meta_shown, value_shown, over_input, launch_over, of_launch, on_session, on_system, rules_over, by_rules, of_recording, filtered_by, filter_by, of_description, commit_made}
+use Rattle.fl_top.specs.Answer.{Given, listing_answer, checked, override_text, shown_by, shown_answer, of_batch, answer_over, by_read, by_value, by_type, commit_shown, tree_shown, meta_shown, value_shown, over_input, launch_over, of_launch, on_session, on_system, rules_over, by_rules, of_recording, filtered_by, filter_by, of_description, commit_made}
 use Rattle.fl_change.specs.Turns.{changing}
 use Rattle.fl_top.specs.Objects.{commit_lines, tree_lines, meta_lines}
 use Rattle.gv_value.specs.Shape.{Shape}
@@ -235,7 +235,7 @@ IsPlain a = (r : Refusal) → a.refusal ≡ Some r → 1 ≡ status_of r
 changing_plain : (changes : List Change) (held : Holdings) (x : World) → IsPlain (changing changes held x)
 changing_plain changes held x r is = (changing_later changes held x r is).one
 
-over_plain : (f : World → Answer) (shown : Result World Elements) → ((x : World) → IsPlain (f x)) → IsPlain (over f shown)
+over_plain : (f : World → Answer) (shown : Result World Elements) → ((x : World) → IsPlain (f x)) → IsPlain (shown_answer f shown)
 over_plain f (Err path) plain r is = one_of_some (Damaged path) r is refl
 over_plain f (Ok x) plain r is = plain x r is
 
@@ -290,7 +290,7 @@ shown_plain things.DirTree bytes = dirtree_plain bytes
 shown_plain things.DirMeta bytes = dirmeta_plain bytes
 shown_plain (things.Value of) bytes = value_plain of bytes
 
-listed_plain : (listing : Listing) (x : World) → IsPlain (listed listing x)
+listed_plain : (listing : Listing) (x : World) → IsPlain (listing_answer listing x)
 listed_plain listings.Refs x = told_plain (refs_text x.state.refs)
 listed_plain listings.Pins x = told_plain (pins_text x.state.pins)
 listed_plain listings.Remotes x = told_plain (remotes_text x.state.remotes)
@@ -376,7 +376,7 @@ made_plain commit bytes = description_plain commit (described bytes)
 
 pub command_plain : (command : Command) (given : Given) (shown : Result World Elements) → IsPlain (answer_over command given shown)
 command_plain (Changing change) given shown = over_plain (changing (change ∷ []) given.held) shown (changing_plain (change ∷ []) given.held)
-command_plain (Listed listing) given shown = over_plain (listed listing) shown (listed_plain listing)
+command_plain (Listed listing) given shown = over_plain (listing_answer listing) shown (listed_plain listing)
 command_plain (Showing thing) given shown = input_plain (shown_by thing) given.input (shown_plain thing given.input)
 command_plain (Filtering source) given shown = input_plain (filter_by source shown) given.input (filter_plain source shown given.input)
 command_plain Batch given shown = input_plain (λ bytes. of_batch (batch_of bytes) given.held shown) given.input (batch_plain (batch_of given.input) given.held shown)

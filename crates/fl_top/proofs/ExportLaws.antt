@@ -22,7 +22,7 @@ use Rattle.fl_export.specs.declared.rows.ExportRow.{ExportRow}
 use Rattle.fl_export.proofs.Samples.{stable_exported}
 use Rattle.fl_change.specs.Answer.{text_answer}
 use Rattle.fl_change.proofs.Same.{same_settled, now_left}
-use Rattle.fl_top.specs.Answer.{listed}
+use Rattle.fl_top.specs.Answer.{listing_answer}
 use Rattle.fl_top.specs.Exports.{exports_text, LeavesExports, IsInStep}
 use Rattle.fl_top.specs.ExportSample.{desktop_text, desktop_place, icon_place, placed_rows, placed_disk, stale_place, stale_disk, listed_text}
 use Rattle.fl_words.specs.declared.command.Listing.TheVariants as listings
@@ -103,5 +103,5 @@ stale_are_not are = are.only stale_place (inr (inr (inr (inr (inr (inr (inl refl
 
 -- ---- and as they are listed
 
-pub exports_listed : listed listings.Exports (record { state = sample.state (sample.row sample.stable ∷ []); have = sample.have }) ≡ text_answer listed_text
+pub exports_listed : listing_answer listings.Exports (record { state = sample.state (sample.row sample.stable ∷ []); have = sample.have }) ≡ text_answer listed_text
 exports_listed = ap (λ (found : List ExportRow). text_answer (exports_text found)) stable_exported

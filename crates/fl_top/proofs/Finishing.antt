@@ -24,7 +24,7 @@ use Rattle.fl_words.specs.declared.batch.BatchError.TheVariants as batch
 use Rattle.fl_words.specs.Batch.{batch_of, IsBadBatch}
 use Rattle.fl_change.specs.World.{World}
 use Rattle.fl_change.specs.Answer.{Answer, refusal_answer}
-use Rattle.fl_top.specs.Answer.{Given, answer, answer_to, answer_over, over, over_input, of_batch, IsOver, IsAtOnce}
+use Rattle.fl_top.specs.Answer.{Given, answer, answer_to, answer_over, shown_answer, over_input, of_batch, IsOver, IsAtOnce}
 use Rattle.fl_change.specs.Turns.{changing, MayDo}
 use Rattle.fl_top.specs.Asked.{OpsBy, OpsFor}
 use Rattle.fp_small.specs.declared.op.Op.{Op}
@@ -114,15 +114,15 @@ made_where (Err e) command left u w made = tt
 
 -- the answer to it is this over the world that it works on
 abbrev pub IsAnswer : Command → Told → (Holdings → World → Answer) → Type 0
-IsAnswer command t f = (given : Given) → IsGivenTo command t given → (shown : Result World Elements) → over (f given.held) shown ≡ answer_over command given shown
+IsAnswer command t f = (given : Given) → IsGivenTo command t given → (shown : Result World Elements) → shown_answer (f given.held) shown ≡ answer_over command given shown
 
 -- an answer that counts for the command counts for it
-counts_for : (command : Command) (f : World → Answer) (given : Given) (u : View) (shown : Result World Elements) → ((r : Result World Elements) → over f r ≡ answer_over command given r) → IsOver (answer_over command given) (shows u) shown → IsOver (over f) (shows u) shown
-counts_for command f given u shown is counts = over_same (over f) (answer_over command given) (shows u) shown is counts
+counts_for : (command : Command) (f : World → Answer) (given : Given) (u : View) (shown : Result World Elements) → ((r : Result World Elements) → shown_answer f r ≡ answer_over command given r) → IsOver (answer_over command given) (shows u) shown → IsOver (shown_answer f) (shows u) shown
+counts_for command f given u shown is counts = over_same (shown_answer f) (answer_over command given) (shows u) shown is counts
 
 -- a command that changes something, whose refusals are none of the words or of the input, answers
 -- where the installation is ready
-ready_for : (command : Command) (f : World → Answer) (given : Given) (u : View) (shown : Result World Elements) → changes_state command ≡ true → ((x : World) → IsAtOnce (f x).refusal → ⊥) → over f shown ≡ answer_over command given shown → MayAnswer (Some command) u (answer_over command given shown) → IsReady u
+ready_for : (command : Command) (f : World → Answer) (given : Given) (u : View) (shown : Result World Elements) → changes_state command ≡ true → ((x : World) → IsAtOnce (f x).refusal → ⊥) → shown_answer f shown ≡ answer_over command given shown → MayAnswer (Some command) u (answer_over command given shown) → IsReady u
 ready_for command f given u shown changes late is may = elim may [
   | inl serves ↦ elim serves [
     | inl keeps ↦ absurd (let both : true ≡ false = sym changes ∙ keeps in cc both)
@@ -164,9 +164,9 @@ ended_change : (command : Command) (t : Told) (May : Op → Type 0) (f : Holding
 ended_change command t May f r s u w known close give q = record {
   ended = λ given gave shown counts may.
       let is = known.is given gave in
-      subst (λ (x : Answer). Closed given.held x s u w) (is shown) (close given.held (over (f given.held) shown)
+      subst (λ (x : Answer). Closed given.held x s u w) (is shown) (close given.held (shown_answer (f given.held) shown)
       (q.ended (ready_for command (f given.held) given u shown known.changes (known.late given.held) (is shown) may) given.held (holds_told command t given known.changes gave) shown (counts_for command (f given.held) given u shown is counts)));
-  given = λ given gave by. counts_same (answer_over command given) (over (f given.held)) (shows u) (λ r. sym (known.is given gave r)) (q.given given.held (give by));
+  given = λ given gave by. counts_same (answer_over command given) (shown_answer (f given.held)) (shows u) (λ r. sym (known.is given gave r)) (q.given given.held (give by));
   made = made_where s command t.left u w (made_none command t.left u w known.changes);
 }
 
@@ -185,7 +185,7 @@ goes_not_changed {a = a} {b = b} command t May f e r known is goes err =
 
 -- the answer of a command that looks is this over the world
 abbrev pub IsLook : Command → (World → Answer) → Type 0
-IsLook command f = (given : Given) (shown : Result World Elements) → over f shown ≡ answer_over command given shown
+IsLook command f = (given : Given) (shown : Result World Elements) → shown_answer f shown ≡ answer_over command given shown
 
 runs_look : (command : Command) (t : Told) (f : World → Answer) (u w : View) → IsLook command f → LooksOver f u w → RunsOn command t u w
 runs_look command t f u w is p = record {
@@ -198,8 +198,8 @@ runs_look command t f u w is p = record {
 ended_look : (command : Command) (t : Told) (f : World → Answer) (r : Result (Unit {0}) RunEnd) (s : Result (Unit {0}) CommandEnd) (u w : View) → only_looks command ≡ true → IsLook command f
     → ((held : Holdings) (a : Answer) → Ended held a r u w → Closed held a s u w) → (IsClosedBy s → IsGivenBy r) → LookedOver f r u w → EndedOn command t s u w
 ended_look command t f r s u w looks is close give q = record {
-  ended = λ given gave shown counts may. subst (λ (x : Answer). Closed given.held x s u w) (is given shown) (close given.held (over f shown) (q.ended shown (counts_for command f given u shown (is given) counts) given.held));
-  given = λ given gave by. counts_same (answer_over command given) (over f) (shows u) (λ r. sym (is given r)) (q.given (give by));
+  ended = λ given gave shown counts may. subst (λ (x : Answer). Closed given.held x s u w) (is given shown) (close given.held (shown_answer f shown) (q.ended shown (counts_for command f given u shown (is given) counts) given.held));
+  given = λ given gave by. counts_same (answer_over command given) (shown_answer f) (shows u) (λ r. sym (is given r)) (q.given (give by));
   made = made_where s command t.left u w (look_made command t.left u w looks);
 }
 

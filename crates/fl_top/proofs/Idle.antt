@@ -22,7 +22,7 @@ use Rattle.fl_change.specs.Turns.{changing}
 use Rattle.fl_change.specs.World.{World, world_in}
 use Rattle.fl_change.proofs.Same.{now_left}
 use Rattle.fl_idle.proofs.Updates.{second_is_idle}
-use Rattle.fl_top.specs.Answer.{Given, answer, answer_to, over, IsOver}
+use Rattle.fl_top.specs.Answer.{Given, answer, answer_to, shown_answer, IsOver}
 use Rattle.fl_top.specs.Exports.{IsInStep}
 use Rattle.fl_top.specs.Runs.{Answers, Ran, Told, IsGiven, IsGivenTo, IsChange, RunsBy, RanBy}
 use Rattle.fl_top.specs.Status.{status_of, status_by, status_at}
@@ -68,12 +68,12 @@ left_over held a s {u = u} {v = v} sound at is plain ran =
 -- ---- by words that ask for it
 
 module _ (words : List (List ℕ)) (is : command_of words ≡ Some (Changing UpdateAll)) where
-  answer_is : (given : Given) (shown : Result World Elements) → over (changing all given.held) shown ≡ answer words given shown
+  answer_is : (given : Given) (shown : Result World Elements) → shown_answer (changing all given.held) shown ≡ answer words given shown
   answer_is given shown = ap (λ (o : Option Command). answer_to words o given shown) (sym is)
 
   answers_world : (given : Given) (disk : Disk) (shown : Result World Elements) (s : State) → Shows disk s → IsOver (answer words given) disk shown → answer words given shown ≡ changing all given.held (world_in s disk)
   answers_world given disk shown s at counts =
-      sym (answer_is given shown) ∙ over_is (changing all given.held) disk shown s at (over_same (over (changing all given.held)) (answer words given) disk shown (answer_is given) counts)
+      sym (answer_is given shown) ∙ over_is (changing all given.held) disk shown s at (over_same (shown_answer (changing all given.held)) (answer words given) disk shown (answer_is given) counts)
 
   is_given : (t : Told) (given : Given) → t.holds ≡ Some given.held → IsGiven t (command_of words) given
   is_given t given told =

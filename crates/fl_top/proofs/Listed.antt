@@ -23,7 +23,7 @@ use Rattle.dep_open.specs.declared.open_end.OpenEnd.TheVariants as open_end
 use Rattle.fl_change.specs.World.{World, world_in, world_at}
 use Rattle.fl_words.specs.declared.command.Listing.{Listing}
 use Rattle.fl_change.specs.Answer.{Answer, Piece, text_answer, refusal_answer}
-use Rattle.fl_top.specs.Answer.{over, listed}
+use Rattle.fl_top.specs.Answer.{shown_answer, listing_answer}
 use Rattle.fl_top.specs.Ends.{PrintsOf}
 use Rattle.fl_change.specs.Ends.{end_of_host, end_of_open}
 use Rattle.fl_top.specs.Runs.{Runs}
@@ -87,7 +87,7 @@ keeping {u = u} same = subst (Keeping u) (sym same) unchanged
 
 -- nothing is done yet
 pub looks : (f : World → Answer) {u w : View} → w ≡ u → LooksOver f u w
-looks f same = record { runs = λ shown counts. begun (over f shown) (keeping same) (λ why. same_untouched same); untouched = same_untouched same }
+looks f same = record { runs = λ shown counts. begun (shown_answer f shown) (keeping same) (λ why. same_untouched same); untouched = same_untouched same }
 
 pub goes_not_read : {a b : Option Moments} (f : World → Answer) (e : OpenEnd) (r : Result (Unit {0}) RunEnd) → IsTold a → Unchanged a b → AtEnd (λ u w. Reads u (Err e)) a b → IsErrAnd r (λ end. end ≡ end_of_open e) → Goes a b (LooksOver f) (LookedOver f r)
 goes_not_read {a = a} {b = b} f e r known still tell is =
@@ -100,18 +100,18 @@ goes_not_read {a = a} {b = b} f e r known still tell is =
 record HasTold (listing : Listing) (s : State) (r : Result (List ℕ) RunEnd) (u w : View) : Type 0 where
   same : w ≡ u
   shown : Shows (shows u) s
-  tells : PrintsOf (listed listing (world_in s (shows u))) r
+  tells : PrintsOf (listing_answer listing (world_in s (shows u))) r
 
 -- what is known of it over what each host stores
 abbrev pub TellsOver : Listing → State → Option Moments → Result (List ℕ) RunEnd → Type 0
-TellsOver listing s told r = (have : Have) → Stores repo told have → PrintsOf (listed listing (record { state = s; have = have })) r
+TellsOver listing s told r = (have : Have) → Stores repo told have → PrintsOf (listing_answer listing (record { state = s; have = have })) r
 
 module _ (listing : Listing) (s : State) where
   abbrev f : World → Answer
-  f = listed listing
+  f = listing_answer listing
 
   abbrev over_store : Result (List ℕ) RunEnd → View → Type 0
-  over_store r v = PrintsOf (listed listing (record { state = s; have = store repo (shows v) })) r
+  over_store r v = PrintsOf (listing_answer listing (record { state = s; have = store repo (shows v) })) r
 
   read : {a b : Option Moments} → IsTold a → Unchanged a b → AtEnd (λ u w. Reads u (Ok s)) a b → Goes a b (LooksOver f) (λ u w. (w ≡ u) × Shows (shows u) s)
   read known still tell = begins known (goes_known still.goes tell) (λ u w t same. looks f same) (λ u w t same q. (q.0.0, q.1))
@@ -135,7 +135,7 @@ module _ (listing : Listing) (s : State) where
   no_text (run.Refused refusal) {u = u} {w = w} q = record {
     ended = λ shown counts held. subst (λ (a : Answer). Ended held a (Err (run.Refused refusal)) u w) (sym q.tells ∙ sym (over_is f (shows u) shown s q.shown counts))
         (refl, subst (Completes held (refusal_answer refusal) u) (sym q.same) (refused_at_once held refusal u));
-    given = λ by. counts_shown (over f) (shows u) s q.shown;
+    given = λ by. counts_shown (shown_answer f) (shows u) s q.shown;
   }
   no_text run.Fault q = record { ended = λ shown counts held. tt; given = λ by. absurd by }
   no_text run.RemoteFault q = absurd q.tells
@@ -160,7 +160,7 @@ module _ (listing : Listing) (s : State) where
     was_told : {u v w : View} → HasTold listing s (Ok text) u v → WasSaid text v w → LookedOver f (Ok tt) u w
     was_told {u = u} {w = w} q said_it = record {
       ended = λ shown counts held. subst (λ (a : Answer). Ended held a (Ok tt) u w) (sym q.tells ∙ sym (over_is f (shows u) shown s q.shown counts)) (refl, tells held text (subst (λ (x : View). WasSaid text x w) q.same said_it));
-      given = λ by. counts_shown (over f) (shows u) s q.shown;
+      given = λ by. counts_shown (shown_answer f) (shows u) s q.shown;
     }
 
     not_told : (e : HostError) (u v w : View) → Step (says text) (Err e) v w → LookedOver f (Err (end_of_host (end_of e))) u w

@@ -17,7 +17,7 @@ use Rattle.fl_words.specs.Forms.{command_of, bad_index}
 use Rattle.fl_words.specs.declared.command.Command.{Command}
 use Rattle.fl_change.specs.World.{World, world_in, used_of}
 use Rattle.fl_change.specs.Answer.{Answer, refusal_answer}
-use Rattle.fl_top.specs.Answer.{Given, answer, answer_to, over, GivesWorld, IsOver}
+use Rattle.fl_top.specs.Answer.{Given, answer, answer_to, shown_answer, GivesWorld, IsOver}
 use Rattle.fl_change.proofs.Same.{now_left}
 
 -- ---- what an image gives
@@ -46,11 +46,11 @@ over_given by disk shown other given counts = elim counts [
   | inr always ↦ sym (always other)
 ]
 
-pub over_is : (f : World → Answer) (disk : Disk) (shown : Result World Elements) (s : State) → Shows disk s → IsOver (over f) disk shown → over f shown ≡ f (world_in s disk)
-over_is f disk shown s is counts = over_given (over f) disk shown (Ok (world_in s disk)) (gives_world disk s is) counts
+pub over_is : (f : World → Answer) (disk : Disk) (shown : Result World Elements) (s : State) → Shows disk s → IsOver (shown_answer f) disk shown → shown_answer f shown ≡ f (world_in s disk)
+over_is f disk shown s is counts = over_given (shown_answer f) disk shown (Ok (world_in s disk)) (gives_world disk s is) counts
 
-pub over_damaged : (f : World → Answer) (disk : Disk) (shown : Result World Elements) (p : Elements) → IsFirstDamaged disk p → IsOver (over f) disk shown → over f shown ≡ refusal_answer (Damaged p)
-over_damaged f disk shown p is counts = over_given (over f) disk shown (Err p) is counts
+pub over_damaged : (f : World → Answer) (disk : Disk) (shown : Result World Elements) (p : Elements) → IsFirstDamaged disk p → IsOver (shown_answer f) disk shown → shown_answer f shown ≡ refusal_answer (Damaged p)
+over_damaged f disk shown p is counts = over_given (shown_answer f) disk shown (Err p) is counts
 
 -- where a path doesn't read, no state is shown
 pub not_shown : {disk : Disk} {p : Elements} → IsFirstDamaged disk p → NotShown disk

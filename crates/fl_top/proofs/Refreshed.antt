@@ -55,7 +55,7 @@ use Rattle.fl_change.proofs.Changing.{text_on, still_on}
 use Rattle.fl_change.proofs.Created.{created_on}
 use Rattle.fl_change.proofs.Same.{now_left}
 use Rattle.fl_change.proofs.Working.{is_err}
-use Rattle.fl_top.specs.Answer.{over, IsAtOnce}
+use Rattle.fl_top.specs.Answer.{shown_answer, IsAtOnce}
 use Rattle.fl_top.specs.Asked.{AreToldFor}
 use Rattle.fl_top.specs.Exports.{HasExports, LeavesExports, IsInStep}
 use Rattle.fl_top.specs.Runs.{IsJust, Runs, Stands, IsReady}
@@ -249,7 +249,7 @@ module _ (holds : Option Holdings) (May : Op → Type 0) (f : Holdings → World
   runs_on tree runs = record {
     runs = λ ready held is shown counts.
         let e = changed.ended.ended ready held is shown counts in
-        runs_left held (over (f held) shown) changed.before t changed.at (changed.after ready held is shown counts) e.0 e.1 step (opened held is) (runs.runs ready held is shown counts);
+        runs_left held (shown_answer (f held) shown) changed.before t changed.at (changed.after ready held is shown counts) e.0 e.1 step (opened held is) (runs.runs ready held is shown counts);
     changes = λ known. alter_on u v w (runs.changes known) (alter_refreshes step);
     rests = λ ready held is shown counts rest idle none.
         let e = changed.ended.ended ready held is shown counts in
@@ -262,8 +262,8 @@ module _ (holds : Option Holdings) (May : Op → Type 0) (f : Holdings → World
   ended_on tree next was = record {
     ended = λ ready held is shown counts.
         let e = changed.ended.ended ready held is shown counts in
-        (e.0, completes_left held (over (f held) shown) changed.before t changed.at (changed.after ready held is shown counts) e.0 e.1 step (opened held is) tree next was);
-    given = λ held by. counts_shown (over (f held)) (shows u) changed.before changed.at;
+        (e.0, completes_left held (shown_answer (f held) shown) changed.before t changed.at (changed.after ready held is shown counts) e.0 e.1 step (opened held is) tree next was);
+    given = λ held by. counts_shown (shown_answer (f held)) (shows u) changed.before changed.at;
   }
 
   -- the host failed, or there was no memory: all that was acknowledged stands
@@ -272,7 +272,7 @@ module _ (holds : Option Holdings) (May : Op → Type 0) (f : Holdings → World
   halted_on host.NoMemory = record {
     ended = λ ready held is shown counts.
         let e = changed.ended.ended ready held is shown counts in
-        stands_left held (over (f held) shown) changed.before t changed.at (changed.after ready held is shown counts) e.0 e.1 step (opened held is);
+        stands_left held (shown_answer (f held) shown) changed.before t changed.at (changed.after ready held is shown counts) e.0 e.1 step (opened held is);
     given = λ held by. absurd by;
   }
 

@@ -26,7 +26,7 @@ use Rattle.dep_open.specs.declared.open_end.OpenEnd.{OpenEnd}
 use Rattle.dep_open.specs.declared.open_end.OpenEnd.TheVariants as open_end
 use Rattle.fl_change.specs.World.{World, world, world_at}
 use Rattle.fl_change.specs.Answer.{Answer, Piece, pieces_text, ops_in, ops_of, refusal_answer}
-use Rattle.fl_top.specs.Answer.{over, IsAtOnce}
+use Rattle.fl_top.specs.Answer.{shown_answer, IsAtOnce}
 use Rattle.fl_change.specs.Ends.{end_of_open}
 use Rattle.fl_top.specs.Asked.{AreToldFor}
 use Rattle.fl_top.specs.Runs.{ShowsAfter, IsPrefix, IsJust, Runs, Stands, IsReady}
@@ -90,13 +90,13 @@ begun a keeping untouched = record {
 abbrev pub IsLate : (Holdings → World → Answer) → Type 0
 IsLate f = (held : Holdings) (x : World) → IsAtOnce (f held x).refusal → ⊥
 
-pub over_late : (f : World → Answer) → ((x : World) → IsAtOnce (f x).refusal → ⊥) → (shown : Result World Elements) → IsAtOnce (over f shown).refusal → ⊥
+pub over_late : (f : World → Answer) → ((x : World) → IsAtOnce (f x).refusal → ⊥) → (shown : Result World Elements) → IsAtOnce (shown_answer f shown).refusal → ⊥
 over_late f late (Err path) at_once = at_once
 over_late f late (Ok x) at_once = late x at_once
 
 pub begun_over : (holds : Option Holdings) (May : Op → Type 0) (f : Holdings → World → Answer) → IsLate f → {u w : View} → Keeping u w → StaysUnread u w → RunsOver holds May f u w
 begun_over holds May f late {u = u} keeping unread = record {
-  runs = λ ready held is shown counts. begun (over (f held) shown) keeping (λ at_once. absurd (over_late (f held) (late held) shown at_once));
+  runs = λ ready held is shown counts. begun (shown_answer (f held) shown) keeping (λ at_once. absurd (over_late (f held) (late held) shown at_once));
   changes = λ known. alter_none keeping.names keeping.files;
   rests = λ ready held is shown counts rest idle none. still_keeping keeping;
   untouched = λ none. same_untouched (unread none);
@@ -216,7 +216,7 @@ failed_over holds f s e {u = u} {v = v} w begun tree work is = record {
       let opens = begun.opened.opens (ready_sound begun.opened.shown ready) in
       subst (λ (a : Answer). Ended held a (Err e) u w) (ap (f held) (begun_world s begun tree) ∙ sym (over_is (f held) (shows u) shown s begun.opened.shown counts))
       (ended held (f held (world_at s v)) s e w begun tree (work.performs held told opens).files (is.performed held told opens));
-  given = λ held by. counts_shown (over (f held)) (shows u) s begun.opened.shown;
+  given = λ held by. counts_shown (shown_answer (f held)) (shows u) s begun.opened.shown;
 }
 
 pub done_over : (holds : Option Holdings) (f : Holdings → World → Answer) (s t : State) {u v : View} (w : View) → Begun s u v → IsTree v → PerformsOver (Opens s) holds f s v w → PerformedOver (Opens s) holds f s (Ok t) v w → EndedOver holds f (Ok tt) u w
@@ -226,7 +226,7 @@ done_over holds f s t {u = u} {v = v} w begun tree work is = record {
       let done = is.performed held told opens in
       subst (λ (a : Answer). Ended held a (Ok tt) u w) (ap (f held) (begun_world s begun tree) ∙ sym (over_is (f held) (shows u) shown s begun.opened.shown counts))
       (done.0, completes held (f held (world_at s v)) s (world_at s v) refl begun.opened begun.keeping (work.performs held told opens).files (sym (begun_world s begun tree)) done.2);
-  given = λ held by. counts_shown (over (f held)) (shows u) s begun.opened.shown;
+  given = λ held by. counts_shown (shown_answer (f held)) (shows u) s begun.opened.shown;
 }
 
 -- ---- where it wasn't opened
@@ -245,12 +245,12 @@ damaged held path {u = u} keeping none = record {
 
 -- out of memory before anything is done
 pub halted_look : (f : World → Answer) {u w : View} → Keeping u w → LookedOver f (Err NoMemory) u w
-halted_look f keeping = record { ended = λ shown counts held. stood (over f shown) keeping; given = λ by. absurd by }
+halted_look f keeping = record { ended = λ shown counts held. stood (shown_answer f shown) keeping; given = λ by. absurd by }
 
 pub look_not_open : (f : World → Answer) (e : OpenEnd) {u w : View} → Keeping u w → Opened (Err e) u w → LookedOver f (Err (end_of_open e)) u w
 look_not_open f (open_end.Damaged path) {u = u} {w = w} keeping is = record {
   ended = λ shown counts held. subst (λ (a : Answer). Ended held a (Err (Refused (Damaged path))) u w) (sym (over_damaged f (shows u) shown path is counts)) (refl, damaged held path keeping (not_shown is));
-  given = λ by. counts_damaged (over f) (shows u) path is;
+  given = λ by. counts_damaged (shown_answer f) (shows u) path is;
 }
 look_not_open f open_end.Fault keeping is = record { ended = λ shown counts held. tt; given = λ by. absurd by }
 look_not_open f open_end.NoMemory keeping is = halted_look f keeping

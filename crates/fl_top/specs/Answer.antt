@@ -93,14 +93,14 @@ abbrev pub launched_of : Result LaunchText Refusal → Answer
 launched_of (Ok launch) = text_answer launch.text
 launched_of (Err refusal) = refusal_answer refusal
 
-abbrev pub listed : Listing → World → Answer
-listed listings.Refs x = text_answer (refs_text x.state.refs)
-listed listings.Pins x = text_answer (pins_text x.state.pins)
-listed listings.Remotes x = text_answer (remotes_text x.state.remotes)
-listed listings.Exports x = text_answer (exports_text (exported x.have x.state))
-listed (listings.Info name) x = known_of name x
-listed (listings.Launch name options) x = launched_of (launch_in x.have x.state name options)
-listed (listings.OverrideShow name) x = text_answer (override_text x.state name)
+abbrev pub listing_answer : Listing → World → Answer
+listing_answer listings.Refs x = text_answer (refs_text x.state.refs)
+listing_answer listings.Pins x = text_answer (pins_text x.state.pins)
+listing_answer listings.Remotes x = text_answer (remotes_text x.state.remotes)
+listing_answer listings.Exports x = text_answer (exports_text (exported x.have x.state))
+listing_answer (listings.Info name) x = known_of name x
+listing_answer (listings.Launch name options) x = launched_of (launch_in x.have x.state name options)
+listing_answer (listings.OverrideShow name) x = text_answer (override_text x.state name)
 
 -- what is found in the store, whatever the world
 abbrev pub checked : Report → World → Answer
@@ -210,13 +210,13 @@ IsAtOnce (Some (BadRecord line)) = Unit {0}
 IsAtOnce (Some _) = ⊥
 
 -- by what the image gives: its world, or the first path that doesn't read
-abbrev pub over : (World → Answer) → Result World Elements → Answer
-over f (Err path) = refusal_answer (Damaged path)
-over f (Ok x) = f x
+abbrev pub shown_answer : (World → Answer) → Result World Elements → Answer
+shown_answer f (Err path) = refusal_answer (Damaged path)
+shown_answer f (Ok x) = f x
 
 abbrev pub of_batch : Result (List Change) ℕ → Holdings → Result World Elements → Answer
 of_batch (Err line) held shown = refusal_answer (BadRecord line)
-of_batch (Ok changes) held shown = over (changing changes held) shown
+of_batch (Ok changes) held shown = shown_answer (changing changes held) shown
 
 -- the whole input is read before anything is done
 abbrev pub over_input : (List ℕ → Answer) → List ℕ → Answer
@@ -224,15 +224,15 @@ over_input f input = if nat_le (length input) input_most then f input
     else refusal_answer (Limit Input (input_most + 1))
 
 abbrev pub answer_over : Command → Given → Result World Elements → Answer
-answer_over (Changing change) given shown = over (changing (change ∷ []) given.held) shown
-answer_over (Listed listing) given shown = over (listed listing) shown
+answer_over (Changing change) given shown = shown_answer (changing (change ∷ []) given.held) shown
+answer_over (Listed listing) given shown = shown_answer (listing_answer listing) shown
 answer_over (Showing thing) given shown = over_input (shown_by thing) given.input
 answer_over (Filtering source) given shown = over_input (filter_by source shown) given.input
 answer_over Batch given shown =
     over_input (λ bytes. of_batch (batch_of bytes) given.held shown) given.input
-answer_over Fsck given shown = over (checked given.report) shown
+answer_over Fsck given shown = shown_answer (checked given.report) shown
 answer_over (Exporting remote name) given shown = over_input (commit_made given.commit) given.input
-answer_over (Exercising apps) given shown = over (exercising apps given.held) shown
+answer_over (Exercising apps) given shown = shown_answer (exercising apps given.held) shown
 
 abbrev pub answer_to : List (List ℕ) → Option Command → Given → Result World Elements → Answer
 answer_to words None given shown = refusal_answer (BadWords (bad_index words))

@@ -7,7 +7,7 @@ use Rattle.fl_words.specs.Forms.{command_of}
 use Rattle.fl_words.specs.declared.command.Command.{Command}
 use Rattle.fl_words.specs.declared.command.Command.TheVariants.{Exercise as Exercising}
 use Rattle.fl_gen.specs.Generator.{IsGenerated}
-use Rattle.fl_top.specs.Runs.{RunsBy, RanBy, told}
+use Rattle.fl_top.specs.Runs.{RunsBy, RanBy, told_start}
 use Rattle.fl_top.specs.RunsOver.{RunsOn, RanOn}
 
 abbrev pub is_exercise : Command → Bool
@@ -29,8 +29,8 @@ IsUnmade command status a b = ⊥
 -- a run over remotes that hold this, at every moment and at its return
 pub record RunsWith (words : List (List ℕ)) (left : Option (List ℕ)) (holds : Option Holdings)
     (status : ℕ) (a b : Option Moments) : Type 0 where
-  pub any_moment : Always (RunsBy words (told left holds a)) a b
-  pub at_return : AtEnd (RanBy words (told left holds a) status) a b
+  pub any_moment : Always (RunsBy words (told_start left holds a)) a b
+  pub at_return : AtEnd (RanBy words (told_start left holds a) status) a b
 
 -- So it is over the remotes that the command is run over, where there are such.
 abbrev pub IsRun : List (List ℕ) → Option (List ℕ) → Option Holdings → ℕ → Option Moments
@@ -43,6 +43,6 @@ IsRun words left given status a b =
 abbrev pub IsExercised : ℕ → Option (List ℕ) → ℕ → Option Moments → Option Moments → Type 0
 IsExercised apps left status a b =
     ((held : Holdings) × IsGenerated apps held
-    × Goes a b (RunsOn (Exercising apps) (told left (Some held) a))
-    (RanOn (Exercising apps) (told left (Some held) a) status))
+    × Goes a b (RunsOn (Exercising apps) (told_start left (Some held) a))
+    (RanOn (Exercising apps) (told_start left (Some held) a) status))
     ⊎ ((status ≡ 6) × Unchanged a b)

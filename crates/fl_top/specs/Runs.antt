@@ -134,8 +134,8 @@ pub record Told : Type 0 where
   pub holds : Option Holdings
   pub moments : Option Moments
 
-abbrev pub told : Option (List ℕ) → Option Holdings → Option Moments → Told
-told left holds moments = record { left = left; holds = holds; moments = moments }
+abbrev pub told_start : Option (List ℕ) → Option Holdings → Option Moments → Told
+told_start left holds moments = record { left = left; holds = holds; moments = moments }
 
 -- this is found in the store at the start
 abbrev pub IsFoundAt : Option Moments → Report → Type 0

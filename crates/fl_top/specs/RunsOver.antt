@@ -18,7 +18,7 @@ use Rattle.fl_words.specs.declared.command.Command.{Command}
 use Rattle.fl_change.specs.World.{World, world_at}
 use Rattle.fl_change.specs.Answer.{Answer, pieces_text, ops_of, set_config, IsUnpulled}
 use Rattle.fp_small.specs.declared.op.Op.{Op}
-use Rattle.fl_top.specs.Answer.{Given, over, answer_over, checked, IsOver}
+use Rattle.fl_top.specs.Answer.{Given, shown_answer, answer_over, checked, IsOver}
 use Rattle.fl_top.specs.Fsck.{Finds, HasReport}
 use Rattle.fl_top.specs.Asked.{OpsBy}
 use Rattle.fl_top.specs.Runs.{Runs, Ran, Stands, IsJust, Told, IsGivenTo, IsReady, IsKnown, MayAnswer}
@@ -37,7 +37,7 @@ use Rattle.fl_top.specs.declared.command_end.CommandEnd.TheVariants as command
 -- so it is for each answer that counts, over what the image at the start gives
 abbrev pub OverView : (World → Answer) → View → (Answer → Type 0) → Type 0
 OverView f u Is =
-    (shown : Result World Elements) → IsOver (over f) (shows u) shown → Is (over f shown)
+    (shown : Result World Elements) → IsOver (shown_answer f) (shows u) shown → Is (shown_answer f shown)
 
 -- and so much changes
 pub record RunsOver (holds : Option Holdings) (May : Op → Type 0) (f : Holdings → World → Answer)
@@ -92,7 +92,7 @@ IsGivenBy (Err NoMemory) = ⊥
 -- there is an answer that counts, where the whole answer was given
 abbrev pub HasOver : (World → Answer) → Result (Unit {0}) RunEnd → View → Type 0
 HasOver f result u =
-    IsGivenBy result → (shown : Result World Elements) × IsOver (over f) (shows u) shown
+    IsGivenBy result → (shown : Result World Elements) × IsOver (shown_answer f) (shows u) shown
 
 -- So it ended for each answer that counts.
 pub record EndedOver (holds : Option Holdings) (f : Holdings → World → Answer)

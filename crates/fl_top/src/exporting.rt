@@ -6,7 +6,7 @@ ghost use Rattle.fp_host.specs.Moments.{Goes, Rose};
 ghost use Rattle.fp_host.specs.Remote.{Holdings};
 ghost use Rattle.fl_words.specs.declared.command.Command.TheVariants.{Export as Exporting};
 ghost use Rattle.fl_make.specs.Making.{CanMake};
-ghost use Rattle.fl_top.specs.Runs.{told};
+ghost use Rattle.fl_top.specs.Runs.{told_start};
 ghost use Rattle.fl_top.specs.RunsOver.{RunsOn, EndedOn, TakenBy};
 
 use crate::command_end::CommandEnd;
@@ -30,9 +30,9 @@ pub(crate) fn export<T: Threads + Sync, H: Host, I: Source>(
 ) -> Result<(), CommandEnd>
     ensures any_moment { (holds : Option Holdings) → Goes (H.moments host.old) (H.moments host.new)
         (RunsOn (Exporting remote.now name.now)
-        (told (I.left input.old) holds (H.moments host.old)))
+        (told_start (I.left input.old) holds (H.moments host.old)))
         (EndedOn (Exporting remote.now name.now)
-        (told (I.left input.old) holds (H.moments host.old)) result) }
+        (told_start (I.left input.old) holds (H.moments host.old)) result) }
     ensures fault_has_cause { IsCaused (IsErrOf result CommandEnd.Fault) (H.moments host.old)
         (CanMake remote.now name.now) (H.faults host.old) (H.faults host.new) }
     ensures no_remote_fault { IsErrOf result CommandEnd.RemoteFault → ⊥ }

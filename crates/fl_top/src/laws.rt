@@ -16,7 +16,7 @@ ghost use Rattle.fl_export.specs.Placed.{ExportsAre};
 ghost use Rattle.fl_export.specs.Sample as sample;
 ghost use Rattle.fl_change.specs.Answer.{text_answer, ops_of};
 ghost use Rattle.fl_change.specs.Changes.{IsStill};
-ghost use Rattle.fl_top.specs.Answer.{answer, listed, Given, IsOver};
+ghost use Rattle.fl_top.specs.Answer.{answer, listing_answer, Given, IsOver};
 ghost use Rattle.fl_top.specs.Exports.{IsInStep};
 ghost use Rattle.fl_top.specs.ExportSample.{desktop_text, placed_disk, stale_disk, listed_text};
 ghost use Rattle.fl_change.specs.World.{World};
@@ -81,7 +81,7 @@ pub fn idle_updates_write_nothing()
 
 /// What `list --exports` prints of a small application.
 pub fn exports_are_listed()
-    ensures { listed listings.Exports (record {
+    ensures { listing_answer listings.Exports (record {
       state = sample.state (sample.row sample.stable ∷ []);
       have = sample.have;
     }) ≡ text_answer listed_text }

@@ -10,7 +10,7 @@ ghost use Rattle.dep_states.specs.After.{row_at};
 ghost use Rattle.fl_export.specs.Exported.{exported};
 ghost use Rattle.fl_installed.specs.Described.{info_in as info_of};
 ghost use Rattle.fl_sandbox.specs.Launching.{launch_in as launch_over};
-ghost use Rattle.fl_top.specs.Answer.{listed, known_of, told_of, launched_of, override_text as text_of_override};
+ghost use Rattle.fl_top.specs.Answer.{listing_answer, known_of, told_of, launched_of, override_text as text_of_override};
 ghost use Rattle.fl_top.specs.Ends.{PrintsOf};
 ghost use Rattle.fl_top.specs.Exports.{exports_text as text_of_exports, row_line as line_of_row};
 ghost use Rattle.fl_top.specs.RunsOver.{LooksOver, LookedOver};
@@ -33,7 +33,7 @@ use std::alloc::{AllocError, Global};
 /// Prints what is listed.
 pub(crate) fn list<H: Host>(alloc: Global, host: &mut H, listing: Listing) -> Result<(), RunEnd>
     ensures any_moment { Goes (H.moments host.old) (H.moments host.new)
-        (LooksOver (listed listing)) (LookedOver (listed listing) result) }
+        (LooksOver (listing_answer listing)) (LookedOver (listing_answer listing) result) }
     ensures fault_has_cause { IsCounted (IsErrOf result RunEnd.Fault)
         (H.moments host.old) (H.faults host.old) (H.faults host.new) }
     ensures no_remote_fault { IsErrOf result RunEnd.RemoteFault → ⊥ }
@@ -53,7 +53,7 @@ fn listed_text<H: Host>(
 ) -> Result<Text, RunEnd>
     ensures unchanged { Unchanged (H.moments host.old) (H.moments host.new) }
     ensures tells { (have : Have) → Stores repo (H.moments host.old) have
-        → PrintsOf (listed listing (record { state = state.now; have = have })) result }
+        → PrintsOf (listing_answer listing (record { state = state.now; have = have })) result }
     ensures fault_has_cause { IsCounted (IsErrOf result RunEnd.Fault)
         (H.moments host.old) (H.faults host.old) (H.faults host.new) }
     ensures no_remote_fault { IsErrOf result RunEnd.RemoteFault → ⊥ }

@@ -17,7 +17,7 @@ ghost use Rattle.fl_top.specs.Exports.{IsInStep};
 ghost use Rattle.fl_top.specs.Asked.{OpsBy, AsksFor, AreToldFor, AsksRemotes};
 ghost use Rattle.fl_top.specs.Exercises.{IsRun};
 ghost use Rattle.fl_top.specs.RunsOver.{RunsOver, EndedOver, RunsOn, EndedOn, RanOn, Takes, TakenBy, IsClosedBy};
-ghost use Rattle.fl_top.specs.Runs.{Checks, IsChange, told, WasTaken, IsReady, HasCauses};
+ghost use Rattle.fl_top.specs.Runs.{Checks, IsChange, told_start, WasTaken, IsReady, HasCauses};
 ghost use Rattle.fl_top.specs.Status.{IsStatus, IsAnswered, IsOfWords, IsOfCommand, changes_state, reads_input};
 
 use crate::checking::check;
@@ -152,8 +152,8 @@ pub(crate) fn run_command<T: Threads + Sync, H: Host, R: Remotes, I: Source, G: 
 ) -> u8
     ensures status { IsOfCommand command result }
     ensures any_moment { Goes (H.moments host.old) (H.moments host.new)
-        (RunsOn command (told (I.left input.old) (R.holds remotes.old) (H.moments host.old)))
-        (RanOn command (told (I.left input.old) (R.holds remotes.old) (H.moments host.old))
+        (RunsOn command (told_start (I.left input.old) (R.holds remotes.old) (H.moments host.old)))
+        (RanOn command (told_start (I.left input.old) (R.holds remotes.old) (H.moments host.old))
         result) }
     ensures fault_has_cause { IsCaused (AreToldFor (OpsBy command (I.left input.old))
         (R.holds remotes.old) × (result ≡ 3)) (H.moments host.old) (HasCauses (Some command))
@@ -192,8 +192,8 @@ fn perform<T: Threads + Sync, H: Host, R: Remotes, I: Source, G: Gate + Sync>(
     gate: &G,
 ) -> Result<(), CommandEnd>
     ensures any_moment { Goes (H.moments host.old) (H.moments host.new)
-        (RunsOn command (told (I.left input.old) (R.holds remotes.old) (H.moments host.old)))
-        (EndedOn command (told (I.left input.old) (R.holds remotes.old) (H.moments host.old))
+        (RunsOn command (told_start (I.left input.old) (R.holds remotes.old) (H.moments host.old)))
+        (EndedOn command (told_start (I.left input.old) (R.holds remotes.old) (H.moments host.old))
         result) }
     ensures fault_has_cause { IsCaused (AreToldFor (OpsBy command (I.left input.old))
         (R.holds remotes.old) × IsErrOf result CommandEnd.Fault) (H.moments host.old)
@@ -234,8 +234,8 @@ fn show<H: Host, I: Source>(
     thing: &Shown,
 ) -> Result<(), CommandEnd>
     ensures any_moment { (holds : Option Holdings) → Goes (H.moments host.old) (H.moments host.new)
-        (RunsOn (Showing thing.now) (told (I.left input.old) holds (H.moments host.old)))
-        (EndedOn (Showing thing.now) (told (I.left input.old) holds (H.moments host.old)) result) }
+        (RunsOn (Showing thing.now) (told_start (I.left input.old) holds (H.moments host.old)))
+        (EndedOn (Showing thing.now) (told_start (I.left input.old) holds (H.moments host.old)) result) }
     ensures fault_has_cause { IsCounted (IsErrOf result CommandEnd.Fault)
         (H.moments host.old) (H.faults host.old) (H.faults host.new) }
     ensures no_remote_fault { IsErrOf result CommandEnd.RemoteFault → ⊥ }
@@ -258,8 +258,8 @@ fn filter<H: Host, I: Source>(
     source: &PolicySource,
 ) -> Result<(), CommandEnd>
     ensures any_moment { (holds : Option Holdings) → Goes (H.moments host.old) (H.moments host.new)
-        (RunsOn (Filtering source.now) (told (I.left input.old) holds (H.moments host.old)))
-        (EndedOn (Filtering source.now) (told (I.left input.old) holds (H.moments host.old))
+        (RunsOn (Filtering source.now) (told_start (I.left input.old) holds (H.moments host.old)))
+        (EndedOn (Filtering source.now) (told_start (I.left input.old) holds (H.moments host.old))
         result) }
     ensures fault_has_cause { IsCounted (IsErrOf result CommandEnd.Fault)
         (H.moments host.old) (H.faults host.old) (H.faults host.new) }
@@ -283,8 +283,8 @@ fn batch<T: Threads + Sync, H: Host, R: Remotes, I: Source>(
     remotes: &mut R,
 ) -> Result<(), CommandEnd>
     ensures any_moment { Goes (H.moments host.old) (H.moments host.new)
-        (RunsOn Batch (told (I.left input.old) (R.holds remotes.old) (H.moments host.old)))
-        (EndedOn Batch (told (I.left input.old) (R.holds remotes.old) (H.moments host.old))
+        (RunsOn Batch (told_start (I.left input.old) (R.holds remotes.old) (H.moments host.old)))
+        (EndedOn Batch (told_start (I.left input.old) (R.holds remotes.old) (H.moments host.old))
         result) }
     ensures exports { OnOk result (AreToldFor (OpsBy Batch (I.left input.old))
         (R.holds remotes.old) → AtEnd (λ u w. IsSound u → IsInStep (R.holds remotes.old) w)

@@ -7,7 +7,7 @@ use Rattle.fl_change.specs.Says.{Says, SaidBy}
 use Rattle.fl_make.specs.Making.{Makes, WasMade, IsMakeFault}
 use Rattle.fl_make.specs.declared.end.MakeEnd.{MakeEnd}
 use Rattle.fl_top.specs.Ends.{end_of_input}
-use Rattle.fl_top.specs.Runs.{told}
+use Rattle.fl_top.specs.Runs.{told_start}
 use Rattle.fl_top.proofs.Finishing.{goes_none, input_ends, input_failed, input_remote, run_input, drained_by, not_taken, caused_after}
 use Rattle.fl_top.proofs.ShowInput.{said_fault, said_remote}
 use Rattle.fl_top.proofs.Making.{made_in, make_input, goes_not_made, goes_made, goes_not_said, make_fault, make_remote_fault, make_input_fault}
@@ -17,7 +17,7 @@ use Rattle.fl_top.proofs.exporting.export.Goals as goal
 
 pub returns-in_err-given-clause-any_moment : goal.returns-in_err-given-clause-any_moment
 returns-in_err-given-clause-any_moment g c = λ holds.
-    let t = told (g.I.Source.left c.args.input.now) holds (g.H.Host.moments c.args.host.now) in
+    let t = told_start (g.I.Source.left c.args.input.now) holds (g.H.Host.moments c.args.host.now) in
     goes_none (Exporting c.args.remote.now c.args.name.now) t (end_of_input c.in_err-given.field-0.0) c.from_residual.result (g.met.H.Host.is_tree c.args.host.now) c.from_residual.ensures.1
     (input_ends (Exporting c.args.remote.now c.args.name.now) made_in (make_input c.args.remote.now c.args.name.now) t (g.I.Source.faults c.args.input.now) (g.I.Source.faults c.read_input.new.input) c.in_err-given.field-0.0 c.in_err-given.ensures.stops)
 
@@ -34,7 +34,7 @@ returns-in_err-given-clause-taken g c = not_taken c.in_err-given.field-0.0 c.fro
 
 pub returns-in_err-line-clause-any_moment : goal.returns-in_err-line-clause-any_moment
 returns-in_err-line-clause-any_moment g c = λ holds.
-    let t = told (g.I.Source.left c.args.input.now) holds (g.H.Host.moments c.args.host.now) in
+    let t = told_start (g.I.Source.left c.args.input.now) holds (g.H.Host.moments c.args.host.now) in
     let e = c.in_err-line.field-0.0 in
     let bytes = c.in_ok-given.given in
     let a = g.H.Host.moments c.args.host.now in
@@ -64,7 +64,7 @@ returns-in_err-line-clause-taken g c = drained_by c.from_residual-in_err-line.re
 
 pub returns-in_err-say-clause-any_moment : goal.returns-in_err-say-clause-any_moment
 returns-in_err-say-clause-any_moment g c = λ holds.
-    let t = told (g.I.Source.left c.args.input.now) holds (g.H.Host.moments c.args.host.now) in
+    let t = told_start (g.I.Source.left c.args.input.now) holds (g.H.Host.moments c.args.host.now) in
     let bytes = c.in_ok-given.given in
     let line = c.in_ok-line.line in
     let a = g.H.Host.moments c.args.host.now in
@@ -96,7 +96,7 @@ returns-in_err-say-clause-taken g c = drained_by c.from_residual-in_err-say.resu
 
 pub returns-clause-any_moment : goal.returns-clause-any_moment
 returns-clause-any_moment g c = λ holds.
-    let t = told (g.I.Source.left c.args.input.now) holds (g.H.Host.moments c.args.host.now) in
+    let t = told_start (g.I.Source.left c.args.input.now) holds (g.H.Host.moments c.args.host.now) in
     let bytes = c.in_ok-given.given in
     let line = c.in_ok-line.line in
     let a = g.H.Host.moments c.args.host.now in

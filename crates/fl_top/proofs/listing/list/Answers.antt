@@ -1,10 +1,10 @@
 use Rattle.std.proofs.Common.{rules, ◌≡◌, ℕ, List, Ok, sym, subst}
-use Rattle.fl_top.specs.Answer.{listed}
+use Rattle.fl_top.specs.Answer.{listing_answer}
 use Rattle.fl_top.proofs.Listed.{TellsOver, goes_not_read, goes_not_listed, goes_not_told, goes_told}
 use Rattle.fl_top.proofs.listing.list.Goals as goal
 
 pub returns-in_err-state-clause-any_moment : goal.returns-in_err-state-clause-any_moment
-returns-in_err-state-clause-any_moment g c = goes_not_read (listed c.args.listing) c.in_err-state.field-0.0 c.from_residual.result (g.met.H.Host.is_tree c.args.host.now) c.read_state.ensures.unchanged c.in_err-state.ensures.tells c.from_residual.ensures.1
+returns-in_err-state-clause-any_moment g c = goes_not_read (listing_answer c.args.listing) c.in_err-state.field-0.0 c.from_residual.result (g.met.H.Host.is_tree c.args.host.now) c.read_state.ensures.unchanged c.in_err-state.ensures.tells c.from_residual.ensures.1
 
 pub returns-in_err-text-clause-any_moment : goal.returns-in_err-text-clause-any_moment
 returns-in_err-text-clause-any_moment g c =

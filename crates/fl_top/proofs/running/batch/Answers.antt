@@ -10,7 +10,7 @@ use Rattle.fl_words.specs.declared.command.Command.TheVariants.{Batch}
 use Rattle.fl_change.specs.Turns.{changing, MayDo}
 use Rattle.fl_change.specs.declared.end.RunEnd.TheVariants as run
 use Rattle.fl_top.specs.Asked.{OpsBy, AreToldFor, AsksRemotes}
-use Rattle.fl_top.specs.Runs.{told, IsReady}
+use Rattle.fl_top.specs.Runs.{told_start, IsReady}
 use Rattle.fl_top.specs.Ends.{end_of_input, end_of_batch}
 use Rattle.fl_top.specs.RunsOver.{RunsOver, EndedOver}
 use Rattle.fl_top.specs.declared.command_end.CommandEnd.TheVariants.{RemoteFault}
@@ -20,7 +20,7 @@ use Rattle.fl_top.proofs.running.batch.Goals as goal
 
 pub returns-in_err-bytes-clause-any_moment : goal.returns-in_err-bytes-clause-any_moment
 returns-in_err-bytes-clause-any_moment g c =
-    let t = told (g.I.Source.left c.args.input.now) (g.R.Remotes.holds c.args.remotes.now) (g.H.Host.moments c.args.host.now) in
+    let t = told_start (g.I.Source.left c.args.input.now) (g.R.Remotes.holds c.args.remotes.now) (g.H.Host.moments c.args.host.now) in
     goes_none Batch t (end_of_input c.in_err-bytes.field-0.0) c.from_residual.result (g.met.H.Host.is_tree c.args.host.now) c.from_residual.ensures.1 (input_ends Batch batch_by batch_input t (g.I.Source.faults c.args.input.now) (g.I.Source.faults c.read_input.new.input) c.in_err-bytes.field-0.0 c.in_err-bytes.ensures.stops)
 
 pub returns-in_err-bytes-clause-remotes : goal.returns-in_err-bytes-clause-remotes
@@ -31,7 +31,7 @@ returns-in_err-bytes-clause-input g c = input_failed (g.I.Source.left c.args.inp
 
 pub returns-in_err-changes-clause-any_moment : goal.returns-in_err-changes-clause-any_moment
 returns-in_err-changes-clause-any_moment g c =
-    let t = told (g.I.Source.left c.args.input.now) (g.R.Remotes.holds c.args.remotes.now) (g.H.Host.moments c.args.host.now) in
+    let t = told_start (g.I.Source.left c.args.input.now) (g.R.Remotes.holds c.args.remotes.now) (g.H.Host.moments c.args.host.now) in
     let bad : IsBadBatch c.in_ok-bytes.bytes c.in_err-changes.field-0.0 = subst (λ (b : List ℕ). IsBadBatch b c.in_err-changes.field-0.0) c.as_slice.ensures c.in_err-changes.ensures.bad in
     goes_none Batch t (end_of_batch c.in_err-changes.field-0.0) c.from_residual-in_err-changes.result (g.met.H.Host.is_tree c.args.host.now) c.from_residual-in_err-changes.ensures.1 (batch_ends t c.in_ok-bytes.bytes c.in_err-changes.field-0.0 c.in_ok-bytes.ensures.ok bad)
 
@@ -41,7 +41,7 @@ returns-in_err-changes-clause-remotes g c = not_asked (OpsBy Batch (g.I.Source.l
 pub returns-in_err-make_changes-clause-any_moment : goal.returns-in_err-make_changes-clause-any_moment
 returns-in_err-make_changes-clause-any_moment g c =
     let holds = g.R.Remotes.holds c.args.remotes.now in
-    let t = told (g.I.Source.left c.args.input.now) holds (g.H.Host.moments c.args.host.now) in
+    let t = told_start (g.I.Source.left c.args.input.now) holds (g.H.Host.moments c.args.host.now) in
     let commands : c.as_slice-2.result.now ≡ c.in_ok-changes.changes = c.as_slice-2.ensures in
     let read : batch_of c.in_ok-bytes.bytes ≡ Ok c.in_ok-changes.changes = subst (λ (b : List ℕ). batch_of b ≡ Ok c.in_ok-changes.changes) c.as_slice.ensures c.in_ok-changes.ensures.ok in
     let changed = subst (λ (l : List Change). Goes (g.H.Host.moments c.args.host.now) (g.H.Host.moments c.make_changes.new.host) (RunsOver holds (MayDo l) (changing l)) (EndedOver holds (changing l) (Err c.in_err-make_changes.field-0.0))) commands c.in_err-make_changes.ensures.any_moment in
@@ -50,7 +50,7 @@ returns-in_err-make_changes-clause-any_moment g c =
 pub returns-in_err-make_changes-clause-fault_has_cause : goal.returns-in_err-make_changes-clause-fault_has_cause
 returns-in_err-make_changes-clause-fault_has_cause g c =
     let holds = g.R.Remotes.holds c.args.remotes.now in
-    let t = told (g.I.Source.left c.args.input.now) holds (g.H.Host.moments c.args.host.now) in
+    let t = told_start (g.I.Source.left c.args.input.now) holds (g.H.Host.moments c.args.host.now) in
     let read : batch_of c.in_ok-bytes.bytes ≡ Ok c.in_ok-changes.changes = subst (λ (b : List ℕ). batch_of b ≡ Ok c.in_ok-changes.changes) c.as_slice.ensures c.in_ok-changes.ensures.ok in
     let known : IsChanging Batch t (MayDo c.in_ok-changes.changes) (changing c.in_ok-changes.changes) = batch_changes t c.in_ok-bytes.bytes c.in_ok-changes.changes c.in_ok-bytes.ensures.ok read in
     let cause = subst (λ (l : List Change). IsCaused (AreToldFor (MayDo l) holds × IsErrOf c.make_changes.result run.Fault) (g.H.Host.moments c.args.host.now) IsReady (g.H.Host.faults c.args.host.now) (g.H.Host.faults c.make_changes.new.host)) c.as_slice-2.ensures c.make_changes.ensures.fault_has_cause in
@@ -62,7 +62,7 @@ returns-in_err-make_changes-clause-fault_has_cause g c =
 pub returns-in_err-make_changes-clause-remotes : goal.returns-in_err-make_changes-clause-remotes
 returns-in_err-make_changes-clause-remotes g c =
     let holds = g.R.Remotes.holds c.args.remotes.now in
-    let t = told (g.I.Source.left c.args.input.now) holds (g.H.Host.moments c.args.host.now) in
+    let t = told_start (g.I.Source.left c.args.input.now) holds (g.H.Host.moments c.args.host.now) in
     let read : batch_of c.in_ok-bytes.bytes ≡ Ok c.in_ok-changes.changes = subst (λ (b : List ℕ). batch_of b ≡ Ok c.in_ok-changes.changes) c.as_slice.ensures c.in_ok-changes.ensures.ok in
     let known : IsChanging Batch t (MayDo c.in_ok-changes.changes) (changing c.in_ok-changes.changes) = batch_changes t c.in_ok-bytes.bytes c.in_ok-changes.changes c.in_ok-bytes.ensures.ok read in
     let asks = subst (λ (l : List Change). AsksRemotes (MayDo l) (IsErrOf c.make_changes.result run.RemoteFault) holds (g.R.Remotes.holds c.make_changes.new.remotes) (g.R.Remotes.faults c.args.remotes.now) (g.R.Remotes.faults c.make_changes.new.remotes)) c.as_slice-2.ensures c.make_changes.ensures.remotes in
@@ -71,7 +71,7 @@ returns-in_err-make_changes-clause-remotes g c =
 pub returns-clause-any_moment : goal.returns-clause-any_moment
 returns-clause-any_moment g c =
     let holds = g.R.Remotes.holds c.args.remotes.now in
-    let t = told (g.I.Source.left c.args.input.now) holds (g.H.Host.moments c.args.host.now) in
+    let t = told_start (g.I.Source.left c.args.input.now) holds (g.H.Host.moments c.args.host.now) in
     let commands : c.as_slice-2.result.now ≡ c.in_ok-changes.changes = c.as_slice-2.ensures in
     let read : batch_of c.in_ok-bytes.bytes ≡ Ok c.in_ok-changes.changes = subst (λ (b : List ℕ). batch_of b ≡ Ok c.in_ok-changes.changes) c.as_slice.ensures c.in_ok-changes.ensures.ok in
     let changed = subst (λ (l : List Change). Goes (g.H.Host.moments c.args.host.now) (g.H.Host.moments c.make_changes.new.host) (RunsOver holds (MayDo l) (changing l)) (EndedOver holds (changing l) (Ok tt))) commands c.in_ok-make_changes.ensures.any_moment in
@@ -80,7 +80,7 @@ returns-clause-any_moment g c =
 pub returns-clause-remotes : goal.returns-clause-remotes
 returns-clause-remotes g c =
     let holds = g.R.Remotes.holds c.args.remotes.now in
-    let t = told (g.I.Source.left c.args.input.now) holds (g.H.Host.moments c.args.host.now) in
+    let t = told_start (g.I.Source.left c.args.input.now) holds (g.H.Host.moments c.args.host.now) in
     let read : batch_of c.in_ok-bytes.bytes ≡ Ok c.in_ok-changes.changes = subst (λ (b : List ℕ). batch_of b ≡ Ok c.in_ok-changes.changes) c.as_slice.ensures c.in_ok-changes.ensures.ok in
     let known : IsChanging Batch t (MayDo c.in_ok-changes.changes) (changing c.in_ok-changes.changes) = batch_changes t c.in_ok-bytes.bytes c.in_ok-changes.changes c.in_ok-bytes.ensures.ok read in
     let asks = subst (λ (l : List Change). AsksRemotes (MayDo l) (IsErrOf c.make_changes.result run.RemoteFault) holds (g.R.Remotes.holds c.make_changes.new.remotes) (g.R.Remotes.faults c.args.remotes.now) (g.R.Remotes.faults c.make_changes.new.remotes)) c.as_slice-2.ensures c.make_changes.ensures.remotes in
@@ -101,7 +101,7 @@ returns-clause-taken g c = drained_by (Ok tt) (g.I.Source.left c.args.input.now)
 pub returns-clause-exports : goal.returns-clause-exports
 returns-clause-exports g c tells =
     let holds = g.R.Remotes.holds c.args.remotes.now in
-    let t = told (g.I.Source.left c.args.input.now) holds (g.H.Host.moments c.args.host.now) in
+    let t = told_start (g.I.Source.left c.args.input.now) holds (g.H.Host.moments c.args.host.now) in
     let read : batch_of c.in_ok-bytes.bytes ≡ Ok c.in_ok-changes.changes = subst (λ (b : List ℕ). batch_of b ≡ Ok c.in_ok-changes.changes) c.as_slice.ensures c.in_ok-changes.ensures.ok in
     let known : IsChanging Batch t (MayDo c.in_ok-changes.changes) (changing c.in_ok-changes.changes) = batch_changes t c.in_ok-bytes.bytes c.in_ok-changes.changes c.in_ok-bytes.ensures.ok read in
     let stand = subst (λ (l : List Change). AreToldFor (MayDo l) holds → AtEnd (λ u w. IsSound u → IsInStep holds w) (g.H.Host.moments c.args.host.now) (g.H.Host.moments c.make_changes.new.host)) c.as_slice-2.ensures c.in_ok-make_changes.ensures.exports in

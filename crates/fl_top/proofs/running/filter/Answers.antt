@@ -2,7 +2,7 @@ use Rattle.std.proofs.Common.{subst, List, ℕ, Ok, Err, refl}
 use Rattle.fp_host.specs.Moments.{Goes}
 use Rattle.fl_words.specs.declared.command.Command.TheVariants.{Filter as Filtering}
 use Rattle.fl_top.specs.Ends.{end_of_input}
-use Rattle.fl_top.specs.Runs.{told}
+use Rattle.fl_top.specs.Runs.{told_start}
 use Rattle.fl_top.specs.Telling.{LooksBy, LookedBy}
 use Rattle.fl_top.proofs.Finishing.{goes_none, input_failed, input_ends, run_input, run_fault, run_remote, drained_by, not_taken}
 use Rattle.fl_top.proofs.Forwarding.{answers, by_source, source_input, source_answer, goes_told, goes_not_told}
@@ -10,7 +10,7 @@ use Rattle.fl_top.proofs.running.filter.Goals as goal
 
 pub returns-in_err-bytes-clause-any_moment : goal.returns-in_err-bytes-clause-any_moment
 returns-in_err-bytes-clause-any_moment g c = λ holds.
-    let t = told (g.I.Source.left c.args.input.now) holds (g.H.Host.moments c.args.host.now) in
+    let t = told_start (g.I.Source.left c.args.input.now) holds (g.H.Host.moments c.args.host.now) in
     let command = Filtering c.args.source.now in
     goes_none command t (end_of_input c.in_err-bytes.field-0.0) c.from_residual.result (g.met.H.Host.is_tree c.args.host.now) c.from_residual.ensures.1
     (input_ends command (by_source c.args.source.now) (source_input c.args.source.now) t (g.I.Source.faults c.args.input.now) (g.I.Source.faults c.read_input.new.input) c.in_err-bytes.field-0.0 c.in_err-bytes.ensures.stops)
@@ -25,7 +25,7 @@ returns-in_err-bytes-clause-taken g c =
 
 pub returns-in_err-filter_bytes-clause-any_moment : goal.returns-in_err-filter_bytes-clause-any_moment
 returns-in_err-filter_bytes-clause-any_moment g c = λ holds.
-    let t = told (g.I.Source.left c.args.input.now) holds (g.H.Host.moments c.args.host.now) in
+    let t = told_start (g.I.Source.left c.args.input.now) holds (g.H.Host.moments c.args.host.now) in
     let command = Filtering c.args.source.now in
     let e = c.in_err-filter_bytes.field-0.0 in
     let by = answers c.args.source.now c.in_ok-bytes.bytes in
@@ -52,7 +52,7 @@ returns-in_err-filter_bytes-clause-taken g c = drained_by c.from_residual-in_err
 
 pub returns-clause-any_moment : goal.returns-clause-any_moment
 returns-clause-any_moment g c = λ holds.
-    let t = told (g.I.Source.left c.args.input.now) holds (g.H.Host.moments c.args.host.now) in
+    let t = told_start (g.I.Source.left c.args.input.now) holds (g.H.Host.moments c.args.host.now) in
     let command = Filtering c.args.source.now in
     let by = answers c.args.source.now c.in_ok-bytes.bytes in
     let m = g.H.Host.moments c.args.host.now in

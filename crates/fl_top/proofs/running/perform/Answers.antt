@@ -8,11 +8,11 @@ use Rattle.fl_top.specs.Exports.{IsInStep}
 use Rattle.fl_words.specs.declared.command.Command.{Command}
 use Rattle.fl_words.specs.declared.command.Command.TheVariants.{Change as Changing, List as Listed, Show as Showing, Filter as Filtering, Batch, Fsck, Export as Exporting, Exercise as Exercising}
 use Rattle.fl_top.specs.Asked.{OpsBy, AreToldFor, AsksRemotes}
-use Rattle.fl_top.specs.Runs.{told, HasCauses, IsFreeFor}
+use Rattle.fl_top.specs.Runs.{told_start, HasCauses, IsFreeFor}
 use Rattle.fl_gen.specs.Exercise.{exercise_changes}
 use Rattle.fl_change.specs.Turns.{changing, MayDo}
 use Rattle.fl_exercise.specs.Exercising.{exercising}
-use Rattle.fl_top.specs.Answer.{listed}
+use Rattle.fl_top.specs.Answer.{listing_answer}
 use Rattle.fl_top.specs.RunsOver.{RunsOn, EndedOn}
 use Rattle.fl_top.specs.Status.{checks_store}
 use Rattle.fl_top.specs.Ends.{end_of_run}
@@ -28,7 +28,7 @@ use Rattle.fl_top.proofs.running.perform.Goals as goal
 
 pub returns-in_err-make_changes-in-Change-clause-any_moment : goal.returns-in_err-make_changes-in-Change-clause-any_moment
 returns-in_err-make_changes-in-Change-clause-any_moment g c =
-    let t = told (g.I.Source.left c.args.input.now) (g.R.Remotes.holds c.args.remotes.now) (g.H.Host.moments c.args.host.now) in
+    let t = told_start (g.I.Source.left c.args.input.now) (g.R.Remotes.holds c.args.remotes.now) (g.H.Host.moments c.args.host.now) in
     let a = g.H.Host.moments c.args.host.now in
     let b = g.H.Host.moments c.make_changes.new.host in
     let r = c.from_residual.result in
@@ -37,7 +37,7 @@ returns-in_err-make_changes-in-Change-clause-any_moment g c =
 
 pub returns-in_ok-make_changes-in-Change-clause-any_moment : goal.returns-in_ok-make_changes-in-Change-clause-any_moment
 returns-in_ok-make_changes-in-Change-clause-any_moment g c =
-    let t = told (g.I.Source.left c.args.input.now) (g.R.Remotes.holds c.args.remotes.now) (g.H.Host.moments c.args.host.now) in
+    let t = told_start (g.I.Source.left c.args.input.now) (g.R.Remotes.holds c.args.remotes.now) (g.H.Host.moments c.args.host.now) in
     let a = g.H.Host.moments c.args.host.now in
     let b = g.H.Host.moments c.make_changes.new.host in
     subst (λ (k : Command). Goes a b (RunsOn k t) (EndedOn k t (Ok tt))) (sym c.in-Change.is)
@@ -69,20 +69,20 @@ returns-in_ok-make_changes-in-Change-clause-remotes g c =
 
 pub returns-in_err-list-in-List-clause-any_moment : goal.returns-in_err-list-in-List-clause-any_moment
 returns-in_err-list-in-List-clause-any_moment g c =
-    let t = told (g.I.Source.left c.args.input.now) (g.R.Remotes.holds c.args.remotes.now) (g.H.Host.moments c.args.host.now) in
+    let t = told_start (g.I.Source.left c.args.input.now) (g.R.Remotes.holds c.args.remotes.now) (g.H.Host.moments c.args.host.now) in
     let a = g.H.Host.moments c.args.host.now in
     let b = g.H.Host.moments c.list.new.host in
     let r = c.from_residual-in_err-list-in-List.result in
     subst (λ (k : Command). Goes a b (RunsOn k t) (EndedOn k t r)) (sym c.in-List.is)
-    (goes_not_looked (Listed c.in-List.listing) t (listed c.in-List.listing) c.in_err-list-in-List.field-0.0 r (g.met.H.Host.is_tree c.args.host.now) refl (λ given u. refl) c.in_err-list-in-List.ensures.any_moment c.from_residual-in_err-list-in-List.ensures.1)
+    (goes_not_looked (Listed c.in-List.listing) t (listing_answer c.in-List.listing) c.in_err-list-in-List.field-0.0 r (g.met.H.Host.is_tree c.args.host.now) refl (λ given u. refl) c.in_err-list-in-List.ensures.any_moment c.from_residual-in_err-list-in-List.ensures.1)
 
 pub returns-in_ok-list-in-List-clause-any_moment : goal.returns-in_ok-list-in-List-clause-any_moment
 returns-in_ok-list-in-List-clause-any_moment g c =
-    let t = told (g.I.Source.left c.args.input.now) (g.R.Remotes.holds c.args.remotes.now) (g.H.Host.moments c.args.host.now) in
+    let t = told_start (g.I.Source.left c.args.input.now) (g.R.Remotes.holds c.args.remotes.now) (g.H.Host.moments c.args.host.now) in
     let a = g.H.Host.moments c.args.host.now in
     let b = g.H.Host.moments c.list.new.host in
     subst (λ (k : Command). Goes a b (RunsOn k t) (EndedOn k t (Ok tt))) (sym c.in-List.is)
-    (goes_look (Listed c.in-List.listing) t (listed c.in-List.listing) (g.met.H.Host.is_tree c.args.host.now) refl (λ given u. refl) c.in_ok-list-in-List.ensures.any_moment)
+    (goes_look (Listed c.in-List.listing) t (listing_answer c.in-List.listing) (g.met.H.Host.is_tree c.args.host.now) refl (λ given u. refl) c.in_ok-list-in-List.ensures.any_moment)
 
 pub returns-in-Batch-clause-fault_has_cause : goal.returns-in-Batch-clause-fault_has_cause
 returns-in-Batch-clause-fault_has_cause g c =
@@ -100,7 +100,7 @@ returns-in-Batch-clause-remotes g c =
 
 pub returns-in_err-check-in-Fsck-clause-any_moment : goal.returns-in_err-check-in-Fsck-clause-any_moment
 returns-in_err-check-in-Fsck-clause-any_moment g c =
-    let t = told (g.I.Source.left c.args.input.now) (g.R.Remotes.holds c.args.remotes.now) (g.H.Host.moments c.args.host.now) in
+    let t = told_start (g.I.Source.left c.args.input.now) (g.R.Remotes.holds c.args.remotes.now) (g.H.Host.moments c.args.host.now) in
     let a = g.H.Host.moments c.args.host.now in
     let b = g.H.Host.moments c.check.new.host in
     let r = c.from_residual-in_err-check-in-Fsck.result in
@@ -109,7 +109,7 @@ returns-in_err-check-in-Fsck-clause-any_moment g c =
 
 pub returns-in_ok-check-in-Fsck-clause-any_moment : goal.returns-in_ok-check-in-Fsck-clause-any_moment
 returns-in_ok-check-in-Fsck-clause-any_moment g c =
-    let t = told (g.I.Source.left c.args.input.now) (g.R.Remotes.holds c.args.remotes.now) (g.H.Host.moments c.args.host.now) in
+    let t = told_start (g.I.Source.left c.args.input.now) (g.R.Remotes.holds c.args.remotes.now) (g.H.Host.moments c.args.host.now) in
     let a = g.H.Host.moments c.args.host.now in
     let b = g.H.Host.moments c.check.new.host in
     subst (λ (k : Command). Goes a b (RunsOn k t) (EndedOn k t (Ok tt))) (sym c.in-Fsck.is) (goes_check t refl c.in_ok-check-in-Fsck.ensures.any_moment)
@@ -187,7 +187,7 @@ returns-in-Batch-clause-exports g c change =
 pub returns-in-Export-clause-any_moment : goal.returns-in-Export-clause-any_moment
 returns-in-Export-clause-any_moment g c =
     let holds = g.R.Remotes.holds c.args.remotes.now in
-    let t = told (g.I.Source.left c.args.input.now) holds (g.H.Host.moments c.args.host.now) in
+    let t = told_start (g.I.Source.left c.args.input.now) holds (g.H.Host.moments c.args.host.now) in
     let a = g.H.Host.moments c.args.host.now in
     let b = g.H.Host.moments c.export.new.host in
     subst (λ (k : Command). Goes a b (RunsOn k t) (EndedOn k t c.export.result)) (sym c.in-Export.is) (c.export.ensures.any_moment holds)
@@ -210,7 +210,7 @@ returns-in-Export-clause-exports g c change = absurd (not_changes c.args.command
 
 pub returns-in_err-exercise-in-Exercise-clause-any_moment : goal.returns-in_err-exercise-in-Exercise-clause-any_moment
 returns-in_err-exercise-in-Exercise-clause-any_moment g c =
-    let t = told (g.I.Source.left c.args.input.now) (g.R.Remotes.holds c.args.remotes.now) (g.H.Host.moments c.args.host.now) in
+    let t = told_start (g.I.Source.left c.args.input.now) (g.R.Remotes.holds c.args.remotes.now) (g.H.Host.moments c.args.host.now) in
     let a = g.H.Host.moments c.args.host.now in
     let b = g.H.Host.moments c.exercise.new.host in
     let r = c.from_residual-in_err-exercise-in-Exercise.result in
@@ -220,7 +220,7 @@ returns-in_err-exercise-in-Exercise-clause-any_moment g c =
 
 pub returns-in_ok-exercise-in-Exercise-clause-any_moment : goal.returns-in_ok-exercise-in-Exercise-clause-any_moment
 returns-in_ok-exercise-in-Exercise-clause-any_moment g c =
-    let t = told (g.I.Source.left c.args.input.now) (g.R.Remotes.holds c.args.remotes.now) (g.H.Host.moments c.args.host.now) in
+    let t = told_start (g.I.Source.left c.args.input.now) (g.R.Remotes.holds c.args.remotes.now) (g.H.Host.moments c.args.host.now) in
     let a = g.H.Host.moments c.args.host.now in
     let b = g.H.Host.moments c.exercise.new.host in
     let apps = c.in-Exercise.apps in

@@ -2,7 +2,7 @@ use Rattle.std.proofs.Common.{◌≡◌, ◌∙◌, Option, Some, map, string_by
 use Rattle.fl_words.specs.Forms.{command_of}
 use Rattle.fl_words.specs.Reading.{IsNoCommand}
 use Rattle.fl_words.specs.declared.command.Command.{Command}
-use Rattle.fl_top.specs.Runs.{WasTaken, Checks, IsChange, told}
+use Rattle.fl_top.specs.Runs.{WasTaken, Checks, IsChange, told_start}
 use Rattle.fp_host.specs.Frame.{AtEnd}
 use Rattle.fp_host.specs.Outcome.{shows}
 use Rattle.fl_top.specs.Fsck.{HasReport}
@@ -69,7 +69,7 @@ returns-in-Err-BadWords-clause-runs g c =
     let t = g.met.H.Host.is_tree c.args.host.now in
     let bad : IsNoCommand words c.in-Err-BadWords.field-0 = c.in-Err-BadWords.ensures.bad in
     let is = subst (IsNoCommand words) c.in-Err-BadWords.field-0-is bad in
-    no_command_runs words left holds c.refuse_words.result is.0 t (goes_no_command words (told left holds (g.H.Host.moments c.args.host.now)) c.in-Err-BadWords.index c.refuse_words.result t is.0 is.1 c.refuse_words.ensures.any_moment)
+    no_command_runs words left holds c.refuse_words.result is.0 t (goes_no_command words (told_start left holds (g.H.Host.moments c.args.host.now)) c.in-Err-BadWords.index c.refuse_words.result t is.0 is.1 c.refuse_words.ensures.any_moment)
 
 pub returns-in-Err-NoMemory-clause-runs : goal.returns-in-Err-NoMemory-clause-runs
 returns-in-Err-NoMemory-clause-runs g c = unread_runs (map string_bytes c.args.words.now) (g.I.Source.left c.args.input.now) (g.R.Remotes.holds c.args.remotes.now) (g.met.H.Host.is_tree c.args.host.now)
