@@ -3,17 +3,36 @@ use fp_realnotes::{Made, Notes};
 use fp_realroot::find_file;
 use fp_system::{Cause, Found, Kind, NO_ENTRY, known, look};
 use std::fs;
+use std::io::ErrorKind;
 use std::os::unix;
 use std::rt::Files;
 
-/// Gives a file a second name.
+/// Gives a file a second name. Where the file system lets the file have no more names, a copy of it
+/// gets the second name, as in OSTree.
 pub fn link<R: Files>(rt: &R, from: &str, to: &str, notes: &mut Notes) -> Result<(), Cause> {
     match link_file(rt, from, to, &notes.made) {
         Ok(()) => {
             notes.add_linked(from, to);
             Ok(())
         }
+        Err(e) if e.is(ErrorKind::TooManyLinks) => copy_file(rt, from, to, notes),
         Err(e) => Err(e),
+    }
+}
+
+/// The copy is a new file, which waits for a sync. Its bits and size are looked at when they are
+/// asked for.
+fn copy_file<R: Files>(rt: &R, from: &str, to: &str, notes: &mut Notes) -> Result<(), Cause> {
+    match known(fs::copy(rt, from, to)) {
+        Ok(_) => {
+            notes.add_created(to, 0);
+            notes.made.doubt_file(to);
+            Ok(())
+        }
+        Err(e) => {
+            notes.made.doubt_folder();
+            Err(e)
+        }
     }
 }
 
