@@ -42,7 +42,8 @@ uninstalled = world_after holdings installed (plain (Uninstall platform))
 
 -- the ref is deployed at another commit of this time, of which there is no object
 abbrev pub world_since : ℕ → World
-world_since time = record { state = shop.with_rows (shop.row_since time ∷ []); have = λ d kind. None }
+world_since time =
+    record { state = shop.with_rows (shop.row_since time ∷ []); have = λ d kind. None }
 
 abbrev pub update : Done
 update = record { op = Update platform (codes "hub") commit; timestamp = 7 }

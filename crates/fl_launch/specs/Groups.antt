@@ -24,7 +24,8 @@ command_pairs (Some command) = pair_of (codes "command") command ∷ []
 
 abbrev pub application_pairs : Ref → Ref → Option (List ℕ) → List Pair
 application_pairs name runtime command =
-    pair_of (codes "name") name.id ∷ pair_of (codes "runtime") (ref_text runtime) ∷ command_pairs command
+    pair_of (codes "name") name.id ∷ pair_of (codes "runtime") (ref_text runtime)
+    ∷ command_pairs command
 
 abbrev pub instance_pairs : State → Ref → Ref → List Point → List Point → List Mention → List Pair
 instance_pairs state name runtime app_points runtime_points grants =

@@ -99,7 +99,8 @@ listing_answer listings.Pins x = text_answer (pins_text x.state.pins)
 listing_answer listings.Remotes x = text_answer (remotes_text x.state.remotes)
 listing_answer listings.Exports x = text_answer (exports_text (exported x.have x.state))
 listing_answer (listings.Info name) x = known_of name x
-listing_answer (listings.Launch name options) x = launched_of (launch_in x.have x.state name options)
+listing_answer (listings.Launch name options) x =
+    launched_of (launch_in x.have x.state name options)
 listing_answer (listings.OverrideShow name) x = text_answer (override_text x.state name)
 
 -- what is found in the store, whatever the world

@@ -37,7 +37,8 @@ use Rattle.fl_top.specs.declared.command_end.CommandEnd.TheVariants as command
 -- so it is for each answer that counts, over what the image at the start gives
 abbrev pub OverView : (World → Answer) → View → (Answer → Type 0) → Type 0
 OverView f u Is =
-    (shown : Result World Elements) → IsOver (shown_answer f) (shows u) shown → Is (shown_answer f shown)
+    (shown : Result World Elements) → IsOver (shown_answer f) (shows u) shown
+    → Is (shown_answer f shown)
 
 -- and so much changes
 pub record RunsOver (holds : Option Holdings) (May : Op → Type 0) (f : Holdings → World → Answer)

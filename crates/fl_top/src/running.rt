@@ -235,7 +235,8 @@ fn show<H: Host, I: Source>(
 ) -> Result<(), CommandEnd>
     ensures any_moment { (holds : Option Holdings) → Goes (H.moments host.old) (H.moments host.new)
         (RunsOn (Showing thing.now) (told_start (I.left input.old) holds (H.moments host.old)))
-        (EndedOn (Showing thing.now) (told_start (I.left input.old) holds (H.moments host.old)) result) }
+        (EndedOn (Showing thing.now) (told_start (I.left input.old) holds (H.moments host.old))
+        result) }
     ensures fault_has_cause { IsCounted (IsErrOf result CommandEnd.Fault)
         (H.moments host.old) (H.faults host.old) (H.faults host.new) }
     ensures no_remote_fault { IsErrOf result CommandEnd.RemoteFault → ⊥ }

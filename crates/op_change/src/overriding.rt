@@ -102,7 +102,8 @@ pub(crate) fn set_override<H: Host>(
     ensures any_moment { Always (Does opened (state_after opened (plain (SetOverride row.now)))
         (ReplacesName (override_path row.now.name))) (H.moments host.old) (H.moments host.new) }
     ensures on_success { OnOk result (AtEnd (WasDone opened
-        (state_after opened (plain (SetOverride row.now)))) (H.moments host.old) (H.moments host.new)) }
+        (state_after opened (plain (SetOverride row.now))))
+        (H.moments host.old) (H.moments host.new)) }
     ensures fault_has_cause { IsCaused (IsErrOf result HostEnd.Fault) (H.moments host.old)
         (Opens opened) (H.faults host.old) (H.faults host.new) }
     ensures starved_unchanged { IsErrOf result HostEnd.NoMemory → AtEnd (λ u w. w ≡ u)
@@ -125,7 +126,8 @@ pub(crate) fn drop_override<H: Host>(
     ensures any_moment { Always (Does opened (state_after opened (plain (DropOverride name.now)))
         (AbsentAtPath (override_path name.now))) (H.moments host.old) (H.moments host.new) }
     ensures on_success { OnOk result (AtEnd (WasDone opened
-        (state_after opened (plain (DropOverride name.now)))) (H.moments host.old) (H.moments host.new)) }
+        (state_after opened (plain (DropOverride name.now))))
+        (H.moments host.old) (H.moments host.new)) }
     ensures fault_has_cause { IsCaused (IsErrOf result HostEnd.Fault) (H.moments host.old)
         (Opens opened) (H.faults host.old) (H.faults host.new) }
     ensures starved_unchanged { IsErrOf result HostEnd.NoMemory → AtEnd (λ u w. w ≡ u)

@@ -36,10 +36,10 @@ pub(crate) fn change_settings<H: Host>(
     ensures state { IfOk result (λ o. o ≡ state_after opened (plain op.now)) }
     ensures good { IfOk result IsGood }
     // A stop at any moment leaves the one state or the other.
-    ensures any_moment { Always (Does opened (state_after opened (plain op.now)) (ReplacesName config))
-        (H.moments host.old) (H.moments host.new) }
-    ensures on_success { OnOk result (AtEnd (SettingsDone opened (state_after opened (plain op.now)))
-        (H.moments host.old) (H.moments host.new)) }
+    ensures any_moment { Always (Does opened (state_after opened (plain op.now))
+        (ReplacesName config)) (H.moments host.old) (H.moments host.new) }
+    ensures on_success { OnOk result (AtEnd (SettingsDone opened
+        (state_after opened (plain op.now))) (H.moments host.old) (H.moments host.new)) }
     ensures fault_has_cause { IsCaused (IsErrOf result HostEnd.Fault) (H.moments host.old)
         (Opens opened) (H.faults host.old) (H.faults host.new) }
     ensures starved_unchanged { IsErrOf result HostEnd.NoMemory → AtEnd (λ u w. w ≡ u)

@@ -58,8 +58,10 @@ pub fn roll_back<H: Host>(
 ) -> Result<Opened, HostEnd>
     requires back { HasRow opened name.now (HasPrevious commit.now) }
     requires good { IsGood opened }
-    ensures state { IfOk result (λ o. o ≡ state_after opened (plain (Rollback name.now commit.now))) }
-    ensures any_moment { Always (Does opened (state_after opened (plain (Rollback name.now commit.now)))
+    ensures state { IfOk result (λ o. o ≡ state_after opened
+        (plain (Rollback name.now commit.now))) }
+    ensures any_moment { Always (Does opened
+        (state_after opened (plain (Rollback name.now commit.now)))
         (λ u. DeploysName name.now commit.now)) (H.moments host.old) (H.moments host.new) }
     ensures on_success { OnOk result (AtEnd (WasDone opened
         (state_after opened (plain (Rollback name.now commit.now))))

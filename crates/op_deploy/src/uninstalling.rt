@@ -42,7 +42,8 @@ pub fn uninstall<H: Host>(
     ensures any_moment { Always (Does opened (state_after opened (plain (Uninstall name.now)))
         (λ u. AbsentAt (active name.now))) (H.moments host.old) (H.moments host.new) }
     ensures on_success { OnOk result (AtEnd (WasDone opened
-        (state_after opened (plain (Uninstall name.now)))) (H.moments host.old) (H.moments host.new)) }
+        (state_after opened (plain (Uninstall name.now))))
+        (H.moments host.old) (H.moments host.new)) }
     ensures fault_has_cause { IsCaused (IsErrOf result HostEnd.Fault) (H.moments host.old)
         (Opens opened) (H.faults host.old) (H.faults host.new) }
     ensures starved_unchanged { IsErrOf result HostEnd.NoMemory → AtEnd (λ u w. w ≡ u)
