@@ -22,7 +22,7 @@ use Rattle.ost_store.specs.ObjectNames.{IsAboveObject}
 use Rattle.ost_export.specs.Exports.{config_path, ref_path, IsFolderAbove}
 use Rattle.dep_states.specs.Sound.{IsSound}
 use Rattle.dep_states.specs.Zones.{Zone, anything, a_folder, a_file, Fits, Allowed, IsFileOrGone, IsFolderOrGone}
-use Rattle.fl_make.specs.Making.{made, CanMake}
+use Rattle.fl_make.specs.Making.{remote_store, CanMake}
 use Rattle.fl_make.proofs.Kept.{now_left}
 
 -- the first side, where the test holds
@@ -77,17 +77,17 @@ module _ (v : View) (remote : List ℕ) (r : Ref) (tree : IsTree v) (sound : IsS
   IsFreeAt q = IsFree v q
 
   -- folders above the store, and it
-  by_store : (q : Elements) → IsAbove q (made remote) → IsFree v q
+  by_store : (q : Elements) → IsAbove q (remote_store remote) → IsFree v q
   by_store q (inl is) = subst IsFreeAt (sym is) (free_folder v tree (codes "made" ∷ []) (allowed (codes "made" ∷ [])).fits)
   by_store q (inr (inl is)) = subst IsFreeAt (sym is) (inr tree.root)
   by_store q (inr (inr none)) = absurd none
 
-  store_free : IsFree v (made remote)
-  store_free = free_folder v tree (made remote) (allowed (made remote)).fits
+  store_free : IsFree v (remote_store remote)
+  store_free = free_folder v tree (remote_store remote) (allowed (remote_store remote)).fits
 
-  prefix_free : (d : List ℕ) → is_digest d ≡ true → IsFree v (take 2 (hex d) ∷ (codes "objects" ∷ made remote))
+  prefix_free : (d : List ℕ) → is_digest d ≡ true → IsFree v (take 2 (hex d) ∷ (codes "objects" ∷ remote_store remote))
   prefix_free d digits =
-      let p : Elements = take 2 (hex d) ∷ (codes "objects" ∷ made remote) in
+      let p : Elements = take 2 (hex d) ∷ (codes "objects" ∷ remote_store remote) in
       free_folder v tree p (then_fits (is_prefix (take 2 (hex d))) a_folder anything p (shows v p) (prefix_is_one d digits) (allowed p).fits)
 
   -- the zone after the tests of a ref's parts, which hold
@@ -113,7 +113,7 @@ module _ (v : View) (remote : List ℕ) (r : Ref) (tree : IsTree v) (sound : IsS
   after_branch z = if is_branch r.branch then z else anything
 
   abbrev kind_path : Elements
-  kind_path = kind_word r.kind ∷ (codes "heads" ∷ (codes "refs" ∷ made remote))
+  kind_path = kind_word r.kind ∷ (codes "heads" ∷ (codes "refs" ∷ remote_store remote))
 
   kind_free : IsFree v kind_path
   kind_free = free_folder v tree kind_path (by_kind a_folder kind_path (allowed kind_path).fits)
@@ -124,22 +124,22 @@ module _ (v : View) (remote : List ℕ) (r : Ref) (tree : IsTree v) (sound : IsS
   arch_free : IsFree v (r.arch ∷ (r.id ∷ kind_path))
   arch_free = let p : Elements = r.arch ∷ (r.id ∷ kind_path) in free_folder v tree p (by_arch a_folder p (by_id (after_arch a_folder) p (by_kind (after_id (after_arch a_folder)) p (allowed p).fits)))
 
-  by_object : (q : Elements) (o : IsAboveObject (made remote) q) → IsAbove q (object_path (made remote) o.digest o.kind) → IsFree v q
+  by_object : (q : Elements) (o : IsAboveObject (remote_store remote) q) → IsAbove q (object_path (remote_store remote) o.digest o.kind) → IsFree v q
   by_object q o (inl is) = subst IsFreeAt (sym is) (prefix_free o.digest o.digits)
-  by_object q o (inr (inl is)) = subst IsFreeAt (sym is) (free_folder v tree (codes "objects" ∷ made remote) (allowed (codes "objects" ∷ made remote)).fits)
+  by_object q o (inr (inl is)) = subst IsFreeAt (sym is) (free_folder v tree (codes "objects" ∷ remote_store remote) (allowed (codes "objects" ∷ remote_store remote)).fits)
   by_object q o (inr (inr (inl is))) = subst IsFreeAt (sym is) store_free
   by_object q o (inr (inr (inr up))) = by_store q up
 
-  by_ref : (q : Elements) → IsAbove q (ref_path (made remote) r) → IsFree v q
+  by_ref : (q : Elements) → IsAbove q (ref_path (remote_store remote) r) → IsFree v q
   by_ref q (inl is) = subst IsFreeAt (sym is) arch_free
   by_ref q (inr (inl is)) = subst IsFreeAt (sym is) id_free
   by_ref q (inr (inr (inl is))) = subst IsFreeAt (sym is) kind_free
-  by_ref q (inr (inr (inr (inl is)))) = subst IsFreeAt (sym is) (free_folder v tree (codes "heads" ∷ (codes "refs" ∷ made remote)) (allowed (codes "heads" ∷ (codes "refs" ∷ made remote))).fits)
-  by_ref q (inr (inr (inr (inr (inl is))))) = subst IsFreeAt (sym is) (free_folder v tree (codes "refs" ∷ made remote) (allowed (codes "refs" ∷ made remote)).fits)
+  by_ref q (inr (inr (inr (inl is)))) = subst IsFreeAt (sym is) (free_folder v tree (codes "heads" ∷ (codes "refs" ∷ remote_store remote)) (allowed (codes "heads" ∷ (codes "refs" ∷ remote_store remote))).fits)
+  by_ref q (inr (inr (inr (inr (inl is))))) = subst IsFreeAt (sym is) (free_folder v tree (codes "refs" ∷ remote_store remote) (allowed (codes "refs" ∷ remote_store remote)).fits)
   by_ref q (inr (inr (inr (inr (inr (inl is)))))) = subst IsFreeAt (sym is) store_free
   by_ref q (inr (inr (inr (inr (inr (inr up)))))) = by_store q up
 
-  folders_free : (q : Elements) → IsFolderAbove (made remote) r q → IsFree v q
+  folders_free : (q : Elements) → IsFolderAbove (remote_store remote) r q → IsFree v q
   folders_free q (inl (inl object)) = by_object q object object.above
   folders_free q (inl (inr (inl is))) = subst IsFreeAt (sym is) (free_folder v tree repo (allowed repo).fits)
   folders_free q (inl (inr (inr is))) = subst IsFreeAt (sym is) (free_folder v tree tmp (allowed tmp).fits)
@@ -147,7 +147,7 @@ module _ (v : View) (remote : List ℕ) (r : Ref) (tree : IsTree v) (sound : IsS
 
   pub can_make : CanMake remote r v
   can_make = record {
-    config = free_file v tree (config_path (made remote)) (allowed (config_path (made remote))).fits;
-    ref = let p : Elements = ref_path (made remote) r in free_file v tree p (by_branch a_file p (by_arch (after_branch a_file) p (by_id (after_arch (after_branch a_file)) p (by_kind (after_id (after_arch (after_branch a_file))) p (allowed p).fits))));
+    config = free_file v tree (config_path (remote_store remote)) (allowed (config_path (remote_store remote))).fits;
+    ref = let p : Elements = ref_path (remote_store remote) r in free_file v tree p (by_branch a_file p (by_arch (after_branch a_file) p (by_id (after_arch (after_branch a_file)) p (by_kind (after_id (after_arch (after_branch a_file))) p (allowed p).fits))));
     folders = folders_free;
   }

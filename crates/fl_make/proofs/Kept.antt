@@ -50,7 +50,7 @@ use Rattle.ost_model.specs.declared.object.Object.TheVariants as objects
 use Rattle.ost_store.specs.Stage.{IsKeepable}
 use Rattle.ost_commit.specs.declared.built.BuiltObject.{BuiltObject}
 use Rattle.ost_export.specs.Staging.{IsKeepableObject}
-use Rattle.fl_make.specs.Making.{made, is_keepable, MayMake, in_store, in_work, above_store, of_work, Makes}
+use Rattle.fl_make.specs.Making.{remote_store, is_keepable, MayMake, in_store, in_work, above_store, of_work, Makes}
 use Rattle.fl_make.proofs.Spared.{made_top, tmp_top, tmp_second, made_no_repo, word_no_made, folder_at, export_spares}
 
 -- ---- before the sync nothing changes
@@ -72,10 +72,10 @@ makes_same same = record {
 
 -- ---- after it
 
-pub outer : (remote : List ℕ) → IsNoWork (made remote)
+pub outer : (remote : List ℕ) → IsNoWork (remote_store remote)
 outer remote = record { no_work = λ h. off h }
   where
-    off : IsWithin tmp (made remote) → ⊥
+    off : IsWithin tmp (remote_store remote) → ⊥
     off (inl is) = made_no_repo (ap top is)
     off (inr (inl is)) = made_no_repo (sym (ap top is))
     off (inr (inr (inl is))) = cc is
@@ -103,14 +103,14 @@ work_above {q = q} work = elim work.within [
 ]
 
 -- what an export makes stays in the store
-pub kept_within : (remote : List ℕ) (r : Ref) (q : Elements) → IsExported (made remote) r q → IsAbove (made remote) q
-kept_within remote r q (inl name) = subst (IsAbove (made remote)) (sym name.at) (inr (inr (inl refl)))
-kept_within remote r q (inr (inl is)) = subst (IsAbove (made remote)) (sym is) (inl refl)
-kept_within remote r q (inr (inr is)) = subst (IsAbove (made remote)) (sym is) (inr (inr (inr (inr (inr (inl refl))))))
+pub kept_within : (remote : List ℕ) (r : Ref) (q : Elements) → IsExported (remote_store remote) r q → IsAbove (remote_store remote) q
+kept_within remote r q (inl name) = subst (IsAbove (remote_store remote)) (sym name.at) (inr (inr (inl refl)))
+kept_within remote r q (inr (inl is)) = subst (IsAbove (remote_store remote)) (sym is) (inl refl)
+kept_within remote r q (inr (inr is)) = subst (IsAbove (remote_store remote)) (sym is) (inr (inr (inr (inr (inr (inl refl))))))
 
 data FolderPlace (remote : List ℕ) (p : Elements) : Type 0 where
-  f_store : IsWithin (made remote) p → FolderPlace remote p
-  f_above : IsAbove p (made remote) → FolderPlace remote p
+  f_store : IsWithin (remote_store remote) p → FolderPlace remote p
+  f_above : IsAbove p (remote_store remote) → FolderPlace remote p
   f_work : (p ≡ repo) ⊎ (p ≡ tmp) → FolderPlace remote p
 
 -- a file comes to a name below `made`, or to work
@@ -121,7 +121,7 @@ where_files remote r q id (above_store above is) = absurd (cc is)
 where_files remote r q id (of_work at is) = absurd (cc is)
 
 module _ (remote : List ℕ) (r : Ref) where
-  folder_place : (q : Elements) → IsExportFolder (made remote) r q → FolderPlace remote q
+  folder_place : (q : Elements) → IsExportFolder (remote_store remote) r q → FolderPlace remote q
   folder_place = folder_at remote r (FolderPlace remote)
       (f_above (inr (inl refl)))
       (f_above (inl refl))
@@ -137,23 +137,23 @@ module _ (remote : List ℕ) (r : Ref) where
       (f_work (inl refl))
       (f_work (inr refl))
 
-  may_make : {have : Have} {u : View} (q : Elements) (e : Slot) → ExportsName have (made remote) r u q e → MayMake remote r q e
+  may_make : {have : Have} {u : View} (q : Elements) (e : Slot) → ExportsName have (remote_store remote) r u q e → MayMake remote r q e
   may_make {have = have} {u = u} q e h = elim h [
     | inl furnished ↦ elim furnished [
       | inl work ↦ in_work (work_above work)
       | inr other ↦ elim other [
-        | inl new ↦ in_store (subst (IsWithin (made remote)) (sym new.at) (inr (inr (inr (inl refl))))) off
+        | inl new ↦ in_store (subst (IsWithin (remote_store remote)) (sym new.at) (inr (inr (inr (inl refl))))) off
         | inr more ↦ elim more [
           | inl folder ↦ by_folder (folder_place q folder.0) folder.1
-          | inr config ↦ in_store (subst (IsWithin (made remote)) (sym config.0) (inr (inl refl))) off
+          | inr config ↦ in_store (subst (IsWithin (remote_store remote)) (sym config.0) (inr (inl refl))) off
         ]
       ]
     ]
-    | inr ref ↦ in_store (subst (IsWithin (made remote)) (sym ref.0) (inr (inr (inr (inr (inr (inr (inl refl)))))))) off
+    | inr ref ↦ in_store (subst (IsWithin (remote_store remote)) (sym ref.0) (inr (inr (inr (inr (inr (inr (inl refl)))))))) off
   ]
     where
-      off : (place : RefPlace) → place_path (made remote) place ≢ ref_path (made remote) r → q ≢ place_path (made remote) place
-      off place other at = not_put e (off_ref (outer remote) place other) (subst (λ (p : Elements). ExportsName have (made remote) r u p e) at h)
+      off : (place : RefPlace) → place_path (remote_store remote) place ≢ ref_path (remote_store remote) r → q ≢ place_path (remote_store remote) place
+      off place other at = not_put e (off_ref (outer remote) place other) (subst (λ (p : Elements). ExportsName have (remote_store remote) r u p e) at h)
 
       by_folder : FolderPlace remote q → e ≡ dir → MayMake remote r q e
       by_folder (f_store within) is = in_store within off
@@ -161,7 +161,7 @@ module _ (remote : List ℕ) (r : Ref) where
       by_folder (f_work at) is = of_work at is
 
   module _ {have : Have} {commit bytes : List ℕ} (read : IsRead (described bytes)) {u w : View} (tree : IsTree u) where
-    makes_exports : Exports have (made remote) r commit (done syncs u) w → Makes remote r bytes u w
+    makes_exports : Exports have (remote_store remote) r commit (done syncs u) w → Makes remote r bytes u w
     makes_exports e = record {
       printed = e.keeps.printed;
       files = record { rows = λ id f is. e.files.rows id f is; stood = e.files.stood };
@@ -173,7 +173,7 @@ module _ (remote : List ℕ) (r : Ref) where
       opens = λ sound s is. inr (frame_law (export_spares remote r have commit (done syncs u) (done syncs u)) e.keeps.follows (opens_synced tree sound is));
     }
 
-    pub makes : ExportsSynced have (made remote) r commit u w → Makes remote r bytes u w
+    pub makes : ExportsSynced have (remote_store remote) r commit u w → Makes remote r bytes u w
     makes (inl same) = makes_same same
     makes (inr e) = makes_exports e
 
@@ -270,11 +270,11 @@ above_work : (x : List ℕ) (rest : Elements) → IsAbove tmp (rest ++ (x ∷ tm
 above_work x [] = inl refl
 above_work x (y ∷ rest) = inr (above_work x rest)
 
-module _ (remote : List ℕ) (r : Ref) {have : Have} {commit : List ℕ} {u w : View} (tree : IsTree u) (tree' : IsTree w) (was : WasExported have (made remote) r commit u w) where
+module _ (remote : List ℕ) (r : Ref) {have : Have} {commit : List ℕ} {u w : View} (tree : IsTree u) (tree' : IsTree w) (was : WasExported have (remote_store remote) r commit u w) where
   no_folder : (q : Elements) → IsAbove tmp q → (top q ≡ codes "made" → ⊥)
   no_folder q above t = made_no_repo (sym t ∙ tmp_top q (inr above))
 
-  work_same : Exports have (made remote) r commit (done syncs u) w → (q : Elements) → IsAbove tmp q → w.names q ≡ u.names q
+  work_same : Exports have (remote_store remote) r commit (done syncs u) w → (q : Elements) → IsAbove tmp q → w.names q ≡ u.names q
   work_same e q above = elim (e.keeps.names q) [
     | inl same ↦ same
     | inr put ↦ elim put [
@@ -286,15 +286,15 @@ module _ (remote : List ℕ) (r : Ref) {have : Have} {commit : List ℕ} {u w : 
             | inl folder ↦ absurd (folder_at remote r (λ (p : Elements). IsAbove tmp p → ⊥)
                 (λ a. a)
                 (λ a. no_folder (codes "made" ∷ []) a refl)
-                (λ a. no_folder (made remote) a refl)
-                (λ a. no_folder (codes "objects" ∷ made remote) a refl)
-                (λ xx a. no_folder (xx ∷ (codes "objects" ∷ made remote)) a refl)
-                (λ a. no_folder (codes "refs" ∷ made remote) a refl)
-                (λ a. no_folder (codes "heads" ∷ (codes "refs" ∷ made remote)) a refl)
-                (λ a. no_folder (remotes (made remote)) a refl)
-                (λ a. no_folder (kind_word r.kind ∷ (codes "heads" ∷ (codes "refs" ∷ made remote))) a refl)
-                (λ a. no_folder (r.id ∷ (kind_word r.kind ∷ (codes "heads" ∷ (codes "refs" ∷ made remote)))) a refl)
-                (λ a. no_folder (r.arch ∷ (r.id ∷ (kind_word r.kind ∷ (codes "heads" ∷ (codes "refs" ∷ made remote))))) a refl)
+                (λ a. no_folder (remote_store remote) a refl)
+                (λ a. no_folder (codes "objects" ∷ remote_store remote) a refl)
+                (λ xx a. no_folder (xx ∷ (codes "objects" ∷ remote_store remote)) a refl)
+                (λ a. no_folder (codes "refs" ∷ remote_store remote) a refl)
+                (λ a. no_folder (codes "heads" ∷ (codes "refs" ∷ remote_store remote)) a refl)
+                (λ a. no_folder (remotes (remote_store remote)) a refl)
+                (λ a. no_folder (kind_word r.kind ∷ (codes "heads" ∷ (codes "refs" ∷ remote_store remote))) a refl)
+                (λ a. no_folder (r.id ∷ (kind_word r.kind ∷ (codes "heads" ∷ (codes "refs" ∷ remote_store remote)))) a refl)
+                (λ a. no_folder (r.arch ∷ (r.id ∷ (kind_word r.kind ∷ (codes "heads" ∷ (codes "refs" ∷ remote_store remote))))) a refl)
                 (λ a. elim a [ inl is ↦ cc is | inr none ↦ none ])
                 (λ a. omega (arith, above_longer tmp tmp a))
                 q folder.0 above)
@@ -309,15 +309,15 @@ module _ (remote : List ℕ) (r : Ref) {have : Have} {commit : List ℕ} {u w : 
       before : IsWork (done syncs u) q → IsWork u q
       before work = record { place = work.place; staging = record { number = work.staging.number; is = work.staging.is; free = work.staging.free; first = work.staging.first }; within = work.within }
 
-  shown_same : Exports have (made remote) r commit (done syncs u) w → (q : Elements) → w.names q ≡ u.names q → shows w q ≡ shows u q
+  shown_same : Exports have (remote_store remote) r commit (done syncs u) w → (q : Elements) → w.names q ≡ u.names q → shows w q ≡ shows u q
   shown_same e q name = shown_stays q u w (record { name = name; row = λ id f is some. e.files.rows id f some }) tree tree'
 
-  by_step : Exports have (made remote) r commit (done syncs u) w → Settled (shows u) → Settled (shows w)
+  by_step : Exports have (remote_store remote) r commit (done syncs u) w → Settled (shows u) → Settled (shows w)
   by_step e = settled_on (shows u) (shows w)
       (λ p off. shown_same e p (elim (e.keeps.names p) [ inl same ↦ same | inr put ↦ absurd (off (place_of p (may_make remote r p (w.names p) put))) ]))
       (λ x rest. shown_same e (rest ++ (x ∷ tmp)) (work_same e (rest ++ (x ∷ tmp)) (above_work x rest)))
 
-  pub settled_made : ExportsSynced have (made remote) r commit u w → Settled (shows u) → Settled (shows w)
+  pub settled_made : ExportsSynced have (remote_store remote) r commit u w → Settled (shows u) → Settled (shows w)
   settled_made (inl same) settled = subst (λ (v : View). Settled (shows v)) (sym same) settled
   settled_made (inr e) settled = by_step e settled
 
@@ -331,7 +331,7 @@ object_no_place q below = in_repo_off {p = q} {x = codes "objects"} (ap top (bel
     below_is : (q : Elements) → IsAbove (objects_folder repo) q → (rest : Elements) × (q ≡ rest ++ objects_folder repo)
     below_is q below = above_rest (objects_folder repo) q below
 
-pub creates_made : (remote : List ℕ) (r : Ref) {have : Have} {commit : List ℕ} {u w : View} → ExportsSynced have (made remote) r commit u w → Creates repo NoObject u w
+pub creates_made : (remote : List ℕ) (r : Ref) {have : Have} {commit : List ℕ} {u w : View} → ExportsSynced have (remote_store remote) r commit u w → Creates repo NoObject u w
 creates_made remote r {u = u} (inl same) = subst (Creates repo NoObject u) (sym same) creates_refl
 creates_made remote r (inr e) = creates_none (MayMake remote r) (λ x had. elim (e.keeps.puts x had) [ inl before ↦ inl before | inr put ↦ inr (may_make remote r x.0 x.1 put) ])
     (λ q id below put. object_no_place q below (place_of q put))

@@ -14,21 +14,21 @@ use Rattle.ost_description.specs.Commits.{IsDescribed, IsRead}
 use Rattle.ost_description.specs.Descriptions.{described}
 use Rattle.ost_export.specs.Exports.{ExportsSynced, WasExported}
 use Rattle.fl_lines.specs.Lines.{made_text}
-use Rattle.fl_make.specs.Making.{made, Makes, WasMade}
+use Rattle.fl_make.specs.Making.{remote_store, Makes, WasMade}
 use Rattle.fl_make.proofs.Kept.{kept_within, makes, settled_made, creates_made}
 
 module _ (remote : List ℕ) (r : Ref) (bytes : List ℕ) (built : Built) (d : IsDescribed bytes r built) where
   read : IsRead (described bytes)
   read = record { description = d.description; is = d.reads }
 
-  pub made_moments : {a b : Option Moments} → IsTold a → Always (ExportsSynced (have_of built.objects) (made remote) r built.commit) a b → Always (Makes remote r bytes) a b
+  pub made_moments : {a b : Option Moments} → IsTold a → Always (ExportsSynced (have_of built.objects) (remote_store remote) r built.commit) a b → Always (Makes remote r bytes) a b
   made_moments told goes = begins told goes (λ u w tree p. makes remote r read tree p) (λ u w tree p q. makes remote r read tree q)
 
-  pub made_end : {a b : Option Moments} (line : List ℕ) → line ≡ made_text built.commit → IsTold a → IsTold b → Always (ExportsSynced (have_of built.objects) (made remote) r built.commit) a b
-      → AtEnd (WasExported (have_of built.objects) (made remote) r built.commit) a b → AtEnd (WasMade remote r bytes line) a b
+  pub made_end : {a b : Option Moments} (line : List ℕ) → line ≡ made_text built.commit → IsTold a → IsTold b → Always (ExportsSynced (have_of built.objects) (remote_store remote) r built.commit) a b
+      → AtEnd (WasExported (have_of built.objects) (remote_store remote) r built.commit) a b → AtEnd (WasMade remote r bytes line) a b
   made_end {a = a} {b = b} line is told told' goes was =
-      let E : View → View → Type 0 = ExportsSynced (have_of built.objects) (made remote) r built.commit in
-      let W : View → View → Type 0 = WasExported (have_of built.objects) (made remote) r built.commit in
+      let E : View → View → Type 0 = ExportsSynced (have_of built.objects) (remote_store remote) r built.commit in
+      let W : View → View → Type 0 = WasExported (have_of built.objects) (remote_store remote) r built.commit in
       let both : Goes a b E (λ u w. IsTree w × (E u w × W u w)) = ends_tree told' (goes_known goes was) (λ u w tree q. (tree, q)) in
       record {
         goes = begins told both (λ u w tree p. tt)

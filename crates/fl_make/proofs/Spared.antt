@@ -28,7 +28,7 @@ use Rattle.dep_states.proofs.Deployed.{outward_append, top}
 use Rattle.dep_states.proofs.Rows.{head_of, text_apart}
 use Rattle.dep_states.proofs.Sparing.{none_in_repo, word_apart}
 use Rattle.dep_states.proofs.Switching.{word_no_repo, second}
-use Rattle.fl_make.specs.Making.{made}
+use Rattle.fl_make.specs.Making.{remote_store}
 
 -- ---- below a folder
 
@@ -44,8 +44,8 @@ within_is t q (inr above) = above_is t q above
 pub outward_is : (t q : Elements) → IsWithin t q → (rest : Elements) × (outward q ≡ outward_onto t (outward rest))
 outward_is t q within = let is = within_is t q within in (is.0, ap outward is.1 ∙ outward_append is.0 t [])
 
-pub made_top : (remote : List ℕ) (q : Elements) → IsWithin (made remote) q → top q ≡ codes "made"
-made_top remote q within = ap head_of (outward_is (made remote) q within).1
+pub made_top : (remote : List ℕ) (q : Elements) → IsWithin (remote_store remote) q → top q ≡ codes "made"
+made_top remote q within = ap head_of (outward_is (remote_store remote) q within).1
 
 pub tmp_top : (q : Elements) → IsWithin tmp q → top q ≡ codes "repo"
 tmp_top q within = ap head_of (outward_is tmp q within).1
@@ -134,10 +134,10 @@ record MayBeFolder (p : Elements) : Type 0 where
   allowed : Allowed p folder
 
 module _ (remote : List ℕ) (r : Ref) where
-  pub folder_at : (P : Elements → Type 0) → P [] → P (codes "made" ∷ []) → P (made remote) → P (codes "objects" ∷ made remote) → ((xx : List ℕ) → P (xx ∷ (codes "objects" ∷ made remote)))
-      → P (codes "refs" ∷ made remote) → P (codes "heads" ∷ (codes "refs" ∷ made remote)) → P (remotes (made remote)) → P (kind_word r.kind ∷ (codes "heads" ∷ (codes "refs" ∷ made remote)))
-      → P (r.id ∷ (kind_word r.kind ∷ (codes "heads" ∷ (codes "refs" ∷ made remote)))) → P (r.arch ∷ (r.id ∷ (kind_word r.kind ∷ (codes "heads" ∷ (codes "refs" ∷ made remote)))))
-      → P repo → P tmp → (q : Elements) → IsExportFolder (made remote) r q → P q
+  pub folder_at : (P : Elements → Type 0) → P [] → P (codes "made" ∷ []) → P (remote_store remote) → P (codes "objects" ∷ remote_store remote) → ((xx : List ℕ) → P (xx ∷ (codes "objects" ∷ remote_store remote)))
+      → P (codes "refs" ∷ remote_store remote) → P (codes "heads" ∷ (codes "refs" ∷ remote_store remote)) → P (remotes (remote_store remote)) → P (kind_word r.kind ∷ (codes "heads" ∷ (codes "refs" ∷ remote_store remote)))
+      → P (r.id ∷ (kind_word r.kind ∷ (codes "heads" ∷ (codes "refs" ∷ remote_store remote)))) → P (r.arch ∷ (r.id ∷ (kind_word r.kind ∷ (codes "heads" ∷ (codes "refs" ∷ remote_store remote)))))
+      → P repo → P tmp → (q : Elements) → IsExportFolder (remote_store remote) r q → P q
   folder_at P root top_made store objects prefix refs heads other kind id arch of_repo of_tmp q h = elim h [
     | inl above ↦ elim above [
       | inl of_store ↦ elim of_store [
@@ -149,18 +149,18 @@ module _ (remote : List ℕ) (r : Ref) where
     | inr is ↦ subst P (sym is) other
   ]
     where
-      by_store : IsAbove q (made remote) → P q
+      by_store : IsAbove q (remote_store remote) → P q
       by_store (inl is) = subst P (sym is) top_made
       by_store (inr (inl is)) = subst P (sym is) root
       by_store (inr (inr none)) = absurd none
 
-      by_object : (d : List ℕ) (k : ObjKind) → IsAbove q (object_path (made remote) d k) → P q
+      by_object : (d : List ℕ) (k : ObjKind) → IsAbove q (object_path (remote_store remote) d k) → P q
       by_object d k (inl is) = subst P (sym is) (prefix _)
       by_object d k (inr (inl is)) = subst P (sym is) objects
       by_object d k (inr (inr (inl is))) = subst P (sym is) store
       by_object d k (inr (inr (inr up))) = by_store up
 
-      by_ref : IsAbove q (ref_path (made remote) r) → P q
+      by_ref : IsAbove q (ref_path (remote_store remote) r) → P q
       by_ref (inl is) = subst P (sym is) arch
       by_ref (inr (inl is)) = subst P (sym is) id
       by_ref (inr (inr (inl is))) = subst P (sym is) kind
@@ -195,15 +195,15 @@ module _ (remote : List ℕ) (r : Ref) where
   branch_fits z p spot fits = arch_fits (by_branch z) p spot (if_fits (is_branch r.branch) z anything p spot fits tt)
 
   abbrev kind_path : Elements
-  kind_path = kind_word r.kind ∷ (codes "heads" ∷ (codes "refs" ∷ made remote))
+  kind_path = kind_word r.kind ∷ (codes "heads" ∷ (codes "refs" ∷ remote_store remote))
 
-  folders : (q : Elements) → IsExportFolder (made remote) r q → MayBeFolder q
+  folders : (q : Elements) → IsExportFolder (remote_store remote) r q → MayBeFolder q
   folders = folder_at MayBeFolder
       (record { place = at_root refl; allowed = record { fits = tt; short = inr (omega arith) } })
       (record { place = in_made refl; allowed = record { fits = tt; short = inr (omega arith) } })
       (record { place = in_made refl; allowed = record { fits = tt; short = inr (omega arith) } })
       (record { place = in_made refl; allowed = record { fits = tt; short = inr (omega arith) } })
-      (λ xx. record { place = in_made refl; allowed = record { fits = if_fits (is_prefix xx) a_folder anything (xx ∷ (codes "objects" ∷ made remote)) folder tt tt; short = inr (omega arith) } })
+      (λ xx. record { place = in_made refl; allowed = record { fits = if_fits (is_prefix xx) a_folder anything (xx ∷ (codes "objects" ∷ remote_store remote)) folder tt tt; short = inr (omega arith) } })
       (record { place = in_made refl; allowed = record { fits = tt; short = inr (omega arith) } })
       (record { place = in_made refl; allowed = record { fits = tt; short = inr (omega arith) } })
       (record { place = in_made refl; allowed = record { fits = tt; short = inr (omega arith) } })
@@ -215,18 +215,18 @@ module _ (remote : List ℕ) (r : Ref) where
 
   -- ---- files and links
 
-  object_allowed : (d : List ℕ) (kind : ObjKind) (spot : Spot) → IsLeafOrGone spot → Allowed (object_path (made remote) d kind) spot
+  object_allowed : (d : List ℕ) (kind : ObjKind) (spot : Spot) → IsLeafOrGone spot → Allowed (object_path (remote_store remote) d kind) spot
   object_allowed d kind spot leaf = record {
-    fits = if_fits (is_object_name (take 2 (hex d)) (drop 2 (hex d) ++ (codes "." ++ kind_text kind))) a_leaf anything (object_path (made remote) d kind) spot leaf tt;
+    fits = if_fits (is_object_name (take 2 (hex d)) (drop 2 (hex d) ++ (codes "." ++ kind_text kind))) a_leaf anything (object_path (remote_store remote) d kind) spot leaf tt;
     short = inr (omega arith);
   }
 
-  config_allowed : (spot : Spot) → IsFileOrGone spot → Allowed (config_path (made remote)) spot
+  config_allowed : (spot : Spot) → IsFileOrGone spot → Allowed (config_path (remote_store remote)) spot
   config_allowed spot is = record { fits = is; short = inr (omega arith) }
 
-  ref_allowed : (spot : Spot) → IsFileOrGone spot → Allowed (ref_path (made remote) r) spot
+  ref_allowed : (spot : Spot) → IsFileOrGone spot → Allowed (ref_path (remote_store remote) r) spot
   ref_allowed spot is = record {
-    fits = branch_fits a_file (ref_path (made remote) r) spot is;
+    fits = branch_fits a_file (ref_path (remote_store remote) r) spot is;
     short = inr (omega arith);
   }
 
@@ -247,7 +247,7 @@ module _ (remote : List ℕ) (r : Ref) where
     place : Where q
     allowed : Allowed q spot
 
-  given : (have : Have) (commit : List ℕ) (u : View) (q : Elements) (spot : Spot) → ExportsAt have (made remote) r commit u q spot → IsGiven q spot
+  given : (have : Have) (commit : List ℕ) (u : View) (q : Elements) (spot : Spot) → ExportsAt have (remote_store remote) r commit u q spot → IsGiven q spot
   given have commit u q spot h = elim h [
     | inl furnished ↦ elim furnished [
       | inl work ↦ record { place = work_where q work.0; allowed = work_allowed q spot work.0 work.1 }
@@ -271,7 +271,7 @@ module _ (remote : List ℕ) (r : Ref) where
     }
   ]
 
-  pub export_spares : (have : Have) (commit : List ℕ) (u v : View) → Spares v (ExportsAt have (made remote) r commit u)
+  pub export_spares : (have : Have) (commit : List ℕ) (u v : View) → Spares v (ExportsAt have (remote_store remote) r commit u)
   export_spares have commit u v = record {
     avoids = λ disk left p spot fixed h. avoid_by (given have commit u p spot h).place fixed;
     permits = λ disk left p spot h. let g = given have commit u p spot h in permit_by g.place g.allowed;

@@ -31,19 +31,20 @@ use Rattle.fl_make.specs.declared.end.MakeEnd.{MakeEnd}
 use Rattle.fl_make.specs.declared.end.MakeEnd.TheVariants.{BadRecord, Fault, NoMemory}
 
 -- the folder of the store that is made for a remote
-abbrev pub made : List ℕ → Elements
-made remote = remote ∷ codes "made" ∷ []
+abbrev pub remote_store : List ℕ → Elements
+remote_store remote = remote ∷ codes "made" ∷ []
 
 -- ---- at every moment
 
 -- What a name may come to hold: anything at or below the store's folder, where it is no place of
 -- another ref, and below `repo/tmp`; and these, and those above them, may come to be folders.
 pub data MayMake (remote : List ℕ) (r : Ref) (q : Elements) (e : Slot) : Type 0 where
-  in_store : IsWithin (made remote) q
-      → ((place : RefPlace) → place_path (made remote) place ≢ ref_path (made remote) r
-      → q ≢ place_path (made remote) place) → MayMake remote r q e
+  in_store : IsWithin (remote_store remote) q
+      → ((place : RefPlace)
+      → place_path (remote_store remote) place ≢ ref_path (remote_store remote) r
+      → q ≢ place_path (remote_store remote) place) → MayMake remote r q e
   in_work : IsAbove tmp q → MayMake remote r q e
-  above_store : IsAbove q (made remote) → e ≡ dir → MayMake remote r q e
+  above_store : IsAbove q (remote_store remote) → e ≡ dir → MayMake remote r q e
   of_work : (q ≡ repo) ⊎ (q ≡ tmp) → e ≡ dir → MayMake remote r q e
 
 -- Nothing is printed, each file that was there is as it was, and names change only so. Of the store
@@ -54,10 +55,12 @@ pub record Makes (remote : List ℕ) (r : Ref) (bytes : List ℕ) (u w : View) :
   pub printed : w.printed ≡ u.printed
   pub files : KeepsFiles u w
   pub names : (q : Elements) → (w.names q ≡ u.names q) ⊎ MayMake remote r q (w.names q)
-  pub refs : (place : RefPlace) → place_path (made remote) place ≢ ref_path (made remote) r
-      → IsSpared (place_path (made remote) place) u w
-  pub objects : (d : List ℕ) (kind : ObjKind) → u.names (object_path (made remote) d kind) ≢ absent
-      → IsSpared (object_path (made remote) d kind) u w
+  pub refs : (place : RefPlace)
+      → place_path (remote_store remote) place ≢ ref_path (remote_store remote) r
+      → IsSpared (place_path (remote_store remote) place) u w
+  pub objects : (d : List ℕ) (kind : ObjKind)
+      → u.names (object_path (remote_store remote) d kind) ≢ absent
+      → IsSpared (object_path (remote_store remote) d kind) u w
   pub links : Links u w
   pub good : (w ≡ u) ⊎ IsRead (described bytes)
   pub opens : IsSound u → (s : State) → Shows (shows u) s → (w ≡ u) ⊎ Opens s w
@@ -71,9 +74,9 @@ pub record WasMade (remote : List ℕ) (r : Ref) (bytes line : List ℕ) (u w : 
   pub built : Built
   pub described_by : IsDescribed bytes r built
   pub line_is : line ≡ made_text built.commit
-  pub exported : WasExported (have_of built.objects) (made remote) r built.commit u w
+  pub exported : WasExported (have_of built.objects) (remote_store remote) r built.commit u w
   pub settled : Settled (shows u) → Settled (shows w)
-  pub shares : Shares (IsAbove (made remote)) u w
+  pub shares : Shares (IsAbove (remote_store remote)) u w
   pub creates : Creates repo NoObject u w
 
 -- the first bad line of the bytes
@@ -85,7 +88,7 @@ IsMakeFault bytes NoMemory = Unit {0}
 -- Where it may be done: at the store's `config` and at the ref's place nothing stands, or a file;
 -- and the folders above what is written are absent or folders.
 abbrev pub CanMake : List ℕ → Ref → View → Type 0
-CanMake remote r v = CanExport (made remote) r v
+CanMake remote r v = CanExport (remote_store remote) r v
 
 -- a store may keep the object: a file's permission bits are good, and a link's text is one
 abbrev pub is_keepable : Object → Bool

@@ -9,7 +9,7 @@ ghost use Rattle.ost_commit.specs.Objects.{have_of};
 ghost use Rattle.ost_export.specs.Staging.{AreWhole};
 ghost use Rattle.ost_export.specs.Exports.{CanExport, ExportsSynced, WasExported};
 ghost use Rattle.fl_make.specs.declared.end.MakeEnd.TheVariants.{BadRecord};
-ghost use Rattle.fl_make.specs.Making.{made, is_keepable as is_keepable_object, CanMake, IsMakeFault, Makes, WasMade};
+ghost use Rattle.fl_make.specs.Making.{remote_store, is_keepable as is_keepable_object, CanMake, IsMakeFault, Makes, WasMade};
 
 use crate::end::MakeEnd;
 use fl_lines::made_line;
@@ -63,13 +63,15 @@ fn offer<H: Host>(
     requires whole { AreWhole built.now.objects }
     requires clean { first_fault (have_of built.now.objects) built.now.commit ≡ None }
     ensures any_moment { Always
-        (ExportsSynced (have_of built.now.objects) (made remote.now) name.now built.now.commit)
+        (ExportsSynced (have_of built.now.objects) (remote_store remote.now) name.now
+        built.now.commit)
         (H.moments host.old) (H.moments host.new) }
     ensures on_success { OnOk result
-        (AtEnd (WasExported (have_of built.now.objects) (made remote.now) name.now built.now.commit)
+        (AtEnd (WasExported (have_of built.now.objects) (remote_store remote.now) name.now
+        built.now.commit)
         (H.moments host.old) (H.moments host.new)) }
     ensures fault_has_cause { IsCaused (IsErrOf result HostEnd.Fault) (H.moments host.old)
-        (CanExport (made remote.now) name.now) (H.faults host.old) (H.faults host.new) }
+        (CanExport (remote_store remote.now) name.now) (H.faults host.old) (H.faults host.new) }
 {
     if !are_keepable(built.objects.as_slice()) {
         return Err(HostEnd::NoMemory);
@@ -80,7 +82,7 @@ fn offer<H: Host>(
 
 /// The folder of the store that is made for a remote.
 fn made_path(alloc: Global, remote: &RemoteName) -> Result<Path, AllocError>
-    ensures { IfOk result (λ path. path ≡ made remote.now) }
+    ensures { IfOk result (λ path. path ≡ remote_store remote.now) }
 {
     Path::root(alloc).child("made")?.child(remote.as_str())
 }

@@ -25,7 +25,7 @@ use Rattle.dep_states.specs.Shown.{Shows}
 use Rattle.dep_states.specs.Sound.{IsSound}
 use Rattle.fl_lines.specs.Lines.{made_text}
 use Rattle.fl_words.specs.declared.command.Command.TheVariants.{Export as Exporting}
-use Rattle.fl_make.specs.Making.{made, Makes, WasMade, IsMakeFault}
+use Rattle.fl_make.specs.Making.{remote_store, Makes, WasMade, IsMakeFault}
 use Rattle.fl_make.specs.declared.end.MakeEnd.{MakeEnd}
 use Rattle.fl_make.specs.declared.end.MakeEnd.TheVariants as make
 use Rattle.fl_change.specs.World.{World, world_at}
@@ -238,7 +238,7 @@ module _ (remote : List ℕ) (r : Ref) (t : Told) (bytes : List ℕ) (whole : Is
           printed = said.printed ∙ ap (λ (p : List ℕ). p ++ line) h.makes.printed ∙ ap (λ (l : List ℕ). u.printed ++ l) h.was.line_is;
           offered = λ fit disk left.
               let from = said.follows.from disk left in
-              subst (IsOffered (have_of b.objects) (made remote) r b.commit) (λ k q. (sym (unmoved from.2 q)) k) (h.was.exported.offered fit from.0 from.1);
+              subst (IsOffered (have_of b.objects) (remote_store remote) r b.commit) (λ k q. (sym (unmoved from.2 q)) k) (h.was.exported.offered fit from.0 from.1);
           remotes_there = λ can none. said.untouched.names _ ∙ h.was.exported.remotes can none;
         }
 

@@ -12,7 +12,7 @@ use Rattle.ost_export.specs.Exports.{AreFit, IsOffered}
 use Rattle.fl_lines.specs.Lines.{made_text}
 use Rattle.fl_words.specs.declared.command.Command.{Command}
 use Rattle.fl_words.specs.declared.command.Command.TheVariants.{Change as Changing, List as Listed, Show as Showing, Filter as Filtering, Batch, Fsck, Export as Exporting, Exercise as Exercising}
-use Rattle.fl_make.specs.Making.{made, MayMake, CanMake}
+use Rattle.fl_make.specs.Making.{remote_store, MayMake, CanMake}
 
 -- what names may come to hold where a remote is made
 abbrev pub MakesBy : Command → Elements → Slot → Type 0
@@ -37,10 +37,10 @@ pub record LeavesRemote (remote : List ℕ) (r : Ref) (bytes : List ℕ) (u w : 
   pub built : Built
   pub described_by : IsDescribed bytes r built
   pub printed : w.printed ≡ u.printed ++ made_text built.commit
-  pub offered : AreFit (have_of built.objects) (made remote) u → (disk : Disk) → Leaves w disk
-      → IsOffered (have_of built.objects) (made remote) r built.commit disk
-  pub remotes_there : CanMake remote r u → u.names (remotes (made remote)) ≡ absent
-      → w.names (remotes (made remote)) ≡ dir
+  pub offered : AreFit (have_of built.objects) (remote_store remote) u → (disk : Disk)
+      → Leaves w disk → IsOffered (have_of built.objects) (remote_store remote) r built.commit disk
+  pub remotes_there : CanMake remote r u → u.names (remotes (remote_store remote)) ≡ absent
+      → w.names (remotes (remote_store remote)) ≡ dir
 
 -- so it is for a command that makes one of all that is left of the input
 abbrev pub MadeBy : Command → Option (List ℕ) → View → View → Type 0
