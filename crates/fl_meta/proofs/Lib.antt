@@ -1,4 +1,5 @@
 pub mod Endings
-pub mod Bare
+pub mod Normal
+pub mod PlaceRows
 pub mod Searches
 pub mod Same

@@ -1,14 +1,15 @@
 -- What the code's searches in a text give, in the words of the definitions.
-use Rattle.std.proofs.Common.{◌≡◌, ◌≢◌, ◌<◌, ℕ, true, false, eqb, List, [], ◌∷◌, ◌++◌, length, get_or, take, drop, ◌+◌, ◌≤◌, Option, Some, None, MatchOption, refl, sym, ap, ◌∙◌, arith, lit<}
+use Rattle.std.proofs.Common.{◌≡◌, ◌≢◌, ◌<◌, ℕ, false, eqb, List, [], ◌∷◌, ◌++◌, length, get_or, take, drop, ◌+◌, ◌≤◌, Option, Some, None, MatchOption, refl, sym, ap, ◌∙◌, lit<}
 use denote.Ref.{Bor}
-use Rattle.std.specs.List.{slice_split, All}
+use Rattle.std.specs.List.{All}
 use Rattle.std.specs.Str.{NoCharPasses}
-use Rattle.std.specs.Str.Pattern.{RFindsChar, FindsCharPrefix}
+use Rattle.std.specs.Str.Pattern.{RFindsChar}
 use Rattle.std.proofs.lemmas.Bool.{ne_eqb}
 use Rattle.std.proofs.lemmas.List.{take-append-drop}
 use Rattle.std.proofs.lemmas.List.Elements.{All-from_get_or}
-use Rattle.std.proofs.lemmas.Str.Pattern.{NoCharPasses-char, drop_at_char, strip_prefix_char}
-use Rattle.fl_meta.specs.Entries.{is_colon, is_off, without_mark}
+use Rattle.std.proofs.lemmas.Str.Pattern.{NoCharPasses-char, drop_at_char, IsSplitOnceResult, split_parts}
+use Rattle.fl_meta.specs.Places.{is_colon, is_slash}
+use Rattle.fl_meta.specs.Entries.{is_off}
 
 -- a text without the byte
 lacks : (c : ℕ) (bs : List ℕ) → NoCharPasses (λ d. eqb d c) bs → c < 128 → All (λ b. eqb b c ≡ false) bs
@@ -30,6 +31,15 @@ last_cut bs x (i, j, found, front, back, h, k, l) = record {
   whole = rw back (lacks 58 (drop j bs) found.0 (lit< tt));
   text_is = sym (take-append-drop i bs) ∙ rw (drop_at_char 58 bs i j found.1 (lit< tt), ← front, ← back) refl;
 }
+
+-- the clause of `split_once` at a `/`
+pub no_slash : (bs : List ℕ) → IsSplitOnceResult 47 bs None → All (λ b. is_slash b ≡ false) bs
+no_slash bs h = lacks 47 bs h (lit< tt)
+
+pub first_slash : (bs : List ℕ) (x : Bor (List ℕ) × Bor (List ℕ)) → IsSplitOnceResult 47 bs (Some x) → (bs ≡ x.0.now ++ 47 ∷ x.1.now) × All (λ b. is_slash b ≡ false) x.0.now
+first_slash bs x h =
+    let parts = split_parts 47 bs (Some x) h (lit< tt) in
+    (parts.0, All-from_get_or (λ b. is_slash b ≡ false) x.0.now 0 (λ i lt. ne_eqb (get_or x.0.now i 0) 47 (parts.1 i lt)))
 
 -- `strip_prefix` at the mark
 pub no_mark : (bs : List ℕ) → ((rest : List ℕ) → bs ≢ 33 ∷ rest) → is_off bs ≡ false

@@ -1,7 +1,8 @@
--- A text that is cut at its last colon.
-use Rattle.std.specs.Prelude.{◌≡◌, ℕ, true, false, List, ◌∷◌, ◌++◌, Option, is_some}
+-- A text that is cut at its last colon, or where its end begins.
+use Rattle.std.specs.Prelude.{◌≡◌, ◌≢◌, ◌⊎◌, ℕ, true, false, List, ◌∷◌, ◌++◌, is_some, codes}
 use Rattle.std.specs.List.{slice_split, All}
-use Rattle.fl_meta.specs.Entries.{is_colon, is_ending, last_word, access_remainder}
+use Rattle.fl_meta.specs.Places.{is_colon, is_ending}
+use Rattle.fl_meta.specs.Entries.{last_word, access_remainder}
 
 -- the text is front, a colon and an ending
 pub record CutsEnding (text front : List ℕ) : Type 0 where
@@ -13,3 +14,14 @@ pub record CutsEnding (text front : List ℕ) : Type 0 where
 -- it has no ending
 abbrev pub HasNoEnding : List ℕ → Type 0
 HasNoEnding text = is_some (access_remainder (last_word (slice_split is_colon text))) ≡ false
+
+-- the text is front and an end of a place
+abbrev pub CutsEnd : List ℕ → List ℕ → Type 0
+CutsEnd text front =
+    (text ≡ front ++ codes "/") ⊎ ((text ≡ front ++ codes "/.") ⊎ CutsEnding text front)
+
+-- it has no such end
+pub record HasNoEnd (text : List ℕ) : Type 0 where
+  pub ending : HasNoEnding text
+  pub slash : (front : List ℕ) → text ≢ front ++ codes "/"
+  pub dotted : (front : List ℕ) → text ≢ front ++ codes "/."

@@ -1,6 +1,6 @@
 -- The entries of a list of permissions, and what each mentions.
-use Rattle.std.specs.Prelude.{ℕ, Bool, ◌&&◌, List, [], ◌∷◌, length, drop, ◌==◌, false, Option, Some, None, unwrap_or, is_some, if◌then◌else◌}
-use Rattle.std.specs.List.{list_all, slice_split, flat_map}
+use Rattle.std.specs.Prelude.{ℕ, Bool, List, [], ◌∷◌, length, drop, ◌==◌, Option, Some, None, unwrap_or, if◌then◌else◌}
+use Rattle.std.specs.List.{slice_split, flat_map}
 use Rattle.fp_keyfile.specs.Grammar.{is_blank, begins_so}
 use Rattle.fp_keyfile.specs.Lines.{trimmed_front}
 use Rattle.fl_meta.specs.declared.permission.PermList.{PermList}
@@ -9,12 +9,10 @@ use Rattle.fl_meta.specs.declared.permission.Value.{Value}
 use Rattle.fl_meta.specs.declared.permission.Value.TheVariants as values
 use Rattle.fl_meta.specs.declared.permission.Mention.{Mention}
 use Rattle.fl_meta.specs.Names.{list_with, access_of}
+use Rattle.fl_meta.specs.Places.{is_colon, place_in}
 
 abbrev pub is_semicolon : ℕ → Bool
 is_semicolon b = b == 59
-
-abbrev pub is_colon : ℕ → Bool
-is_colon b = b == 58
 
 abbrev pub is_mark : ℕ → Bool
 is_mark b = b == 33
@@ -23,20 +21,6 @@ abbrev pub is_empty : List ℕ → Bool
 is_empty text = length text == 0
 
 -- ---- filesystems
-
--- nothing but endings, each a colon with `ro`, `rw` or `create`
-abbrev pub is_ending : List ℕ → Bool
-is_ending word = is_some (access_of word)
-
-abbrev pub are_endings : List (List ℕ) → Bool
-are_endings [] = false
-are_endings (front ∷ words) = is_empty front && list_all is_ending words
-
--- the text without the endings at its end, as many as there are
-unfoldable pub without_endings : List ℕ → List ℕ
-without_endings [] = []
-without_endings (b ∷ bs) =
-    if are_endings (slice_split is_colon (b ∷ bs)) then [] else b ∷ without_endings bs
 
 -- what stands after the last colon, where there is one
 abbrev pub last_of : List ℕ → List (List ℕ) → List ℕ
@@ -70,7 +54,7 @@ without_mark entry = if is_off entry then drop 1 entry else entry
 
 -- the name in an entry
 abbrev pub name_in : PermList → List ℕ → List ℕ
-name_in lists.Filesystems text = without_endings text
+name_in lists.Filesystems text = place_in text
 name_in list text = text
 
 -- the value of an entry that isn't off

@@ -3,32 +3,13 @@
 ghost use Rattle.std.specs.Prelude.{◌≡◌, ◌++◌, ◌∷◌, List, ℕ, IsTrue, OnOk, OnSome, MatchOption, IfOk};
 ghost use Rattle.fl_meta.specs.Entries as entries;
 ghost use Rattle.fl_meta.specs.Names as names;
-ghost use Rattle.fl_meta.specs.Cuts.{CutsEnding, HasNoEnding};
 
 use crate::names::{access_of, list_with};
 use crate::permission::{Layer, Mention, PermList, Value};
+use crate::places::place_in;
+use fp_base::Text;
 use fp_keyfile::trim_front;
-use std::alloc::AllocError;
-
-/// The text without its last ending, where it has one.
-fn cut_ending(text: &str) -> Option<&str>
-    ensures { MatchOption result (HasNoEnding text.now) (λ front. CutsEnding text.now front.now) }
-{
-    let (front, word) = text.rsplit_once(':')?;
-    access_of(word)?;
-    Some(front)
-}
-
-/// The text without the endings at its end.
-fn without_endings(text: &str) -> &str
-    ensures { result.now ≡ entries.without_endings text.now }
-{
-    let mut rest = text;
-    while let Some(front) = cut_ending(rest) {
-        rest = front;
-    }
-    rest
-}
+use std::alloc::{AllocError, Global};
 
 /// What the last ending says.
 fn access_at(text: &str) -> Value
@@ -41,12 +22,12 @@ fn access_at(text: &str) -> Value
 }
 
 /// The name in an entry.
-fn name_in(list: PermList, text: &str) -> &str
-    ensures { result.now ≡ entries.name_in list text.now }
+fn name_in(alloc: Global, list: PermList, text: &str) -> Result<Text, AllocError>
+    ensures { IfOk result (λ name. name ≡ entries.name_in list text.now) }
 {
     match list {
-        PermList::Filesystems => without_endings(text),
-        _ => text,
+        PermList::Filesystems => place_in(alloc, text),
+        _ => Text::from_str(alloc, text),
     }
 }
 
@@ -83,8 +64,8 @@ fn push_entry(out: &mut Layer, list: PermList, entry: &str) -> Result<(), AllocE
     ensures { OnOk result (out.new ≡ out.old ++ entries.mentions_in list entry.now) }
 {
     let text = without_mark(entry);
-    let name = name_in(list, text);
-    if name.is_empty() {
+    let name = name_in(out.allocator(), list, text)?;
+    if name.as_str().is_empty() {
         return Ok(());
     }
     let value = if is_off(entry) {
@@ -92,7 +73,12 @@ fn push_entry(out: &mut Layer, list: PermList, entry: &str) -> Result<(), AllocE
     } else {
         value_in(list, text)
     };
-    let mention = Mention::new(out.allocator(), list_with(list, name), name, value)?;
+    let mention = Mention::new(
+        out.allocator(),
+        list_with(list, name.as_str()),
+        name.as_str(),
+        value,
+    )?;
     out.push(mention)
 }
 

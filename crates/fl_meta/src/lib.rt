@@ -10,6 +10,7 @@ mod meta;
 mod names;
 mod pattern;
 mod permission;
+mod places;
 
 pub use fault::MetaError;
 pub use limits::MOST_BUS_NAME_BYTES;

@@ -148,8 +148,9 @@ fn push_group(out: &mut Layer, source: Source, group: &Group) -> Result<(), Allo
 ///
 /// A list is cut at `;`. Spaces and tabs at the start of an entry are dropped. A leading `!` says
 /// that the permission is off. Of a filesystem the endings `:ro`, `:rw` and `:create` are taken
-/// off, and the last one says how it may be used; without one it may be read and written. An entry
-/// without a name mentions nothing. A name that its list doesn't know is an unknown permission, and
+/// off, and the last one says how it may be used; without one it may be read and written. Its name
+/// is the normal text of the place: `/opt//data/` is `/opt/data`. An entry without a name mentions
+/// nothing. A name that its list doesn't know is an unknown permission, and
 /// so is a bus pair whose pattern or level isn't known.
 #[tactic(auto, unfolding(crate::specs::Mentions::file_mentions))]
 pub fn mentions_of(alloc: Global, file: &KeyFile, source: Source) -> Result<Layer, AllocError>

@@ -18,23 +18,19 @@ use Rattle.fl_meta.specs.declared.permission.Mention.{Mention}
 use Rattle.fl_meta.specs.declared.mentions.Source.TheVariants as sources
 use Rattle.fl_meta.specs.Names.{key_of}
 use Rattle.fl_meta.specs.Order.{place_of, is_same}
-use Rattle.fl_meta.specs.Entries.{is_semicolon, is_mark, is_off, without_mark, is_empty, without_endings, name_in, named, mention_of, mentions_in, list_mentions}
+use Rattle.fl_meta.specs.Entries.{is_semicolon, is_mark, is_off, without_mark, is_empty, name_in, named, mention_of, mentions_in, list_mentions}
 use Rattle.fl_meta.specs.Mentions.{context_mentions, pair_mentions, group_mentions, file_mentions}
 use Rattle.fl_meta.proofs.Endings.{is_empty-cons}
-use Rattle.fl_meta.proofs.Bare.{IsRest, IsFront, IsFront-without_endings}
 use Rattle.fl_meta.proofs.Same.{place_exact, same_places}
 use Rattle.fl_context.specs.Grants.{said, later, last_mention, value_in, IsAscending}
 use Rattle.fl_context.proofs.Merging.{last_mention-append, last-one}
 use Rattle.fl_override.specs.Written.{entry_with, entry_text, closed_entry, is_in, entry_in, list_text, pair_if, list_pair, context_lists, context_pairs, named_pair, named_in, named_pairs, group_if, file_with, group_of, pair_with, pair_of, CanWrite}
 use Rattle.fl_override.specs.Overrides.{AllCanWrite}
 use Rattle.fl_override.proofs.Plain.{Lacks, AllByRecursion-append, split_piece, lacking_pieces}
+use Rattle.fl_override.proofs.Places.{Lacks-place_in}
 use Rattle.fl_override.proofs.Reading.{IsListed, listed_shared, listed_sockets, listed_devices, listed_features, listed_filesystems, listed_persistent, listed_unknown_shared, listed_unknown_sockets, listed_unknown_devices, listed_unknown_features, listed_unknown_session, listed_unknown_system, mentions_in-nil, closed_reads, context_reads}
 
 -- ---- names have no semicolon
-
-lacks_front : (xs ys : List ℕ) → Lacks (xs ++ ys) → Lacks xs
-lacks_front [] ys h = tt
-lacks_front (x ∷ xs) ys h = (h.0, lacks_front xs ys h.1)
 
 lacks_back : (xs ys : List ℕ) → Lacks (xs ++ ys) → Lacks ys
 lacks_back [] ys h = h
@@ -52,7 +48,7 @@ lacks_mark (b ∷ bs) h = by_mark (is_mark b)
     by_mark false = h
 
 lacks_name : (list : PermList) (t : List ℕ) → Lacks t → Lacks (name_in list t)
-lacks_name lists.Filesystems t h = let f = IsFront-without_endings t in lacks_front (without_endings t) f.rest (subst Lacks f.whole h)
+lacks_name lists.Filesystems t h = Lacks-place_in t h
 lacks_name list t h = h
 
 abbrev NameLacks : Mention → Type 0

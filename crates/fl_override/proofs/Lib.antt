@@ -1,4 +1,5 @@
 pub mod Plain
+pub mod Places
 pub mod Reading
 pub mod Back
 pub mod Sets

@@ -9,9 +9,7 @@ use Rattle.std.proofs.lemmas.List.Splits.{slice_split_none, slice_split_at}
 use Rattle.fp_keyfile.specs.Grammar.{is_blank, is_value_byte}
 use Rattle.fp_keyfile.specs.Lines.{trimmed_front}
 use Rattle.fp_keyfile.proofs.Texts.{BeginsIn-trimmed_front, ascii_blank, utf8_before, utf8_after, utf8_joined, utf8_kept_front, utf8_nil}
-use Rattle.fl_meta.specs.Entries.{is_semicolon, is_mark, is_off, without_mark, without_endings}
-use Rattle.fl_meta.proofs.Bare.{IsRest, IsFront, IsFront-without_endings}
-use Rattle.fl_meta.proofs.Bare.IsRest.{no_words, only_words}
+use Rattle.fl_meta.specs.Entries.{is_semicolon, is_mark, is_off, without_mark}
 
 abbrev pub is_entry_byte : ℕ → Bool
 is_entry_byte b = is_value_byte b && not (is_semicolon b)
@@ -63,14 +61,6 @@ IsPlain-without_mark (b ∷ bs) h =
       | inl e ↦ rw e (IsPlain-after [] b bs (let is : b ≡ 33 = eqb-true b 33 e in omega arith) h)
       | inr e ↦ rw e h
     ]
-
-kept_plain : (kept rest : List ℕ) → IsRest rest → IsPlain (kept ++ rest) → IsPlain kept
-kept_plain kept _ no_words h = subst IsPlain (append-nil kept) h
-kept_plain kept _ (only_words r k) h = IsPlain-before kept 58 r (lit< tt) h
-
-pub IsPlain-without_endings : (text : List ℕ) → IsPlain text → IsPlain (without_endings text)
-IsPlain-without_endings text h =
-    let f = IsFront-without_endings text in kept_plain (without_endings text) f.rest f.kind (subst IsPlain f.whole h)
 
 -- ---- the pieces of a value
 

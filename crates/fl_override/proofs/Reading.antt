@@ -27,15 +27,16 @@ use Rattle.fl_meta.specs.declared.mentions.Source.{Source}
 use Rattle.fl_meta.specs.declared.mentions.Source.TheVariants as sources
 use Rattle.fl_meta.specs.Names.{is_among, shared_names, socket_names, device_names, feature_names, list_with, key_of, list_of_key, list_of_unknown_key, word_of, level_of, access_of}
 use Rattle.fl_meta.specs.Patterns.{is_pattern}
-use Rattle.fl_meta.specs.Entries.{is_semicolon, is_colon, is_mark, is_empty, is_off, without_mark, is_ending, without_endings, last_word, access_remainder, access_at, name_in, value_in, mention_of, named, mentions_in, list_mentions}
+use Rattle.fl_meta.specs.Places.{is_colon, normal, place_in}
+use Rattle.fl_meta.specs.Entries.{is_semicolon, is_mark, is_empty, is_off, without_mark, last_word, access_remainder, access_at, name_in, value_in, mention_of, named, mentions_in, list_mentions}
 use Rattle.fl_meta.specs.Cuts.{HasNoEnding}
 use Rattle.fl_meta.specs.Mentions.{or_unknown, list_at, context_mentions, pair_name, can_stand, odd_pair, bus_with, bus_mentions, pair_mentions, group_mentions, file_mentions}
-use Rattle.fl_meta.proofs.Endings.{last_word-cut, without_endings-cut, is_empty-cons}
-use Rattle.fl_meta.proofs.Bare.{IsFront, IsFront-without_endings, IsRest, HasNoEnding-without_endings, without_endings-twice}
-use Rattle.fl_meta.specs.Cuts.{CutsEnding}
+use Rattle.fl_meta.proofs.Endings.{last_word-cut, is_empty-cons}
+use Rattle.fl_meta.proofs.Normal.{HasNoEnding-place_in, place_in-twice}
 use Rattle.fl_override.specs.Written.{entry_with, entry_text, closed_entry, named_pair, group_of, pair_with, pair_of, CanWrite}
 use Rattle.fl_override.specs.Overrides.{AllCanWrite}
-use Rattle.fl_override.proofs.Plain.{is_entry_byte, IsPlain, IsPlain-nil, IsPlain-before, IsPlain-after, IsPlain-joined, IsPlain-trimmed, IsPlain-without_mark, IsPlain-without_endings, Lacks, Lacks-plain, AllByRecursion-append, split_piece, plain_pieces}
+use Rattle.fl_override.proofs.Plain.{is_entry_byte, IsPlain, IsPlain-nil, IsPlain-before, IsPlain-after, IsPlain-joined, IsPlain-trimmed, IsPlain-without_mark, Lacks, Lacks-plain, AllByRecursion-append, split_piece, plain_pieces}
+use Rattle.fl_override.proofs.Places.{place_in-ended, first_of, IsPlain-place_in}
 
 -- ---- ASCII
 
@@ -103,7 +104,7 @@ listed_unknown_system = record { pair = λ m e. ap (λ l. pair_with l m) e; grou
 
 -- nothing is mentioned by an empty entry
 name_in-nil : (list : PermList) → name_in list [] ≡ []
-unfolding without_endings
+unfolding normal
 name_in-nil lists.Filesystems = refl
 name_in-nil lists.Shared = refl
 name_in-nil lists.Sockets = refl
@@ -326,19 +327,15 @@ pub record IsEnding (word : List ℕ) (v : Value) : Type 0 where
   pub plain : IsPlain word
   pub whole : AllByRecursion (λ b. is_colon b ≡ false) word
   pub says : access_of word ≡ Some v
+  pub alone : normal (58 ∷ word) ≡ []
 
 ends_ro : IsEnding (codes "ro") values.Ro
-ends_ro = record { plain = record { utf8 = utf8_ascii _ refl; bytes = refl }; whole = (refl, (refl, tt)); says = refl }
+unfolding normal
+ends_ro = record { plain = record { utf8 = utf8_ascii _ refl; bytes = refl }; whole = (refl, (refl, tt)); says = refl; alone = refl }
 
 ends_create : IsEnding (codes "create") values.Create
-ends_create = record { plain = record { utf8 = utf8_ascii _ refl; bytes = refl }; whole = (refl, (refl, (refl, (refl, (refl, (refl, tt)))))); says = refl }
-
-some_remainder : (o : Option Value) (v : Value) → o ≡ Some v → is_some o ≡ true
-some_remainder o v e = ap is_some e
-
-ended_name : (name word : List ℕ) (v : Value) → IsEnding word v → without_endings (name ++ 58 ∷ word) ≡ without_endings name
-ended_name name word v h =
-    without_endings-cut (name ++ 58 ∷ word) name (record { word = word; whole = All-from_recursion (λ b. is_colon b ≡ false) word h.whole; ending = some_remainder (access_of word) v h.says; text_is = refl })
+unfolding normal
+ends_create = record { plain = record { utf8 = utf8_ascii _ refl; bytes = refl }; whole = (refl, (refl, (refl, (refl, (refl, (refl, tt)))))); says = refl; alone = refl }
 
 ended_access : (name word : List ℕ) (v : Value) → IsEnding word v → access_at (name ++ 58 ∷ word) ≡ v
 unfolding access_at
@@ -353,37 +350,30 @@ bare_access : (name : List ℕ) → HasNoEnding name → access_at name ≡ valu
 unfolding access_at
 bare_access name h = none_left _ h
 
--- what stands after a name changes neither its first byte
-first_of : (p : ℕ → Bool) (kept rest x : List ℕ) → is_empty kept ≡ false → x ≡ kept ++ rest → begins_so p x ≡ false → (back : List ℕ) → begins_so p (kept ++ back) ≡ false
-first_of p [] rest x some e h back = absurd (false≢true (sym some))
-first_of p (b ∷ bs) rest x some e h back = sym (ap (begins_so p) e) ∙ h
-
-ended_on : (x : List ℕ) (v : Value) (word : List ℕ) → IsEnding word v → ((n : List ℕ) → entry_with v n ≡ n ++ 58 ∷ word) → access_at x ≡ v → IsPiece x → is_off x ≡ false → is_empty (without_endings x) ≡ false → IsOn lists.Filesystems x
+ended_on : (x : List ℕ) (v : Value) (word : List ℕ) → IsEnding word v → ((n : List ℕ) → entry_with v n ≡ n ++ 58 ∷ word) → access_at x ≡ v → IsPiece x → is_off x ≡ false → is_empty (place_in x) ≡ false → IsOn lists.Filesystems x
 ended_on x v word k written says h on some =
-    let name = without_endings x in
-    let front = IsFront-without_endings x in
+    let name = place_in x in
     let e : entry_with (access_at x) name ≡ name ++ 58 ∷ word = ap (λ w. entry_with w name) says ∙ written name in
     record {
-      plain = subst IsPlain (sym e) (IsPlain-joined name 58 word (lit< tt) refl (IsPlain-without_endings x h.plain) k.plain);
-      begins = ap (begins_so is_blank) e ∙ first_of is_blank name front.rest x some front.whole h.begins (58 ∷ word);
+      plain = subst IsPlain (sym e) (IsPlain-joined name 58 word (lit< tt) refl (IsPlain-place_in x h.plain) k.plain);
+      begins = ap (begins_so is_blank) e ∙ first_of is_blank x some h.begins (58 ∷ word);
       reads =
           ap (mentions_in lists.Filesystems) e
-          ∙ on_reads lists.Filesystems (name ++ 58 ∷ word) name v (first_of is_mark name front.rest x some front.whole on (58 ∷ word)) (ended_name name word v k ∙ without_endings-twice x) (ended_access name word v k) refl some
+          ∙ on_reads lists.Filesystems (name ++ 58 ∷ word) name v (first_of is_mark x some on (58 ∷ word)) (place_in-ended name word k.alone some ∙ place_in-twice x) (ended_access name word v k) refl some
           ∙ ap (λ w. mention_of lists.Filesystems name w ∷ []) (sym says);
     }
 
-file_on : (v : Value) → IsAccess v → (x : List ℕ) → access_at x ≡ v → IsPiece x → is_off x ≡ false → is_empty (without_endings x) ≡ false → IsOn lists.Filesystems x
+file_on : (v : Value) → IsAccess v → (x : List ℕ) → access_at x ≡ v → IsPiece x → is_off x ≡ false → is_empty (place_in x) ≡ false → IsOn lists.Filesystems x
 file_on _ may_write x says h on some =
-    let name = without_endings x in
-    let front = IsFront-without_endings x in
+    let name = place_in x in
     let e : entry_with (access_at x) name ≡ name = ap (λ v. entry_with v name) says in
     let same : name ++ [] ≡ name = append-nil name in
     record {
-      plain = subst IsPlain (sym e) (IsPlain-without_endings x h.plain);
-      begins = ap (begins_so is_blank) (e ∙ sym same) ∙ first_of is_blank name front.rest x some front.whole h.begins [];
+      plain = subst IsPlain (sym e) (IsPlain-place_in x h.plain);
+      begins = ap (begins_so is_blank) (e ∙ sym same) ∙ first_of is_blank x some h.begins [];
       reads =
           ap (mentions_in lists.Filesystems) e
-          ∙ on_reads lists.Filesystems name name values.Rw (ap is_off (sym same) ∙ first_of is_mark name front.rest x some front.whole on []) (without_endings-twice x) (bare_access name (HasNoEnding-without_endings x)) refl some
+          ∙ on_reads lists.Filesystems name name values.Rw (ap is_off (sym same) ∙ first_of is_mark x some on []) (place_in-twice x) (bare_access name (HasNoEnding-place_in x)) refl some
           ∙ ap (λ v. mention_of lists.Filesystems name v ∷ []) (sym says);
     }
 file_on _ may_read x says h on some = ended_on x values.Ro (codes "ro") ends_ro (λ n. refl) says h on some
@@ -393,8 +383,8 @@ read_filesystems : IsRead lists.Filesystems
 read_filesystems = record {
   listed = λ name. listed_filesystems;
   itself = λ name. refl;
-  again = λ t. without_endings-twice t;
-  plain = λ t h. IsPlain-without_endings t h;
+  again = λ t. place_in-twice t;
+  plain = λ t h. IsPlain-place_in t h;
   on = λ x h on some. file_on (access_at x) (access_kind x) x refl h on some;
 }
 

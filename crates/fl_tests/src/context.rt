@@ -48,7 +48,7 @@ fn granted(rt: &impl Abort, alloc: Global, first: &str, second: &str, third: &st
 }
 
 /// Three layers, and what they grant.
-const LAYERS: [(&str, &str, &str, &str); 9] = [
+const LAYERS: [(&str, &str, &str, &str); 10] = [
     ("", "", "", ""),
     // an application's metadata, the override of all, and its own
     (
@@ -81,6 +81,12 @@ const LAYERS: [(&str, &str, &str, &str); 9] = [
         "[Context]\nfilesystems=!~/x;",
         "[Context]\nfilesystems=~/x",
         "~/x=rw+ ",
+    ),
+    (
+        "[Context]\nfilesystems=/opt/data:ro;~/x/;",
+        "[Context]\nfilesystems=!/opt//data/;",
+        "[Context]\nfilesystems=!~/./x",
+        "/opt/data=off ~/x=off ",
     ),
     (
         "[Session Bus Policy]\na.b=own",

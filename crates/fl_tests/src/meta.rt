@@ -90,7 +90,7 @@ fn are_shown(rt: &impl Abort, alloc: Global, mentions: &[Mention], want: &str) -
 }
 
 /// Keys and values of the group `Context`, and what they mention.
-const LISTS: [(&str, &str); 52] = [
+const LISTS: [(&str, &str); 55] = [
     // cuts, blanks and empty entries
     ("shared=network;ipc;", "shared<network>on shared<ipc>on "),
     ("shared=network;ipc", "shared<network>on shared<ipc>on "),
@@ -184,6 +184,19 @@ const LISTS: [(&str, &str); 52] = [
         "files<~/a b>ro files<!x>off ",
     ),
     ("filesystems=a:ro/b;", "files<a:ro/b>rw "),
+    // one place by several texts
+    (
+        "filesystems=/opt/data/;!/opt//data;/opt/./data/.:ro;",
+        "files</opt/data>rw files</opt/data>off files</opt/data>ro ",
+    ),
+    (
+        "filesystems=/opt/data:ro/;~/x/:ro/:create;/opt/..data;a/../b/;",
+        "files</opt/data>rw files<~/x>create files</opt/..data>rw files<a/../b>rw ",
+    ),
+    (
+        "filesystems=home/;host//;~/.;xdg-download//é/;//;/.:ro;./x;:ro/;",
+        "files<home>rw files<host>rw files<~>rw files<xdg-download/é>rw files</>rw files</>ro files<./x>rw ",
+    ),
     // folders that are kept
     (
         "persistent=.a;!.b; .c:ro;;",

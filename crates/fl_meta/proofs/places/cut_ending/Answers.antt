@@ -2,7 +2,7 @@ use Rattle.std.proofs.Common.{sym, ap, ◌∙◌, is_some}
 use Rattle.fl_meta.specs.Entries.{access_remainder}
 use Rattle.fl_meta.proofs.Endings.{last_word-cut, last_word-none}
 use Rattle.fl_meta.proofs.Searches.{no_cut, last_cut}
-use Rattle.fl_meta.proofs.entries.cut_ending.Goals as goal
+use Rattle.fl_meta.proofs.places.cut_ending.Goals as goal
 
 pub returns-in_err-front : goal.returns-in_err-front
 returns-in_err-front c =
