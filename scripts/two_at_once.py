@@ -7,10 +7,12 @@
 - 60 pins each of two runs side by side are all there afterwards, from a folder on that is not there at first,
 - a batch that waits for its input holds no lock,
 - a run that waits says so once on standard error, and goes on when the lock is free,
+- a run that waits for a lock file that is taken away meanwhile holds the one that stands there afterwards,
 - a run that is killed by SIGKILL while it holds the lock leaves none,
-- after such a run the next one that changes something syncs every file and folder, and the one after it only what it
-  changes,
-- a mark of an earlier start of the machine means nothing.
+- after such a run the next one that changes something syncs every file and folder that is fpk's, and none of others, and
+  the one after it only what it changes,
+- a mark of an earlier start of the machine means nothing,
+- no change makes the lock file longer.
 
 It prints what it counted; the status is 0 where nothing was amiss.
 """
@@ -61,6 +63,16 @@ class Runs:
     def lock(self):
         return open(os.path.join(self.folder, LOCK), "r+")
 
+    def size_of_lock(self):
+        return os.stat(os.path.join(self.folder, LOCK)).st_size
+
+    def add_files(self, folder):
+        """200 files in a folder of the installation."""
+        os.mkdir(os.path.join(self.folder, folder))
+        for i in range(200):
+            with open(os.path.join(self.folder, folder, f"file{i}"), "w"):
+                pass
+
 
 def side_by_side(runs):
     """Two loops of pins at once."""
@@ -98,6 +110,26 @@ def waiting(runs):
         return said, waiter.returncode
 
 
+def taken_away(runs):
+    """Whether a run that waited for a lock file that was taken away holds the one that stands there. Its syncs are slow."""
+    slow = ["strace", "-f", "-e", "inject=fsync:delay_enter=300000", "-o", "/dev/null"]
+    with runs.lock() as lock:
+        fcntl.flock(lock, fcntl.LOCK_EX)
+        waiter = runs.start("pin", "app/org.x.Away/*/*", before=slow)
+        time.sleep(1)
+        os.remove(os.path.join(runs.folder, LOCK))
+        fcntl.flock(lock, fcntl.LOCK_UN)
+    time.sleep(0.5)
+    holds = False
+    with runs.lock() as lock:
+        try:
+            fcntl.flock(lock, fcntl.LOCK_EX | fcntl.LOCK_NB)
+        except BlockingIOError:
+            holds = True
+    waiter.communicate()
+    return holds and waiter.returncode == 0
+
+
 def killed(runs):
     """Kills a run at its second sync, while it holds the lock. What the lock file holds afterwards."""
     inject = ["strace", "-f", "-e", "inject=fsync:signal=SIGKILL:when=2", "-o", "/dev/null"]
@@ -130,25 +162,31 @@ def main():
         said, status = waiting(runs)
         want = f"fpk: waiting for another fpk that works on {runs.folder}\n"
         see("said by the one that waited", repr(said), said == want and status == 0)
-        for i in range(200):
-            with open(os.path.join(runs.folder, f"file{i}"), "w"):
-                pass
+        holds = taken_away(runs)
+        see("one that waited for a lock file that was taken away holds the new one", holds, holds)
+        runs.add_files("made")
+        runs.add_files("theirs")
+        size = runs.size_of_lock()
         idle = runs.fsyncs("pin", "app/org.x.A1_1/*/*")
         see("syncs of a run that changes nothing", idle, idle < 20)
         one = runs.fsyncs("pin", "app/org.x.One/*/*")
         see("syncs of one pin", one, one < 30)
         mark = killed(runs)
-        see("mark after the kill", repr(mark), mark != "")
+        with open("/proc/sys/kernel/random/boot_id", encoding="ascii") as start:
+            see("mark after the kill", repr(mark), mark == start.read())
         after = runs.fsyncs("pin", "app/org.x.Two/*/*")
-        see("syncs after the kill", after, after >= 200)
+        see("syncs after the kill", after, 200 <= after < 300)
         again = runs.fsyncs("pin", "app/org.x.Three/*/*")
         see("syncs of the run after that", again, again < 30)
         with runs.lock() as lock:
             lock.write("00000000-0000-0000-0000-000000000000\n")
         other = runs.fsyncs("pin", "app/org.x.Four/*/*")
         see("syncs with a mark of an earlier start", other, other < 30)
+        with runs.lock() as lock:
+            text = lock.read()
+        see("text of the lock file", repr(text), text == "-" * 36 + "\n" and size == len(text))
         names = [name.split("/")[1] for name in runs.pins()]
-        kept = all(f"org.x.{name}" in names for name in ("Beside", "Batch", "One", "Two", "Three", "Four"))
+        kept = all(f"org.x.{name}" in names for name in ("Beside", "Batch", "Away", "One", "Two", "Three", "Four"))
         see("all of it is pinned", kept, kept)
     finally:
         shutil.rmtree(top)

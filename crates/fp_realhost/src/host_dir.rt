@@ -25,11 +25,11 @@ use std::thread::Threads;
 ///
 /// It is opened to look or to change. At its first call, but for `say`, it takes the advisory lock
 /// (`flock`) of the file `.lock` at the top of the root, shared to look and alone to change, and
-/// keeps it as long as it is there. Where another holds it, that it waits is said once on standard
-/// error. A host that looks makes nothing: where there is no lock file it takes none, an absent
-/// root reads as an empty folder, and every change fails. A host that changes makes the root, the
-/// folders above it and the lock file at its first call, where they are absent. The list of the
-/// root's names leaves the lock file out.
+/// keeps it as long as it is there. Where another holds it, that it waits is said on standard
+/// error. Where the file was taken away meanwhile, it begins anew. A host that looks makes nothing:
+/// where there is no lock file it takes none, an absent root reads as an empty folder, and every
+/// change fails. A host that changes makes the root, the folders above it and the lock file at its
+/// first call, where they are absent. The list of the root's names leaves the lock file out.
 ///
 /// A folder gets the permission bits 0755 and a file exactly those that were asked for, whatever
 /// the umask. What is moved into `repo/objects`, or written in `repo/tmp/pull/objects` to be moved
@@ -46,10 +46,11 @@ use std::thread::Threads;
 /// A `sync` makes last each file and then each folder that was changed since the last one, many of
 /// them by several threads. At most 192 files that wait for it stay open: where more are made,
 /// those are synced before. While changes wait for it, the lock file holds the text that Linux
-/// gives this start of the machine. Where an earlier run of the same start left that, or the root
-/// was there without a lock file, the first `sync` makes last every file and folder that may be
-/// opened. After a sync of a file or folder that failed no later one succeeds, nor after a change
-/// that there was no memory to note.
+/// gives this start of the machine, and else nothing or a line of dashes. Where an earlier run of the same
+/// start left that, or the root was there without a lock file, the first `sync` makes last every
+/// file and folder that may be opened, at the names that fpk keeps at the top. After a sync of a
+/// file or folder that failed no later one succeeds, nor after a change that there was no memory to
+/// note.
 ///
 /// Contracts see how often it failed, whether nothing waits for a sync, and how many bytes were
 /// printed.

@@ -13,6 +13,9 @@ pub enum Kind<'a> {
     Failing(&'a str),
     /// Somebody else holds each lock until it is waited for.
     Busy,
+    /// The same, and this many times its file is taken away meanwhile. Whether another one comes in
+    /// its place.
+    Losing(u32, bool),
     /// What is looked at is noted, too.
     TellingLooks,
     /// The file or folder at this path may not be opened.
@@ -26,6 +29,8 @@ pub struct Log<'a> {
     pub alloc: Global,
     lines: Cell<String>,
     kind: Kind<'a>,
+    // How many lock files were taken away.
+    lost: Cell<u32>,
     is_wrong: Cell<bool>,
     wrong: Cell<String>,
 }
@@ -37,6 +42,7 @@ impl<'a> Log<'a> {
             alloc,
             lines: Cell::new(String::new(alloc)),
             kind,
+            lost: Cell::new(0),
             is_wrong: Cell::new(false),
             wrong: Cell::new(String::new(alloc)),
         }
@@ -93,7 +99,23 @@ impl<'a> Log<'a> {
     }
 
     pub(crate) fn is_busy(&self) -> bool {
-        matches!(self.kind, Kind::Busy)
+        matches!(self.kind, Kind::Busy | Kind::Losing(_, _))
+    }
+
+    /// Whether a lock file is taken away that is waited for, and whether another one comes in its
+    /// place.
+    pub(crate) fn loses(&self) -> Option<bool> {
+        match self.kind {
+            Kind::Losing(times, comes) if self.counts_to(times) => Some(comes),
+            _ => None,
+        }
+    }
+
+    /// Counts one more, where there are not as many yet.
+    fn counts_to(&self, times: u32) -> bool {
+        let lost = self.lost.get();
+        self.lost.set(lost.saturating_add(1));
+        lost < times
     }
 
     /// The same for a call of which no more is done.

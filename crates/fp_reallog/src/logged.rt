@@ -4,7 +4,7 @@ use fp_realroot::{Access, Failure, System, Unsynced, sync_in_turn};
 use fp_system::{Call, known};
 use std::alloc::{Alloc, Allocator, Global};
 use std::fmt::Display;
-use std::fs::{File, FileTimes, Metadata, OpenFile, OpenOptions, Permissions};
+use std::fs::{self, File, FileTimes, Metadata, OpenFile, OpenOptions, Permissions};
 use std::io;
 use std::io::{Eprint, Print, Read, Seek, SeekFrom, Write};
 use std::path::PathBuf;
@@ -21,12 +21,44 @@ pub struct Logged<'a> {
     pub log: &'a Log<'a>,
 }
 
+impl Logged<'_> {
+    /// Takes a lock file away that is waited for, where that is to be.
+    fn lose(&self, at: &str) -> io::Result<()> {
+        match self.log.loses() {
+            Some(comes) => lose_file(self.rt, at, comes),
+            None => Ok(()),
+        }
+    }
+}
+
+fn lose_file(rt: &HostRuntime, at: &str, comes: bool) -> io::Result<()> {
+    match rt.remove_file(at) {
+        Ok(()) if comes => fs::write(rt, at, ""),
+        removed => removed,
+    }
+}
+
 /// An open file of it.
 #[derive(Drop)]
 pub struct LoggedFile<'a> {
     log: &'a Log<'a>,
     at: String,
+    // Whether it is written at its end alone.
+    appends: bool,
     file: File,
+}
+
+impl LoggedFile<'_> {
+    /// What a write of this many bytes is called.
+    fn name_of_write(&mut self, count: usize) -> io::Result<&'static str> {
+        if self.appends {
+            return Ok("write");
+        }
+        let start = self.file.stream_position()?;
+        let size = self.file.metadata()?.len();
+        let end = start.saturating_add(count as u64);
+        Ok(if end > size { "write" } else { "write over" })
+    }
 }
 
 impl<'a> Files for Logged<'a> {
@@ -45,6 +77,7 @@ impl<'a> Files for Logged<'a> {
         Ok(LoggedFile {
             log: self.log,
             at,
+            appends: how.asks_append(),
             file: self.rt.open_file(how, path)?,
         })
     }
@@ -157,7 +190,8 @@ impl Read for LoggedFile<'_> {
 
 impl Write for LoggedFile<'_> {
     fn write(&mut self, buf: &[u8]) -> io::Result<usize> {
-        if self.log.lets("write", &self.at) {
+        let name = self.name_of_write(buf.len())?;
+        if self.log.lets(name, &self.at) {
             self.file.write(buf)
         } else {
             Err(out())
@@ -269,11 +303,11 @@ impl System for Logged<'_> {
     }
 
     fn lock(&self, file: &Self::File, access: Access) -> io::Result<()> {
-        if self.log.lets("wait for", &file.at) {
-            self.rt.lock(&file.file, access)
-        } else {
-            Err(out())
+        if !self.log.lets("wait for", &file.at) {
+            return Err(out());
         }
+        self.lose(&file.at)?;
+        self.rt.lock(&file.file, access)
     }
 
     fn sync_paths<T: Threads + Sync>(&self, _threads: &T, paths: &[&str]) -> Option<Failure> {

@@ -102,6 +102,121 @@ const NOTED: [Act<'static>; 4] = [
     ),
 ];
 
+/// A lock file stands there.
+const LOCKED: Act<'static> = Act::Make(&[Made::Folder("lost"), Made::File("lost/.lock", "")]);
+
+/// Another file comes in its place while its lock is waited for: that one's lock is waited for.
+const REPLACED: &str = "lock lost/.lock\n\
+    complain fpk: waiting for another fpk that works on lost\n\
+    wait for lost/.lock\n\
+    lock lost/.lock\n\
+    complain fpk: waiting for another fpk that works on lost\n\
+    wait for lost/.lock\n";
+
+const REPLACED_TO_LOOK: [Act<'static>; 2] = [
+    LOCKED,
+    Act::Logged(
+        Access::Look,
+        "lost",
+        &[
+            Part::Done(&TWICE),
+            Part::Asked(REPLACED),
+            Part::Free("lost/.lock", true, false),
+        ],
+    ),
+];
+
+const REPLACED_TO_CHANGE: [Act<'static>; 2] = [
+    LOCKED,
+    Act::Logged(
+        Access::Change,
+        "lost",
+        &[
+            Part::Done(&TWICE),
+            Part::Asked(REPLACED),
+            Part::Free("lost/.lock", false, false),
+        ],
+    ),
+];
+
+/// It is taken away meanwhile, and nothing tells what is synced.
+const REMADE: &str = "lock lost/.lock\n\
+    complain fpk: waiting for another fpk that works on lost\n\
+    wait for lost/.lock\n\
+    lock lost/.lock\n\
+    complain fpk: waiting for another fpk that works on lost\n\
+    wait for lost/.lock\n\
+    write lost/.lock\n";
+
+const TAKEN_TO_CHANGE: [Act<'static>; 2] = [
+    LOCKED,
+    Act::Logged(
+        Access::Change,
+        "lost",
+        &[
+            Part::Done(&TWICE),
+            Part::Asked(REMADE),
+            Part::Free("lost/.lock", false, false),
+        ],
+    ),
+];
+
+const UNLOCKED: &str = "lock lost/.lock\n\
+    complain fpk: waiting for another fpk that works on lost\n\
+    wait for lost/.lock\n";
+
+/// Who looks makes none.
+const TAKEN_TO_LOOK: [Act<'static>; 3] = [
+    LOCKED,
+    Act::Logged(
+        Access::Look,
+        "lost",
+        &[Part::Done(&TWICE), Part::Asked(UNLOCKED)],
+    ),
+    Act::Absent("lost/.lock"),
+];
+
+/// What is opened for either gets a lock, or doesn't.
+const GOT: [Act<'static>; 2] = [
+    LOCKED,
+    Act::Logged(Access::Change, "lost", &[Part::Done(&TWICE)]),
+];
+
+const GOT_TO_LOOK: [Act<'static>; 2] = [
+    LOCKED,
+    Act::Logged(Access::Look, "lost", &[Part::Done(&TWICE)]),
+];
+
+const MISSED: [Act<'static>; 2] = [
+    LOCKED,
+    Act::Logged(Access::Change, "lost", &[Part::Fail(&TWICE)]),
+];
+
+const MISSED_TO_LOOK: [Act<'static>; 2] = [
+    LOCKED,
+    Act::Logged(Access::Look, "lost", &[Part::Fail(&TWICE)]),
+];
+
+#[test]
+fn the_lock_that_is_held_is_of_the_file_that_stands_there(rt: HostRuntime) {
+    let replaced = Kind::Losing(1, true);
+    let taken = Kind::Losing(1, false);
+    assert!(rt; tell(&rt, &rt, "lost", replaced, &REPLACED_TO_LOOK));
+    assert!(rt; tell(&rt, &rt, "lost", replaced, &REPLACED_TO_CHANGE));
+    assert!(rt; tell(&rt, &rt, "lost", taken, &TAKEN_TO_LOOK));
+    assert!(rt; tell(&rt, &rt, "lost", taken, &TAKEN_TO_CHANGE));
+}
+
+/// A lock file that is replaced a hundred times is given up.
+#[test]
+fn a_lock_is_not_waited_for_without_end(rt: HostRuntime) {
+    let (often, always) = (Kind::Losing(99, true), Kind::Losing(u32::MAX, true));
+    assert!(rt; tell(&rt, &rt, "lost", often, &GOT));
+    assert!(rt; tell(&rt, &rt, "lost", often, &GOT_TO_LOOK));
+    assert!(rt; tell(&rt, &rt, "lost", always, &MISSED));
+    assert!(rt; tell(&rt, &rt, "lost", always, &MISSED_TO_LOOK));
+}
+
 #[test]
 fn the_lock_keeps_others_out(rt: HostRuntime) {
     assert!(rt; tell(&rt, &rt, "held", Kind::Plain, &FREE));

@@ -5,6 +5,8 @@
 #[cfg(test)]
 mod held;
 #[cfg(test)]
+mod left;
+#[cfg(test)]
 mod order;
 #[cfg(test)]
 mod synced;

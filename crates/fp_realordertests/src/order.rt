@@ -37,39 +37,42 @@ const ASKED: [(Step<'static>, &str); 24] = [
         Step::Sync,
         "sync order/root/d/f\nsync .\nsync order\nsync order/root\n\
          sync .\nsync order\nsync order/root\nsync order/root/d\n\
-         cut order/root/.lock\n",
+         write over order/root/.lock\n",
     ),
     (Step::Sync, ""),
     (
         Step::Create("new", 0o600),
-        "write order/root/.lock\ncreate order/root/new\n",
+        "write over order/root/.lock\ncreate order/root/new\n",
     ),
     (Step::Append("new", "more"), "write order/root/new\n"),
     (Step::Append("new", "bytes"), "write order/root/new\n"),
     (
         Step::Sync,
-        "sync order/root/new\nsync order/root\ncut order/root/.lock\n",
+        "sync order/root/new\nsync order/root\nwrite over order/root/.lock\n",
     ),
     (
         Step::Rename("new", "d/f"),
-        "write order/root/.lock\nrename to order/root/d/f\n",
+        "write over order/root/.lock\nrename to order/root/d/f\n",
     ),
     (
         Step::Sync,
-        "sync order/root\nsync order/root/d\ncut order/root/.lock\n",
+        "sync order/root\nsync order/root/d\nwrite over order/root/.lock\n",
     ),
     (
         Step::Symlink("text", "d/l"),
-        "write order/root/.lock\nlink order/root/d/l\n",
+        "write over order/root/.lock\nlink order/root/d/l\n",
     ),
     (Step::Unlink("d/f"), "remove order/root/d/f\n"),
-    (Step::Sync, "sync order/root/d\ncut order/root/.lock\n"),
+    (
+        Step::Sync,
+        "sync order/root/d\nwrite over order/root/.lock\n",
+    ),
     (Step::Say("words"), "print words\n"),
     (Step::Stat("d"), ""),
     (Step::Sync, ""),
     (
         Step::MakeDir("repo"),
-        "write order/root/.lock\nmake order/root/repo\n",
+        "write over order/root/.lock\nmake order/root/repo\n",
     ),
     (
         Step::MakeDir("repo/objects"),
@@ -83,7 +86,7 @@ const ASKED: [(Step<'static>, &str); 24] = [
     (
         Step::Sync,
         "sync order/root/repo/objects/x\nsync order/root\nsync order/root/repo\n\
-         sync order/root/repo/objects\ncut order/root/.lock\n",
+         sync order/root/repo/objects\nwrite over order/root/.lock\n",
     ),
 ];
 
@@ -165,7 +168,7 @@ const FAILURES: [(&str, usize, bool); 11] = [
     ("make fails/root", 0, false),
     ("lock fails/root/.lock", 0, false),
     ("write fails/root/.lock", 0, true),
-    ("cut fails/root/.lock", 3, false),
+    ("write over fails/root/.lock", 3, false),
     ("make fails/root/d", 0, true),
     ("create fails/root/d/f", 1, true),
     ("write fails/root/d/f", 2, true),
@@ -184,113 +187,6 @@ fn what_the_system_fails_at_is_not_done(rt: HostRuntime) {
     }
 }
 
-/// What a run does that is stopped.
-const UNSYNCED: [(Step<'static>, &str); 3] = [
-    (
-        Step::MakeDir("d"),
-        "make left\nmake left/root\nlock left/root/.lock\n\
-         write left/root/.lock\nmake left/root/d\n",
-    ),
-    (Step::Create("d/f", 0), "create left/root/d/f\n"),
-    (Step::Symlink("f", "d/l"), "link left/root/d/l\n"),
-];
-
-/// The next run that syncs makes all of it last, and the one after it nothing.
-const CAUGHT_UP: [(Step<'static>, &str); 3] = [
-    (Step::Stat("d"), "lock left/root/.lock\n"),
-    (
-        Step::Sync,
-        "sync .\nsync left\nsync left/root\nsync left/root/.lock\nsync left/root/d\n\
-         sync left/root/d/f\ncut left/root/.lock\n",
-    ),
-    (Step::Sync, ""),
-];
-
-const IDLE: [(Step<'static>, &str); 2] = [
-    (Step::Stat("d"), "lock left/root/.lock\n"),
-    (Step::Sync, ""),
-];
-
-const LEFT: [Act<'static>; 3] = [
-    Act::Logged(Access::Change, "left/root", &[Part::Ask(&UNSYNCED)]),
-    Act::Logged(Access::Change, "left/root", &[Part::Ask(&CAUGHT_UP)]),
-    Act::Logged(Access::Change, "left/root", &[Part::Ask(&IDLE)]),
-];
-
-/// The mark of an earlier start of the machine means nothing.
-const MARKED: [Act<'static>; 3] = [
-    Act::Logged(Access::Change, "left/root", &[Part::Ask(&UNSYNCED)]),
-    Act::Make(&[Made::File("left/root/.lock", "00000000-0000-0000-0000-000000000000\n")]),
-    Act::Logged(Access::Change, "left/root", &[Part::Ask(&IDLE)]),
-];
-
-/// What else stands in the lock file was written over a mark.
-const WRITTEN_OVER: [Act<'static>; 3] = [
-    Act::Logged(Access::Change, "left/root", &[Part::Ask(&UNSYNCED)]),
-    Act::Make(&[Made::File("left/root/.lock", "pinned app/*/*/*\n")]),
-    Act::Logged(Access::Change, "left/root", &[Part::Ask(&CAUGHT_UP)]),
-];
-
-/// A folder that was there without a lock file may hold what was left.
-const UNKNOWN: [(Step<'static>, &str); 2] = [
-    (
-        Step::Stat("f"),
-        "lock old/root/.lock\nwrite old/root/.lock\n",
-    ),
-    (
-        Step::Sync,
-        "sync .\nsync old\nsync old/root\nsync old/root/.lock\nsync old/root/f\n\
-         cut old/root/.lock\n",
-    ),
-];
-
-const UNLOCKED: [Act<'static>; 2] = [
-    Act::Make(&[Made::Folder("old/root"), Made::File("old/root/f", "")]),
-    Act::Logged(Access::Change, "old/root", &[Part::Ask(&UNKNOWN)]),
-];
-
-/// What stands in a root without a lock file.
-const OTHERS: [Made<'static>; 2] = [
-    Made::Folder("old/root/theirs"),
-    Made::File("old/root/f", ""),
-];
-
-/// The folder above the root may not be opened.
-const ABOVE_DENIED: [(Step<'static>, &str); 2] = [
-    (
-        Step::Stat("f"),
-        "lock old/root/.lock\nwrite old/root/.lock\n",
-    ),
-    (
-        Step::Sync,
-        "sync .\nsync old/root\nsync old/root/.lock\nsync old/root/f\n\
-         sync old/root/theirs\ncut old/root/.lock\n",
-    ),
-];
-
-/// A folder below it may not.
-const BELOW_DENIED: [(Step<'static>, &str); 2] = [
-    (
-        Step::Stat("f"),
-        "lock old/root/.lock\nwrite old/root/.lock\n",
-    ),
-    (
-        Step::Sync,
-        "sync .\nsync old\nsync old/root\nsync old/root/.lock\nsync old/root/f\n\
-         cut old/root/.lock\n",
-    ),
-];
-
-const SPARED_ABOVE: [Act<'static>; 2] = [
-    Act::Make(&OTHERS),
-    Act::Logged(Access::Change, "old/root", &[Part::Ask(&ABOVE_DENIED)]),
-];
-
-const SPARED_BELOW: [Act<'static>; 2] = [
-    Act::Make(&OTHERS),
-    Act::Logged(Access::Change, "old/root", &[Part::Ask(&BELOW_DENIED)]),
-];
-
 /// A file that was renamed is synced by its path.
 const MOVED: [Step<'static>; 4] = [
     Step::Create("x", 0o644),
@@ -307,18 +203,6 @@ const MOVING: [Act<'static>; 1] = [Act::Logged(
     &[Part::Stop(&MOVED, 3, false)],
 )];
 
-/// The next run fails at what was left.
-const LOST: &str = "sync left/root/d/f";
-
-const LEAVING: [Act<'static>; 2] = [
-    Act::Logged(Access::Change, "left/root", &[Part::Ask(&UNSYNCED)]),
-    Act::Logged(
-        Access::Change,
-        "left/root",
-        &[Part::Stop(&[Step::Sync], 0, false)],
-    ),
-];
-
 /// An earlier run made the root, and changed nothing in it.
 const ENTERED: [(Step<'static>, &str); 1] = [(
     Step::Stat("none"),
@@ -334,7 +218,7 @@ const CHANGED: [(Step<'static>, &str); 2] = [
     (
         Step::Sync,
         "sync .\nsync bare\nsync bare/root\nsync bare/root\nsync bare/root/d\n\
-         cut bare/root/.lock\n",
+         write over bare/root/.lock\n",
     ),
 ];
 
@@ -349,7 +233,7 @@ const LOOKS: [(Step<'static>, &str); 27] = [
     (
         Step::Stat("none"),
         "look looks/root\nmake looks\nmake looks/root\nlock looks/root/.lock\n\
-         look looks/root/none\n",
+         look looks/root/.lock\nlook looks/root/none\n",
     ),
     (
         Step::MakeDir("d"),
@@ -392,26 +276,7 @@ const LOOKING: [Act<'static>; 1] = [Act::Logged(
 fn the_system_is_asked_in_order(rt: HostRuntime) {
     assert!(rt; tell_both(&rt, &rt, ("order", "order/root"), Kind::Plain, &ASKING));
     assert!(rt; tell(&rt, &rt, "date", Kind::Plain, &DATING));
-    assert!(rt; tell(&rt, &rt, "left", Kind::Plain, &LEFT));
-    assert!(rt; tell(&rt, &rt, "left", Kind::Plain, &MARKED));
-    assert!(rt; tell(&rt, &rt, "left", Kind::Plain, &WRITTEN_OVER));
-    assert!(rt; tell(&rt, &rt, "left", Kind::Failing(LOST), &LEAVING));
-    assert!(rt; tell(&rt, &rt, "old", Kind::Plain, &UNLOCKED));
     assert!(rt; tell(&rt, &rt, "looks", Kind::TellingLooks, &LOOKING));
-}
-
-#[test]
-fn what_may_not_be_opened_is_left_alone(rt: HostRuntime) {
-    assert!(rt; tell(&rt, &rt, "old", Kind::Denying("old"), &SPARED_ABOVE));
-    assert!(rt;
-        tell(
-            &rt,
-            &rt,
-            "old",
-            Kind::Denying("old/root/theirs"),
-            &SPARED_BELOW
-        )
-    );
 }
 
 #[test]
@@ -435,37 +300,49 @@ const NAMES: [(Step<'static>, &str); 17] = [
         Step::Sync,
         "sync names/root/d/f\nsync .\nsync names\nsync names/root\n\
          sync .\nsync names\nsync names/root\nsync names/root/d\nsync names/root/d/e\n\
-         sync names/root/g\ncut names/root/.lock\n",
+         sync names/root/g\nwrite over names/root/.lock\n",
     ),
     (
         Step::Link("d/f", "g/f"),
-        "write names/root/.lock\nlink names/root/g/f\n",
+        "write over names/root/.lock\nlink names/root/g/f\n",
     ),
-    (Step::Sync, "sync names/root/g\ncut names/root/.lock\n"),
+    (
+        Step::Sync,
+        "sync names/root/g\nwrite over names/root/.lock\n",
+    ),
     (
         Step::Unlink("d/f"),
-        "write names/root/.lock\nremove names/root/d/f\n",
+        "write over names/root/.lock\nremove names/root/d/f\n",
     ),
-    (Step::Sync, "sync names/root/d\ncut names/root/.lock\n"),
+    (
+        Step::Sync,
+        "sync names/root/d\nwrite over names/root/.lock\n",
+    ),
     (
         Step::RemoveDir("d/e"),
-        "write names/root/.lock\nremove names/root/d/e\n",
+        "write over names/root/.lock\nremove names/root/d/e\n",
     ),
-    (Step::Sync, "sync names/root/d\ncut names/root/.lock\n"),
+    (
+        Step::Sync,
+        "sync names/root/d\nwrite over names/root/.lock\n",
+    ),
     (
         Step::Symlink("x", "g/l"),
-        "write names/root/.lock\nlink names/root/g/l\n",
+        "write over names/root/.lock\nlink names/root/g/l\n",
     ),
-    (Step::Sync, "sync names/root/g\ncut names/root/.lock\n"),
+    (
+        Step::Sync,
+        "sync names/root/g\nwrite over names/root/.lock\n",
+    ),
     (
         Step::Create("d/x", 0o644),
-        "write names/root/.lock\ncreate names/root/d/x\n",
+        "write over names/root/.lock\ncreate names/root/d/x\n",
     ),
     (Step::Link("d/x", "g/x"), "link names/root/g/x\n"),
     (Step::Unlink("d/x"), "remove names/root/d/x\n"),
     (
         Step::Sync,
-        "sync names/root/g/x\nsync names/root/d\nsync names/root/g\ncut names/root/.lock\n",
+        "sync names/root/g/x\nsync names/root/d\nsync names/root/g\nwrite over names/root/.lock\n",
     ),
 ];
 

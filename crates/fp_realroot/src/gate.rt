@@ -1,6 +1,7 @@
 //! The root folder, and the lock.
 use crate::hold::Hold;
 use crate::roots::make_root;
+use crate::standing::stands_at;
 use fp_host::Path;
 use fp_realsync::{Access, System, Touched};
 use fp_system::{Cause, Kind, has_folder, join, kind_at, known};
@@ -15,6 +16,12 @@ pub const LOCK_NAME: &str = ".lock";
 
 /// Its permission bits: who may not open it looks without a lock.
 const LOCK_BITS: u32 = 0o644;
+
+/// How often a lock file is opened anew that was taken away while its lock was waited for.
+const TRIES: u32 = 100;
+
+/// What it is called where it was taken away each time.
+const BUSY: Cause = Cause::Kind(ErrorKind::ResourceBusy);
 
 /// What is known of the root folder.
 #[derive(Clone, Copy, PartialEq, Eq)]
@@ -156,26 +163,45 @@ impl<F: Write + Seek + OpenFile + Drop> Gate<F> {
         }
     }
 
+    /// A lock file that was taken away meanwhile keeps nobody out: it begins anew.
     fn enter_to_change<R: System<File = F>>(
         &mut self,
         rt: &R,
         touched: &mut Touched,
     ) -> Result<(), Cause> {
-        match find_or_make_root(rt, touched, &self.root, &self.lock_at) {
-            Ok(found) => self.take(rt, found),
+        for _ in 0..TRIES {
+            if self.try_to_change(rt, touched)? {
+                return Ok(());
+            }
+        }
+        Err(BUSY)
+    }
+
+    /// Answers whether it has the lock of the file that stands there.
+    fn try_to_change<R: System<File = F>>(
+        &mut self,
+        rt: &R,
+        touched: &mut Touched,
+    ) -> Result<bool, Cause> {
+        let found = find_or_make_root(rt, touched, &self.root, &self.lock_at)?;
+        match take_lock(rt, &self.lock_at, &self.root, found) {
+            Ok(Some(hold)) => self.keep(hold, found),
+            Ok(None) => Ok(false),
             Err(e) => Err(e),
         }
     }
 
     /// A lock file that is absent from a folder that was there before says nothing of earlier runs.
-    fn take<R: System<File = F>>(&mut self, rt: &R, found: Entry) -> Result<(), Cause> {
-        let mut hold = take_lock(rt, &self.lock_at, &self.root, found)?;
+    fn keep(&mut self, mut hold: Hold<F>, found: Entry) -> Result<bool, Cause> {
         let is_unknown = found == Entry::Unlocked;
         self.has_left = is_unknown || hold.is_marked();
         let marked = if is_unknown { hold.mark() } else { Ok(()) };
         self.lock = Lock::Whole(hold);
         self.state = Root::There;
-        marked
+        match marked {
+            Ok(()) => Ok(true),
+            Err(e) => Err(e),
+        }
     }
 
     /// Marks that changes wait for a sync.
@@ -253,28 +279,46 @@ fn some_lock<R: System>(rt: &R, at: &str, root: &str) -> Result<Option<Lock<R::F
     }
 }
 
+/// A lock file that was taken away meanwhile keeps nobody out: it begins anew.
 fn find_lock<R: System>(rt: &R, at: &str, root: &str) -> Result<Lock<R::File>, Cause> {
+    for _ in 0..TRIES {
+        if let Some(lock) = try_to_look(rt, at, root)? {
+            return Ok(lock);
+        }
+    }
+    Err(BUSY)
+}
+
+fn try_to_look<R: System>(rt: &R, at: &str, root: &str) -> Result<Option<Lock<R::File>>, Cause> {
     match find_lock_file(rt, at) {
-        Ok(Entry::Unlocked) => Ok(Lock::Open),
+        Ok(Entry::Unlocked) => Ok(Some(Lock::Open)),
         Ok(_) => open_to_look(rt, at, root),
-        Err(e) if e.is(ErrorKind::PermissionDenied) => Ok(Lock::Open),
+        Err(e) if e.is(ErrorKind::PermissionDenied) => Ok(Some(Lock::Open)),
         Err(e) => Err(e),
     }
 }
 
 /// The lock to look, where there is a file for it that may be opened: who may only read an
 /// installation looks without it.
-fn open_to_look<R: System>(rt: &R, at: &str, root: &str) -> Result<Lock<R::File>, Cause> {
+fn open_to_look<R: System>(rt: &R, at: &str, root: &str) -> Result<Option<Lock<R::File>>, Cause> {
     match known(fs::open(rt, at)) {
-        Ok(file) => share(rt, file, root),
-        Err(e) if e.is(ErrorKind::NotFound) || e.is(ErrorKind::PermissionDenied) => Ok(Lock::Open),
+        Ok(file) => share(rt, file, at, root),
+        Err(e) if e.is(ErrorKind::NotFound) || e.is(ErrorKind::PermissionDenied) => {
+            Ok(Some(Lock::Open))
+        }
         Err(e) => Err(e),
     }
 }
 
-fn share<R: System>(rt: &R, file: R::File, root: &str) -> Result<Lock<R::File>, Cause> {
-    match wait(rt, &file, Access::Look, root) {
-        Ok(()) => Ok(Lock::Shared(file)),
+fn share<R: System>(
+    rt: &R,
+    file: R::File,
+    at: &str,
+    root: &str,
+) -> Result<Option<Lock<R::File>>, Cause> {
+    match wait(rt, &file, at, Access::Look, root) {
+        Ok(true) => Ok(Some(Lock::Shared(file))),
+        Ok(false) => Ok(None),
         Err(e) => Err(e),
     }
 }
@@ -286,7 +330,7 @@ fn take_lock<R: System>(
     at: &str,
     root: &str,
     found: Entry,
-) -> Result<Hold<R::File>, Cause> {
+) -> Result<Option<Hold<R::File>>, Cause> {
     match open_lock(rt, at) {
         Ok(file) if found == Entry::Old => hold(rt, file, at, root),
         Ok(file) => hold_new(rt, file, at, root),
@@ -308,22 +352,42 @@ fn hold_new<R: System>(
     file: R::File,
     at: &str,
     root: &str,
-) -> Result<Hold<R::File>, Cause> {
+) -> Result<Option<Hold<R::File>>, Cause> {
     match known(file.set_permissions(Permissions::from_mode(LOCK_BITS))) {
         Ok(()) => hold(rt, file, at, root),
         Err(e) => Err(e),
     }
 }
 
-fn hold<R: System>(rt: &R, file: R::File, at: &str, root: &str) -> Result<Hold<R::File>, Cause> {
-    match wait(rt, &file, Access::Change, root) {
-        Ok(()) => Ok(Hold::new(rt, file, at)),
+fn hold<R: System>(
+    rt: &R,
+    file: R::File,
+    at: &str,
+    root: &str,
+) -> Result<Option<Hold<R::File>>, Cause> {
+    match wait(rt, &file, at, Access::Change, root) {
+        Ok(true) => Ok(Some(Hold::new(rt, file, at))),
+        Ok(false) => Ok(None),
         Err(e) => Err(e),
     }
 }
 
-/// Takes the lock. Who has to wait says so once.
-fn wait<R: System>(rt: &R, file: &R::File, access: Access, root: &str) -> Result<(), Cause> {
+/// Takes the lock, and answers whether its file still stands at the path. Who has to wait says so
+/// once.
+fn wait<R: System>(
+    rt: &R,
+    file: &R::File,
+    at: &str,
+    access: Access,
+    root: &str,
+) -> Result<bool, Cause> {
+    match get_lock(rt, file, access, root) {
+        Ok(()) => stands_at(rt, file, at),
+        Err(e) => Err(e),
+    }
+}
+
+fn get_lock<R: System>(rt: &R, file: &R::File, access: Access, root: &str) -> Result<(), Cause> {
     match known(rt.try_lock(file, access)) {
         Ok(true) => Ok(()),
         Ok(false) => wait_long(rt, file, access, root),

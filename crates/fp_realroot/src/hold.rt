@@ -1,4 +1,5 @@
 //! A lock file that is held to change an installation, and the mark of what is not yet synced.
+use crate::text::{CLEARED, UNKNOWN, is_mark, is_start};
 use fp_system::{Cause, known};
 use std::fs::OpenFile;
 use std::io::{Seek, SeekFrom, Write};
@@ -8,16 +9,24 @@ use std::{fs, io};
 /// Where Linux tells a text that is another one after each start of the machine.
 const BOOT_ID: &str = "/proc/sys/kernel/random/boot_id";
 
-/// The mark where the system tells no such text.
-const UNKNOWN: &str = "unknown\n";
-
 /// A lock file that is open and locked. While changes are not yet synced, it holds the text of the
 /// machine's start as a mark. What is seen of an earlier start is on the disk, so its mark means
-/// nothing.
+/// nothing. What takes a mark's place is as long as it: no change but the first one of a new lock
+/// file takes a block of the disk for it.
 pub struct Hold<F> {
     file: F,
     boot: Option<String>,
-    is_marked: bool,
+    mark: Marking,
+}
+
+/// What is known of the mark.
+#[derive(Clone, Copy, PartialEq, Eq)]
+enum Marking {
+    Absent,
+    // The text that this run writes.
+    Ours,
+    // Another one, or what was written over it, or one that could not be cleared.
+    Other,
 }
 
 impl<F: Drop> Drop for Hold<F> {
@@ -25,7 +34,7 @@ impl<F: Drop> Drop for Hold<F> {
         let Hold {
             file: _,
             boot: _,
-            is_marked: _,
+            mark: _,
         } = self;
     }
 }
@@ -33,38 +42,48 @@ impl<F: Drop> Drop for Hold<F> {
 impl<F: Write + Seek + OpenFile + Drop> Hold<F> {
     /// Of a file that is locked.
     pub fn new<R: Files<File = F> + AllocGlobal>(rt: &R, file: F, at: &str) -> Self {
-        let boot = fs::read_to_string(rt, BOOT_ID).ok();
-        let is_marked = has_mark(rt, at, &boot);
-        Hold {
-            file,
-            boot,
-            is_marked,
-        }
+        let boot = read_start(rt);
+        let mark = find_mark(rt, at, &boot);
+        Hold { file, boot, mark }
     }
 
     /// Whether there is a mark: a change may be unsynced.
     pub fn is_marked(&self) -> bool {
-        self.is_marked
+        self.mark != Marking::Absent
     }
 
     /// A change comes that is not yet synced.
     pub fn mark(&mut self) -> Result<(), Cause> {
-        if self.is_marked {
+        if self.mark == Marking::Ours {
             return Ok(());
         }
-        let marked = known(write_mark(&mut self.file, mark_of(&self.boot)));
-        self.is_marked = marked.is_ok();
+        let marked = known(write_text(&mut self.file, mark_of(&self.boot)));
+        if marked.is_ok() {
+            self.mark = Marking::Ours;
+        }
         marked
     }
 
     /// All changes are synced.
     pub fn clear(&mut self) -> Result<(), Cause> {
-        if !self.is_marked {
+        if self.mark == Marking::Absent {
             return Ok(());
         }
-        let cleared = known(self.file.set_len(0));
-        self.is_marked = cleared.is_err();
+        let cleared = known(write_cleared(&mut self.file));
+        self.mark = if cleared.is_ok() {
+            Marking::Absent
+        } else {
+            Marking::Other
+        };
         cleared
+    }
+}
+
+/// The text of the machine's start, where the system tells one.
+fn read_start<R: Files + AllocGlobal>(rt: &R) -> Option<String> {
+    match fs::read_to_string(rt, BOOT_ID) {
+        Ok(text) if is_start(text.as_str()) => Some(text),
+        _ => None,
     }
 }
 
@@ -75,27 +94,36 @@ fn mark_of(boot: &Option<String>) -> &str {
     }
 }
 
-/// Whether the file holds a mark of this start of the machine, or anything else that isn't as long
-/// as one: then it was written into. A file that can't be read may hold a mark.
-fn has_mark<R: Files + AllocGlobal>(rt: &R, at: &str, boot: &Option<String>) -> bool {
+/// What the file holds of a mark. One that can't be read may hold it.
+fn find_mark<R: Files + AllocGlobal>(rt: &R, at: &str, boot: &Option<String>) -> Marking {
     match fs::read_to_string(rt, at) {
-        Ok(text) => is_mark(text.as_str(), boot),
-        Err(_) => true,
+        Ok(text) if text.as_str() == mark_of(boot) => Marking::Ours,
+        Ok(text) if !is_mark(text.as_str(), boot) => Marking::Absent,
+        _ => Marking::Other,
     }
 }
 
-fn is_mark(text: &str, boot: &Option<String>) -> bool {
-    match boot {
-        _ if text.is_empty() => false,
-        Some(name) => text == name.as_str() || text.len() != name.len(),
-        None => true,
+fn write_cleared<F: Write + Seek + OpenFile>(file: &mut F) -> io::Result<()> {
+    match write_text(file, CLEARED) {
+        Ok(()) => cut_rest(file),
+        Err(e) => Err(e),
     }
 }
 
-/// The file held nothing, or a mark of an earlier start of the machine.
-fn write_mark<F: Write + Seek>(file: &mut F, mark: &str) -> io::Result<()> {
+/// Writes over what stands at the start of the file.
+fn write_text<F: Write + Seek>(file: &mut F, text: &str) -> io::Result<()> {
     match file.seek(SeekFrom::Start(0)) {
-        Ok(_) => file.write_all(mark.as_bytes()),
+        Ok(_) => file.write_all(text.as_bytes()),
+        Err(e) => Err(e),
+    }
+}
+
+/// Takes away what stood there that was longer than a mark.
+fn cut_rest<F: OpenFile>(file: &F) -> io::Result<()> {
+    let length = CLEARED.len() as u64;
+    match file.metadata() {
+        Ok(found) if found.len() > length => file.set_len(length),
+        Ok(_) => Ok(()),
         Err(e) => Err(e),
     }
 }

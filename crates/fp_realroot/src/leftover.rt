@@ -1,12 +1,29 @@
 //! What an earlier run may have left that was stopped before its own sync.
+use crate::gate::LOCK_NAME;
 use crate::roots::{above_root, folder_at};
 use fp_base::Text;
 use fp_realfiles::{OddNames, read_names};
 use fp_realsync::Touched;
 use fp_system::{Cause, Kind, kind_at};
-use std::alloc::{AllocError, Global};
+use std::alloc::Global;
 use std::io::ErrorKind;
 use std::rt::Files;
+
+/// The names at the top of an installation that fpk keeps, those of older layouts too. What stands
+/// there under another name isn't ours: the root may be a home folder, or the whole machine. A run
+/// that is stopped leaves its changes below these alone, so each new name is added here.
+const OWN_NAMES: [&str; 10] = [
+    LOCK_NAME,
+    "app",
+    "config",
+    "exports",
+    "made",
+    "overrides",
+    "pins",
+    "remotes.conf",
+    "repo",
+    "runtime",
+];
 
 /// Notes the root folder and those above it.
 pub fn add_above(root: &str, touched: &mut Touched) {
@@ -19,8 +36,8 @@ pub fn add_above(root: &str, touched: &mut Touched) {
     touched.add_left(root);
 }
 
-/// Notes each file and folder below the root. What may not be looked at or listed isn't ours, nor
-/// what has a name that isn't UTF-8: it is left alone.
+/// Notes each file and folder of ours below the root. What may not be looked at or listed isn't
+/// ours, nor what has a name that isn't UTF-8: it is left alone.
 pub fn add_below<R: Files + AllocGlobal>(
     rt: &R,
     alloc: Global,
@@ -28,19 +45,23 @@ pub fn add_below<R: Files + AllocGlobal>(
     touched: &mut Touched,
 ) -> Result<(), Cause> {
     let mut folders = Vec::new(alloc);
-    match push_path(alloc, root, "", &mut folders) {
+    match add_own(rt, alloc, root, &mut folders, touched) {
         Ok(()) => add_folders(rt, alloc, &mut folders, touched),
-        Err(_) => Err(Cause::NoMemory),
+        Err(e) => Err(e),
     }
 }
 
-fn push_path(
+/// Notes what stands at our names at the top, and gathers the folders of them.
+fn add_own<R: Files>(
+    rt: &R,
     alloc: Global,
-    folder: &str,
-    below: &str,
+    root: &str,
     folders: &mut Vec<String>,
-) -> Result<(), AllocError> {
-    folders.push(format!(in alloc; "{folder}{below}")?)?;
+    touched: &mut Touched,
+) -> Result<(), Cause> {
+    for name in &OWN_NAMES {
+        add_name(rt, alloc, root, name, folders, touched)?;
+    }
     Ok(())
 }
 
@@ -90,13 +111,23 @@ fn add_named<R: Files>(
     touched: &mut Touched,
 ) -> Result<(), Cause> {
     for name in names {
-        let name = name.as_str();
-        match format!(in alloc; "{folder}/{name}") {
-            Ok(at) => add_found(rt, at, folders, touched)?,
-            Err(_) => return Err(Cause::NoMemory),
-        }
+        add_name(rt, alloc, folder, name.as_str(), folders, touched)?;
     }
     Ok(())
+}
+
+fn add_name<R: Files>(
+    rt: &R,
+    alloc: Global,
+    folder: &str,
+    name: &str,
+    folders: &mut Vec<String>,
+    touched: &mut Touched,
+) -> Result<(), Cause> {
+    match format!(in alloc; "{folder}/{name}") {
+        Ok(at) => add_found(rt, at, folders, touched),
+        Err(_) => Err(Cause::NoMemory),
+    }
 }
 
 /// Notes the file or folder that stands there.

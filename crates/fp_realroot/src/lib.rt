@@ -5,6 +5,8 @@ mod gate;
 mod hold;
 mod leftover;
 mod roots;
+mod standing;
+mod text;
 
 pub use fp_realfiles::{
     Failure, Team, Unsynced, find_file, list_names, open_own, open_to_read, sorted_names,
