@@ -5,16 +5,18 @@ use crate::extension::{many, state_of};
 use crate::given::ref_name;
 use dep_switch::RetirePlan;
 use fl_export::{refresh, wanted};
+use fl_gen::GenRemotes;
 use fl_installed::{first_user, metas, points};
-use fl_plan::resolve_runtime;
+use fl_plan::{ops, resolve_runtime};
 use fl_sandbox::{launch_in, parts_in};
 use fp_base::Text;
 use fp_memhost::{MemHost, MemRemotes};
-use fp_name::{RefName, RemoteName};
-use fp_small::State;
+use fp_name::{RefName, RemoteName, RemoteUrl};
+use fp_small::{RemoteRow, State, has_remote};
 use std::alloc::Global;
 use std::panic::Expect;
 use std::process::Abort;
+use std::thread::Threads;
 
 /// The last of the refs.
 const LAST: &str = "app/org.x.A1099/x86_64/1";
@@ -138,4 +140,68 @@ fn the_last_ref_is_there(rt: HostRuntime) {
     let can_go = can_go(rt.alloc(), &state, &name);
     drop(state);
     assert!(rt; is_there && can_go);
+}
+
+/// The remote of the name and the url.
+fn remote_row(rt: &impl Abort, alloc: Global, name: &str, url: &str) -> RemoteRow {
+    RemoteRow {
+        name: RemoteName::parse(alloc, name.as_bytes()).expect(rt, "a remote"),
+        url: RemoteUrl::parse(alloc, url.as_bytes()).expect(rt, "a url"),
+    }
+}
+
+/// Adds 1,099 remotes at which nothing is, and then one that offers made applications.
+fn add_remotes(rt: &impl Abort, alloc: Global, state: &mut State) {
+    for number in 0..1_099 {
+        let name = format!(in alloc; "r{number:04}").expect(rt, "memory");
+        let row = remote_row(rt, alloc, &name, "file:///r");
+        state.remotes.push(row).expect(rt, "memory");
+    }
+    let last = remote_row(rt, alloc, "tested", "file:///gen/1");
+    state.remotes.push(last).expect(rt, "memory");
+}
+
+/// How many operations an install from this remote is, where it is one of the state's.
+fn count_ops(
+    rt: &(impl Abort + Threads + Sync),
+    alloc: Global,
+    state: &State,
+    remote: &RemoteRow,
+    name: &RefName,
+) -> usize {
+    if !has_remote(state.remotes.as_slice(), &remote.name) {
+        return 0;
+    }
+    let mut host = new_host(rt, alloc);
+    let mut remotes = GenRemotes::new(rt, alloc, 1).expect(rt, "memory");
+    let ops = ops(alloc, &mut host, &mut remotes, state, remote, name);
+    let count = ops.ok().expect(rt, "operations").len();
+    drop(host);
+    drop(remotes);
+    count
+}
+
+/// The same of the last remote.
+fn count_ops_from_last(
+    rt: &(impl Abort + Threads + Sync),
+    alloc: Global,
+    state: &State,
+    name: &RefName,
+) -> usize {
+    match state.remotes.as_slice().last() {
+        Some(remote) => count_ops(rt, alloc, state, remote, name),
+        None => 0,
+    }
+}
+
+/// An install beside 1,100 refs, from the last of 1,100 remotes: of a runtime and an application.
+#[test]
+fn an_install_has_two_operations(rt: HostRuntime) {
+    let alloc = rt.alloc();
+    let mut state = many_applications(&rt, alloc);
+    add_remotes(&rt, alloc, &mut state);
+    let name = ref_name(&rt, alloc, "app/org.gen.App0/x86_64/1");
+    let count = count_ops_from_last(&rt, alloc, &state, &name);
+    drop(state);
+    assert!(rt; count == 2);
 }

@@ -1,11 +1,9 @@
 //! Tests of the store: objects that the `ostree` command made, their digests, refs and the calls of
-//! a store; and a record of what is deployed.
+//! a store.
 #![tactic(auto)]
 
 #[cfg(test)]
 mod content;
-#[cfg(test)]
-mod deploy;
 #[cfg(test)]
 mod halves;
 #[cfg(test)]

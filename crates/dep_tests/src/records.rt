@@ -1,4 +1,4 @@
-//! The record of what is deployed, where it is long.
+//! The record beside a commit, where it is long.
 
 use dep_states::{DeployData, DeployError};
 use std::alloc::Global;
