@@ -40,7 +40,7 @@ fn files(rt: &impl Abort, alloc: Global) -> Vec<TreeRow> {
 }
 
 /// Their commit.
-fn built<T: Threads + Sync + Abort>(rt: &T, alloc: Global) -> Built {
+fn built_commit<T: Threads + Sync + Abort>(rt: &T, alloc: Global) -> Built {
     let name = RefName::parse(alloc, b"app/org.example.App/x86_64/stable").expect(rt, "a ref");
     commit_tree(rt, alloc, &files(rt, alloc), &name, "subject", 7).expect(rt, "a commit")
 }
@@ -124,7 +124,7 @@ fn fsck_status<T: Threads + Sync + Abort, H: Host, R: Remotes, G: Gate + Sync>(
 #[test]
 fn both_halves_are_at_work(rt: HostRuntime) {
     let alloc = rt.alloc();
-    let built = built(&rt, alloc);
+    let built = built_commit(&rt, alloc);
     let mut remotes = remote_of(&rt, alloc, &built);
     let mut host = MemHost::new(alloc).expect(&rt, "memory");
     let gate = MeetingGate::new(names_of(&rt, alloc, &built));

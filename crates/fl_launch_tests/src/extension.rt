@@ -45,7 +45,7 @@ fn points_of(rt: &impl Abort, alloc: Global, text: &str, of: &str) -> Items<Poin
 }
 
 /// Points as text.
-fn shown(rt: &impl Abort, alloc: Global, points: &[Point]) -> String {
+fn points_as_text(rt: &impl Abort, alloc: Global, points: &[Point]) -> String {
     let mut out = String::new(alloc);
     for point in points {
         put_point(rt, &mut out, point);
@@ -55,7 +55,7 @@ fn shown(rt: &impl Abort, alloc: Global, points: &[Point]) -> String {
 
 /// Whether points are this text.
 fn are_shown(rt: &impl Abort, alloc: Global, points: &[Point], want: &str) -> bool {
-    shown(rt, alloc, points).as_str() == want
+    points_as_text(rt, alloc, points).as_str() == want
 }
 
 /// Ends the test where the metadata of a ref has other points.
@@ -170,13 +170,13 @@ const DIRECTORIES: [(&str, bool); 25] = [
 ];
 
 /// Texts one after another.
-fn joined(rt: &impl Abort, alloc: Global, texts: &[&str]) -> String {
+fn joined_texts(rt: &impl Abort, alloc: Global, texts: &[&str]) -> String {
     texts.concat(alloc).expect(rt, "memory")
 }
 
 /// The group of a point with these keys.
 fn group_of(rt: &impl Abort, alloc: Global, keys: &str) -> String {
-    joined(rt, alloc, &["[Extension org.x.E]\n", keys, "\n"])
+    joined_texts(rt, alloc, &["[Extension org.x.E]\n", keys, "\n"])
 }
 
 /// How many points a group with these keys has.
@@ -187,7 +187,11 @@ fn count_points(rt: &impl Abort, alloc: Global, keys: &str) -> usize {
 
 /// Whether a group with this directory is a point.
 fn is_directory(rt: &impl Abort, alloc: Global, directory: &str) -> bool {
-    count_points(rt, alloc, &joined(rt, alloc, &["directory=", directory])) != 0
+    count_points(
+        rt,
+        alloc,
+        &joined_texts(rt, alloc, &["directory=", directory]),
+    ) != 0
 }
 
 #[test]
@@ -238,9 +242,13 @@ const CANDIDATES: [(&str, &str); 17] = [
 
 /// Whether a point with these keys besides its directory has these candidates.
 fn has_candidates(rt: &impl Abort, alloc: Global, keys: &str, want: &str) -> bool {
-    let text = group_of(rt, alloc, &joined(rt, alloc, &["directory=e\n", keys]));
+    let text = group_of(
+        rt,
+        alloc,
+        &joined_texts(rt, alloc, &["directory=e\n", keys]),
+    );
     let points = points_of(rt, alloc, &text, OF);
-    let want = joined(rt, alloc, &["org.x.E e auto: ", want, "|"]);
+    let want = joined_texts(rt, alloc, &["org.x.E e auto: ", want, "|"]);
     are_shown(rt, alloc, points.as_slice(), &want)
 }
 
@@ -314,7 +322,7 @@ fn place_found(
     versions: &str,
     state: &State,
 ) -> Result<Option<usize>, usize> {
-    let keys = joined(rt, alloc, &["directory=e\nversions=", versions]);
+    let keys = joined_texts(rt, alloc, &["directory=e\nversions=", versions]);
     let text = group_of(rt, alloc, &keys);
     found_in(points_of(rt, alloc, &text, OF).as_slice(), state)
 }
@@ -360,7 +368,7 @@ fn many_candidates(rt: HostRuntime) {
     let alloc = rt.alloc();
     let versions = many(&rt, alloc, 300, "v", ";");
     let refs = many(&rt, alloc, 1_100, "runtime/org.x.D", "/x86_64/1 ");
-    let refs = joined(&rt, alloc, &[&refs, "runtime/org.x.E/x86_64/v299"]);
+    let refs = joined_texts(&rt, alloc, &[&refs, "runtime/org.x.E/x86_64/v299"]);
     assert!(rt; is_found(&rt, alloc, &versions, &refs, Some(299)));
 }
 
@@ -368,7 +376,7 @@ fn many_candidates(rt: HostRuntime) {
 #[test]
 fn long_version(rt: HostRuntime) {
     let version = "v".repeat(rt.alloc(), 100 << 10).expect(&rt, "memory");
-    let versions = joined(&rt, rt.alloc(), &[&version, ";1"]);
+    let versions = joined_texts(&rt, rt.alloc(), &[&version, ";1"]);
     let is_so = is_found(
         &rt,
         rt.alloc(),

@@ -158,7 +158,7 @@ fn names_runtime(app: &Meta) -> bool
 }
 
 /// The launch, where the metadata names a runtime.
-fn launched(
+fn launch_on_runtime(
     rt: &impl Abort,
     alloc: Global,
     state: &State,
@@ -197,7 +197,7 @@ fn launch_in(
     let under = ref_name(rt, alloc, RUNTIME);
     let runtime = read(rt, alloc, given.runtime, MetaKind::Runtime, &under);
     let words = options_of(rt, alloc, given.options);
-    let launch = launched(rt, alloc, state, &name, &app, &runtime, &words);
+    let launch = launch_on_runtime(rt, alloc, state, &name, &app, &runtime, &words);
     drop(app);
     drop(runtime);
     launch
@@ -347,7 +347,7 @@ fn long_command(rt: HostRuntime) {
     assert!(rt; text.expect(&rt, "a runtime").contains(command.as_str()));
 }
 
-/// Whether the launch with these points and refs has so many lines, and mounts the extensions of
+/// Whether the launch with these points and refs has this many lines, and mounts the extensions of
 /// the first point and of the last.
 fn are_mounted(
     rt: &impl Abort,

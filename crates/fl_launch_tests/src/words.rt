@@ -10,18 +10,18 @@ use std::alloc::{AllocError, Global};
 use std::panic::Expect;
 use std::process::Abort;
 
-/// How many words there are.
+/// How many words there are in a list.
 const COUNT: usize = 1_100;
 
-fn numbered(alloc: Global, head: &str, number: usize) -> Result<Text, AllocError> {
+fn numbered_word(alloc: Global, head: &str, number: usize) -> Result<Text, AllocError> {
     Ok(Text::from_string(format!(in alloc; "{head}{number}")?))
 }
 
-/// So many words with this head, numbered from 0.
+/// 1,100 words with this head, numbered from 0.
 fn words(rt: &impl Abort, alloc: Global, head: &str) -> Vec<Text> {
     let mut words = Vec::new(alloc);
     for number in 0..COUNT {
-        let word = numbered(alloc, head, number).expect(rt, "memory");
+        let word = numbered_word(alloc, head, number).expect(rt, "memory");
         words.push(word).expect(rt, "memory");
     }
     words

@@ -16,7 +16,7 @@ fn push_mention(out: &mut String, mention: &Mention) -> Result<(), AllocError> {
 }
 
 /// The grants as text, in their order.
-fn shown(rt: &impl Abort, alloc: Global, grants: &[Mention]) -> String {
+fn grants_as_text(rt: &impl Abort, alloc: Global, grants: &[Mention]) -> String {
     let mut out = String::new(alloc);
     for mention in grants {
         push_mention(&mut out, mention).expect(rt, "memory");
@@ -35,16 +35,22 @@ fn grants(rt: &impl Abort, alloc: Global, layers: &[&Layer]) -> Grants {
 }
 
 /// The same as text.
-fn shown_grants(rt: &impl Abort, alloc: Global, layers: &[&Layer]) -> String {
-    shown(rt, alloc, grants(rt, alloc, layers).as_slice())
+fn grants_of_layers(rt: &impl Abort, alloc: Global, layers: &[&Layer]) -> String {
+    grants_as_text(rt, alloc, grants(rt, alloc, layers).as_slice())
 }
 
 /// What three layers grant, as text.
-fn granted(rt: &impl Abort, alloc: Global, first: &str, second: &str, third: &str) -> String {
+fn grants_of_three(
+    rt: &impl Abort,
+    alloc: Global,
+    first: &str,
+    second: &str,
+    third: &str,
+) -> String {
     let first = layer_of(rt, alloc, first);
     let second = layer_of(rt, alloc, second);
     let third = layer_of(rt, alloc, third);
-    shown_grants(rt, alloc, &[&first, &second, &third])
+    grants_of_layers(rt, alloc, &[&first, &second, &third])
 }
 
 /// Three layers, and what they grant.
@@ -112,7 +118,7 @@ const LAYERS: [(&str, &str, &str, &str); 10] = [
 #[test]
 fn layers(rt: HostRuntime) {
     for (first, second, third, want) in &LAYERS {
-        let text = granted(&rt, rt.alloc(), first, second, third);
+        let text = grants_of_three(&rt, rt.alloc(), first, second, third);
         agree(&rt, want, text.as_str() == *want);
     }
 }

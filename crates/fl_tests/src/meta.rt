@@ -56,7 +56,7 @@ fn push_mention(out: &mut String, mention: &Mention) -> Result<(), AllocError> {
 }
 
 /// The mentions as text.
-fn shown(rt: &impl Abort, alloc: Global, mentions: &[Mention]) -> String {
+fn mentions_as_text(rt: &impl Abort, alloc: Global, mentions: &[Mention]) -> String {
     let mut out = String::new(alloc);
     for mention in mentions {
         push_mention(&mut out, mention).expect(rt, "memory");
@@ -86,7 +86,7 @@ fn is_mentioned(rt: &impl Abort, alloc: Global, text: &str, source: Source, want
 
 /// Whether mentions are this text.
 fn are_shown(rt: &impl Abort, alloc: Global, mentions: &[Mention], want: &str) -> bool {
-    shown(rt, alloc, mentions).as_str() == want
+    mentions_as_text(rt, alloc, mentions).as_str() == want
 }
 
 /// Keys and values of the group `Context`, and what they mention.
@@ -342,7 +342,7 @@ fn has_mentions(rt: &impl Abort, alloc: Global, text: &str, want: &str) -> bool 
 const RUNTIME: &str = "[Runtime]\ncommand=x\n[Extension ]\n[Extension a]\n[Extensions]";
 
 #[test]
-fn usual(rt: HostRuntime) {
+fn usual_metadata(rt: HostRuntime) {
     let alloc = rt.alloc();
     let want = "runtime/org.x.Platform/x86_64/1 run org.x.App.Locale";
     assert!(rt;
@@ -476,7 +476,7 @@ fn copies(rt: &impl Abort, alloc: Global, mentions: &[Mention]) -> Layer {
 
 /// Whether copies of the mentions are shown alike.
 fn are_copied(rt: &impl Abort, alloc: Global, mentions: &[Mention]) -> bool {
-    let want = shown(rt, alloc, mentions);
+    let want = mentions_as_text(rt, alloc, mentions);
     are_shown(rt, alloc, copies(rt, alloc, mentions).as_slice(), &want)
 }
 
@@ -518,7 +518,7 @@ fn permissions(rt: HostRuntime) {
 }
 
 /// Metadata that keeps a folder of this name.
-fn keeping(rt: &impl Abort, alloc: Global, name: &str) -> String {
+fn metadata_with_folder(rt: &impl Abort, alloc: Global, name: &str) -> String {
     let head = "[Application]\nruntime=org.x.Platform/x86_64/1\n[Context]\npersistent=";
     [head, name, "\n"].concat(alloc).expect(rt, "memory")
 }
@@ -527,7 +527,7 @@ fn keeping(rt: &impl Abort, alloc: Global, name: &str) -> String {
 #[test]
 fn long_permission(rt: HostRuntime) {
     let name = long_name(&rt, rt.alloc(), 100 << 10, "");
-    let text = keeping(&rt, rt.alloc(), &name);
+    let text = metadata_with_folder(&rt, rt.alloc(), &name);
     assert!(rt; is_before(&rt, rt.alloc(), &name, "b") && copies_mentions(&rt, rt.alloc(), &text));
 }
 
@@ -552,7 +552,7 @@ fn put(rt: &impl Abort, text: &mut String, more: &str) {
 }
 
 /// The name of 90 bytes between these.
-fn named(rt: &impl Abort, alloc: Global, before: &str, after: &str) -> String {
+fn name_between(rt: &impl Abort, alloc: Global, before: &str, after: &str) -> String {
     let name = "n".repeat(alloc, 90).expect(rt, "memory");
     [before, &name, after].concat(alloc).expect(rt, "memory")
 }
@@ -564,16 +564,16 @@ fn put_lists(rt: &impl Abort, alloc: Global, text: &mut String, count: usize) {
         text,
         "[Application]\nruntime=org.x.Platform/x86_64/1\n[Context]\nfilesystems=",
     );
-    put_many(rt, text, count, &named(rt, alloc, "~/", ""), ":ro;");
+    put_many(rt, text, count, &name_between(rt, alloc, "~/", ""), ":ro;");
     put(rt, text, "\npersistent=");
-    put_many(rt, text, count, &named(rt, alloc, ".", ""), ";");
+    put_many(rt, text, count, &name_between(rt, alloc, ".", ""), ";");
 }
 
 /// Adds this number of variables and of extensions.
 fn put_groups(rt: &impl Abort, alloc: Global, text: &mut String, count: usize) {
     put(rt, text, "\n[Environment]\n");
-    put_many(rt, text, count, "V", &named(rt, alloc, "=", "\n"));
-    let tail = named(rt, alloc, "]\ndirectory=", "\n");
+    put_many(rt, text, count, "V", &name_between(rt, alloc, "=", "\n"));
+    let tail = name_between(rt, alloc, "]\ndirectory=", "\n");
     put_many(rt, text, count, "[Extension org.x.E", &tail);
 }
 
@@ -587,7 +587,7 @@ fn long_metadata(rt: &impl Abort, alloc: Global, count: usize) -> String {
 }
 
 /// How many mentions and extensions the metadata has.
-fn counted(rt: &impl Abort, alloc: Global, text: &str) -> (usize, usize) {
+fn part_counts(rt: &impl Abort, alloc: Global, text: &str) -> (usize, usize) {
     let meta = meta_of(rt, alloc, text, MetaKind::App);
     let counts = (meta.mentions.len(), meta.extensions.as_slice().len());
     drop(meta);
@@ -597,7 +597,7 @@ fn counted(rt: &impl Abort, alloc: Global, text: &str) -> (usize, usize) {
 /// Whether metadata of 100 KiB is read, and its mentions are copied.
 fn is_long(rt: &impl Abort, alloc: Global, text: &str) -> bool {
     text.len() > 100 << 10
-        && counted(rt, alloc, text) == (900, 300)
+        && part_counts(rt, alloc, text) == (900, 300)
         && copies_mentions(rt, alloc, text)
 }
 

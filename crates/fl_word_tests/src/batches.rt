@@ -30,7 +30,7 @@ fn told_read(rt: &impl Abort, alloc: Global, read: &Result<Items<Change>, BatchE
 }
 
 /// What the bytes read as, in one text.
-fn told(rt: &impl Abort, alloc: Global, bytes: &[u8]) -> String {
+fn told_batch(rt: &impl Abort, alloc: Global, bytes: &[u8]) -> String {
     let read = read_batch(alloc, bytes);
     let text = told_read(rt, alloc, &read);
     drop(read);
@@ -111,7 +111,11 @@ const BAD_LINES: [(&[u8], u64); 29] = [
 #[test]
 fn batches(rt: HostRuntime) {
     for (bytes, want) in &BATCHES {
-        agree(&rt, want, told(&rt, rt.alloc(), bytes).as_str() == *want);
+        agree(
+            &rt,
+            want,
+            told_batch(&rt, rt.alloc(), bytes).as_str() == *want,
+        );
     }
 }
 

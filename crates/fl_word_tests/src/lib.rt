@@ -10,4 +10,6 @@ mod reasons;
 #[cfg(test)]
 mod rows;
 #[cfg(test)]
+mod texts;
+#[cfg(test)]
 mod words;

@@ -1,6 +1,7 @@
 //! The lines that commands print.
 
 use crate::rows::agree;
+use crate::texts::{joined_texts, repeated_text};
 use fl_lines::{
     escape, info_text, op_line, pins_text, refs_text, refusal_line, remotes_text, skipped_line,
 };
@@ -121,24 +122,14 @@ fn damaged_paths(rt: HostRuntime) {
     }
 }
 
-/// A text as often as this.
-fn repeated(rt: &impl Abort, alloc: Global, text: &str, count: usize) -> String {
-    text.repeat(alloc, count).expect(rt, "memory")
-}
-
-/// Texts one after another.
-fn joined(rt: &impl Abort, alloc: Global, texts: &[&str]) -> String {
-    texts.concat(alloc).expect(rt, "memory")
-}
-
 /// A path of 1,100 elements that are each one character to be escaped.
 #[test]
 fn long_path(rt: HostRuntime) {
     let alloc = rt.alloc();
-    let above = repeated(&rt, alloc, "\n/", 1_099);
-    let path = joined(&rt, alloc, &[&above, "\n"]);
-    let above = repeated(&rt, alloc, "\\0a/", 1_099);
-    let want = joined(&rt, alloc, &["error: damaged ", &above, "\\0a\n"]);
+    let above = repeated_text(&rt, alloc, "\n/", 1_099);
+    let path = joined_texts(&rt, alloc, &[&above, "\n"]);
+    let above = repeated_text(&rt, alloc, "\\0a/", 1_099);
+    let want = joined_texts(&rt, alloc, &["error: damaged ", &above, "\\0a\n"]);
     agree_on_path(&rt, alloc, &path, &want);
 }
 
@@ -150,8 +141,8 @@ fn is_escaped(rt: &impl Abort, alloc: Global, text: &str, want: &str) -> bool {
 /// A text of 100 KiB is escaped.
 #[test]
 fn long_text(rt: HostRuntime) {
-    let text = repeated(&rt, rt.alloc(), "\\", 100 << 10);
-    let want = repeated(&rt, rt.alloc(), "\\5c", 100 << 10);
+    let text = repeated_text(&rt, rt.alloc(), "\\", 100 << 10);
+    let want = repeated_text(&rt, rt.alloc(), "\\5c", 100 << 10);
     assert!(rt; is_escaped(&rt, rt.alloc(), &text, &want));
 }
 
@@ -241,7 +232,7 @@ fn ref_name(rt: &impl Abort, alloc: Global, text: &str) -> RefName {
 }
 
 /// A deployed application.
-fn deployed(rt: &impl Abort, alloc: Global, previous: Option<Previous>) -> RefRow {
+fn deployed_row(rt: &impl Abort, alloc: Global, previous: Option<Previous>) -> RefRow {
     RefRow {
         name: ref_name(rt, alloc, APP),
         origin: RemoteName::parse(alloc, b"hub").expect(rt, "a remote"),
@@ -255,7 +246,8 @@ fn deployed(rt: &impl Abort, alloc: Global, previous: Option<Previous>) -> RefRo
 fn rows_of(rt: &impl Abort, alloc: Global, count: usize) -> Items<RefRow> {
     let mut rows = Items::new(alloc);
     for _ in 0..count {
-        rows.push(deployed(rt, alloc, None)).expect(rt, "memory");
+        rows.push(deployed_row(rt, alloc, None))
+            .expect(rt, "memory");
     }
     rows
 }
@@ -310,7 +302,7 @@ fn refs(rt: HostRuntime) {
 }
 
 /// The commit before.
-fn previous(rt: &impl Abort) -> Previous {
+fn previous_commit(rt: &impl Abort) -> Previous {
     Previous {
         commit: digest(rt, EMPTY),
         timestamp: 0,
@@ -319,7 +311,7 @@ fn previous(rt: &impl Abort) -> Previous {
 
 #[test]
 fn info(rt: HostRuntime) {
-    let row = deployed(&rt, rt.alloc(), Some(previous(&rt)));
+    let row = deployed_row(&rt, rt.alloc(), Some(previous_commit(&rt)));
     let told = told_of_app(&rt, rt.alloc(), &row);
     drop(row);
     assert!(rt; told.as_str() == TOLD_OF_APP);
@@ -327,7 +319,7 @@ fn info(rt: HostRuntime) {
 
 #[test]
 fn info_of_row(rt: HostRuntime) {
-    let row = deployed(&rt, rt.alloc(), None);
+    let row = deployed_row(&rt, rt.alloc(), None);
     let told = info_text(rt.alloc(), &row, None, &[]).expect(&rt, "memory");
     drop(row);
     assert!(rt; told.as_str() == TOLD_OF_ROW);
@@ -351,15 +343,15 @@ fn told_of_many(rt: &impl Abort, alloc: Global, row: &RefRow, count: usize) -> T
 /// A line is printed for each of 1,100 extensions.
 #[test]
 fn info_of_many_extensions(rt: HostRuntime) {
-    let row = deployed(&rt, rt.alloc(), None);
+    let row = deployed_row(&rt, rt.alloc(), None);
     let told = told_of_many(&rt, rt.alloc(), &row, 1_100);
     drop(row);
-    let lines = repeated(&rt, rt.alloc(), "extension org.x.E\n", 1_100);
+    let lines = repeated_text(&rt, rt.alloc(), "extension org.x.E\n", 1_100);
     assert!(rt; told.as_str().strip_prefix(TOLD_OF_ROW) == Some(lines.as_str()));
 }
 
 #[test]
-fn skipped(rt: HostRuntime) {
+fn a_skipped_ref(rt: HostRuntime) {
     let name = ref_name(&rt, rt.alloc(), APP);
     let line = skipped_line(rt.alloc(), &name).expect(&rt, "memory");
     assert!(rt; line.as_str() == "skipped app/org.x.App/x86_64/stable\n");

@@ -1,7 +1,8 @@
 //! Why words are no command, and why a line of a batch asks for no change.
 
 use crate::rows::{agree_at, agree_on_words};
-use crate::words::owned;
+use crate::texts::joined_texts;
+use crate::words::owned_words;
 use fl_words::{batch_reason, reason};
 use fp_base::Text;
 use std::alloc::Global;
@@ -10,7 +11,7 @@ use std::process::Abort;
 
 /// Whether this is said of words.
 fn is_said(rt: &impl Abort, alloc: Global, words: &[&str], want: &str) -> bool {
-    let said = reason(alloc, &owned(rt, alloc, words));
+    let said = reason(alloc, &owned_words(rt, alloc, words));
     said.expect(rt, "memory").as_str() == want
 }
 
@@ -169,17 +170,12 @@ fn reasons(rt: HostRuntime) {
     }
 }
 
-/// Texts one after another.
-fn joined(rt: &impl Abort, alloc: Global, texts: &[&str]) -> String {
-    texts.concat(alloc).expect(rt, "memory")
-}
-
 /// The usage of all commands is told where the first word is none, and where it is missing.
 #[test]
 fn unknown_commands(rt: HostRuntime) {
-    let want = joined(&rt, rt.alloc(), &["fpk: 'pins' isn't known here\n", USAGE]);
+    let want = joined_texts(&rt, rt.alloc(), &["fpk: 'pins' isn't known here\n", USAGE]);
     assert!(rt; is_said(&rt, rt.alloc(), &["pins", "app/*/*/*"], &want));
-    let want = joined(&rt, rt.alloc(), &["fpk: a word is missing\n", USAGE]);
+    let want = joined_texts(&rt, rt.alloc(), &["fpk: a word is missing\n", USAGE]);
     assert!(rt; is_said(&rt, rt.alloc(), &[], &want));
 }
 
@@ -197,7 +193,7 @@ fn is_told_whole(rt: &impl Abort, alloc: Global, word: &str, want: &str) -> bool
 fn long_words(rt: HostRuntime) {
     let long = "a".repeat(rt.alloc(), 1 << 20).expect(&rt, "memory");
     let rest = "' is one word too many\nusage: fpk show commit\n";
-    let want = joined(&rt, rt.alloc(), &["fpk: '", &long, rest]);
+    let want = joined_texts(&rt, rt.alloc(), &["fpk: '", &long, rest]);
     assert!(rt; is_told_whole(&rt, rt.alloc(), &long, &want));
 }
 
@@ -276,7 +272,7 @@ fn lines(rt: HostRuntime) {
 #[test]
 fn long_line(rt: HostRuntime) {
     let spaces = " ".repeat(rt.alloc(), 100_000).expect(&rt, "memory");
-    let line = joined(&rt, rt.alloc(), &["remote-delete lab", &spaces]);
+    let line = joined_texts(&rt, rt.alloc(), &["remote-delete lab", &spaces]);
     let want = "fpk: line 1: '' is one word too many\nusage: remote-delete NAME\n";
     assert!(rt; is_said_of(&rt, rt.alloc(), line.as_bytes(), Some(want)));
 }
@@ -287,7 +283,7 @@ fn late_line(rt: HostRuntime) {
     let many = "remote-delete lab\n"
         .repeat(rt.alloc(), 1_100)
         .expect(&rt, "memory");
-    let lines = joined(&rt, rt.alloc(), &[&many, "remote-delete a/b"]);
+    let lines = joined_texts(&rt, rt.alloc(), &[&many, "remote-delete a/b"]);
     let want = "fpk: line 1101: 'a/b' is no name of a remote\nusage: remote-delete NAME\n";
     assert!(rt; is_said_of(&rt, rt.alloc(), lines.as_bytes(), Some(want)));
 }

@@ -1,6 +1,7 @@
 //! Words of command lines.
 
 use crate::rows::{agree, agree_on_words};
+use crate::texts::{joined_texts, repeated_text};
 use fl_words::{Change, Command, Listing, PolicySource, Shown, ValueType, WordsError, read_words};
 use fp_base::Text;
 use fp_name::NameError;
@@ -9,7 +10,7 @@ use std::panic::Expect;
 use std::process::Abort;
 
 /// The words, each with room of its own.
-pub fn owned(rt: &impl Abort, alloc: Global, words: &[&str]) -> Vec<String> {
+pub fn owned_words(rt: &impl Abort, alloc: Global, words: &[&str]) -> Vec<String> {
     let mut owned = Vec::new(alloc);
     for word in words {
         let word = String::from_str(alloc, word).expect(rt, "memory");
@@ -106,7 +107,7 @@ fn put_options(rt: &impl Abort, text: &mut String, options: &[Text]) {
 }
 
 /// What is done with what, and the options of it, in one text.
-fn told(rt: &impl Abort, alloc: Global, words: [&str; 3], options: &[Text]) -> String {
+fn words_as_text(rt: &impl Abort, alloc: Global, words: [&str; 3], options: &[Text]) -> String {
     let mut text = String::new(alloc);
     put_words(rt, &mut text, &words);
     put_options(rt, &mut text, options);
@@ -115,19 +116,19 @@ fn told(rt: &impl Abort, alloc: Global, words: [&str; 3], options: &[Text]) -> S
 
 /// A change in one text.
 pub fn told_change(rt: &impl Abort, alloc: Global, change: &Change) -> String {
-    told(rt, alloc, change_words(change), change_options(change))
+    words_as_text(rt, alloc, change_words(change), change_options(change))
 }
 
 fn told_shown(rt: &impl Abort, alloc: Global, thing: &Shown) -> String {
     match thing {
-        Shown::Commit => told(rt, alloc, ["ShowCommit", "", ""], &[]),
-        Shown::DirTree => told(rt, alloc, ["ShowDirTree", "", ""], &[]),
-        Shown::DirMeta => told(rt, alloc, ["ShowDirMeta", "", ""], &[]),
-        Shown::Value(of) => spelled(rt, format!(in alloc; "ShowValue {:?}", of.as_type())),
+        Shown::Commit => words_as_text(rt, alloc, ["ShowCommit", "", ""], &[]),
+        Shown::DirTree => words_as_text(rt, alloc, ["ShowDirTree", "", ""], &[]),
+        Shown::DirMeta => words_as_text(rt, alloc, ["ShowDirMeta", "", ""], &[]),
+        Shown::Value(of) => formatted_text(rt, format!(in alloc; "ShowValue {:?}", of.as_type())),
     }
 }
 
-fn spelled(rt: &impl Abort, text: Result<String, AllocError>) -> String {
+fn formatted_text(rt: &impl Abort, text: Result<String, AllocError>) -> String {
     text.expect(rt, "memory")
 }
 
@@ -136,16 +137,23 @@ fn told_command(rt: &impl Abort, alloc: Global, command: &Command) -> String {
     match command {
         Command::Change(change) => told_change(rt, alloc, change),
         Command::List(listing) => {
-            told(rt, alloc, listing_words(listing), listing_options(listing))
+            words_as_text(rt, alloc, listing_words(listing), listing_options(listing))
         }
         Command::Show(thing) => told_shown(rt, alloc, thing),
-        Command::Filter(source) => told(rt, alloc, source_words(source), source_options(source)),
-        Command::Batch => told(rt, alloc, ["Batch", "", ""], &[]),
-        Command::Fsck => told(rt, alloc, ["Fsck", "", ""], &[]),
+        Command::Filter(source) => words_as_text(
+            rt,
+            alloc,
+            source_words(source),
+            source_options(source),
+        ),
+        Command::Batch => words_as_text(rt, alloc, ["Batch", "", ""], &[]),
+        Command::Fsck => words_as_text(rt, alloc, ["Fsck", "", ""], &[]),
         Command::Export { remote, name } => {
-            told(rt, alloc, ["Export", remote.as_str(), name.as_str()], &[])
+            words_as_text(rt, alloc, ["Export", remote.as_str(), name.as_str()], &[])
         }
-        Command::Exercise(apps) => { spelled(rt, format!(in alloc; "Exercise {}", apps.number())) }
+        Command::Exercise(apps) => {
+            formatted_text(rt, format!(in alloc; "Exercise {}", apps.number()))
+        }
     }
 }
 
@@ -153,13 +161,13 @@ fn told_command(rt: &impl Abort, alloc: Global, command: &Command) -> String {
 fn told_read(rt: &impl Abort, alloc: Global, read: &Result<Command, WordsError>) -> String {
     match read {
         Ok(command) => told_command(rt, alloc, command),
-        Err(error) => spelled(rt, format!(in alloc; "{error}")),
+        Err(error) => formatted_text(rt, format!(in alloc; "{error}")),
     }
 }
 
 /// What the words read as, in one text.
 fn told_words(rt: &impl Abort, alloc: Global, words: &[&str]) -> String {
-    let read = read_words(alloc, &owned(rt, alloc, words));
+    let read = read_words(alloc, &owned_words(rt, alloc, words));
     let text = told_read(rt, alloc, &read);
     drop(read);
     text
@@ -489,27 +497,22 @@ fn words(rt: HostRuntime) {
     agree_on(&rt, rt.alloc(), &OPTION_WORDS);
 }
 
-/// This many of a letter.
-fn many(rt: &impl Abort, alloc: Global, letter: &str, count: usize) -> String {
-    letter.repeat(alloc, count).expect(rt, "memory")
-}
-
-/// The texts one after another.
-fn joined(rt: &impl Abort, alloc: Global, texts: &[&str]) -> String {
-    texts.concat(alloc).expect(rt, "memory")
-}
-
 /// Whether a pin is read.
 fn is_pin(rt: &impl Abort, alloc: Global, pin: &str) -> bool {
-    read_as(rt, alloc, &["pin", pin], &joined(rt, alloc, &["Pin ", pin]))
+    read_as(
+        rt,
+        alloc,
+        &["pin", pin],
+        &joined_texts(rt, alloc, &["Pin ", pin]),
+    )
 }
 
 /// A pin of three parts of 255 bytes is read.
 #[test]
 fn longest_pin(rt: HostRuntime) {
-    let part = many(&rt, rt.alloc(), "a", 255);
+    let part = repeated_text(&rt, rt.alloc(), "a", 255);
     let rest = part.get(..249).unwrap_or("");
-    let pin = joined(
+    let pin = joined_texts(
         &rt,
         rt.alloc(),
         &["app/org.x.", rest, "/", &part, "/", &part],
@@ -519,16 +522,16 @@ fn longest_pin(rt: HostRuntime) {
 
 /// Whether a remote is added.
 fn is_remote(rt: &impl Abort, alloc: Global, name: &str, url: &str) -> bool {
-    let want = joined(rt, alloc, &["RemoteAdd ", name, " ", url]);
+    let want = joined_texts(rt, alloc, &["RemoteAdd ", name, " ", url]);
     read_as(rt, alloc, &["remote-add", name, url], &want)
 }
 
 /// A remote's name of 64 bytes with a url of 1,024 is read.
 #[test]
 fn longest_remote(rt: HostRuntime) {
-    let name = many(&rt, rt.alloc(), "r", 64);
-    let rest = many(&rt, rt.alloc(), "u", 1_016);
-    let url = joined(&rt, rt.alloc(), &["file:///", &rest]);
+    let name = repeated_text(&rt, rt.alloc(), "r", 64);
+    let rest = repeated_text(&rt, rt.alloc(), "u", 1_016);
+    let url = joined_texts(&rt, rt.alloc(), &["file:///", &rest]);
     assert!(rt; is_remote(&rt, rt.alloc(), &name, &url));
 }
 
@@ -548,7 +551,7 @@ fn is_bad_url(rt: &impl Abort, alloc: Global, url: &str) -> bool {
 /// A word of a mebibyte is bad, whatever it has to be, and so is the second of 1,100.
 #[test]
 fn long_words(rt: HostRuntime) {
-    let long = many(&rt, rt.alloc(), "a", 1 << 20);
+    let long = repeated_text(&rt, rt.alloc(), "a", 1 << 20);
     for first in &NAMED {
         agree(&rt, first, is_bad_after(&rt, rt.alloc(), first, &long));
     }
@@ -567,7 +570,7 @@ fn is_no_type(alloc: Global, text: &str) -> bool {
 /// Arrays that are nested 100 Ki deep are no type.
 #[test]
 fn long_type(rt: HostRuntime) {
-    let long = many(&rt, rt.alloc(), "a", 100 << 10);
+    let long = repeated_text(&rt, rt.alloc(), "a", 100 << 10);
     assert!(rt; is_no_type(rt.alloc(), &long));
 }
 
@@ -582,6 +585,6 @@ fn many_options(rt: HostRuntime) {
 
 #[test]
 fn no_memory_is_told(rt: HostRuntime) {
-    let text = spelled(&rt, format!(in rt.alloc(); "{}", WordsError::NoMemory));
+    let text = formatted_text(&rt, format!(in rt.alloc(); "{}", WordsError::NoMemory));
     assert!(rt; text.as_str() == "out of memory");
 }

@@ -1,5 +1,6 @@
 //! Paths, their elements, and the texts and bytes that a host is given.
 
+use crate::parsed::path;
 use crate::rows::{agree, agree_at, is_text};
 use fp_base::{Blob, Text};
 use fp_host::{NoRemotes, Node, Path, PathError, Remotes, is_element, is_link_text};
@@ -78,11 +79,6 @@ fn lengths(rt: HostRuntime) {
         let text = "x".repeat(rt.alloc(), *count).expect(&rt, "memory");
         agree_at(&rt, *count, are(&text, *element, *link));
     }
-}
-
-/// The path of the text.
-fn path(rt: &impl Abort, alloc: Global, text: &str) -> Path {
-    Path::parse(alloc, text).expect(rt, "a path")
 }
 
 /// Paths, and how many elements each has.
@@ -231,10 +227,18 @@ fn goes_deep(rt: &impl Abort, path: &Path) -> bool {
     has_middle(rt, &below) && is_parent(rt, path, &below)
 }
 
+/// Whether an element of 255 letters is joined to the folder.
+fn joins_longest(rt: &impl Abort, alloc: Global, folder: &Path) -> bool {
+    let element = "e".repeat(alloc, 255).expect(rt, "memory");
+    let below = folder.join(&element).expect(rt, "an element");
+    folder.is_above(&below) && below.name() == Some(element.as_str())
+}
+
 #[test]
 fn deep_paths(rt: HostRuntime) {
     let text = deep(&rt, rt.alloc());
-    assert!(rt; goes_deep(&rt, &path(&rt, rt.alloc(), &text)));
+    let folder = path(&rt, rt.alloc(), &text);
+    assert!(rt; goes_deep(&rt, &folder) && joins_longest(&rt, rt.alloc(), &folder));
 }
 
 /// Whether there is nothing.

@@ -408,15 +408,15 @@ fn grow(rt: &impl Abort, file: &mut KeyFile, name: &str) {
 }
 
 /// The name of this number.
-fn numbered(rt: &impl Abort, alloc: Global, number: usize) -> String {
+fn numbered_name(rt: &impl Abort, alloc: Global, number: usize) -> String {
     format!(in alloc; "n{number:04}").expect(rt, "memory")
 }
 
 /// A file in which this many pairs of one group, and this many groups, were set.
-fn grown(rt: &impl Abort, alloc: Global, count: usize) -> KeyFile {
+fn grown_file(rt: &impl Abort, alloc: Global, count: usize) -> KeyFile {
     let mut file = KeyFile::new(alloc);
     for number in 0..count {
-        grow(rt, &mut file, &numbered(rt, alloc, number));
+        grow(rt, &mut file, &numbered_name(rt, alloc, number));
     }
     file
 }
@@ -429,7 +429,7 @@ fn is_large(rt: &impl Abort, file: &KeyFile, groups: usize, length: usize) -> bo
 
 #[test]
 fn many_pairs_are_set(rt: HostRuntime) {
-    let file = grown(&rt, rt.alloc(), 1_100);
+    let file = grown_file(&rt, rt.alloc(), 1_100);
     let copy = file.copy().expect(&rt, "memory");
     assert!(rt; is_large(&rt, &copy, 1_101, 4 + 1_100 * 8 + 1_100 * 12));
 }

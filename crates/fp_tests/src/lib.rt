@@ -11,6 +11,8 @@ mod memhost;
 #[cfg(test)]
 mod name;
 #[cfg(test)]
+mod parsed;
+#[cfg(test)]
 mod rows;
 #[cfg(test)]
 mod small;

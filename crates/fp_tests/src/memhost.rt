@@ -1,5 +1,6 @@
 //! The host, remotes and source in memory: what is found after a stop, and calls that fail.
 
+use crate::parsed::path;
 use crate::rows::agree_at;
 use fp_base::{Blob, Items};
 use fp_host::{Entry, Host, Node, Path, RemoteError, Remotes, Source, Stat, Taken};
@@ -7,11 +8,6 @@ use fp_memhost::{Choice, FileRow, Image, MemHost, MemNode, MemRemotes, MemSource
 use std::alloc::Global;
 use std::panic::Expect;
 use std::process::Abort;
-
-/// The path of the text.
-fn path(rt: &impl Abort, alloc: Global, text: &str) -> Path {
-    Path::parse(alloc, text).expect(rt, "a path")
-}
 
 /// A folder, a file that is staged in it, and the name that it is moved to.
 #[derive(Drop)]
@@ -46,7 +42,7 @@ fn new_host(rt: &impl Abort, alloc: Global) -> MemHost {
 
 /// The host after these calls, of which one fails: it is done all the same, or a stop may still
 /// bring it about.
-fn replaced(rt: &impl Abort, alloc: Global, at: &Places, failing: u64, is_done: bool) -> MemHost {
+fn host_after(rt: &impl Abort, alloc: Global, at: &Places, failing: u64, is_done: bool) -> MemHost {
     let mut host = new_host(rt, alloc);
     host.fail_calls(&[(failing, is_done)]).expect(rt, "memory");
     replace(&mut host, at);
@@ -115,7 +111,7 @@ fn blob(rt: &impl Abort, alloc: Global, bytes: &[u8]) -> Blob {
 }
 
 /// Where the file is found in what a stop leaves after these calls.
-fn left(
+fn place_left(
     rt: &impl Abort,
     alloc: Global,
     host: &MemHost,
@@ -152,13 +148,13 @@ const LEFT: [(u64, u64, u64, &[u8], &str); 12] = [
 fn a_stop_leaves_what_is_chosen(rt: HostRuntime) {
     let alloc = rt.alloc();
     let at = make_places(&rt, alloc);
-    let host = replaced(&rt, alloc, &at, 99, true);
+    let host = host_after(&rt, alloc, &at, 99, true);
     for (row, (calls, config, staged, bytes, want)) in LEFT.iter().enumerate() {
         let choice = Choice {
             names: chosen_names(&rt, alloc, &at, *config, *staged),
             files: chosen_files(&rt, alloc, bytes),
         };
-        let found = left(&rt, alloc, &host, *calls, &choice, &at);
+        let found = place_left(&rt, alloc, &host, *calls, &choice, &at);
         drop(choice);
         agree_at(&rt, row, found == *want);
     }
@@ -191,7 +187,7 @@ fn is_so(rt: &impl Abort, host: &mut MemHost, at: &Places, are_two: bool, want: 
 fn calls_fail_as_listed(rt: HostRuntime) {
     let at = make_places(&rt, rt.alloc());
     for (row, (failing, is_done, are_two, want)) in FAILING.iter().enumerate() {
-        let mut host = replaced(&rt, rt.alloc(), &at, *failing, *is_done);
+        let mut host = host_after(&rt, rt.alloc(), &at, *failing, *is_done);
         agree_at(&rt, row, is_so(&rt, &mut host, &at, *are_two, want));
         drop(host);
     }
@@ -210,7 +206,7 @@ fn is_counted(host: &MemHost, at: &Places) -> bool {
 #[test]
 fn a_host_counts(rt: HostRuntime) {
     let at = make_places(&rt, rt.alloc());
-    let host = replaced(&rt, rt.alloc(), &at, 99, true);
+    let host = host_after(&rt, rt.alloc(), &at, 99, true);
     assert!(rt; is_counted(&host, &at));
     drop(host);
     drop(at);
@@ -331,7 +327,7 @@ fn a_source_gives_its_steps(rt: HostRuntime) {
 }
 
 /// Where a file of this number is.
-fn numbered(rt: &impl Abort, alloc: Global, number: usize) -> Path {
+fn numbered_path(rt: &impl Abort, alloc: Global, number: usize) -> Path {
     let name = format!(in alloc; "f{number:04}").expect(rt, "memory");
     path(rt, alloc, &name)
 }
@@ -344,7 +340,7 @@ fn mebibyte(rt: &impl Abort, alloc: Global) -> Vec<u8> {
 /// Makes 1,100 files.
 fn make_files(rt: &impl Abort, alloc: Global, host: &mut MemHost) {
     for number in 0..1_100 {
-        let at = numbered(rt, alloc, number);
+        let at = numbered_path(rt, alloc, number);
         host.create(&at, 0o644).expect(rt, "a new file");
     }
 }
@@ -356,7 +352,7 @@ fn add_much(rt: &impl Abort, host: &mut MemHost, at: &Path, bytes: &[u8]) {
 }
 
 /// A host of 1,100 files, the last of a mebibyte, that said a mebibyte.
-fn filled(rt: &impl Abort, alloc: Global, last: &Path) -> MemHost {
+fn filled_host(rt: &impl Abort, alloc: Global, last: &Path) -> MemHost {
     let mut host = new_host(rt, alloc);
     make_files(rt, alloc, &mut host);
     add_much(rt, &mut host, last, &mebibyte(rt, alloc));
@@ -379,8 +375,8 @@ fn is_kept(rt: &impl Abort, alloc: Global, host: &mut MemHost, last: &Path) -> b
 
 #[test]
 fn much_is_kept(rt: HostRuntime) {
-    let last = numbered(&rt, rt.alloc(), 1_099);
-    let mut host = filled(&rt, rt.alloc(), &last);
+    let last = numbered_path(&rt, rt.alloc(), 1_099);
+    let mut host = filled_host(&rt, rt.alloc(), &last);
     assert!(rt; is_kept(&rt, rt.alloc(), &mut host, &last));
     drop(host);
 }
@@ -452,7 +448,7 @@ fn bytes_of(rt: &impl Abort, alloc: Global, number: usize) -> Blob {
 /// Puts 1,100 files, the last of a mebibyte.
 fn put_many(rt: &impl Abort, alloc: Global, remotes: &mut MemRemotes) {
     for number in 0..1_100 {
-        let at = numbered(rt, alloc, number);
+        let at = numbered_path(rt, alloc, number);
         let is_put = put_file(remotes, &at, bytes_of(rt, alloc, number));
         agree_at(rt, number, is_put);
     }
@@ -468,7 +464,7 @@ fn is_read(rt: &impl Abort, alloc: Global, remotes: &mut MemRemotes, at: &Path) 
 fn remotes_hold_much(rt: HostRuntime) {
     let mut remotes = new_remotes(&rt, rt.alloc());
     put_many(&rt, rt.alloc(), &mut remotes);
-    let last = numbered(&rt, rt.alloc(), 1_099);
+    let last = numbered_path(&rt, rt.alloc(), 1_099);
     assert!(rt; is_read(&rt, rt.alloc(), &mut remotes, &last));
     drop(remotes);
 }

@@ -1,5 +1,6 @@
 //! Names of applications, runtimes and remotes, and digests.
 
+use crate::parsed::pattern_of;
 use crate::rows::{agree, is_text};
 use fp_base::Text;
 use fp_name::{
@@ -85,7 +86,7 @@ fn agree_on_none(rt: &impl Abort, alloc: Global, kind: Kind, rows: &[&str]) {
 }
 
 /// A text of `length` bytes or more: the front, and letters after it.
-fn filled(rt: &impl Abort, alloc: Global, front: &str, length: usize) -> String {
+fn filled_text(rt: &impl Abort, alloc: Global, front: &str, length: usize) -> String {
     let count = length.saturating_sub(front.len());
     let letters = "a".repeat(alloc, count).expect(rt, "memory");
     [front, &letters].concat(alloc).expect(rt, "memory")
@@ -311,7 +312,7 @@ const LENGTHS: [(Kind, &str, usize, bool); 12] = [
 #[test]
 fn lengths(rt: HostRuntime) {
     for (kind, front, length, good) in &LENGTHS {
-        let text = filled(&rt, rt.alloc(), front, *length);
+        let text = filled_text(&rt, rt.alloc(), front, *length);
         agree(&rt, &text, is_as_due(rt.alloc(), *kind, &text, *good));
     }
 }
@@ -319,11 +320,6 @@ fn lengths(rt: HostRuntime) {
 /// The ref of the text.
 fn ref_of(rt: &impl Abort, alloc: Global, text: &str) -> RefName {
     RefName::parse(alloc, text.as_bytes()).expect(rt, "a ref")
-}
-
-/// The pattern of the text.
-fn pattern_of(rt: &impl Abort, alloc: Global, text: &str) -> PinPattern {
-    PinPattern::parse(alloc, text.as_bytes()).expect(rt, "a pattern")
 }
 
 fn has_parts(name: &RefName, kind: RefKind, id: &str, arch: &str, branch: &str) -> bool {
@@ -470,7 +466,7 @@ fn is_match(rt: &impl Abort, alloc: Global, text: &str, name: &RefName) -> bool 
 }
 
 #[test]
-fn matching(rt: HostRuntime) {
+fn patterns_match_refs(rt: HostRuntime) {
     let name = ref_of(&rt, rt.alloc(), "app/org.x.App/x86_64/stable");
     for (text, matches) in &PATTERNS {
         agree(
@@ -558,15 +554,15 @@ fn texts_of_names(rt: HostRuntime) {
 #[test]
 fn texts_of_long_names(rt: HostRuntime) {
     let alloc = rt.alloc();
-    assert!(rt; writes_id(&rt, alloc, &filled(&rt, alloc, "org.x.", 255)));
-    assert!(rt; writes_remote(&rt, alloc, &filled(&rt, alloc, "", 64)));
-    assert!(rt; writes_url(&rt, alloc, &filled(&rt, alloc, "file:///", 1024)));
+    assert!(rt; writes_id(&rt, alloc, &filled_text(&rt, alloc, "org.x.", 255)));
+    assert!(rt; writes_remote(&rt, alloc, &filled_text(&rt, alloc, "", 64)));
+    assert!(rt; writes_url(&rt, alloc, &filled_text(&rt, alloc, "file:///", 1024)));
 }
 
 /// The longest ref: an ID, an ARCH and a BRANCH of 255 bytes each.
-fn longest(rt: &impl Abort, alloc: Global) -> String {
-    let id = filled(rt, alloc, "org.x.", 255);
-    let part = filled(rt, alloc, "", 255);
+fn longest_text(rt: &impl Abort, alloc: Global) -> String {
+    let id = filled_text(rt, alloc, "org.x.", 255);
+    let part = filled_text(rt, alloc, "", 255);
     ["runtime", &id, &part, &part]
         .join(alloc, "/")
         .expect(rt, "memory")
@@ -584,7 +580,7 @@ fn is_kept(rt: &impl Abort, alloc: Global, name: &RefName, text: &str) -> bool {
 /// The longest ref.
 #[test]
 fn longest_ref(rt: HostRuntime) {
-    let text = longest(&rt, rt.alloc());
+    let text = longest_text(&rt, rt.alloc());
     assert!(rt; is_kept(&rt, rt.alloc(), &ref_of(&rt, rt.alloc(), &text), &text));
 }
 
@@ -605,7 +601,7 @@ fn is_after(rt: &impl Abort, text: &Text, less: &Text) -> bool {
 
 /// Whether a text of this many letters is copied.
 fn is_long_text(rt: &impl Abort, alloc: Global, length: usize) -> bool {
-    let long = Text::from_string(filled(rt, alloc, "", length));
+    let long = Text::from_string(filled_text(rt, alloc, "", length));
     text_is_copied(rt, &long) && long.as_str().len() == length
 }
 

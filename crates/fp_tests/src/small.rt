@@ -1,5 +1,6 @@
 //! The small files of an installation, in the layout of today and the one before.
 
+use crate::parsed::{path, pattern_of};
 use crate::rows::{agree, is_text};
 use fp_base::Items;
 use fp_host::{Host, Path, Stat};
@@ -239,11 +240,6 @@ fn written_configs(rt: HostRuntime) {
     }
 }
 
-/// The pattern of the text.
-fn pattern_of(rt: &impl Abort, alloc: Global, text: &str) -> PinPattern {
-    PinPattern::parse(alloc, text.as_bytes()).expect(rt, "a pattern")
-}
-
 /// Puts in a copy of the pin.
 fn insert(rt: &impl Abort, pins: &mut Vec<PinPattern>, pin: &PinPattern) {
     let copy = pin.copy().expect(rt, "memory");
@@ -440,7 +436,7 @@ fn are_put(rt: &impl Abort, alloc: Global, host: &mut MemHost, path: &Path, byte
 fn much_is_replaced(rt: HostRuntime) {
     let alloc = rt.alloc();
     let mut host = MemHost::new(alloc).expect(&rt, "memory");
-    let path = Path::parse(alloc, "etc/config").expect(&rt, "a path");
+    let path = path(&rt, alloc, "etc/config");
     let bytes = vec![in alloc; 7u8; 1 << 20].expect(&rt, "memory");
     assert!(rt; are_put(&rt, alloc, &mut host, &path, &bytes));
     drop(host);
@@ -475,7 +471,7 @@ fn count_names(rt: &impl Abort, alloc: Global, host: &mut MemHost, folder: &Path
 }
 
 /// A host with 1,100 files in the folder, and with the folders above it.
-fn filled(rt: &impl Abort, alloc: Global, folder: &Path) -> MemHost {
+fn filled_host(rt: &impl Abort, alloc: Global, folder: &Path) -> MemHost {
     let mut host = MemHost::new(alloc).expect(rt, "memory");
     make_above(alloc, &mut host, folder).expect(rt, "folders");
     host.make_dir(folder).expect(rt, "a folder");
@@ -495,7 +491,7 @@ fn are_cleared(rt: &impl Abort, alloc: Global, host: &mut MemHost, folder: &Path
 #[test]
 fn many_files_are_cleared(rt: HostRuntime) {
     let folder = path_of(&rt, rt.alloc(), 126);
-    let mut host = filled(&rt, rt.alloc(), &folder);
+    let mut host = filled_host(&rt, rt.alloc(), &folder);
     assert!(rt; are_cleared(&rt, rt.alloc(), &mut host, &folder));
     drop(host);
 }
@@ -509,7 +505,7 @@ fn is_cleared(rt: &impl Abort, alloc: Global, host: &mut MemHost, top: &Path) ->
 /// The folders above 1,100 files are taken away with them.
 #[test]
 fn many_folders_are_cleared(rt: HostRuntime) {
-    let mut host = filled(&rt, rt.alloc(), &path_of(&rt, rt.alloc(), 126));
+    let mut host = filled_host(&rt, rt.alloc(), &path_of(&rt, rt.alloc(), 126));
     assert!(rt; is_cleared(&rt, rt.alloc(), &mut host, &path_of(&rt, rt.alloc(), 1)));
     drop(host);
 }

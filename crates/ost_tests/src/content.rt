@@ -4,7 +4,7 @@ ghost use Rattle.std.specs.Prelude.{◌≡◌, ◌<◌, true};
 ghost use Rattle.ost_model.specs.Contents.{file_digest as digest_of_file, is_permission as may_be_mode};
 
 use crate::made_contents::{NAMES, Named};
-use crate::parsed::{decoded, digest_of};
+use crate::parsed::{bytes_of_digits, digest_of};
 use crate::rows::{agree, agree_at};
 use fp_host::is_link_text;
 use fp_name::Digest;
@@ -72,7 +72,7 @@ fn is_link_named(rt: &impl Abort, alloc: Global, text: &str, want: &Digest) -> b
     link_digest(alloc, text).expect(rt, "memory") == *want
 }
 
-/// Whether a link of so many letters has.
+/// Whether a link of this many letters has.
 fn is_long_link_named(rt: &impl Abort, alloc: Global, count: usize, want: &Digest) -> bool {
     let text = "n".repeat(alloc, count).expect(rt, "memory");
     is_link_named(rt, alloc, &text, want)
@@ -82,10 +82,10 @@ fn is_long_link_named(rt: &impl Abort, alloc: Global, count: usize, want: &Diges
 fn is_named(rt: &impl Abort, alloc: Global, named: &Named, name: &str) -> bool {
     let want = digest_of(rt, name);
     match named {
-        Named::File(mode, digits) => has_digest(*mode, &decoded(rt, alloc, digits), &want),
+        Named::File(mode, digits) => has_digest(*mode, &bytes_of_digits(rt, alloc, digits), &want),
         Named::Link(text) => is_link_named(rt, alloc, text, &want),
         Named::LongLink(count) => is_long_link_named(rt, alloc, *count, &want),
-        Named::Meta(digits) => meta_digest(&decoded(rt, alloc, digits)) == want,
+        Named::Meta(digits) => meta_digest(&bytes_of_digits(rt, alloc, digits)) == want,
     }
 }
 

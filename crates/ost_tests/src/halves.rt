@@ -15,7 +15,7 @@ use std::process::Abort;
 use std::thread::Threads;
 
 /// The item whose text is `item` and this number.
-fn numbered(rt: &impl Abort, alloc: Global, number: usize) -> Item {
+fn numbered_item(rt: &impl Abort, alloc: Global, number: usize) -> Item {
     let digits = format!(in alloc; "{number}").expect(rt, "memory");
     Item {
         head: Blob::from_slice(alloc, b"item ").expect(rt, "memory"),
@@ -23,11 +23,13 @@ fn numbered(rt: &impl Abort, alloc: Global, number: usize) -> Item {
     }
 }
 
-/// This many of them, from `item 0` on.
-fn many(rt: &impl Abort, alloc: Global, count: usize) -> Vec<Item> {
+/// This many items, from `item 0` on.
+fn many_items(rt: &impl Abort, alloc: Global, count: usize) -> Vec<Item> {
     let mut items = Vec::new(alloc);
     for number in 0..count {
-        items.push(numbered(rt, alloc, number)).expect(rt, "memory");
+        items
+            .push(numbered_item(rt, alloc, number))
+            .expect(rt, "memory");
     }
     items
 }
@@ -78,7 +80,7 @@ const COUNTS: &[(usize, &str)] = &[
     ),
 ];
 
-/// Whether this is the digest of all digests, and there are so many of them.
+/// Whether this is the digest of all digests, and there are this many of them.
 fn are_counted(rt: &impl Abort, all: &[Digest], count: usize, name: &str) -> bool {
     all.len() == count && digest_of_all(all) == digest_of(rt, name)
 }
@@ -143,7 +145,7 @@ fn digests_of_items(rt: HostRuntime) {
     }
 }
 
-/// Whether the digests of so many items, and those that come where this half is held until the
+/// Whether the digests of this many items, and those that come where this half is held until the
 /// other one is done, have this digest, and both halves are at work.
 fn are_at_work(
     rt: &(impl Abort + Threads + Sync),
@@ -152,7 +154,7 @@ fn are_at_work(
     count: usize,
     name: &str,
 ) -> bool {
-    let items = many(rt, alloc, count);
+    let items = many_items(rt, alloc, count);
     let alone = digests(rt, alloc, &items).expect(rt, "memory");
     let is_wanted = are_counted(rt, alone.as_slice(), count, name);
     let gate = HoldingGate::new(held, alone);

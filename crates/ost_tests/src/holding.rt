@@ -48,7 +48,7 @@ impl Side {
         }
     }
 
-    /// Whether it began so often, and showed so many times what was due.
+    /// Whether it began and showed what was due this many times.
     fn has_told(&self, reached: u64, watched: u64) -> bool {
         self.reached.load(Ordering::SeqCst) == reached
             && self.watched.load(Ordering::SeqCst) == watched
@@ -81,8 +81,8 @@ impl HoldingGate {
         }
     }
 
-    /// Whether each half began so often and showed so many times what was due, nothing else was
-    /// told, and the held half saw the other one done.
+    /// Whether each half began and showed what was due this many times, nothing else was told, and
+    /// the held half saw the other one done.
     fn have_told(&self, reached: u64, watched: u64) -> bool {
         self.first.has_told(reached, watched)
             && self.second.has_told(reached, watched)

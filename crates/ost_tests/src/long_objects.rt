@@ -8,11 +8,12 @@ use std::process::Abort;
 pub enum Piece {
     /// These bytes.
     Bytes(&'static [u8]),
-    /// A byte that comes so often.
+    /// A byte, and how often it comes.
     Times(u8, usize),
     /// Rows: each a letter, its number in four digits, and these bytes.
     Rows(&'static str, &'static [u8]),
-    /// Where rows of so many bytes end, in numbers of so many bytes, the lowest first.
+    /// Where rows end: how many bytes each has, and how many bytes the number of an end has, the
+    /// lowest first.
     Ends(u32, usize),
 }
 
@@ -105,7 +106,7 @@ fn push_piece(rt: &impl Abort, alloc: Global, bytes: &mut Vec<u8>, piece: &Piece
 }
 
 /// The bytes of the pieces.
-pub fn spelled(rt: &impl Abort, alloc: Global, pieces: &[Piece]) -> Vec<u8> {
+pub fn bytes_of_pieces(rt: &impl Abort, alloc: Global, pieces: &[Piece]) -> Vec<u8> {
     let mut bytes = Vec::new(alloc);
     for piece in pieces {
         push_piece(rt, alloc, &mut bytes, piece);

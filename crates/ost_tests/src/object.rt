@@ -2,9 +2,9 @@
 //! written.
 
 use crate::long_objects;
-use crate::long_objects::{COMMIT_PIECES, ROWS, TREE_PIECES, spelled};
+use crate::long_objects::{COMMIT_PIECES, ROWS, TREE_PIECES, bytes_of_pieces};
 use crate::made_objects::OBJECTS;
-use crate::parsed::{decoded, digest_of, kind_of};
+use crate::parsed::{bytes_of_digits, digest_of, kind_of};
 use crate::rows::{agree, agree_at};
 use crate::shown_objects::SHOWN;
 use fp_base::{Blob, Items, ObjKind, Rule, Text};
@@ -179,10 +179,15 @@ fn rule_of_bytes(rt: &impl Abort, alloc: Global, kind: ObjKind, bytes: &[u8]) ->
 /// The rule that is broken.
 fn broken_rule(rt: &impl Abort, alloc: Global, tried: &Tried) -> Option<Rule> {
     match tried {
-        Tried::Read(kind, digits) => rule_of_bytes(rt, alloc, *kind, &decoded(rt, alloc, digits)),
+        Tried::Read(kind, digits) => rule_of_bytes(
+            rt,
+            alloc,
+            *kind,
+            &bytes_of_digits(rt, alloc, digits),
+        ),
         Tried::Names(names) => rule_of(rt, written_tree(rt, alloc, names)),
         Tried::Mode(mode) => rule_of(rt, write_dirmeta(alloc, &DirMeta { mode: *mode })),
-        Tried::Subject(subject) => rule_of(rt, written(rt, alloc, subject)),
+        Tried::Subject(subject) => rule_of(rt, written_commit(rt, alloc, subject)),
     }
 }
 
@@ -227,7 +232,7 @@ fn is_read_as(
     lengths: (u64, usize, usize),
     refs: &str,
 ) -> bool {
-    let commit = read_commit(alloc, &decoded(rt, alloc, digits)).expect(rt, "a commit");
+    let commit = read_commit(alloc, &bytes_of_digits(rt, alloc, digits)).expect(rt, "a commit");
     has_lengths(&commit, lengths) && refs_of(rt, alloc, &commit).as_str() == refs
 }
 
@@ -327,7 +332,7 @@ fn has_name(rt: &impl Abort, alloc: Global, name: &str, bytes: &[u8]) -> bool {
 
 /// The same of digits.
 fn is_unchanged(rt: &impl Abort, alloc: Global, name: &str, digits: &str) -> bool {
-    has_name(rt, alloc, name, &decoded(rt, alloc, digits))
+    has_name(rt, alloc, name, &bytes_of_digits(rt, alloc, digits))
 }
 
 #[test]
@@ -405,15 +410,15 @@ fn bare_commit(rt: &impl Abort, alloc: Global, subject: &str) -> Commit {
 }
 
 /// It, as it is written.
-fn written(rt: &impl Abort, alloc: Global, subject: &str) -> Result<Blob, ObjectError> {
+fn written_commit(rt: &impl Abort, alloc: Global, subject: &str) -> Result<Blob, ObjectError> {
     let commit = bare_commit(rt, alloc, subject);
     write_commit(alloc, &commit)
 }
 
 /// Whether a commit without a subject is written in these digits.
 fn is_bare(rt: &impl Abort, alloc: Global, digits: &str) -> bool {
-    let written = written(rt, alloc, "").expect(rt, "written");
-    written.as_slice() == decoded(rt, alloc, digits).as_slice()
+    let written = written_commit(rt, alloc, "").expect(rt, "written");
+    written.as_slice() == bytes_of_digits(rt, alloc, digits).as_slice()
 }
 
 /// What GLib spells of it.
@@ -441,7 +446,7 @@ fn has_root(rt: &impl Abort, alloc: Global, bytes: &[u8]) -> bool {
 
 #[test]
 fn a_long_commit_is_written_back(rt: HostRuntime) {
-    let bytes = spelled(&rt, rt.alloc(), COMMIT_PIECES);
+    let bytes = bytes_of_pieces(&rt, rt.alloc(), COMMIT_PIECES);
     assert!(rt; is_long_commit(&rt, rt.alloc(), &bytes) && has_root(&rt, rt.alloc(), &bytes));
 }
 
@@ -453,7 +458,7 @@ fn is_long_tree(rt: &impl Abort, alloc: Global, bytes: &[u8]) -> bool {
 
 #[test]
 fn a_long_dirtree_is_written_back(rt: HostRuntime) {
-    let bytes = spelled(&rt, rt.alloc(), TREE_PIECES);
+    let bytes = bytes_of_pieces(&rt, rt.alloc(), TREE_PIECES);
     assert!(rt; is_long_tree(&rt, rt.alloc(), &bytes));
 }
 

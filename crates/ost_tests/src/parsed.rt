@@ -8,7 +8,7 @@ use std::panic::Expect;
 use std::process::Abort;
 
 /// The bytes of hexadecimal digits.
-pub fn decoded(rt: &impl Abort, alloc: Global, digits: &str) -> Vec<u8> {
+pub fn bytes_of_digits(rt: &impl Abort, alloc: Global, digits: &str) -> Vec<u8> {
     hex::decode(alloc, digits).expect(rt, "digits")
 }
 

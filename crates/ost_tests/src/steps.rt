@@ -21,7 +21,7 @@ pub const DONE: Done = Ok(());
 /// A call of the host fails.
 pub const FAULT: Done = Err(HostEnd::Fault);
 
-/// Bytes as they are, or one that comes so often.
+/// Bytes as they are, or one that comes this many times.
 pub enum Content {
     /// These bytes.
     Bytes(&'static [u8]),
@@ -43,7 +43,7 @@ pub enum Made {
 pub enum Want {
     /// Nothing.
     Absent,
-    /// It has so many bytes, more than were allowed.
+    /// It has this number of bytes, more than were allowed.
     TooLong(u64),
     /// The whole object.
     Made(Made),
@@ -83,9 +83,10 @@ pub enum Step {
     Folder(&'static str),
     /// Whether the store has the object.
     Has(Name, bool),
-    /// What it has of the object, of which at most so many bytes are wanted.
+    /// What it has of the object, of which at most this number of bytes is wanted.
     Get(Name, u64, Want),
-    /// What is read of a file from a place on, of which at most so many bytes are wanted.
+    /// What is read of a file from a place on, of which at most the second number of bytes is
+    /// wanted.
     Read(Name, u64, usize, Content),
     /// What has the name is no file that can be read.
     NoFile(Name),
@@ -101,7 +102,7 @@ pub enum Step {
     Gone(&'static str),
     /// Whether a stop leaves what stands there, and nothing else.
     Settled(bool),
-    /// So many empty files are staged, with numbers between these two texts.
+    /// This many empty files are staged, with numbers between these two texts.
     Many(&'static str, usize, &'static str),
     /// The digest is written at the ref's place.
     RefWrite(Place),
@@ -478,7 +479,7 @@ fn agree(rt: &impl Abort, name: &str, step: usize, is_so: bool) {
 }
 
 /// Takes the steps on an empty host, one after another.
-fn told(
+fn host_after(
     rt: &impl Abort,
     alloc: Global,
     root: &Path,
@@ -505,7 +506,7 @@ fn calls_of(rt: &impl Abort, alloc: Global, host: &mut MemHost, root: &Path) -> 
 pub fn calls_after(rt: &impl Abort, alloc: Global, steps: &[Step]) -> u64 {
     let root = path_of(rt, alloc, "repo");
     let tmp = path_of(rt, alloc, "repo/tmp/new0");
-    let mut host = told(rt, alloc, &root, &tmp, "a list", steps);
+    let mut host = host_after(rt, alloc, &root, &tmp, "a list", steps);
     let calls = calls_of(rt, alloc, &mut host, &root);
     drop(host);
     calls
@@ -516,7 +517,7 @@ pub fn tell_all(rt: &impl Abort, alloc: Global, stories: &[(&str, &[Step])]) {
     let root = path_of(rt, alloc, "repo");
     let tmp = path_of(rt, alloc, "repo/tmp/new0");
     for (name, steps) in stories {
-        let host = told(rt, alloc, &root, &tmp, name, steps);
+        let host = host_after(rt, alloc, &root, &tmp, name, steps);
         drop(host);
     }
 }
