@@ -46,11 +46,13 @@ use std::thread::Threads;
 /// A `sync` makes last each file and then each folder that was changed since the last one, many of
 /// them by several threads. At most 192 files that wait for it stay open: where more are made,
 /// those are synced before. While changes wait for it, the lock file holds the text that Linux
-/// gives this start of the machine, and else nothing or a line of dashes. Where an earlier run of the same
-/// start left that, or the root was there without a lock file, the first `sync` makes last every
-/// file and folder that may be opened, at the names that fpk keeps at the top. After a sync of a
-/// file or folder that failed no later one succeeds, nor after a change that there was no memory to
-/// note.
+/// gives this start of the machine, and else nothing or a line of dashes. Where an earlier run of
+/// the same start left that, or the root was there without a lock file, the first `sync` makes last
+/// every file and folder that may be opened, at the names that fpk keeps at the top. After a sync
+/// of a file or folder that failed no later one succeeds, nor after a change that there was no
+/// memory to note.
+///
+/// Where the system lets a file have no more names, `link` makes a copy of it.
 ///
 /// Contracts see how often it failed, whether nothing waits for a sync, and how many bytes were
 /// printed.

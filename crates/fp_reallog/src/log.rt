@@ -20,7 +20,12 @@ pub enum Kind<'a> {
     TellingLooks,
     /// The file or folder at this path may not be opened.
     Denying(&'a str),
+    /// No file may have a second name, and this line fails.
+    Crowded(&'a str),
 }
+
+/// The system's number of the error that a file may have no more names: EMLINK of Linux.
+const CROWDED: i32 = 31;
 
 /// The lines since they were read last, and the first row of a table that didn't hold.
 #[derive(Drop)]
@@ -85,7 +90,7 @@ impl<'a> Log<'a> {
 
     fn fails(&self, what: &str, at: &str) -> bool {
         match self.kind {
-            Kind::Failing(line) => is_line(line, what, at),
+            Kind::Failing(line) | Kind::Crowded(line) => is_line(line, what, at),
             _ => false,
         }
     }
@@ -96,6 +101,11 @@ impl<'a> Log<'a> {
             Kind::Denying(denied) => at.strip_suffix('/').unwrap_or(at) == denied,
             _ => false,
         }
+    }
+
+    /// Whether no file may have a second name.
+    pub(crate) fn is_crowded(&self) -> bool {
+        matches!(self.kind, Kind::Crowded(_))
     }
 
     pub(crate) fn is_busy(&self) -> bool {
@@ -166,6 +176,11 @@ const DENIED: i32 = 13;
 /// The error of what may not be opened.
 pub(crate) fn denied() -> io::Error {
     io::Error::from_raw_os_error(DENIED)
+}
+
+/// The error that a file may have no more names.
+pub(crate) fn crowded() -> io::Error {
+    io::Error::from_raw_os_error(CROWDED)
 }
 
 /// The error of a call that fails.

@@ -1,5 +1,5 @@
 //! The system that notes, over the real one.
-use crate::log::{Log, denied, out};
+use crate::log::{Log, crowded, denied, out};
 use fp_realroot::{Access, Failure, System, Unsynced, sync_in_turn};
 use fp_system::{Call, known};
 use std::alloc::{Alloc, Allocator, Global};
@@ -110,7 +110,11 @@ impl<'a> Files for Logged<'a> {
     }
 
     fn copy(&self, from: &str, to: &str) -> io::Result<u64> {
-        self.rt.copy(from, to)
+        if self.log.lets("copy to", to) {
+            self.rt.copy(from, to)
+        } else {
+            Err(out())
+        }
     }
 
     fn rename(&self, from: &str, to: &str) -> io::Result<()> {
@@ -162,6 +166,9 @@ impl<'a> Files for Logged<'a> {
     }
 
     fn hard_link(&self, original: &str, link: &str) -> io::Result<()> {
+        if self.log.is_crowded() {
+            return Err(crowded());
+        }
         if self.log.lets("link", link) {
             self.rt.hard_link(original, link)
         } else {

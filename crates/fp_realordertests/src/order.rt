@@ -352,6 +352,58 @@ fn changed_names_are_synced(rt: HostRuntime) {
     assert!(rt; tell_both(&rt, &rt, ("names", "names/root"), Kind::Plain, &parts));
 }
 
+/// Where a file may have no more names, the second name gets a copy, which is synced as a new file.
+const COPIED: [(Step<'static>, &str); 5] = [
+    (
+        Step::Create("a", 0o640),
+        "make crowded\nmake crowded/root\nlock crowded/root/.lock\n\
+         write crowded/root/.lock\ncreate crowded/root/a\n",
+    ),
+    (Step::Append("a", "bytes"), "write crowded/root/a\n"),
+    (
+        Step::Sync,
+        "sync crowded/root/a\nsync .\nsync crowded\nsync crowded/root\n\
+         sync .\nsync crowded\nsync crowded/root\nwrite over crowded/root/.lock\n",
+    ),
+    (
+        Step::Link("a", "b"),
+        "write over crowded/root/.lock\ncopy to crowded/root/b\n",
+    ),
+    (
+        Step::Sync,
+        "sync crowded/root/b\nsync crowded/root\nwrite over crowded/root/.lock\n",
+    ),
+];
+
+const COPIES: [(Step<'static>, &str, &str); 2] = [
+    (Step::Stat("b"), "b", "640 5 bytes"),
+    (Step::Unlink("b"), "", "dir a"),
+];
+
+/// A copy that fails.
+const UNCOPIED: &str = "copy to uncopied/root/b";
+
+const UNCOPYING: [Step<'static>; 4] = [
+    Step::Create("a", 0o640),
+    Step::Sync,
+    Step::Link("a", "b"),
+    Step::Sync,
+];
+
+#[test]
+fn a_file_with_no_more_names_is_copied(rt: HostRuntime) {
+    let parts = [
+        Part::Ask(&COPIED),
+        Part::AreOne("a", "b", false),
+        Part::Show(&COPIES),
+    ];
+    let kind = Kind::Crowded("");
+    assert!(rt; tell_both(&rt, &rt, ("crowded", "crowded/root"), kind, &parts));
+    let parts = [Part::Stop(&UNCOPYING, 2, true)];
+    let kind = Kind::Crowded(UNCOPIED);
+    assert!(rt; tell_both(&rt, &rt, ("uncopied", "uncopied/root"), kind, &parts));
+}
+
 /// How many files are made, and the sync that fails. Where 192 files are open beside the one that
 /// is written, they are synced before the next one is created, and the sync makes the others last.
 /// They are synced by their names, up to the first that fails: before f150 are f00 to f09, six of
