@@ -1,10 +1,9 @@
 -- What is written reads back.
-use Rattle.std.proofs.Common.{◌≡◌, ◌==◌, ℕ, Bool, true, false, not, cond, eqb, List, [], ◌∷◌, ◌++◌, ◌&&◌, ◌||◌, arith, filter, length, Option, Some, None, inl, inr, refl, sym, ap, subst, ◌∙◌, append_assoc, append-nil}
+use Rattle.std.proofs.Common.{◌≡◌, ◌==◌, ℕ, Bool, true, false, cond, eqb, List, [], ◌∷◌, ◌++◌, ◌||◌, arith, filter, length, Option, Some, None, refl, sym, ap, subst, ◌∙◌, append_assoc, append-nil}
 use Rattle.std.specs.Prelude.{codes}
-use Rattle.std.specs.List.{slice_split, list_all, list_any, flat_map, AllByRecursion}
+use Rattle.std.specs.List.{slice_split, list_any, flat_map, AllByRecursion}
 use Rattle.std.proofs.lemmas.Bool.{false≢true, false_from_ne_true, ne_eqb, eqb-true}
 use Rattle.std.proofs.lemmas.List.Concat.{flat_map-append}
-use Rattle.fp_keyfile.specs.declared.group.Group.{Group}
 use Rattle.fp_keyfile.specs.declared.group.Pair.{Pair}
 use Rattle.fp_keyfile.specs.Grammar.{is_blank}
 use Rattle.fp_keyfile.specs.Lines.{trimmed_front}
@@ -18,13 +17,13 @@ use Rattle.fl_meta.specs.declared.permission.Mention.{Mention}
 use Rattle.fl_meta.specs.declared.mentions.Source.TheVariants as sources
 use Rattle.fl_meta.specs.Names.{key_of}
 use Rattle.fl_meta.specs.Order.{place_of, is_same}
-use Rattle.fl_meta.specs.Entries.{is_semicolon, is_mark, is_off, without_mark, is_empty, name_in, named, mention_of, mentions_in, list_mentions}
-use Rattle.fl_meta.specs.Mentions.{context_mentions, pair_mentions, group_mentions, file_mentions}
+use Rattle.fl_meta.specs.Entries.{is_semicolon, is_mark, without_mark, is_empty, name_in, mention_of, mentions_in, list_mentions}
+use Rattle.fl_meta.specs.Mentions.{pair_mentions, group_mentions, file_mentions}
 use Rattle.fl_meta.proofs.Endings.{is_empty-cons}
 use Rattle.fl_meta.proofs.Same.{place_exact, same_places}
 use Rattle.fl_context.specs.Grants.{said, later, last_mention, value_in, IsAscending}
 use Rattle.fl_context.proofs.Merging.{last_mention-append, last-one}
-use Rattle.fl_override.specs.Written.{entry_with, entry_text, closed_entry, is_in, entry_in, list_text, pair_if, list_pair, context_lists, context_pairs, named_pair, named_in, named_pairs, group_if, file_with, group_of, pair_with, pair_of, CanWrite}
+use Rattle.fl_override.specs.Written.{entry_with, entry_text, closed_entry, is_in, list_text, pair_if, list_pair, context_lists, context_pairs, named_pair, named_pairs, group_if, file_with, group_of, pair_with, pair_of, CanWrite}
 use Rattle.fl_override.specs.Overrides.{AllCanWrite}
 use Rattle.fl_override.proofs.Plain.{Lacks, AllByRecursion-append, split_piece, lacking_pieces}
 use Rattle.fl_override.proofs.Places.{Lacks-place_in}

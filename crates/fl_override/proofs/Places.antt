@@ -1,7 +1,6 @@
 -- What a place keeps of the text that names it.
-use Rattle.std.proofs.Common.{◌≡◌, ℕ, Bool, true, false, cond, eqb, List, [], ◌∷◌, ◌++◌, ◌⊎◌, ◌<◌, drop, length, inl, inr, refl, sym, ap, subst, ◌∙◌, arith, append_assoc, append-nil, lit<}
+use Rattle.std.proofs.Common.{◌≡◌, ℕ, Bool, true, false, cond, eqb, List, [], ◌∷◌, ◌++◌, ◌⊎◌, ◌<◌, drop, inl, inr, refl, sym, ap, subst, ◌∙◌, arith, append_assoc, append-nil, lit<}
 use Rattle.std.specs.Prelude.{codes}
-use Rattle.std.specs.List.{AllByRecursion}
 use Rattle.std.proofs.lemmas.Bool.{false≢true, cases_Bool, eqb-true, and_parts}
 use Rattle.fp_keyfile.specs.Grammar.{begins_so}
 use Rattle.fp_keyfile.proofs.Texts.{utf8_joined, utf8_nil}

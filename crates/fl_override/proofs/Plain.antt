@@ -1,6 +1,6 @@
 -- Texts that can stand in a list: UTF-8, without newlines, zero bytes and semicolons.
-use Rattle.std.proofs.Common.{◌≡◌, ◌<◌, ℕ, Bool, true, false, not, cond, eqb, List, [], ◌∷◌, ◌++◌, ◌&&◌, drop, inl, inr, refl, sym, ap, subst, ◌∙◌, arith, append_assoc, append-nil, lit<}
-use Rattle.std.specs.List.{slice_split, list_all, list_any, flat_map, All, AllByRecursion}
+use Rattle.std.proofs.Common.{◌≡◌, ◌<◌, ℕ, Bool, true, false, not, List, [], ◌∷◌, ◌++◌, ◌&&◌, inl, inr, refl, sym, ap, subst, ◌∙◌, arith, append_assoc, append-nil}
+use Rattle.std.specs.List.{slice_split, list_all, AllByRecursion}
 use Rattle.std.specs.Str.{is_utf8}
 use Rattle.std.proofs.lemmas.Bool.{cases_Bool, and_parts, and_from, eqb-true, false≢true}
 use Rattle.std.proofs.lemmas.List.Elements.{All-from_recursion}
@@ -9,7 +9,7 @@ use Rattle.std.proofs.lemmas.List.Splits.{slice_split_none, slice_split_at}
 use Rattle.fp_keyfile.specs.Grammar.{is_blank, is_value_byte}
 use Rattle.fp_keyfile.specs.Lines.{trimmed_front}
 use Rattle.fp_keyfile.proofs.Texts.{BeginsIn-trimmed_front, ascii_blank, utf8_before, utf8_after, utf8_joined, utf8_kept_front, utf8_nil}
-use Rattle.fl_meta.specs.Entries.{is_semicolon, is_mark, is_off, without_mark}
+use Rattle.fl_meta.specs.Entries.{is_semicolon, is_mark, without_mark}
 
 abbrev pub is_entry_byte : ℕ → Bool
 is_entry_byte b = is_value_byte b && not (is_semicolon b)

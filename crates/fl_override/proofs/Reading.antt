@@ -1,12 +1,12 @@
 -- What a key file mentions can be written, and reads back so.
-use Rattle.std.proofs.Common.{◌≡◌, ◌<◌, ℕ, Bool, true, false, not, cond, eqb, List, [], ◌∷◌, ◌++◌, ◌&&◌, ◌||◌, drop, length, Option, Some, None, unwrap_or, option_map, is_some, inl, inr, refl, sym, ap, subst, ◌∙◌, arith, append_assoc, append-nil, lit<}
+use Rattle.std.proofs.Common.{◌≡◌, ℕ, Bool, true, false, not, cond, eqb, List, [], ◌∷◌, ◌++◌, ◌&&◌, ◌||◌, drop, Option, Some, None, unwrap_or, is_some, refl, sym, ap, subst, ◌∙◌, append-nil, lit<}
 use Rattle.std.specs.Prelude.{codes, nat_lt}
 use Rattle.std.proofs.lemmas.Str.{is_utf8-from_IsUtf8, IsUtf8-from_ascii}
 use Rattle.std.proofs.lemmas.Str.Ascii.{IsAscii-nil, IsAscii-cons}
 use Rattle.std.specs.Str.{IsAscii}
-use Rattle.std.specs.List.{slice_split, list_all, list_any, flat_map, All, AllByRecursion}
+use Rattle.std.specs.List.{slice_split, list_all, list_any, flat_map, AllByRecursion}
 use Rattle.std.specs.Str.{is_utf8, bytes_eq}
-use Rattle.std.proofs.lemmas.Bool.{cases_Bool, and_parts, and_from, eqb-true, false≢true, ne_eqb, not-true, ltb-true, or_parts}
+use Rattle.std.proofs.lemmas.Bool.{and_parts, and_from, false≢true, not-true, ltb-true, or_parts}
 use Rattle.std.proofs.lemmas.List.Elements.{All-from_recursion}
 use Rattle.std.proofs.lemmas.List.Folds.{list_all-append}
 use Rattle.fp_keyfile.specs.declared.group.Group.{Group}
@@ -16,26 +16,25 @@ use Rattle.fp_keyfile.specs.Lines.{trimmed_front}
 use Rattle.fp_keyfile.specs.KeyFile.{is_good_pair, is_good_group, is_good}
 use Rattle.fp_keyfile.proofs.Names.{bytes_eq-true}
 use Rattle.fp_keyfile.proofs.Texts.{ends_so-append, begins_so-trimmed_front, trimmed_front_same, utf8_joined, utf8_nil}
-use Rattle.fp_keyfile.proofs.Good.{IsGoodPair, IsGoodGroup, IsGood, good_pair_parts, good_group_parts, good_parts}
-use Rattle.fp_keyfile.proofs.Written.{IsKeyText, IsKeyText-from, IsValueText, IsValueText-from, none_is}
+use Rattle.fp_keyfile.proofs.Good.{IsGoodPair, good_pair_parts, good_group_parts, good_parts}
+use Rattle.fp_keyfile.proofs.Written.{IsKeyText-from, IsValueText-from, none_is}
 use Rattle.fl_meta.specs.declared.permission.PermList.{PermList}
 use Rattle.fl_meta.specs.declared.permission.PermList.TheVariants as lists
 use Rattle.fl_meta.specs.declared.permission.Value.{Value}
 use Rattle.fl_meta.specs.declared.permission.Value.TheVariants as values
 use Rattle.fl_meta.specs.declared.permission.Mention.{Mention}
-use Rattle.fl_meta.specs.declared.mentions.Source.{Source}
 use Rattle.fl_meta.specs.declared.mentions.Source.TheVariants as sources
 use Rattle.fl_meta.specs.Names.{is_among, shared_names, socket_names, device_names, feature_names, list_with, key_of, list_of_key, list_of_unknown_key, word_of, level_of, access_of}
 use Rattle.fl_meta.specs.Patterns.{is_pattern}
 use Rattle.fl_meta.specs.Places.{is_colon, normal, place_in}
-use Rattle.fl_meta.specs.Entries.{is_semicolon, is_mark, is_empty, is_off, without_mark, last_word, access_remainder, access_at, name_in, value_in, mention_of, named, mentions_in, list_mentions}
+use Rattle.fl_meta.specs.Entries.{is_semicolon, is_mark, is_empty, is_off, without_mark, last_word, access_remainder, access_at, name_in, value_in, mention_of, mentions_in, list_mentions}
 use Rattle.fl_meta.specs.Cuts.{HasNoEnding}
 use Rattle.fl_meta.specs.Mentions.{or_unknown, list_at, context_mentions, pair_name, can_stand, odd_pair, bus_with, bus_mentions, pair_mentions, group_mentions, file_mentions}
 use Rattle.fl_meta.proofs.Endings.{last_word-cut, is_empty-cons}
 use Rattle.fl_meta.proofs.Normal.{HasNoEnding-place_in, place_in-twice}
-use Rattle.fl_override.specs.Written.{entry_with, entry_text, closed_entry, named_pair, group_of, pair_with, pair_of, CanWrite}
+use Rattle.fl_override.specs.Written.{entry_with, entry_text, closed_entry, group_of, pair_with, pair_of, CanWrite}
 use Rattle.fl_override.specs.Overrides.{AllCanWrite}
-use Rattle.fl_override.proofs.Plain.{is_entry_byte, IsPlain, IsPlain-nil, IsPlain-before, IsPlain-after, IsPlain-joined, IsPlain-trimmed, IsPlain-without_mark, Lacks, Lacks-plain, AllByRecursion-append, split_piece, plain_pieces}
+use Rattle.fl_override.proofs.Plain.{is_entry_byte, IsPlain, IsPlain-nil, IsPlain-joined, IsPlain-trimmed, IsPlain-without_mark, Lacks, Lacks-plain, AllByRecursion-append, split_piece, plain_pieces}
 use Rattle.fl_override.proofs.Places.{place_in-ended, first_of, IsPlain-place_in}
 
 -- ---- ASCII
