@@ -52,7 +52,8 @@ fn says_nothing(part: &str) -> bool
 
 /// Adds a `/` and the part, where it says something.
 fn push_part(out: &mut String, part: &str) -> Result<(), AllocError>
-    ensures { OnOk result (string_bytes out.new ≡ string_bytes out.old ++ places.part_text part.now) }
+    ensures { OnOk result (string_bytes out.new ≡ string_bytes out.old
+        ++ places.part_text part.now) }
 {
     if says_nothing(part) {
         return Ok(());
