@@ -74,7 +74,7 @@ fn push_parts(out: &mut String, text: &str) -> Result<(), AllocError>
 }
 
 /// The text with one `/` between the parts that say something.
-fn joined(alloc: Global, text: &str) -> Result<String, AllocError>
+fn joined_parts(alloc: Global, text: &str) -> Result<String, AllocError>
     ensures { IfOk result (λ s. places.without_ends (string_bytes s) ≡ places.normal text.now) }
 {
     match text.split_once('/') {
@@ -109,6 +109,6 @@ fn rooted(absolute: bool, place: &str) -> &str
 pub(crate) fn place_in(alloc: Global, text: &str) -> Result<Text, AllocError>
     ensures { IfOk result (λ place. place ≡ places.place_in text.now) }
 {
-    let joined = joined(alloc, text)?;
-    Text::from_str(alloc, rooted(is_absolute(text), without_ends(&joined)))
+    let parts = joined_parts(alloc, text)?;
+    Text::from_str(alloc, rooted(is_absolute(text), without_ends(&parts)))
 }

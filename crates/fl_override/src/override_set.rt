@@ -60,7 +60,7 @@ impl OverrideSet {
     }
 
     /// Changes the set by options: for each permission, the last mention of the old set and the
-    /// options joined. Want of memory changes nothing.
+    /// options joined. Without memory nothing changes.
     pub fn change(&mut self, alloc: Global, options: &Layer) -> Result<(), AllocError>
         requires { AllCanWrite options.now }
         ensures ok { OnOk result ((p : Permission) → value_in self.new p ≡ last_mention

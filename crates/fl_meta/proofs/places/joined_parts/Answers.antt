@@ -3,7 +3,7 @@ use Rattle.std.specs.List.{slice_split}
 use Rattle.fl_meta.specs.Places.{is_slash, parts_text, without_ends}
 use Rattle.fl_meta.proofs.Normal.{normal-cut, normal-whole}
 use Rattle.fl_meta.proofs.Searches.{no_slash, first_slash}
-use Rattle.fl_meta.proofs.places.joined.Goals as goal
+use Rattle.fl_meta.proofs.places.joined_parts.Goals as goal
 
 pub returns-in_ok-push_parts-in-Some : goal.returns-in_ok-push_parts-in-Some
 returns-in_ok-push_parts-in-Some c =
