@@ -1,6 +1,6 @@
 //! A host that shows many deployed refs.
-ghost use Rattle.std.specs.Prelude.{None};
-ghost use Rattle.std.proofs.lemmas.Option.{none-some};
+ghost use Rattle.std.specs.Prelude.{◌≤◌, length, IfOk, IsOk, IsErr, IsErrOf};
+ghost use Rattle.fp_host.specs.Reads.{AreNames, HasBits};
 
 use fp_base::{Blob, Items, Text};
 use fp_host::{Host, HostError, Path, Stat, copy_out};
@@ -60,7 +60,9 @@ fn place_of(path: &Path) -> Place {
 }
 
 /// A file of these bytes.
-fn stat_of(bytes: &[u8]) -> Stat {
+fn stat_of(bytes: &[u8]) -> Stat
+    ensures { HasBits result }
+{
     Stat::File {
         id: 1,
         mode: 0o644,
@@ -96,22 +98,49 @@ fn names_at(alloc: Global, elements: usize) -> Result<Vec<Text>, AllocError> {
     }
 }
 
-impl Host for WideHost {
-    ghost moments = { λ h. None };
-
-    ghost faults = { λ h. 0 };
-
-    fn stat(&mut self, path: &Path) -> Result<Stat, HostError> {
-        Ok(match place_of(path) {
+impl WideHost {
+    /// What stands at the path.
+    fn stat_at(&self, path: &Path) -> Stat
+        ensures { HasBits result }
+    {
+        match place_of(path) {
             Place::Absent => Stat::Absent,
             Place::Folder => Stat::Dir,
             Place::Link => Stat::Link,
             Place::Record => stat_of(self.record.as_slice()),
             Place::Override => stat_of(OVERRIDE),
-        })
+        }
     }
 
-    fn list(&mut self, alloc: Global, path: &Path) -> Result<Items<Text>, HostError> {
+    /// The bytes of the file at the path; what is no file has none.
+    fn bytes_at(&self, path: &Path) -> &[u8] {
+        match place_of(path) {
+            Place::Record => self.record.as_slice(),
+            Place::Override => OVERRIDE,
+            Place::Absent | Place::Folder | Place::Link => &[],
+        }
+    }
+}
+
+impl Host for WideHost {
+    ghost use Rattle.std.specs.Prelude.{None};
+    ghost use Rattle.std.proofs.lemmas.Option.{none-some};
+
+    ghost moments = { λ h. None };
+
+    ghost faults = { λ h. 0 };
+
+    fn stat(&mut self, path: &Path) -> Result<Stat, HostError>
+        ensures done { IsOk result }
+        ensures bits { IfOk result HasBits }
+    {
+        Ok(self.stat_at(path))
+    }
+
+    fn list(&mut self, alloc: Global, path: &Path) -> Result<Items<Text>, HostError>
+        ensures starved { IsErr result → IsErrOf result HostError.NoMemory }
+        ensures names { IfOk result AreNames }
+    {
         let Ok(names) = names_at(alloc, path.len()) else {
             return Err(HostError::NoMemory);
         };
@@ -121,58 +150,79 @@ impl Host for WideHost {
         }
     }
 
-    fn read_at(&mut self, path: &Path, at: u64, into: &mut [u8]) -> Result<usize, HostError> {
-        match place_of(path) {
-            Place::Record => Ok(copy_out(self.record.as_slice(), at, into)),
-            Place::Override => Ok(copy_out(OVERRIDE, at, into)),
-            _ => Ok(0),
-        }
+    fn read_at(&mut self, path: &Path, at: u64, into: &mut [u8]) -> Result<usize, HostError>
+        ensures done { IsOk result }
+        ensures bound { IfOk result (λ n. n ≤ length into.old) }
+    {
+        Ok(copy_out(self.bytes_at(path), at, into))
     }
 
-    fn read_link(&mut self, _alloc: Global, _path: &Path) -> Result<Text, HostError> {
+    fn read_link(&mut self, _alloc: Global, _path: &Path) -> Result<Text, HostError>
+        ensures { IsErr result → IsErrOf result HostError.NoMemory }
+    {
         match self.commit.copy() {
             Ok(text) => Ok(text),
             Err(_) => Err(HostError::NoMemory),
         }
     }
 
-    fn make_dir(&mut self, _path: &Path) -> Result<(), HostError> {
+    fn make_dir(&mut self, _path: &Path) -> Result<(), HostError>
+        ensures { IsOk result }
+    {
         Ok(())
     }
 
-    fn create(&mut self, _path: &Path, _mode: u32) -> Result<(), HostError> {
+    fn create(&mut self, _path: &Path, _mode: u32) -> Result<(), HostError>
+        ensures { IsOk result }
+    {
         Ok(())
     }
 
-    fn append(&mut self, _path: &Path, _bytes: &[u8]) -> Result<(), HostError> {
+    fn append(&mut self, _path: &Path, _bytes: &[u8]) -> Result<(), HostError>
+        ensures { IsOk result }
+    {
         Ok(())
     }
 
-    fn link(&mut self, _from: &Path, _to: &Path) -> Result<(), HostError> {
+    fn link(&mut self, _from: &Path, _to: &Path) -> Result<(), HostError>
+        ensures { IsOk result }
+    {
         Ok(())
     }
 
-    fn symlink(&mut self, _text: &str, _path: &Path) -> Result<(), HostError> {
+    fn symlink(&mut self, _text: &str, _path: &Path) -> Result<(), HostError>
+        ensures { IsOk result }
+    {
         Ok(())
     }
 
-    fn rename(&mut self, _from: &Path, _to: &Path) -> Result<(), HostError> {
+    fn rename(&mut self, _from: &Path, _to: &Path) -> Result<(), HostError>
+        ensures { IsOk result }
+    {
         Ok(())
     }
 
-    fn unlink(&mut self, _path: &Path) -> Result<(), HostError> {
+    fn unlink(&mut self, _path: &Path) -> Result<(), HostError>
+        ensures { IsOk result }
+    {
         Ok(())
     }
 
-    fn remove_dir(&mut self, _path: &Path) -> Result<(), HostError> {
+    fn remove_dir(&mut self, _path: &Path) -> Result<(), HostError>
+        ensures { IsOk result }
+    {
         Ok(())
     }
 
-    fn sync(&mut self) -> Result<(), HostError> {
+    fn sync(&mut self) -> Result<(), HostError>
+        ensures { IsOk result }
+    {
         Ok(())
     }
 
-    fn say(&mut self, _piece: &[u8]) -> Result<(), HostError> {
+    fn say(&mut self, _piece: &[u8]) -> Result<(), HostError>
+        ensures { IsOk result }
+    {
         Ok(())
     }
 
