@@ -52,6 +52,8 @@ OVERRIDES = [
     (ID, ["--filesystem=home/docs", "--nofilesystem=home"]),
     (ID, ["--filesystem=~", "--filesystem=/opt/data:ro", "--filesystem=xdg-music/live:create"]),
     (None, ["--filesystem=host-etc:ro", "--nofilesystem=xdg-download"]),
+    (ID, ["--nofilesystem=/opt//data/", "--filesystem=~/./docs/:create", "--filesystem=/srv/a//b/.:ro"]),
+    (ID, ["--nofilesystem=/srv/./a/b", "--filesystem=xdg-music//live/:ro", "--filesystem=/srv/..a/..."]),
     (ID, ["--persist=.more"]),
     (ID, ["--env=A=", "--env=B=x=y;z"]),
     (None, ["--env=SHARED_NAME=global", "--env=GLOBAL=1"]),
