@@ -66,62 +66,115 @@ const LEFT: [Act<'static>; 4] = [
     Act::Logged(Access::Change, "left/root", &[Part::Ask(&IDLE)]),
 ];
 
-/// What stands in the lock file after a run that was stopped, what the next one does, and what
-/// stands there then. No mark is the empty text, a cleared one, and the text of another start of
-/// the machine. Anything else was written over one, also by halves.
-const TEXTS: [(&str, &[(Step<'static>, &str)], &str); 14] = [
-    ("", &IDLE, ""),
-    (CLEARED, &IDLE, CLEARED),
-    (OLD, &IDLE, OLD),
-    (
-        "fedcba98-7654-3210-fedc-ba9876543210\n",
-        &IDLE,
-        "fedcba98-7654-3210-fedc-ba9876543210\n",
-    ),
-    (UNKNOWN, &CAUGHT_UP, CLEARED),
-    ("unknown\n", &FILLED_UP, CLEARED),
-    ("pinned app/*/*/*\n", &FILLED_UP, CLEARED),
-    ("00000000-0000-0000-0000-000000000000", &FILLED_UP, CLEARED),
-    ("00000000-0000-0000-0000-0000000000000", &CAUGHT_UP, CLEARED),
-    (
-        "00000000-0000-0000-0000-00000000000g\n",
-        &CAUGHT_UP,
-        CLEARED,
-    ),
-    (
-        "00000000-000000000-0000-000000000000\n",
-        &CAUGHT_UP,
-        CLEARED,
-    ),
-    (
-        "00000000-0000-0000------------------\n",
-        &CAUGHT_UP,
-        CLEARED,
-    ),
-    (
-        "00000000-0000-0000-0000-000000000000\n\n",
-        &CUT_OFF,
-        CLEARED,
-    ),
-    (
-        "------------------------------------\npinned app/*/*/*\n",
-        &CUT_OFF,
-        CLEARED,
-    ),
+const LOCK: &str = "left/root/.lock";
+
+const STOPS: Act<'static> = Act::Logged(Access::Change, "left/root", &[Part::Ask(&UNSYNCED)]);
+
+const IDLES: Act<'static> = Act::Logged(Access::Change, "left/root", &[Part::Ask(&IDLE)]);
+
+const CATCHES_UP: Act<'static> = Act::Logged(Access::Change, "left/root", &[Part::Ask(&CAUGHT_UP)]);
+
+const FILLS_UP: Act<'static> = Act::Logged(Access::Change, "left/root", &[Part::Ask(&FILLED_UP)]);
+
+const CUTS_OFF: Act<'static> = Act::Logged(Access::Change, "left/root", &[Part::Ask(&CUT_OFF)]);
+
+/// A run that is stopped, what stands in the lock file then, what the next run does, and what stands
+/// there after it. No mark is the empty text, a cleared one, and the text of another start of the
+/// machine. Anything else was written over one, also by halves.
+const TEXTS: [[Act<'static>; 4]; 14] = [
+    [
+        STOPS,
+        Act::Make(&[Made::File(LOCK, "")]),
+        IDLES,
+        Act::Text(LOCK, ""),
+    ],
+    [
+        STOPS,
+        Act::Make(&[Made::File(LOCK, CLEARED)]),
+        IDLES,
+        Act::Text(LOCK, CLEARED),
+    ],
+    [
+        STOPS,
+        Act::Make(&[Made::File(LOCK, OLD)]),
+        IDLES,
+        Act::Text(LOCK, OLD),
+    ],
+    [
+        STOPS,
+        Act::Make(&[Made::File(LOCK, "fedcba98-7654-3210-fedc-ba9876543210\n")]),
+        IDLES,
+        Act::Text(LOCK, "fedcba98-7654-3210-fedc-ba9876543210\n"),
+    ],
+    [
+        STOPS,
+        Act::Make(&[Made::File(LOCK, UNKNOWN)]),
+        CATCHES_UP,
+        Act::Text(LOCK, CLEARED),
+    ],
+    [
+        STOPS,
+        Act::Make(&[Made::File(LOCK, "unknown\n")]),
+        FILLS_UP,
+        Act::Text(LOCK, CLEARED),
+    ],
+    [
+        STOPS,
+        Act::Make(&[Made::File(LOCK, "pinned app/*/*/*\n")]),
+        FILLS_UP,
+        Act::Text(LOCK, CLEARED),
+    ],
+    [
+        STOPS,
+        Act::Make(&[Made::File(LOCK, "00000000-0000-0000-0000-000000000000")]),
+        FILLS_UP,
+        Act::Text(LOCK, CLEARED),
+    ],
+    [
+        STOPS,
+        Act::Make(&[Made::File(LOCK, "00000000-0000-0000-0000-0000000000000")]),
+        CATCHES_UP,
+        Act::Text(LOCK, CLEARED),
+    ],
+    [
+        STOPS,
+        Act::Make(&[Made::File(LOCK, "00000000-0000-0000-0000-00000000000g\n")]),
+        CATCHES_UP,
+        Act::Text(LOCK, CLEARED),
+    ],
+    [
+        STOPS,
+        Act::Make(&[Made::File(LOCK, "00000000-000000000-0000-000000000000\n")]),
+        CATCHES_UP,
+        Act::Text(LOCK, CLEARED),
+    ],
+    [
+        STOPS,
+        Act::Make(&[Made::File(LOCK, "00000000-0000-0000------------------\n")]),
+        CATCHES_UP,
+        Act::Text(LOCK, CLEARED),
+    ],
+    [
+        STOPS,
+        Act::Make(&[Made::File(LOCK, "00000000-0000-0000-0000-000000000000\n\n")]),
+        CUTS_OFF,
+        Act::Text(LOCK, CLEARED),
+    ],
+    [
+        STOPS,
+        Act::Make(&[Made::File(
+            LOCK,
+            "------------------------------------\npinned app/*/*/*\n",
+        )]),
+        CUTS_OFF,
+        Act::Text(LOCK, CLEARED),
+    ],
 ];
 
 #[test]
 fn what_stands_in_the_lock_file_tells_of_a_stop(rt: HostRuntime) {
-    for (text, next, then) in &TEXTS {
-        let made = [Made::File("left/root/.lock", text)];
-        let parts = [Part::Ask(next)];
-        let acts = [
-            Act::Logged(Access::Change, "left/root", &[Part::Ask(&UNSYNCED)]),
-            Act::Make(&made),
-            Act::Logged(Access::Change, "left/root", &parts),
-            Act::Text("left/root/.lock", then),
-        ];
-        assert!(rt; tell(&rt, &rt, "left", Kind::Plain, &acts));
+    for acts in &TEXTS {
+        assert!(rt; tell(&rt, &rt, "left", Kind::Plain, acts));
     }
 }
 
