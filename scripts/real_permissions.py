@@ -14,6 +14,7 @@ docs/GUIDE.md tells in a user's words. It ends with status 0 where every differe
 """
 
 import os
+import re
 import subprocess
 import sys
 import tempfile
@@ -132,8 +133,14 @@ def grants(launch):
     return permissions(after.partition("[Mounts]")[0])
 
 
+def fpk_spelling(place):
+    """The name that fpk keeps of a place: no part of it is empty or `.`."""
+    return re.sub("/+$", "", re.sub("(/[.]?)+(?=/|$)", "", place))
+
+
 def flatpak_spelling(place):
     """The name that flatpak keeps of a place."""
+    place = fpk_spelling(place)
     if place == "~":
         return "home"
     return "~" + place[4:] if place.startswith("home/") else place
@@ -247,7 +254,7 @@ class Comparison(Bench):
             return "unknown"
         if key != "filesystems":
             return None
-        here, there = (last_mention(options, name, spelling) for spelling in (str, flatpak_spelling))
+        here, there = (last_mention(options, name, spelling) for spelling in (fpk_spelling, flatpak_spelling))
         if where == "granted":
             here, there = (None if value == "off" else value for value in (here, there))
         if ours != here:
