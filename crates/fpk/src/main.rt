@@ -176,7 +176,7 @@ fn run_over<R: System + Input + Clock + Threads + Sync, O: Print>(
     match status {
         1 => explain_batch(rt, alloc, input.kept()),
         2 => explain(rt, alloc, words),
-        3 => say_refused(rt, host.last_error()),
+        3 => say_failed(rt, host.last_error()),
         4 => say_refused(rt, remotes.last_error()),
         5 => say_refused(rt, input.last_error()),
         6 => say(rt, OUT_OF_MEMORY),
@@ -248,6 +248,19 @@ fn say_refused(rt: &impl Eprint, refused: Option<&SystemError>) {
         let _said = eprintln!(rt; "fpk: {error}");
     }
 }
+
+/// Says on standard error why a command could not be done here. Where the system refused nothing, the
+/// store lacks what a commit of the installation needs.
+fn say_failed(rt: &impl Eprint, refused: Option<&SystemError>) {
+    match refused {
+        Some(_) => say_refused(rt, refused),
+        None => say(rt, STORE_DAMAGED),
+    }
+}
+
+/// What is said of such a store.
+const STORE_DAMAGED: &str = "fpk: an object of the store is missing or damaged, \
+                             `fpk fsck` and `ostree fsck` look for it\n";
 
 /// Prints what was asked for, and answers a status.
 fn print(rt: &(impl Print + Eprint), text: &str, status: u8) -> u8 {
