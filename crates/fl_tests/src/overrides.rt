@@ -187,12 +187,14 @@ fn many_are_changed(rt: HostRuntime) {
     assert!(rt; is_kept(&rt, rt.alloc(), &old, &new));
 }
 
-/// A folder whose name has 100 KiB, and a variable whose text has.
+/// A folder whose name has 100 KiB, a place that has, and a variable whose text has.
 #[test]
 fn long_texts_are_kept(rt: HostRuntime) {
     let long = "n".repeat(rt.alloc(), 100 << 10).expect(&rt, "memory");
     let lines = [
-        "[Context]\npersistent=",
+        "[Context]\nfilesystems=/",
+        &long,
+        ";\npersistent=",
         &long,
         ";\n[Environment]\nA=",
         &long,
