@@ -7,3 +7,4 @@ pub mod Reads
 pub mod Causes
 pub mod Frame
 pub mod Remote
+pub mod OverHost

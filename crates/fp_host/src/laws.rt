@@ -6,6 +6,7 @@ ghost use Rattle.fp_host.specs.Paths.{Elements, Slot, absent, file};
 ghost use Rattle.fp_host.specs.View.{View};
 ghost use Rattle.fp_host.specs.Calls.{Change, Called, creates, appends, renames, unlinks, syncs, done};
 ghost use Rattle.fp_host.specs.Frame.{Keeps, NoPath};
+ghost use Rattle.fp_host.specs.declared.limits.TheConstants.{MOST_ELEMENT_BYTES, MOST_LINK_BYTES, PERMISSION_BITS, PIECE_BYTES};
 
 /// What is put at a name stays remembered: what a call newly remembers stands after it, and each
 /// name that a call changed is remembered with what it holds.
@@ -36,4 +37,13 @@ pub fn kept_files_are_empty()
 pub fn kept_puts_are_allowed()
     ensures { (v : View) (p q : Elements) (id mode : ℕ) → v.stood ≡ []
         → Keeps (λ r spot. Unit {0}) (λ r e. r ≡ q) NoPath v (done (creates p mode id) v) → p ≡ q }
+{}
+
+/// The limits of a host as numbers. Elements and texts of links are as long as Linux lets them be
+/// (`NAME_MAX`, and `PATH_MAX` without its last zero byte); the bits are those of `0o7777`.
+pub fn limits_as_numbers()
+    ensures element { MOST_ELEMENT_BYTES ≡ 255 }
+    ensures link { MOST_LINK_BYTES ≡ 4095 }
+    ensures bits { PERMISSION_BITS ≡ 4095 }
+    ensures piece { PIECE_BYTES ≡ 65536 }
 {}

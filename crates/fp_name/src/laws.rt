@@ -9,6 +9,7 @@ ghost use Rattle.fp_name.specs.Grammar.{is_id, is_arch, is_branch, is_remote_nam
 ghost use Rattle.fp_name.specs.Hex.{hex as hex_text, unhex, is_digest};
 ghost use Rattle.fp_name.specs.Refs.{Ref, is_ref, ref_text, ref_of};
 ghost use Rattle.fp_name.specs.Pins.{is_pin, pin_matches};
+ghost use Rattle.fp_name.specs.declared.limits.TheConstants.{DIGEST_DIGITS, MOST_NAME_BYTES, MOST_REMOTE_NAME_BYTES, MOST_URL_BYTES};
 
 use crate::app_id::AppId;
 use crate::digest::Digest;
@@ -71,4 +72,12 @@ pub fn names_are_equal_by_text()
     ensures patterns { (a b : List ℕ) → ⟦<PinPattern as PartialEq>⟧.eq a b ≡ bytes_eq a b }
     ensures refs { (a b : Ref) → ⟦<RefName as PartialEq>⟧.eq a b ≡ bytes_eq (ref_text a)
         (ref_text b) }
+{}
+
+/// The limits of names as numbers. A digest is one of SHA-256, two digits a byte.
+pub fn limits_as_numbers()
+    ensures name { MOST_NAME_BYTES ≡ 255 }
+    ensures remote_name { MOST_REMOTE_NAME_BYTES ≡ 64 }
+    ensures url { MOST_URL_BYTES ≡ 1024 }
+    ensures digest { DIGEST_DIGITS ≡ 64 }
 {}

@@ -1,8 +1,8 @@
 //! Names that are taken away, with all that is below them.
 ghost use Rattle.std.specs.Prelude.{◌≡◌, ◌-◌, length, OnOk, IsErrOf};
+ghost use Rattle.fp_host.specs.OverHost.{AtReturn, FailsOnly};
 ghost use Rattle.fp_host.specs.Paths.{dir};
-ghost use Rattle.fp_host.specs.Causes.{IsCaused};
-ghost use Rattle.fp_host.specs.Frame.{Frame, AtEnd, NoPath};
+ghost use Rattle.fp_host.specs.Frame.{Frame, NoPath};
 ghost use Rattle.fp_small.specs.Clear.{GoneWithin, AbsentWithin, GoneBelow, AbsentBelow, IsCleared, IsEmptied, CanClear, CanEmpty, Reaches, ReachesDown};
 
 use crate::limits::MOST_ELEMENTS;
@@ -21,13 +21,12 @@ fn levels_below(path: &Path) -> usize
 pub fn clear<H: Host>(alloc: Global, host: &mut H, path: &Path) -> Result<(), HostEnd>
     ensures frame { Frame (GoneWithin path.now) (AbsentWithin path.now) NoPath
         (H.moments host.old) (H.moments host.new) }
-    ensures on_success { OnOk result (AtEnd (λ u w. IsCleared path.now w)
-        (H.moments host.old) (H.moments host.new)) }
+    ensures on_success { OnOk result (AtReturn H.Host host.old host.new
+        (λ u w. IsCleared path.now w)) }
     // No path below had more than 128 elements.
-    ensures reach { OnOk result (AtEnd (λ u w. CanEmpty path.now u)
-        (H.moments host.old) (H.moments host.new)) }
-    ensures fault_has_cause { IsCaused (IsErrOf result HostEnd.Fault) (H.moments host.old)
-        (CanClear path.now) (H.faults host.old) (H.faults host.new) }
+    ensures reach { OnOk result (AtReturn H.Host host.old host.new (λ u w. CanEmpty path.now u)) }
+    ensures fault_has_cause { FailsOnly H.Host host.old host.new
+        (CanClear path.now) (IsErrOf result HostEnd.Fault) }
 {
     clear_within(alloc, host, path, levels_below(path))
 }
@@ -37,13 +36,12 @@ pub fn clear<H: Host>(alloc: Global, host: &mut H, path: &Path) -> Result<(), Ho
 pub fn clear_below<H: Host>(alloc: Global, host: &mut H, path: &Path) -> Result<(), HostEnd>
     ensures frame { Frame (GoneBelow path.now) (AbsentBelow path.now) NoPath
         (H.moments host.old) (H.moments host.new) }
-    ensures on_success { OnOk result (AtEnd (λ u w. IsEmptied path.now w)
-        (H.moments host.old) (H.moments host.new)) }
+    ensures on_success { OnOk result (AtReturn H.Host host.old host.new
+        (λ u w. IsEmptied path.now w)) }
     // No path below had more than 128 elements.
-    ensures reach { OnOk result (AtEnd (λ u w. CanEmpty path.now u)
-        (H.moments host.old) (H.moments host.new)) }
-    ensures fault_has_cause { IsCaused (IsErrOf result HostEnd.Fault) (H.moments host.old)
-        (CanEmpty path.now) (H.faults host.old) (H.faults host.new) }
+    ensures reach { OnOk result (AtReturn H.Host host.old host.new (λ u w. CanEmpty path.now u)) }
+    ensures fault_has_cause { FailsOnly H.Host host.old host.new
+        (CanEmpty path.now) (IsErrOf result HostEnd.Fault) }
 {
     match host.stat(path)? {
         Stat::Dir => clear_names(alloc, host, path, levels_below(path)),
@@ -61,12 +59,12 @@ fn clear_within<H: Host>(
 ) -> Result<(), HostEnd>
     ensures frame { Frame (GoneWithin path.now) (AbsentWithin path.now) NoPath
         (H.moments host.old) (H.moments host.new) }
-    ensures on_success { OnOk result (AtEnd (λ u w. IsCleared path.now w)
-        (H.moments host.old) (H.moments host.new)) }
-    ensures reach { OnOk result (AtEnd (λ u w. Reaches path.now depth u)
-        (H.moments host.old) (H.moments host.new)) }
-    ensures fault_has_cause { IsCaused (IsErrOf result HostEnd.Fault) (H.moments host.old)
-        (ReachesDown path.now depth) (H.faults host.old) (H.faults host.new) }
+    ensures on_success { OnOk result (AtReturn H.Host host.old host.new
+        (λ u w. IsCleared path.now w)) }
+    ensures reach { OnOk result (AtReturn H.Host host.old host.new
+        (λ u w. Reaches path.now depth u)) }
+    ensures fault_has_cause { FailsOnly H.Host host.old host.new
+        (ReachesDown path.now depth) (IsErrOf result HostEnd.Fault) }
 {
     match host.stat(path)? {
         Stat::Absent => Ok(()),
@@ -88,13 +86,12 @@ fn clear_names<H: Host>(
 ) -> Result<(), HostEnd>
     ensures frame { Frame (GoneBelow path.now) (AbsentBelow path.now) NoPath
         (H.moments host.old) (H.moments host.new) }
-    ensures on_success { OnOk result (AtEnd (λ u w. IsEmptied path.now w)
-        (H.moments host.old) (H.moments host.new)) }
-    ensures reach { OnOk result (AtEnd (λ u w. Reaches path.now depth u)
-        (H.moments host.old) (H.moments host.new)) }
-    ensures fault_has_cause { IsCaused (IsErrOf result HostEnd.Fault) (H.moments host.old)
-        (λ v. (v.names path.now ≡ dir) × Reaches path.now depth v)
-        (H.faults host.old) (H.faults host.new) }
+    ensures on_success { OnOk result (AtReturn H.Host host.old host.new
+        (λ u w. IsEmptied path.now w)) }
+    ensures reach { OnOk result (AtReturn H.Host host.old host.new
+        (λ u w. Reaches path.now depth u)) }
+    ensures fault_has_cause { FailsOnly H.Host host.old host.new
+        (λ v. (v.names path.now ≡ dir) × Reaches path.now depth v) (IsErrOf result HostEnd.Fault) }
 {
     let names = host.list(alloc, path)?;
     for name in names.as_slice() {

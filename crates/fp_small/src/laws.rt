@@ -14,7 +14,7 @@ ghost use Rattle.fp_host.specs.Frame.{Keeps, Only, NoPath};
 ghost use Rattle.fp_host.specs.Reads.{is_ascending};
 ghost use Rattle.fp_keyfile.specs.KeyFile.{are_distinct};
 ghost use Rattle.fp_name.specs.Pins.{is_pin};
-ghost use Rattle.fp_small.specs.declared.limits.TheConstants.{FILE_MODE, MOST_ELEMENTS, MOST_PINS, MOST_REMOTES};
+ghost use Rattle.fp_small.specs.declared.limits.TheConstants.{FILE_MODE, MOST_CONFIG_BYTES, MOST_ELEMENTS, MOST_PINS, MOST_REFS, MOST_REMOTES, MOST_TEXT_BYTES};
 ghost use Rattle.fp_small.specs.Order.{inserted, removed, replaced, has_name, sorted_by};
 ghost use Rattle.fp_small.specs.Unsynced.{Unsynced, MakesNoFile, MakesOneFile};
 ghost use Rattle.fp_small.specs.Files.{KeepsFiles, SameFiles, MakesFile};
@@ -161,4 +161,15 @@ pub fn bare_views()
     ensures cleared { (v : View) (x : List ℕ) (up : Elements) → IsBare v → CanClear (x ∷ up) v }
     ensures too_deep { (v : View) (p q : Elements) → IsAbove p q → v.names q ≢ absent
         → length q ≡ MOST_ELEMENTS + 1 → CanEmpty p v → ⊥ }
+{}
+
+/// The limits of an installation as numbers. Files are made with the bits `0o644`.
+pub fn limits_as_numbers()
+    ensures mode { FILE_MODE ≡ 420 }
+    ensures path { MOST_ELEMENTS ≡ 128 }
+    ensures refs { MOST_REFS ≡ 4096 }
+    ensures remotes { MOST_REMOTES ≡ 256 }
+    ensures pins { MOST_PINS ≡ 1024 }
+    ensures config { MOST_CONFIG_BYTES ≡ 2097152 }
+    ensures text { MOST_TEXT_BYTES ≡ 1048576 }
 {}

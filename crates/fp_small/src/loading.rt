@@ -1,7 +1,6 @@
 //! A small file that is read.
 ghost use Rattle.std.specs.Prelude.{◌≡◌, ◌≤◌, ℕ, List, IfOk, IsErrOf};
-ghost use Rattle.fp_host.specs.Causes.{IsCaused, IsCounted};
-ghost use Rattle.fp_host.specs.Frame.{AtEnd, Unchanged};
+ghost use Rattle.fp_host.specs.OverHost.{AtReturn, ChangesNothing, FailsAlone, FailsOnly};
 ghost use Rattle.fp_small.specs.Load.{Loads, IsWhole};
 ghost use Rattle.fp_host.specs.Calls.{IsFile};
 
@@ -24,11 +23,10 @@ pub enum Loaded {
 
 /// Reads the file of at most `max` bytes.
 pub fn load<H: Host>(alloc: Global, host: &mut H, path: &Path, max: u64) -> Result<Loaded, HostEnd>
-    ensures unchanged { Unchanged (H.moments host.old) (H.moments host.new) }
-    ensures tells { IfOk result (λ loaded. AtEnd (λ u w. Loads path.now max u loaded)
-        (H.moments host.old) (H.moments host.new)) }
-    ensures fault_has_cause { IsCounted (IsErrOf result HostEnd.Fault)
-        (H.moments host.old) (H.faults host.old) (H.faults host.new) }
+    ensures unchanged { ChangesNothing H.Host host.old host.new }
+    ensures tells { IfOk result (λ loaded. AtReturn H.Host host.old host.new
+        (λ u w. Loads path.now max u loaded)) }
+    ensures fault_has_cause { FailsAlone H.Host host.old host.new (IsErrOf result HostEnd.Fault) }
 {
     match host.stat(path)? {
         Stat::Absent => Ok(Loaded::Absent),
@@ -40,11 +38,11 @@ pub fn load<H: Host>(alloc: Global, host: &mut H, path: &Path, max: u64) -> Resu
 
 /// The bytes of a file of this size.
 fn read_whole<H: Host>(alloc: Global, host: &mut H, path: &Path, size: u64) -> Result<Blob, HostEnd>
-    ensures unchanged { Unchanged (H.moments host.old) (H.moments host.new) }
-    ensures tells { IfOk result (λ bytes. AtEnd (λ u w. IsWhole path.now size u bytes)
-        (H.moments host.old) (H.moments host.new)) }
-    ensures fault_has_cause { IsCaused (IsErrOf result HostEnd.Fault) (H.moments host.old)
-        (λ v. IsFile (v.names path.now)) (H.faults host.old) (H.faults host.new) }
+    ensures unchanged { ChangesNothing H.Host host.old host.new }
+    ensures tells { IfOk result (λ bytes. AtReturn H.Host host.old host.new
+        (λ u w. IsWhole path.now size u bytes)) }
+    ensures fault_has_cause { FailsOnly H.Host host.old host.new
+        (λ v. IsFile (v.names path.now)) (IsErrOf result HostEnd.Fault) }
 {
     let mut bytes = vec![in alloc; 0u8; size as usize]?;
     let count = host.read_at(path, 0, &mut bytes)?;

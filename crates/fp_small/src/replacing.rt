@@ -1,11 +1,10 @@
 //! A small file that is written anew.
 ghost use Rattle.std.specs.Prelude.{◌≡◌, ◌↔◌, ◌≢◌, ℕ, List, ◌∷◌, [], OnOk, IfOk, IsTrue, IsErrOf, Contains, string_bytes};
+ghost use Rattle.fp_host.specs.OverHost.{AtEachMoment, AtReturn, ChangesNothing, FailsAlone, FailsOnly};
 ghost use Rattle.fp_host.specs.Paths.{Elements, absent, dir, is_element};
 ghost use Rattle.fp_host.specs.View.{View};
 ghost use Rattle.fp_host.specs.Calls.{HasFolder};
-ghost use Rattle.fp_host.specs.Moments.{Always};
-ghost use Rattle.fp_host.specs.Causes.{IsCaused, IsCounted};
-ghost use Rattle.fp_host.specs.Frame.{Frame, AtEnd, Unchanged, AnyAt, AnyHeld, Only, NoPath};
+ghost use Rattle.fp_host.specs.Frame.{Frame, AnyAt, AnyHeld, Only, NoPath};
 ghost use Rattle.fp_small.specs.Places.{tmp, new_name, IsWorkName};
 ghost use Rattle.fp_small.specs.Files.{SameFiles, MakesOneAtMost, MakesFile};
 ghost use Rattle.fp_small.specs.Unsynced.{MakesNoFile};
@@ -26,12 +25,11 @@ use std::alloc::{AllocError, Global};
 fn make_folder<H: Host>(host: &mut H, path: &Path) -> Result<(), HostEnd>
     ensures frame { Frame (FolderAt path.now) (DirAt path.now) NoPath
         (H.moments host.old) (H.moments host.new) }
-    ensures on_success { OnOk result (AtEnd (λ u w. IsFree u path.now → w.names path.now ≡ dir)
-        (H.moments host.old) (H.moments host.new)) }
-    ensures unsynced { AtEnd MakesNoFile (H.moments host.old) (H.moments host.new) }
-    ensures fault_has_cause { IsCaused (IsErrOf result HostEnd.Fault) (H.moments host.old)
-        (λ v. v.names path.now ≡ absent → HasFolder v path.now)
-        (H.faults host.old) (H.faults host.new) }
+    ensures on_success { OnOk result (AtReturn H.Host host.old host.new
+        (λ u w. IsFree u path.now → w.names path.now ≡ dir)) }
+    ensures unsynced { AtReturn H.Host host.old host.new MakesNoFile }
+    ensures fault_has_cause { FailsOnly H.Host host.old host.new
+        (λ v. v.names path.now ≡ absent → HasFolder v path.now) (IsErrOf result HostEnd.Fault) }
     ensures needs_no_memory { IsErrOf result HostEnd.NoMemory → ⊥ }
 {
     match host.stat(path)? {
@@ -47,11 +45,11 @@ fn make_folder<H: Host>(host: &mut H, path: &Path) -> Result<(), HostEnd>
 pub(crate) fn make_folders<H: Host>(host: &mut H, paths: &[Path]) -> Result<(), HostEnd>
     ensures frame { Frame (FoldersAt paths.now) (DirsAt paths.now) NoPath
         (H.moments host.old) (H.moments host.new) }
-    ensures on_success { OnOk result (AtEnd (λ u w. AreFree paths.now u → AreDirs paths.now w)
-        (H.moments host.old) (H.moments host.new)) }
-    ensures unsynced { AtEnd MakesNoFile (H.moments host.old) (H.moments host.new) }
-    ensures fault_has_cause { IsCaused (IsErrOf result HostEnd.Fault) (H.moments host.old)
-        (λ v. IsLadder paths.now × AreFree paths.now v) (H.faults host.old) (H.faults host.new) }
+    ensures on_success { OnOk result (AtReturn H.Host host.old host.new
+        (λ u w. AreFree paths.now u → AreDirs paths.now w)) }
+    ensures unsynced { AtReturn H.Host host.old host.new MakesNoFile }
+    ensures fault_has_cause { FailsOnly H.Host host.old host.new
+        (λ v. IsLadder paths.now × AreFree paths.now v) (IsErrOf result HostEnd.Fault) }
     ensures needs_no_memory { IsErrOf result HostEnd.NoMemory → ⊥ }
 {
     for path in paths {
@@ -64,13 +62,12 @@ pub(crate) fn make_folders<H: Host>(host: &mut H, paths: &[Path]) -> Result<(), 
 fn stage<H: Host>(host: &mut H, path: &Path, bytes: &[u8]) -> Result<(), HostEnd>
     ensures frame { Frame (AnyAt path.now) (AnyHeld path.now) (Only path.now)
         (H.moments host.old) (H.moments host.new) }
-    ensures on_success { OnOk result (AtEnd (WasStaged path.now bytes.now)
-        (H.moments host.old) (H.moments host.new)) }
-    ensures made { OnOk result (AtEnd (MakesFile path.now bytes.now)
-        (H.moments host.old) (H.moments host.new)) }
-    ensures one { AtEnd MakesOneAtMost (H.moments host.old) (H.moments host.new) }
-    ensures fault_has_cause { IsCaused (IsErrOf result HostEnd.Fault) (H.moments host.old)
-        (CanStage path.now) (H.faults host.old) (H.faults host.new) }
+    ensures on_success { OnOk result (AtReturn H.Host host.old host.new
+        (WasStaged path.now bytes.now)) }
+    ensures made { OnOk result (AtReturn H.Host host.old host.new (MakesFile path.now bytes.now)) }
+    ensures one { AtReturn H.Host host.old host.new MakesOneAtMost }
+    ensures fault_has_cause { FailsOnly H.Host host.old host.new
+        (CanStage path.now) (IsErrOf result HostEnd.Fault) }
     ensures needs_no_memory { IsErrOf result HostEnd.NoMemory → ⊥ }
 {
     host.create(path, FILE_MODE)?;
@@ -80,12 +77,12 @@ fn stage<H: Host>(host: &mut H, path: &Path, bytes: &[u8]) -> Result<(), HostEnd
 
 /// Gives a file that is on the disk its name, and syncs.
 fn move_onto<H: Host>(host: &mut H, from: &Path, to: &Path) -> Result<(), HostEnd>
-    ensures any_moment { Always (Moves from.now to.now) (H.moments host.old) (H.moments host.new) }
-    ensures on_success { OnOk result (AtEnd (WasMoved from.now to.now)
-        (H.moments host.old) (H.moments host.new)) }
-    ensures files { AtEnd SameFiles (H.moments host.old) (H.moments host.new) }
-    ensures fault_has_cause { IsCaused (IsErrOf result HostEnd.Fault) (H.moments host.old)
-        (CanMove from.now to.now) (H.faults host.old) (H.faults host.new) }
+    ensures any_moment { AtEachMoment H.Host host.old host.new (Moves from.now to.now) }
+    ensures on_success { OnOk result (AtReturn H.Host host.old host.new
+        (WasMoved from.now to.now)) }
+    ensures files { AtReturn H.Host host.old host.new SameFiles }
+    ensures fault_has_cause { FailsOnly H.Host host.old host.new
+        (CanMove from.now to.now) (IsErrOf result HostEnd.Fault) }
     ensures needs_no_memory { IsErrOf result HostEnd.NoMemory → ⊥ }
 {
     host.rename(from, to)?;
@@ -126,12 +123,11 @@ fn free_name(alloc: Global, names: &[Text]) -> Result<String, AllocError>
 /// Where new work is staged: the first of the names `repo/tmp/new0`, `repo/tmp/new1` and so on at
 /// which nothing stands.
 pub fn staging_place<H: Host>(alloc: Global, host: &mut H) -> Result<Path, HostEnd>
-    ensures unchanged { Unchanged (H.moments host.old) (H.moments host.new) }
-    ensures tells { IfOk result (λ place. AtEnd (λ u w. IsStaging u place)
-        (H.moments host.old) (H.moments host.new)) }
+    ensures unchanged { ChangesNothing H.Host host.old host.new }
+    ensures tells { IfOk result (λ place. AtReturn H.Host host.old host.new
+        (λ u w. IsStaging u place)) }
     ensures name { IfOk result IsWorkName }
-    ensures fault_has_cause { IsCounted (IsErrOf result HostEnd.Fault)
-        (H.moments host.old) (H.faults host.old) (H.faults host.new) }
+    ensures fault_has_cause { FailsAlone H.Host host.old host.new (IsErrOf result HostEnd.Fault) }
 {
     let folder = tmp_path(alloc)?;
     let names = names_in(alloc, host, &folder)?;
@@ -174,17 +170,16 @@ pub fn replace<H: Host>(
 ) -> Result<(), HostEnd>
     // A stop at any moment leaves at the path what some stop before would have left, or the whole
     // new file.
-    ensures any_moment { Always (Replaces path.now bytes.now)
-        (H.moments host.old) (H.moments host.new) }
+    ensures any_moment { AtEachMoment H.Host host.old host.new (Replaces path.now bytes.now) }
     // After it every stop leaves the new file, and no other file was made.
-    ensures on_success { OnOk result (AtEnd (WasReplaced path.now bytes.now)
-        (H.moments host.old) (H.moments host.new)) }
+    ensures on_success { OnOk result (AtReturn H.Host host.old host.new
+        (WasReplaced path.now bytes.now)) }
     // Nor were two files made where it fails.
-    ensures one { AtEnd MakesOneAtMost (H.moments host.old) (H.moments host.new) }
-    ensures fault_has_cause { IsCaused (IsErrOf result HostEnd.Fault) (H.moments host.old)
-        (CanReplace path.now) (H.faults host.old) (H.faults host.new) }
-    ensures starved_unchanged { IsErrOf result HostEnd.NoMemory → AtEnd (λ u w. w ≡ u)
-        (H.moments host.old) (H.moments host.new) }
+    ensures one { AtReturn H.Host host.old host.new MakesOneAtMost }
+    ensures fault_has_cause { FailsOnly H.Host host.old host.new
+        (CanReplace path.now) (IsErrOf result HostEnd.Fault) }
+    ensures starved_unchanged { IsErrOf result HostEnd.NoMemory → AtReturn H.Host host.old host.new
+        (λ u w. w ≡ u) }
 {
     let folders = folders_of(alloc, path)?;
     let place = staging_place(alloc, host)?;

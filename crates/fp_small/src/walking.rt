@@ -3,9 +3,8 @@ ghost use Rattle.std.specs.Prelude.{◌≡◌, ◌++◌, ◌∷◌, [], true, ma
 ghost use Rattle.std.specs.List.{list_all};
 ghost use Rattle.std.specs.String.{string_cmp};
 ghost use Rattle.std.specs.BTreeMap.{IsOrdered, values};
+ghost use Rattle.fp_host.specs.OverHost.{AtReturn, ChangesNothing, FailsAlone};
 ghost use Rattle.fp_host.specs.Paths.{is_element};
-ghost use Rattle.fp_host.specs.Causes.{IsCounted};
-ghost use Rattle.fp_host.specs.Frame.{AtEnd, Unchanged};
 ghost use Rattle.fp_small.specs.Naming.{ListsIn};
 
 use fp_base::{Items, Text};
@@ -15,12 +14,11 @@ use std::collections::BTreeMap;
 
 /// The names directly in the folder; none where it is no folder.
 pub fn names_in<H: Host>(alloc: Global, host: &mut H, folder: &Path) -> Result<Items<Text>, HostEnd>
-    ensures unchanged { Unchanged (H.moments host.old) (H.moments host.new) }
-    ensures tells { IfOk result (λ names. AtEnd (λ u w. ListsIn folder.now u names)
-        (H.moments host.old) (H.moments host.new)) }
+    ensures unchanged { ChangesNothing H.Host host.old host.new }
+    ensures tells { IfOk result (λ names. AtReturn H.Host host.old host.new
+        (λ u w. ListsIn folder.now u names)) }
     ensures elements { IfOk result (λ names. list_all is_element names ≡ true) }
-    ensures fault_has_cause { IsCounted (IsErrOf result HostEnd.Fault)
-        (H.moments host.old) (H.faults host.old) (H.faults host.new) }
+    ensures fault_has_cause { FailsAlone H.Host host.old host.new (IsErrOf result HostEnd.Fault) }
 {
     match host.stat(folder)? {
         Stat::Dir => Ok(host.list(alloc, folder)?),

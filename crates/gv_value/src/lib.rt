@@ -28,7 +28,7 @@ pub use error::TypeError;
 pub use extent::Extent;
 pub use fitting::fits;
 pub use kind::Kind;
-pub use law::one_spelling;
+pub use law::{limits_as_numbers, one_spelling};
 pub use limits::{MOST_BYTES, MOST_DEPTH, MOST_OPEN, MOST_SIGNATURE_BYTES, TOO_LARGE};
 pub use measuring::{align_of, extent_of, size_of};
 pub use nesting::is_type;
