@@ -1,8 +1,6 @@
 //! A commit that is laid out in a folder.
 ghost use Rattle.std.specs.Prelude.{◌≡◌, OnOk, IsErrOf};
-ghost use Rattle.fp_host.specs.Causes.{IsCaused};
-ghost use Rattle.fp_host.specs.Frame.{AtEnd};
-ghost use Rattle.fp_host.specs.Moments.{Always};
+ghost use Rattle.fp_host.specs.OverHost.{AtEachMoment, AtReturn, FailsOnly};
 ghost use Rattle.fp_small.specs.Unsynced.{MakesNoFile};
 ghost use Rattle.ost_checkout.specs.Checkout.{ChecksOut, WasCheckedOut, HasReserved, CanCheckOut};
 
@@ -29,17 +27,16 @@ pub fn checkout<H: Host>(
 ) -> Result<(), CheckoutEnd>
     // A stop at any moment leaves in the folder some of the commit's paths, each as it is found in
     // the commit, and all else as it was.
-    ensures any_moment { Always (ChecksOut root.now commit.now to.now)
-        (H.moments host.old) (H.moments host.new) }
-    ensures on_success { OnOk result (AtEnd (WasCheckedOut root.now commit.now to.now)
-        (H.moments host.old) (H.moments host.new)) }
+    ensures any_moment { AtEachMoment H.Host host.old host.new
+        (ChecksOut root.now commit.now to.now) }
+    ensures on_success { OnOk result (AtReturn H.Host host.old host.new
+        (WasCheckedOut root.now commit.now to.now)) }
     ensures reserved { IsErrOf result CheckoutEnd.ReservedName
-        → AtEnd (λ u w. (w ≡ u) × HasReserved root.now commit.now u)
-        (H.moments host.old) (H.moments host.new) }
+        → AtReturn H.Host host.old host.new (λ u w. (w ≡ u) × HasReserved root.now commit.now u) }
     // What was unsettled stays so.
-    ensures unsynced { AtEnd MakesNoFile (H.moments host.old) (H.moments host.new) }
-    ensures fault_has_cause { IsCaused (IsErrOf result CheckoutEnd.Fault) (H.moments host.old)
-        (CanCheckOut root.now commit.now to.now) (H.faults host.old) (H.faults host.new) }
+    ensures unsynced { AtReturn H.Host host.old host.new MakesNoFile }
+    ensures fault_has_cause { FailsOnly H.Host host.old host.new
+        (CanCheckOut root.now commit.now to.now) (IsErrOf result CheckoutEnd.Fault) }
 {
     let rows = list_rows(alloc, host, root, commit, to)?;
     let reserved = to.child("deploy")?;

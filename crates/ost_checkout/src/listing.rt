@@ -1,7 +1,6 @@
 //! The paths of a commit in a list, each after the directory that it is in.
 ghost use Rattle.std.specs.Prelude.{◌≡◌, ◌≤◌, ◌<◌, ◌+◌, ◌∷◌, [], leb, length, IfOk, IsErrOf, OnOk};
-ghost use Rattle.fp_host.specs.Causes.{IsCaused};
-ghost use Rattle.fp_host.specs.Frame.{AtEnd, Unchanged};
+ghost use Rattle.fp_host.specs.OverHost.{AtReturn, ChangesNothing, FailsOnly};
 ghost use Rattle.ost_checkout.specs.Listing.{IsDirAt, ExpandsDir, Expands, CanExpandDir, CanExpand, IsFirstRow, HasRows, CanListRows, most_rows};
 ghost use Rattle.ost_checkout.specs.Reading.{HasCommit};
 
@@ -34,14 +33,12 @@ fn expand_dir<H: Host>(
     rows: &mut Vec<Row>,
 ) -> Result<(), HostEnd>
     requires { length rows.old.items ≤ most_rows }
-    ensures unchanged { Unchanged (H.moments host.old) (H.moments host.new) }
-    ensures grown { OnOk result (AtEnd
-        (λ u w. ExpandsDir root.now digest.now path.now u rows.old.items rows.new.items)
-        (H.moments host.old) (H.moments host.new)) }
+    ensures unchanged { ChangesNothing H.Host host.old host.new }
+    ensures grown { OnOk result (AtReturn H.Host host.old host.new
+        (λ u w. ExpandsDir root.now digest.now path.now u rows.old.items rows.new.items)) }
     ensures most { OnOk result (length rows.new.items ≤ most_rows) }
-    ensures fault_has_cause { IsCaused (IsErrOf result HostEnd.Fault) (H.moments host.old)
-        (CanExpandDir root.now digest.now (length rows.old.items))
-        (H.faults host.old) (H.faults host.new) }
+    ensures fault_has_cause { FailsOnly H.Host host.old host.new
+        (CanExpandDir root.now digest.now (length rows.old.items)) (IsErrOf result HostEnd.Fault) }
 {
     let tree = read_tree(alloc, host, root, digest)?;
     if !has_room(rows.len(), &tree) {
@@ -72,12 +69,12 @@ fn expand<H: Host>(
 ) -> Result<(), HostEnd>
     requires low { at < length rows.old.items }
     requires most { length rows.old.items ≤ most_rows }
-    ensures unchanged { Unchanged (H.moments host.old) (H.moments host.new) }
-    ensures grown { OnOk result (AtEnd (λ u w. Expands root.now at u rows.old.items rows.new.items)
-        (H.moments host.old) (H.moments host.new)) }
+    ensures unchanged { ChangesNothing H.Host host.old host.new }
+    ensures grown { OnOk result (AtReturn H.Host host.old host.new
+        (λ u w. Expands root.now at u rows.old.items rows.new.items)) }
     ensures most { OnOk result (length rows.new.items ≤ most_rows) }
-    ensures fault_has_cause { IsCaused (IsErrOf result HostEnd.Fault) (H.moments host.old)
-        (CanExpand root.now at rows.old.items) (H.faults host.old) (H.faults host.new) }
+    ensures fault_has_cause { FailsOnly H.Host host.old host.new
+        (CanExpand root.now at rows.old.items) (IsErrOf result HostEnd.Fault) }
 {
     match dir_at(rows, at)? {
         Some((tree, path)) => expand_dir(alloc, host, root, &tree, &path, rows),
@@ -93,11 +90,11 @@ fn first_row<H: Host>(
     commit: &Digest,
     to: &Path,
 ) -> Result<Row, HostEnd>
-    ensures unchanged { Unchanged (H.moments host.old) (H.moments host.new) }
-    ensures tells { IfOk result (λ row. AtEnd (λ u w. IsFirstRow root.now commit.now to.now u row)
-        (H.moments host.old) (H.moments host.new)) }
-    ensures fault_has_cause { IsCaused (IsErrOf result HostEnd.Fault) (H.moments host.old)
-        (HasCommit root.now commit.now) (H.faults host.old) (H.faults host.new) }
+    ensures unchanged { ChangesNothing H.Host host.old host.new }
+    ensures tells { IfOk result (λ row. AtReturn H.Host host.old host.new
+        (λ u w. IsFirstRow root.now commit.now to.now u row)) }
+    ensures fault_has_cause { FailsOnly H.Host host.old host.new
+        (HasCommit root.now commit.now) (IsErrOf result HostEnd.Fault) }
 {
     let found = read_root(alloc, host, root, commit)?;
     Ok(Row {
@@ -127,12 +124,11 @@ pub(crate) fn list_rows<H: Host>(
     commit: &Digest,
     to: &Path,
 ) -> Result<Vec<Row>, HostEnd>
-    ensures unchanged { Unchanged (H.moments host.old) (H.moments host.new) }
-    ensures tells { IfOk result (λ rows. AtEnd
-        (λ u w. HasRows root.now commit.now to.now u rows.items)
-        (H.moments host.old) (H.moments host.new)) }
-    ensures fault_has_cause { IsCaused (IsErrOf result HostEnd.Fault) (H.moments host.old)
-        (CanListRows root.now commit.now) (H.faults host.old) (H.faults host.new) }
+    ensures unchanged { ChangesNothing H.Host host.old host.new }
+    ensures tells { IfOk result (λ rows. AtReturn H.Host host.old host.new
+        (λ u w. HasRows root.now commit.now to.now u rows.items)) }
+    ensures fault_has_cause { FailsOnly H.Host host.old host.new
+        (CanListRows root.now commit.now) (IsErrOf result HostEnd.Fault) }
 {
     let first = first_row(alloc, host, root, commit, to)?;
     let mut rows = row_alone(alloc, first)?;

@@ -1,8 +1,6 @@
 //! Paths of a commit that are put into a folder.
 ghost use Rattle.std.specs.Prelude.{◌≡◌, OnOk, IsErrOf};
-ghost use Rattle.fp_host.specs.Causes.{IsCaused};
-ghost use Rattle.fp_host.specs.Frame.{AtEnd};
-ghost use Rattle.fp_host.specs.Moments.{Always};
+ghost use Rattle.fp_host.specs.OverHost.{AtEachMoment, AtReturn, FailsOnly};
 ghost use Rattle.fp_small.specs.Unsynced.{MakesNoFile};
 ghost use Rattle.fp_base.specs.declared.object.ObjKind.TheVariants as kinds;
 ghost use Rattle.ost_model.specs.Objects.{object_path};
@@ -17,12 +15,12 @@ use std::alloc::Global;
 
 /// Makes a link of the same text.
 fn copy_link<H: Host>(alloc: Global, host: &mut H, from: &Path, to: &Path) -> Result<(), HostEnd>
-    ensures any_moment { Always (Copies from.now to.now) (H.moments host.old) (H.moments host.new) }
-    ensures on_success { OnOk result (AtEnd (WasCopied from.now to.now)
-        (H.moments host.old) (H.moments host.new)) }
-    ensures unsynced { AtEnd MakesNoFile (H.moments host.old) (H.moments host.new) }
-    ensures fault_has_cause { IsCaused (IsErrOf result HostEnd.Fault) (H.moments host.old)
-        (CanCopyLink from.now to.now) (H.faults host.old) (H.faults host.new) }
+    ensures any_moment { AtEachMoment H.Host host.old host.new (Copies from.now to.now) }
+    ensures on_success { OnOk result (AtReturn H.Host host.old host.new
+        (WasCopied from.now to.now)) }
+    ensures unsynced { AtReturn H.Host host.old host.new MakesNoFile }
+    ensures fault_has_cause { FailsOnly H.Host host.old host.new
+        (CanCopyLink from.now to.now) (IsErrOf result HostEnd.Fault) }
 {
     let text = host.read_link(alloc, from)?;
     Ok(host.symlink(text.as_str(), to)?)
@@ -30,12 +28,12 @@ fn copy_link<H: Host>(alloc: Global, host: &mut H, from: &Path, to: &Path) -> Re
 
 /// Gives the file a second name, or makes a link of the same text.
 fn copy_object<H: Host>(alloc: Global, host: &mut H, from: &Path, to: &Path) -> Result<(), HostEnd>
-    ensures any_moment { Always (Copies from.now to.now) (H.moments host.old) (H.moments host.new) }
-    ensures on_success { OnOk result (AtEnd (WasCopied from.now to.now)
-        (H.moments host.old) (H.moments host.new)) }
-    ensures unsynced { AtEnd MakesNoFile (H.moments host.old) (H.moments host.new) }
-    ensures fault_has_cause { IsCaused (IsErrOf result HostEnd.Fault) (H.moments host.old)
-        (CanCopyObject from.now to.now) (H.faults host.old) (H.faults host.new) }
+    ensures any_moment { AtEachMoment H.Host host.old host.new (Copies from.now to.now) }
+    ensures on_success { OnOk result (AtReturn H.Host host.old host.new
+        (WasCopied from.now to.now)) }
+    ensures unsynced { AtReturn H.Host host.old host.new MakesNoFile }
+    ensures fault_has_cause { FailsOnly H.Host host.old host.new
+        (CanCopyObject from.now to.now) (IsErrOf result HostEnd.Fault) }
 {
     match host.stat(from)? {
         Stat::File { .. } => Ok(host.link(from, to)?),
@@ -52,15 +50,14 @@ fn put_object<H: Host>(
     digest: &Digest,
     path: &Path,
 ) -> Result<(), HostEnd>
-    ensures any_moment { Always (Copies (object_path root.now digest.now kinds.File) path.now)
-        (H.moments host.old) (H.moments host.new) }
-    ensures on_success { OnOk result (AtEnd (WasCopied (object_path root.now digest.now kinds.File)
-        path.now)
-        (H.moments host.old) (H.moments host.new)) }
-    ensures unsynced { AtEnd MakesNoFile (H.moments host.old) (H.moments host.new) }
-    ensures fault_has_cause { IsCaused (IsErrOf result HostEnd.Fault) (H.moments host.old)
-        (CanCopyObject (object_path root.now digest.now kinds.File) path.now)
-        (H.faults host.old) (H.faults host.new) }
+    ensures any_moment { AtEachMoment H.Host host.old host.new
+        (Copies (object_path root.now digest.now kinds.File) path.now) }
+    ensures on_success { OnOk result (AtReturn H.Host host.old host.new
+        (WasCopied (object_path root.now digest.now kinds.File)
+        path.now)) }
+    ensures unsynced { AtReturn H.Host host.old host.new MakesNoFile }
+    ensures fault_has_cause { FailsOnly H.Host host.old host.new
+        (CanCopyObject (object_path root.now digest.now kinds.File) path.now) (IsErrOf result HostEnd.Fault) }
 {
     let object = path_of(alloc, root, digest, ObjKind::File)?;
     copy_object(alloc, host, &object, path)
@@ -68,13 +65,11 @@ fn put_object<H: Host>(
 
 /// Puts what the row says at its path.
 fn put_row<H: Host>(alloc: Global, host: &mut H, root: &Path, row: &Row) -> Result<(), HostEnd>
-    ensures any_moment { Always (PutsRow root.now row.now)
-        (H.moments host.old) (H.moments host.new) }
-    ensures on_success { OnOk result (AtEnd (WasPut root.now row.now)
-        (H.moments host.old) (H.moments host.new)) }
-    ensures unsynced { AtEnd MakesNoFile (H.moments host.old) (H.moments host.new) }
-    ensures fault_has_cause { IsCaused (IsErrOf result HostEnd.Fault) (H.moments host.old)
-        (CanPut root.now row.now) (H.faults host.old) (H.faults host.new) }
+    ensures any_moment { AtEachMoment H.Host host.old host.new (PutsRow root.now row.now) }
+    ensures on_success { OnOk result (AtReturn H.Host host.old host.new (WasPut root.now row.now)) }
+    ensures unsynced { AtReturn H.Host host.old host.new MakesNoFile }
+    ensures fault_has_cause { FailsOnly H.Host host.old host.new
+        (CanPut root.now row.now) (IsErrOf result HostEnd.Fault) }
 {
     match &row.entry {
         Entry::Dir { .. } => Ok(host.make_dir(&row.path)?),
@@ -89,14 +84,12 @@ pub(crate) fn put_rows<H: Host>(
     root: &Path,
     rows: &[Row],
 ) -> Result<(), HostEnd>
-    ensures any_moment { Always (PutsRows root.now rows.now)
-        (H.moments host.old) (H.moments host.new) }
-    ensures on_success { OnOk result (AtEnd
-        (λ u w. Fits root.now rows.now → WerePut root.now rows.now u w)
-        (H.moments host.old) (H.moments host.new)) }
-    ensures unsynced { AtEnd MakesNoFile (H.moments host.old) (H.moments host.new) }
-    ensures fault_has_cause { IsCaused (IsErrOf result HostEnd.Fault) (H.moments host.old)
-        (CanPutRows root.now rows.now) (H.faults host.old) (H.faults host.new) }
+    ensures any_moment { AtEachMoment H.Host host.old host.new (PutsRows root.now rows.now) }
+    ensures on_success { OnOk result (AtReturn H.Host host.old host.new
+        (λ u w. Fits root.now rows.now → WerePut root.now rows.now u w)) }
+    ensures unsynced { AtReturn H.Host host.old host.new MakesNoFile }
+    ensures fault_has_cause { FailsOnly H.Host host.old host.new
+        (CanPutRows root.now rows.now) (IsErrOf result HostEnd.Fault) }
 {
     for row in rows {
         put_row(alloc, host, root, row)?;

@@ -1,7 +1,6 @@
 //! Metadata objects of a store, read.
 ghost use Rattle.std.specs.Prelude.{◌≡◌, Ok, IfOk, IsErrOf};
-ghost use Rattle.fp_host.specs.Causes.{IsCaused};
-ghost use Rattle.fp_host.specs.Frame.{AtEnd, Unchanged};
+ghost use Rattle.fp_host.specs.OverHost.{AtReturn, ChangesNothing, FailsOnly};
 ghost use Rattle.ost_model.specs.Readers.{tree_read, commit_read};
 ghost use Rattle.ost_object.specs.Answers.{mapped};
 ghost use Rattle.ost_object.specs.Views.{tree_view, root_in, root_view};
@@ -44,14 +43,13 @@ pub(crate) fn read_tree<H: Host>(
     root: &Path,
     digest: &Digest,
 ) -> Result<DirTree, HostEnd>
-    ensures unchanged { Unchanged (H.moments host.old) (H.moments host.new) }
-    ensures tells { IfOk result (λ tree. AtEnd
-        (λ u w. IsTree root.now digest.now u (tree_view tree))
-        (H.moments host.old) (H.moments host.new)) }
+    ensures unchanged { ChangesNothing H.Host host.old host.new }
+    ensures tells { IfOk result (λ tree. AtReturn H.Host host.old host.new
+        (λ u w. IsTree root.now digest.now u (tree_view tree))) }
     // So on every host.
     ensures names { IfOk result (λ tree. HasGoodNames (tree_view tree)) }
-    ensures fault_has_cause { IsCaused (IsErrOf result HostEnd.Fault) (H.moments host.old)
-        (HasTree root.now digest.now) (H.faults host.old) (H.faults host.new) }
+    ensures fault_has_cause { FailsOnly H.Host host.old host.new
+        (HasTree root.now digest.now) (IsErrOf result HostEnd.Fault) }
 {
     match get(
         alloc,
@@ -86,12 +84,11 @@ pub(crate) fn read_root<H: Host>(
     root: &Path,
     commit: &Digest,
 ) -> Result<CommitRoot, HostEnd>
-    ensures unchanged { Unchanged (H.moments host.old) (H.moments host.new) }
-    ensures tells { IfOk result (λ found. AtEnd
-        (λ u w. IsRoot root.now commit.now u (root_view found))
-        (H.moments host.old) (H.moments host.new)) }
-    ensures fault_has_cause { IsCaused (IsErrOf result HostEnd.Fault) (H.moments host.old)
-        (HasCommit root.now commit.now) (H.faults host.old) (H.faults host.new) }
+    ensures unchanged { ChangesNothing H.Host host.old host.new }
+    ensures tells { IfOk result (λ found. AtReturn H.Host host.old host.new
+        (λ u w. IsRoot root.now commit.now u (root_view found))) }
+    ensures fault_has_cause { FailsOnly H.Host host.old host.new
+        (HasCommit root.now commit.now) (IsErrOf result HostEnd.Fault) }
 {
     match get(
         alloc,

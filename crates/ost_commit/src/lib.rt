@@ -5,6 +5,7 @@ mod built;
 mod committing;
 mod contents;
 mod directories;
+pub mod laws;
 mod limits;
 mod objects;
 mod row;

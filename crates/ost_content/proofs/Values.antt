@@ -5,7 +5,7 @@ use Rattle.std.specs.List.{list_all}
 use Rattle.std.specs.Str.{is_utf8, chars}
 use lib.Utf8.{encode}
 use Rattle.std.specs.Int.{w32, to_be_bytes}
-use Rattle.std.proofs.lemmas.Bool.{and_parts, and_from, eqb-true, leb-true}
+use Rattle.std.proofs.lemmas.Bool.{and_parts, and_from, leb-true}
 use Rattle.std.proofs.lemmas.Bool.Decides.{nat_tests}
 use Rattle.std.proofs.lemmas.Nat.{and_le_r}
 use Rattle.fp_host.specs.Paths.{is_link_text}
@@ -67,7 +67,7 @@ link_text text h =
 
 pub below_0775 : (bits : ℕ) → is_permission bits ≡ true → bits ≤ 0x1FD
 below_0775 bits h =
-    let same : bit_and bits 0x1FD ≡ bits = eqb-true (bit_and bits 0x1FD) bits (and_parts (bit_and bits 0x1FD == bits) (bit_and bits 0x100 == 0x100) h).0 in
+    let same : bit_and bits 0x1FD ≡ bits = grind (arith, nat_tests) in
     let low = and_le_r bits 0x1FD in
     omega arith
 

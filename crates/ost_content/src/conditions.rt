@@ -3,12 +3,11 @@
 ghost use Rattle.std.specs.Prelude.{◌≡◌};
 ghost use Rattle.ost_model.specs.Contents.{is_permission as may_be_mode};
 
-use ost_model::{OWNER_READS, STORED_BITS};
+use ost_model::STORED_BITS;
 
-/// Whether these are permission bits that a file may have: at most 0775, bit by bit, and its owner
-/// may read it.
+/// Whether these are permission bits that a file or a directory may have: at most 0775, bit by bit.
 pub fn is_permission(mode: u32) -> bool
     ensures { result ≡ may_be_mode mode }
 {
-    mode & STORED_BITS == mode && mode & OWNER_READS == OWNER_READS
+    mode & STORED_BITS == mode
 }

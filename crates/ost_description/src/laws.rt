@@ -5,6 +5,7 @@ ghost use Rattle.std.specs.Prelude.{◌≡◌, ◌∷◌, ◌++◌, ◌+◌, ℕ
 ghost use Rattle.std.specs.List.{list_any};
 ghost use Rattle.ost_commit.specs.Refusals.{first_refused};
 ghost use Rattle.ost_description.specs.declared.description.Description.{Description};
+ghost use Rattle.ost_description.specs.declared.limits.TheConstants.{MOST_SUBJECT_BYTES};
 ghost use Rattle.ost_description.specs.Descriptions.{described, checked_description, row_in};
 ghost use Rattle.ost_description.specs.Writing.{IsWritable, description_text, is_newline};
 
@@ -18,4 +19,9 @@ pub fn written_descriptions_read_back()
         → list_any is_newline line ≡ false → row_in line ≡ None
         → described (description_text d ++ (line ++ 10 ∷ rest))
         ≡ checked_description d (Some (length d.rows + 3)) (first_refused d.rows) }
+{}
+
+/// The most bytes of a subject, as a number.
+pub fn limits_as_numbers()
+    ensures { MOST_SUBJECT_BYTES ≡ 1024 }
 {}

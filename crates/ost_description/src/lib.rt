@@ -10,5 +10,5 @@ mod reading;
 
 pub use committing::commit_description;
 pub use description::{Description, DescriptionError};
-pub use laws::written_descriptions_read_back;
+pub use laws::{limits_as_numbers, written_descriptions_read_back};
 pub use limits::MOST_SUBJECT_BYTES;

@@ -1,8 +1,6 @@
 //! A built commit that is offered.
 ghost use Rattle.std.specs.Prelude.{◌≡◌, None, IfOk, OnOk, IsErrOf};
-ghost use Rattle.fp_host.specs.Causes.{IsCaused};
-ghost use Rattle.fp_host.specs.Frame.{AtEnd};
-ghost use Rattle.fp_host.specs.Moments.{Always};
+ghost use Rattle.fp_host.specs.OverHost.{AtEachMoment, AtReturn, FailsOnly};
 ghost use Rattle.ost_model.specs.Order.{first_fault};
 ghost use Rattle.ost_commit.specs.Objects.{have_of};
 ghost use Rattle.ost_refs.specs.declared.place.RefPlace.TheVariants.{Head};
@@ -36,17 +34,16 @@ fn write_offer<H: Host>(
     requires no_work { IsNoWork root.now }
     requires whole { AreWhole built.now.objects }
     requires clean { first_fault (have_of built.now.objects) built.now.commit ≡ None }
-    ensures any_moment { Always
-        (Exports (have_of built.now.objects) root.now name.now built.now.commit)
-        (H.moments host.old) (H.moments host.new) }
+    ensures any_moment { AtEachMoment H.Host host.old host.new
+        (Exports (have_of built.now.objects) root.now name.now built.now.commit) }
     ensures on_success { OnOk result
-        (AtEnd (WasExported (have_of built.now.objects) root.now name.now built.now.commit)
-        (H.moments host.old) (H.moments host.new)) }
+        (AtReturn H.Host host.old host.new
+        (WasExported (have_of built.now.objects) root.now name.now built.now.commit)) }
     ensures starved { IsErrOf result HostEnd.NoMemory
-        → AtEnd (Furnishes (have_of built.now.objects) root.now name.now)
-        (H.moments host.old) (H.moments host.new) }
-    ensures fault_has_cause { IsCaused (IsErrOf result HostEnd.Fault) (H.moments host.old)
-        (CanExportAll root.now name.now built.now.objects) (H.faults host.old) (H.faults host.new) }
+        → AtReturn H.Host host.old host.new
+        (Furnishes (have_of built.now.objects) root.now name.now) }
+    ensures fault_has_cause { FailsOnly H.Host host.old host.new
+        (CanExportAll root.now name.now built.now.objects) (IsErrOf result HostEnd.Fault) }
 {
     let place = head_of(name)?;
     store_objects(alloc, host, root, built.objects.as_slice())?;
@@ -74,20 +71,19 @@ pub fn export<H: Host>(
     // Nothing changed yet, or a stop leaves what stood at the entry, but for what an export writes:
     // at the ref's place what stood there or the whole new file. Other refs, objects that were
     // there and all else outside the store and the work stay.
-    ensures any_moment { Always
-        (ExportsSynced (have_of built.now.objects) root.now name.now built.now.commit)
-        (H.moments host.old) (H.moments host.new) }
+    ensures any_moment { AtEachMoment H.Host host.old host.new
+        (ExportsSynced (have_of built.now.objects) root.now name.now built.now.commit) }
     // After it every stop leaves the store in which the ref is offered, where the store had nothing
     // else under the objects' names.
     ensures on_success { OnOk result
-        (AtEnd (WasExported (have_of built.now.objects) root.now name.now built.now.commit)
-        (H.moments host.old) (H.moments host.new)) }
+        (AtReturn H.Host host.old host.new
+        (WasExported (have_of built.now.objects) root.now name.now built.now.commit)) }
     // Where memory runs out the ref's place is as it was.
     ensures starved { IsErrOf result HostEnd.NoMemory
-        → AtEnd (FurnishesSynced (have_of built.now.objects) root.now name.now)
-        (H.moments host.old) (H.moments host.new) }
-    ensures fault_has_cause { IsCaused (IsErrOf result HostEnd.Fault) (H.moments host.old)
-        (CanExportAll root.now name.now built.now.objects) (H.faults host.old) (H.faults host.new) }
+        → AtReturn H.Host host.old host.new
+        (FurnishesSynced (have_of built.now.objects) root.now name.now) }
+    ensures fault_has_cause { FailsOnly H.Host host.old host.new
+        (CanExportAll root.now name.now built.now.objects) (IsErrOf result HostEnd.Fault) }
 {
     host.sync()?;
     write_offer(alloc, host, root, built, name)

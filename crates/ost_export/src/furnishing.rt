@@ -1,9 +1,8 @@
 //! What a store has beside its objects and refs: `config`, and the folder of its remotes' refs.
 ghost use Rattle.std.specs.Prelude.{◌≡◌, IfOk, OnOk, IsErrOf};
+ghost use Rattle.fp_host.specs.OverHost.{AtEachMoment, AtReturn, FailsOnly};
 ghost use Rattle.fp_host.specs.Paths.{absent, dir};
-ghost use Rattle.fp_host.specs.Causes.{IsCaused};
-ghost use Rattle.fp_host.specs.Frame.{AtEnd, Frame, NoPath};
-ghost use Rattle.fp_host.specs.Moments.{Always};
+ghost use Rattle.fp_host.specs.Frame.{Frame, NoPath};
 ghost use Rattle.fp_small.specs.Folders.{ancestors, AreFree, DirsAt, FoldersAt};
 ghost use Rattle.fp_small.specs.Replace.{CanReplace, Replaces, WasReplaced};
 ghost use Rattle.ost_refs.specs.Places.{remotes};
@@ -39,12 +38,12 @@ fn remotes_paths(root: &Path) -> Result<(Path, Path), AllocError>
 
 /// Writes `config` anew, and syncs.
 pub(crate) fn write_config<H: Host>(alloc: Global, host: &mut H, root: &Path) -> Result<(), HostEnd>
-    ensures any_moment { Always (Replaces (config_path root.now) config_text)
-        (H.moments host.old) (H.moments host.new) }
-    ensures on_success { OnOk result (AtEnd (WasReplaced (config_path root.now) config_text)
-        (H.moments host.old) (H.moments host.new)) }
-    ensures fault_has_cause { IsCaused (IsErrOf result HostEnd.Fault) (H.moments host.old)
-        (CanReplace (config_path root.now)) (H.faults host.old) (H.faults host.new) }
+    ensures any_moment { AtEachMoment H.Host host.old host.new
+        (Replaces (config_path root.now) config_text) }
+    ensures on_success { OnOk result (AtReturn H.Host host.old host.new
+        (WasReplaced (config_path root.now) config_text)) }
+    ensures fault_has_cause { FailsOnly H.Host host.old host.new
+        (CanReplace (config_path root.now)) (IsErrOf result HostEnd.Fault) }
 {
     let path = config_path(root)?;
     let bytes = config_bytes(alloc)?;
@@ -57,12 +56,11 @@ pub(crate) fn make_remotes<H: Host>(alloc: Global, host: &mut H, root: &Path) ->
     ensures frame { Frame (FoldersAt (ancestors (a_remote root.now)))
         (DirsAt (ancestors (a_remote root.now))) NoPath
         (H.moments host.old) (H.moments host.new) }
-    ensures on_success { OnOk result (AtEnd (λ u w. AreFree (ancestors (a_remote root.now)) u
-        → u.names (remotes root.now) ≡ absent → w.names (remotes root.now) ≡ dir)
-        (H.moments host.old) (H.moments host.new)) }
-    ensures fault_has_cause { IsCaused (IsErrOf result HostEnd.Fault) (H.moments host.old)
-        (λ v. v.names (remotes root.now) ≡ absent → AreFree (ancestors (a_remote root.now)) v)
-        (H.faults host.old) (H.faults host.new) }
+    ensures on_success { OnOk result (AtReturn H.Host host.old host.new
+        (λ u w. AreFree (ancestors (a_remote root.now)) u
+        → u.names (remotes root.now) ≡ absent → w.names (remotes root.now) ≡ dir)) }
+    ensures fault_has_cause { FailsOnly H.Host host.old host.new
+        (λ v. v.names (remotes root.now) ≡ absent → AreFree (ancestors (a_remote root.now)) v) (IsErrOf result HostEnd.Fault) }
 {
     let (folder, below) = remotes_paths(root)?;
     match host.stat(&folder)? {

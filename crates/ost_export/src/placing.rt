@@ -1,8 +1,6 @@
 //! Staged objects that come to their names.
 ghost use Rattle.std.specs.Prelude.{OnOk, IsErrOf};
-ghost use Rattle.fp_host.specs.Causes.{IsCaused};
-ghost use Rattle.fp_host.specs.Frame.{AtEnd};
-ghost use Rattle.fp_host.specs.Moments.{Always};
+ghost use Rattle.fp_host.specs.OverHost.{AtEachMoment, AtReturn, FailsOnly};
 ghost use Rattle.ost_model.specs.Objects.{Have};
 ghost use Rattle.ost_export.specs.Staging.{IsApart};
 ghost use Rattle.ost_export.specs.Placing.{AreReady, CanPlaceAll, PlacesAll, PutsReady};
@@ -23,16 +21,14 @@ pub(crate) fn place_all<H: Host>(
     objects: &mut Vec<(Digest, ObjKind)>,
 ) -> Result<(), HostEnd>
     requires { IsApart root.now work.now }
-    ensures any_moment { (have : Have) → Always (PutsReady have root.now work.now objects.old.items)
-        (H.moments host.old) (H.moments host.new) }
-    ensures on_success { (have : Have) → OnOk result (AtEnd
+    ensures any_moment { (have : Have) → AtEachMoment H.Host host.old host.new
+        (PutsReady have root.now work.now objects.old.items) }
+    ensures on_success { (have : Have) → OnOk result (AtReturn H.Host host.old host.new
         (λ u w. AreReady have work.now objects.old.items u
-        → PlacesAll root.now work.now objects.old.items u w)
-        (H.moments host.old) (H.moments host.new)) }
+        → PlacesAll root.now work.now objects.old.items u w)) }
     ensures fault_has_cause { (have : Have)
-        → IsCaused (IsErrOf result HostEnd.Fault) (H.moments host.old)
-        (CanPlaceAll have root.now work.now objects.old.items) (H.faults host.old)
-        (H.faults host.new) }
+        → FailsOnly H.Host host.old host.new
+        (CanPlaceAll have root.now work.now objects.old.items) (IsErrOf result HostEnd.Fault) }
 {
     while let Some(object) = objects.pop() {
         place_from(alloc, host, root, work, &object.0, object.1)?;

@@ -1,9 +1,7 @@
 //! Objects that a store lacks, staged in the work folder.
 ghost use Rattle.std.specs.Prelude.{◌≡◌, ◌∷◌, ◌++◌, [], true, false, Bool, Some, None, IfOk, OnOk, IsErrOf};
 ghost use Rattle.std.specs.List.{AllByRecursion};
-ghost use Rattle.fp_host.specs.Causes.{IsCaused, IsCounted};
-ghost use Rattle.fp_host.specs.Frame.{AtEnd, Unchanged};
-ghost use Rattle.fp_host.specs.Moments.{Always};
+ghost use Rattle.fp_host.specs.OverHost.{AtEachMoment, AtReturn, ChangesNothing, FailsAlone, FailsOnly};
 ghost use Rattle.fp_name.specs.Hex.{is_digest};
 ghost use Rattle.ost_model.specs.Objects.{Have, object_path, name_fault};
 ghost use Rattle.ost_store.specs.Stage.{CanStage, Stages, WasStaged};
@@ -20,11 +18,10 @@ use std::alloc::Global;
 
 /// Whether nothing stands at the path.
 fn is_absent<H: Host>(host: &mut H, path: &Path) -> Result<bool, HostEnd>
-    ensures unchanged { Unchanged (H.moments host.old) (H.moments host.new) }
-    ensures tells { IfOk result (λ none. AtEnd (λ u w. IsAbsentSaid path.now u none)
-        (H.moments host.old) (H.moments host.new)) }
-    ensures fault_has_cause { IsCounted (IsErrOf result HostEnd.Fault)
-        (H.moments host.old) (H.faults host.old) (H.faults host.new) }
+    ensures unchanged { ChangesNothing H.Host host.old host.new }
+    ensures tells { IfOk result (λ none. AtReturn H.Host host.old host.new
+        (λ u w. IsAbsentSaid path.now u none)) }
+    ensures fault_has_cause { FailsAlone H.Host host.old host.new (IsErrOf result HostEnd.Fault) }
 {
     match host.stat(path)? {
         Stat::Absent => Ok(true),
@@ -41,12 +38,11 @@ fn is_lacking<H: Host>(
     digest: &Digest,
     kind: ObjKind,
 ) -> Result<bool, HostEnd>
-    ensures unchanged { Unchanged (H.moments host.old) (H.moments host.new) }
+    ensures unchanged { ChangesNothing H.Host host.old host.new }
     ensures tells { IfOk result
-        (λ lacks. AtEnd (λ u w. IsLacking root.now work.now (digest.now, kind) u lacks)
-        (H.moments host.old) (H.moments host.new)) }
-    ensures fault_has_cause { IsCounted (IsErrOf result HostEnd.Fault)
-        (H.moments host.old) (H.faults host.old) (H.faults host.new) }
+        (λ lacks. AtReturn H.Host host.old host.new
+        (λ u w. IsLacking root.now work.now (digest.now, kind) u lacks)) }
+    ensures fault_has_cause { FailsAlone H.Host host.old host.new (IsErrOf result HostEnd.Fault) }
 {
     let name = path_of(alloc, root, digest, kind)?;
     let place = path_of(alloc, work, digest, kind)?;
@@ -66,17 +62,14 @@ fn stage_object<H: Host>(
     object: &BuiltObject,
     staged: &mut Vec<(Digest, ObjKind)>,
 ) -> Result<(), HostEnd>
-    ensures any_moment { Always
-        (Stages (object_path work.now object.now.digest object.now.kind) object.now.object)
-        (H.moments host.old) (H.moments host.new) }
+    ensures any_moment { AtEachMoment H.Host host.old host.new
+        (Stages (object_path work.now object.now.digest object.now.kind) object.now.object) }
     ensures on_success { OnOk result
-        ((staged.new.items ≡ staged.old.items ++ name_of object.now ∷ []) × AtEnd
-        (WasStaged (object_path work.now object.now.digest object.now.kind) object.now.object)
-        (H.moments host.old) (H.moments host.new)) }
+        ((staged.new.items ≡ staged.old.items ++ name_of object.now ∷ []) × AtReturn H.Host host.old host.new
+        (WasStaged (object_path work.now object.now.digest object.now.kind) object.now.object)) }
     ensures digits { is_digest object.now.digest ≡ true }
-    ensures fault_has_cause { IsCaused (IsErrOf result HostEnd.Fault) (H.moments host.old)
-        (CanStage (object_path work.now object.now.digest object.now.kind) object.now.object)
-        (H.faults host.old) (H.faults host.new) }
+    ensures fault_has_cause { FailsOnly H.Host host.old host.new
+        (CanStage (object_path work.now object.now.digest object.now.kind) object.now.object) (IsErrOf result HostEnd.Fault) }
 {
     let _bytes = object.digest.as_bytes();
     let path = path_of(alloc, work, &object.digest, object.kind)?;
@@ -96,14 +89,13 @@ fn stage_lacking<H: Host>(
     object: &BuiltObject,
     staged: &mut Vec<(Digest, ObjKind)>,
 ) -> Result<(), HostEnd>
-    ensures any_moment { Always (Works work.now) (H.moments host.old) (H.moments host.new) }
+    ensures any_moment { AtEachMoment H.Host host.old host.new (Works work.now) }
     ensures on_success { OnOk result ((have : Have) → IsIn have object.now
-        → AtEnd (StagesOne have root.now work.now
-        (name_of object.now) staged.old.items staged.new.items)
-        (H.moments host.old) (H.moments host.new)) }
+        → AtReturn H.Host host.old host.new (StagesOne have root.now work.now
+        (name_of object.now) staged.old.items staged.new.items)) }
     ensures digits { is_digest object.now.digest ≡ true }
-    ensures fault_has_cause { IsCaused (IsErrOf result HostEnd.Fault) (H.moments host.old)
-        (CanStageOne work.now object.now.object) (H.faults host.old) (H.faults host.new) }
+    ensures fault_has_cause { FailsOnly H.Host host.old host.new
+        (CanStageOne work.now object.now.object) (IsErrOf result HostEnd.Fault) }
 {
     let _bytes = object.digest.as_bytes();
     let lacks = is_lacking(alloc, host, root, work, &object.digest, object.kind)?;
@@ -126,12 +118,11 @@ pub(crate) fn stage_all<H: Host>(
 ) -> Result<Vec<(Digest, ObjKind)>, HostEnd>
     requires apart { IsApart root.now work.now }
     requires whole { AreWhole objects.now }
-    ensures any_moment { Always (Works work.now) (H.moments host.old) (H.moments host.new) }
-    ensures on_success { IfOk result (λ staged. AtEnd
-        (StagesSome (have_of objects.now) root.now work.now objects.now staged.items)
-        (H.moments host.old) (H.moments host.new)) }
-    ensures fault_has_cause { IsCaused (IsErrOf result HostEnd.Fault) (H.moments host.old)
-        (CanStageAll work.now objects.now) (H.faults host.old) (H.faults host.new) }
+    ensures any_moment { AtEachMoment H.Host host.old host.new (Works work.now) }
+    ensures on_success { IfOk result (λ staged. AtReturn H.Host host.old host.new
+        (StagesSome (have_of objects.now) root.now work.now objects.now staged.items)) }
+    ensures fault_has_cause { FailsOnly H.Host host.old host.new
+        (CanStageAll work.now objects.now) (IsErrOf result HostEnd.Fault) }
 {
     let mut staged = Vec::new(alloc);
     for object in objects {

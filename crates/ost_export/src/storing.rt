@@ -1,8 +1,6 @@
 //! The objects of a built commit, written into a store.
 ghost use Rattle.std.specs.Prelude.{OnOk, IfOk, IsErrOf};
-ghost use Rattle.fp_host.specs.Causes.{IsCaused};
-ghost use Rattle.fp_host.specs.Frame.{AtEnd};
-ghost use Rattle.fp_host.specs.Moments.{Always};
+ghost use Rattle.fp_host.specs.OverHost.{AtEachMoment, AtReturn, FailsOnly};
 ghost use Rattle.ost_model.specs.Objects.{Have};
 ghost use Rattle.ost_commit.specs.Objects.{have_of};
 ghost use Rattle.ost_export.specs.Staging.{AreStaged, AreWhole, IsApart};
@@ -28,15 +26,14 @@ fn store_staged<H: Host>(
     staged: &mut Vec<(Digest, ObjKind)>,
 ) -> Result<(), HostEnd>
     requires { IsApart root.now work.now }
-    ensures any_moment { (have : Have) → Always (PutsStaged have root.now work.now staged.old.items)
-        (H.moments host.old) (H.moments host.new) }
-    ensures on_success { (have : Have) → OnOk result (AtEnd
+    ensures any_moment { (have : Have) → AtEachMoment H.Host host.old host.new
+        (PutsStaged have root.now work.now staged.old.items) }
+    ensures on_success { (have : Have) → OnOk result (AtReturn H.Host host.old host.new
         (λ u w. AreStaged have work.now staged.old.items u
-        → WasStored root.now work.now staged.old.items u w)
-        (H.moments host.old) (H.moments host.new)) }
+        → WasStored root.now work.now staged.old.items u w)) }
     ensures fault_has_cause { (have : Have)
-        → IsCaused (IsErrOf result HostEnd.Fault) (H.moments host.old)
-        (CanStore have root.now work.now staged.old.items) (H.faults host.old) (H.faults host.new) }
+        → FailsOnly H.Host host.old host.new
+        (CanStore have root.now work.now staged.old.items) (IsErrOf result HostEnd.Fault) }
 {
     host.sync()?;
     place_all(alloc, host, root, work, staged)?;
@@ -54,12 +51,12 @@ pub(crate) fn store_objects<H: Host>(
 ) -> Result<(), HostEnd>
     requires no_work { IsNoWork root.now }
     requires whole { AreWhole objects.now }
-    ensures any_moment { Always (StoresObjects (have_of objects.now) root.now)
-        (H.moments host.old) (H.moments host.new) }
-    ensures on_success { OnOk result (AtEnd (HasStored (have_of objects.now) root.now)
-        (H.moments host.old) (H.moments host.new)) }
-    ensures fault_has_cause { IsCaused (IsErrOf result HostEnd.Fault) (H.moments host.old)
-        (CanStoreAll root.now objects.now) (H.faults host.old) (H.faults host.new) }
+    ensures any_moment { AtEachMoment H.Host host.old host.new
+        (StoresObjects (have_of objects.now) root.now) }
+    ensures on_success { OnOk result (AtReturn H.Host host.old host.new
+        (HasStored (have_of objects.now) root.now)) }
+    ensures fault_has_cause { FailsOnly H.Host host.old host.new
+        (CanStoreAll root.now objects.now) (IsErrOf result HostEnd.Fault) }
 {
     let work = staging_place(alloc, host)?;
     let mut staged = stage_all(alloc, host, root, &work, objects)?;

@@ -34,7 +34,7 @@ use Rattle.ost_store.specs.declared.reading.Got.TheVariants as got
 use Rattle.ost_store.specs.Reads.{got_of}
 use Rattle.ost_walk.specs.declared.ends.WalkFault.{WalkFault}
 use Rattle.ost_head.specs.Objects.{IsFaultThere}
-use Rattle.ost_copy.specs.Contents.{IsGoodThere}
+use Rattle.ost_head.specs.Contents.{IsGoodThere}
 use Rattle.ost_fsck.specs.Judging.{has_bits, is_true, is_named, bad_unless, keeps_rules, meta_most, AreBitsAt, IsTrueAt, IsNamedAt, LooksAt, Looks}
 
 -- ---- rules

@@ -1,7 +1,6 @@
 //! Paths that are looked at together, so that two threads hash their small objects.
 ghost use Rattle.std.specs.Prelude.{◌≡◌, ◌≤◌, ◌++◌, ◌∷◌, [], length, IfOk, OnOk, IsErrOf};
-ghost use Rattle.fp_host.specs.Causes.{IsCounted};
-ghost use Rattle.fp_host.specs.Frame.{AtEnd, Unchanged};
+ghost use Rattle.fp_host.specs.OverHost.{AtReturn, ChangesNothing, FailsAlone};
 ghost use Rattle.ost_fsck.specs.Batches.{AreRows, ChecksMore, findings_by, objects_by};
 ghost use Rattle.ost_store.specs.Names.{with_found};
 
@@ -9,11 +8,11 @@ use crate::report::Finding;
 use crate::row::{Row, judge, read};
 use fp_host::{Host, HostEnd, Path};
 use fp_name::Digest;
-use par_digest::{Gate, Item, digests_gated};
+use par_digest::{Gate, Item, MOST_IN_BATCH, digests_gated};
 use std::alloc::{AllocError, Global};
 use std::thread::Threads;
 
-/// Looks at each of these paths in the store in this folder, adds what is found, and says how many
+/// Looks at each of these paths, 64 at most, in the store in this folder, adds what is found, and says how many
 /// are the name of an object. The digests of the small objects come from one call, which has the
 /// gate.
 pub(crate) fn check_batch<T: Threads + Sync, H: Host, G: Gate + Sync>(
@@ -25,12 +24,13 @@ pub(crate) fn check_batch<T: Threads + Sync, H: Host, G: Gate + Sync>(
     gate: &G,
     findings: &mut Vec<Finding>,
 ) -> Result<u64, HostEnd>
-    ensures unchanged { Unchanged (H.moments host.old) (H.moments host.new) }
+    requires { length paths.now ≤ MOST_IN_BATCH }
+    ensures unchanged { ChangesNothing H.Host host.old host.new }
     ensures few { IfOk result (λ objects. objects ≤ length paths.now) }
-    ensures tells { IfOk result (λ objects. AtEnd (λ u w. ChecksMore root.now paths.now u
-        findings.old.items findings.new.items objects) (H.moments host.old) (H.moments host.new)) }
-    ensures fault_has_cause { IsCounted (IsErrOf result HostEnd.Fault)
-        (H.moments host.old) (H.faults host.old) (H.faults host.new) }
+    ensures tells { IfOk result (λ objects. AtReturn H.Host host.old host.new
+        (λ u w. ChecksMore root.now paths.now u
+        findings.old.items findings.new.items objects)) }
+    ensures fault_has_cause { FailsAlone H.Host host.old host.new (IsErrOf result HostEnd.Fault) }
 {
     let mut items = Vec::new(alloc);
     let rows = read_all(alloc, host, root, paths, &mut items)?;
@@ -47,13 +47,12 @@ fn read_all<H: Host>(
     paths: &[Path],
     items: &mut Vec<Item>,
 ) -> Result<Vec<Row>, HostEnd>
-    ensures unchanged { Unchanged (H.moments host.old) (H.moments host.new) }
+    ensures unchanged { ChangesNothing H.Host host.old host.new }
     ensures long { IfOk result (λ rows. length rows.items ≡ length paths.now) }
     ensures tells { IfOk result
-        (λ rows. AtEnd (λ u w. AreRows root.now paths.now u items.new.items rows.items)
-        (H.moments host.old) (H.moments host.new)) }
-    ensures fault_has_cause { IsCounted (IsErrOf result HostEnd.Fault)
-        (H.moments host.old) (H.faults host.old) (H.faults host.new) }
+        (λ rows. AtReturn H.Host host.old host.new
+        (λ u w. AreRows root.now paths.now u items.new.items rows.items)) }
+    ensures fault_has_cause { FailsAlone H.Host host.old host.new (IsErrOf result HostEnd.Fault) }
 {
     let mut rows = Vec::new(alloc);
     for path in paths {

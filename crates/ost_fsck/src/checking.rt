@@ -1,7 +1,6 @@
 //! All that stands below `objects`.
 ghost use Rattle.std.specs.Prelude.{IfOk, IsErrOf};
-ghost use Rattle.fp_host.specs.Causes.{IsCaused, IsCounted};
-ghost use Rattle.fp_host.specs.Frame.{AtEnd, Unchanged};
+ghost use Rattle.fp_host.specs.OverHost.{AtReturn, ChangesNothing, FailsAlone, FailsOnly};
 ghost use Rattle.fp_host.specs.Outcome.{shows};
 ghost use Rattle.ost_store.specs.Names.{CanList};
 ghost use Rattle.ost_fsck.specs.Report.{Reports};
@@ -25,11 +24,10 @@ fn check_all<T: Threads + Sync, H: Host, G: Gate + Sync>(
     paths: &[Path],
     gate: &G,
 ) -> Result<Report, HostEnd>
-    ensures unchanged { Unchanged (H.moments host.old) (H.moments host.new) }
-    ensures tells { IfOk result (λ report. AtEnd (λ u w. Checks root.now paths.now u report)
-        (H.moments host.old) (H.moments host.new)) }
-    ensures fault_has_cause { IsCounted (IsErrOf result HostEnd.Fault)
-        (H.moments host.old) (H.faults host.old) (H.faults host.new) }
+    ensures unchanged { ChangesNothing H.Host host.old host.new }
+    ensures tells { IfOk result (λ report. AtReturn H.Host host.old host.new
+        (λ u w. Checks root.now paths.now u report)) }
+    ensures fault_has_cause { FailsAlone H.Host host.old host.new (IsErrOf result HostEnd.Fault) }
 {
     let mut findings = Vec::new(alloc);
     let mut objects = 0u64;
@@ -57,11 +55,11 @@ pub fn check_store<T: Threads + Sync, H: Host, G: Gate + Sync>(
     root: &Path,
     gate: &G,
 ) -> Result<Report, HostEnd>
-    ensures unchanged { Unchanged (H.moments host.old) (H.moments host.new) }
-    ensures tells { IfOk result (λ report. AtEnd (λ u w. Reports root.now (shows u) report)
-        (H.moments host.old) (H.moments host.new)) }
-    ensures fault_has_cause { IsCaused (IsErrOf result HostEnd.Fault) (H.moments host.old)
-        (CanList root.now) (H.faults host.old) (H.faults host.new) }
+    ensures unchanged { ChangesNothing H.Host host.old host.new }
+    ensures tells { IfOk result (λ report. AtReturn H.Host host.old host.new
+        (λ u w. Reports root.now (shows u) report)) }
+    ensures fault_has_cause { FailsOnly H.Host host.old host.new
+        (CanList root.now) (IsErrOf result HostEnd.Fault) }
 {
     let paths = names(alloc, host, root)?;
     check_all(rt, alloc, host, root, paths.as_slice(), gate)

@@ -1,7 +1,6 @@
 //! Small objects as what their digests are taken of.
 ghost use Rattle.std.specs.Prelude.{◌≡◌, ◌≤◌, length, true, IfOk, IsErrOf};
-ghost use Rattle.fp_host.specs.Causes.{IsCounted};
-ghost use Rattle.fp_host.specs.Frame.{AtEnd, Unchanged};
+ghost use Rattle.fp_host.specs.OverHost.{AtReturn, ChangesNothing, FailsAlone};
 ghost use Rattle.fp_host.specs.Outcome.{points};
 ghost use Rattle.ost_model.specs.Contents.{is_permission};
 ghost use Rattle.ost_fsck.specs.Batches.{head_of, small_most, IsItemAt, IsItemIn, IsFileItemAt, IsFileItem};
@@ -22,11 +21,10 @@ pub(crate) fn small_item<H: Host>(
     path: &Path,
     kind: ObjKind,
 ) -> Result<Option<Item>, HostEnd>
-    ensures unchanged { Unchanged (H.moments host.old) (H.moments host.new) }
-    ensures tells { IfOk result (λ item. AtEnd (λ u w. IsItemAt kind path.now u item)
-        (H.moments host.old) (H.moments host.new)) }
-    ensures fault_has_cause { IsCounted (IsErrOf result HostEnd.Fault)
-        (H.moments host.old) (H.faults host.old) (H.faults host.new) }
+    ensures unchanged { ChangesNothing H.Host host.old host.new }
+    ensures tells { IfOk result (λ item. AtReturn H.Host host.old host.new
+        (λ u w. IsItemAt kind path.now u item)) }
+    ensures fault_has_cause { FailsAlone H.Host host.old host.new (IsErrOf result HostEnd.Fault) }
 {
     match host.stat(path)? {
         Stat::File { mode, .. } if is_permission(mode) => file_item(alloc, host, path, kind, mode),
@@ -44,11 +42,10 @@ fn file_item<H: Host>(
     mode: u32,
 ) -> Result<Option<Item>, HostEnd>
     requires { is_permission mode ≡ true }
-    ensures unchanged { Unchanged (H.moments host.old) (H.moments host.new) }
-    ensures tells { IfOk result (λ item. AtEnd (λ u w. IsFileItemAt kind mode path.now u item)
-        (H.moments host.old) (H.moments host.new)) }
-    ensures fault_has_cause { IsCounted (IsErrOf result HostEnd.Fault)
-        (H.moments host.old) (H.faults host.old) (H.faults host.new) }
+    ensures unchanged { ChangesNothing H.Host host.old host.new }
+    ensures tells { IfOk result (λ item. AtReturn H.Host host.old host.new
+        (λ u w. IsFileItemAt kind mode path.now u item)) }
+    ensures fault_has_cause { FailsAlone H.Host host.old host.new (IsErrOf result HostEnd.Fault) }
 {
     match load(alloc, host, path, MOST_SMALL_BYTES)? {
         Loaded::Bytes(bytes) => item_of(alloc, kind, mode, bytes),

@@ -1,7 +1,6 @@
 //! One object, looked at by itself.
 ghost use Rattle.std.specs.Prelude.{◌≡◌, false, Some, IfOk, IsErrOf};
-ghost use Rattle.fp_host.specs.Causes.{IsCounted};
-ghost use Rattle.fp_host.specs.Frame.{AtEnd, Unchanged};
+ghost use Rattle.fp_host.specs.OverHost.{AtReturn, ChangesNothing, FailsAlone};
 ghost use Rattle.fp_base.specs.declared.object.ObjKind.TheVariants as kinds;
 ghost use Rattle.ost_fsck.specs.Judging.{has_bits, bad_unless, AreBitsAt, IsTrueAt, IsNamedAt, LooksAt};
 ghost use Rattle.ost_fsck.specs.declared.report.Finding.TheVariants as findings;
@@ -12,7 +11,7 @@ use fp_base::ObjKind;
 use fp_host::{Host, HostEnd, Path, Stat};
 use fp_name::Digest;
 use ost_content::is_permission;
-use ost_copy::check_stored;
+use ost_head::check_stored;
 use ost_store::path_of;
 use ost_walk::WalkEnd;
 use std::alloc::{AllocError, Global};
@@ -38,11 +37,10 @@ fn has_bits(stat: Stat) -> bool
 
 /// Whether the permission bits of what stands at the path are good.
 fn are_bits_good<H: Host>(host: &mut H, path: &Path) -> Result<bool, HostEnd>
-    ensures unchanged { Unchanged (H.moments host.old) (H.moments host.new) }
-    ensures tells { IfOk result (λ are. AtEnd (λ u w. AreBitsAt path.now u are)
-        (H.moments host.old) (H.moments host.new)) }
-    ensures fault_has_cause { IsCounted (IsErrOf result HostEnd.Fault)
-        (H.moments host.old) (H.faults host.old) (H.faults host.new) }
+    ensures unchanged { ChangesNothing H.Host host.old host.new }
+    ensures tells { IfOk result (λ are. AtReturn H.Host host.old host.new
+        (λ u w. AreBitsAt path.now u are)) }
+    ensures fault_has_cause { FailsAlone H.Host host.old host.new (IsErrOf result HostEnd.Fault) }
 {
     let stat = host.stat(path)?;
     Ok(has_bits(stat))
@@ -56,11 +54,10 @@ fn has_content<H: Host>(
     root: &Path,
     digest: &Digest,
 ) -> Result<bool, HostEnd>
-    ensures unchanged { Unchanged (H.moments host.old) (H.moments host.new) }
-    ensures tells { IfOk result (λ is. AtEnd (λ u w. IsTrueAt root.now digest.now kinds.File u is)
-        (H.moments host.old) (H.moments host.new)) }
-    ensures fault_has_cause { IsCounted (IsErrOf result HostEnd.Fault)
-        (H.moments host.old) (H.faults host.old) (H.faults host.new) }
+    ensures unchanged { ChangesNothing H.Host host.old host.new }
+    ensures tells { IfOk result (λ is. AtReturn H.Host host.old host.new
+        (λ u w. IsTrueAt root.now digest.now kinds.File u is)) }
+    ensures fault_has_cause { FailsAlone H.Host host.old host.new (IsErrOf result HostEnd.Fault) }
 {
     match check_stored(alloc, host, root, digest) {
         Ok(is) => Ok(is),
@@ -78,11 +75,10 @@ fn has_object<H: Host>(
     digest: &Digest,
     kind: ObjKind,
 ) -> Result<bool, HostEnd>
-    ensures unchanged { Unchanged (H.moments host.old) (H.moments host.new) }
-    ensures tells { IfOk result (λ is. AtEnd (λ u w. IsTrueAt root.now digest.now kind u is)
-        (H.moments host.old) (H.moments host.new)) }
-    ensures fault_has_cause { IsCounted (IsErrOf result HostEnd.Fault)
-        (H.moments host.old) (H.faults host.old) (H.faults host.new) }
+    ensures unchanged { ChangesNothing H.Host host.old host.new }
+    ensures tells { IfOk result (λ is. AtReturn H.Host host.old host.new
+        (λ u w. IsTrueAt root.now digest.now kind u is)) }
+    ensures fault_has_cause { FailsAlone H.Host host.old host.new (IsErrOf result HostEnd.Fault) }
 {
     match kind {
         ObjKind::File => has_content(alloc, host, root, digest),
@@ -101,11 +97,10 @@ fn is_named<H: Host>(
     digest: &Digest,
     kind: ObjKind,
 ) -> Result<bool, HostEnd>
-    ensures unchanged { Unchanged (H.moments host.old) (H.moments host.new) }
-    ensures tells { IfOk result (λ is. AtEnd (λ u w. IsNamedAt root.now digest.now kind u is)
-        (H.moments host.old) (H.moments host.new)) }
-    ensures fault_has_cause { IsCounted (IsErrOf result HostEnd.Fault)
-        (H.moments host.old) (H.faults host.old) (H.faults host.new) }
+    ensures unchanged { ChangesNothing H.Host host.old host.new }
+    ensures tells { IfOk result (λ is. AtReturn H.Host host.old host.new
+        (λ u w. IsNamedAt root.now digest.now kind u is)) }
+    ensures fault_has_cause { FailsAlone H.Host host.old host.new (IsErrOf result HostEnd.Fault) }
 {
     let path = path_of(alloc, root, digest, kind)?;
     if are_bits_good(host, &path)? {
@@ -145,11 +140,11 @@ pub(crate) fn look_at<H: Host>(
     digest: &Digest,
     kind: ObjKind,
 ) -> Result<Seen, HostEnd>
-    ensures unchanged { Unchanged (H.moments host.old) (H.moments host.new) }
-    ensures tells { IfOk result (λ seen. AtEnd (λ u w. LooksAt root.now digest.now kind u
-        seen.is_object seen.finding) (H.moments host.old) (H.moments host.new)) }
-    ensures fault_has_cause { IsCounted (IsErrOf result HostEnd.Fault)
-        (H.moments host.old) (H.faults host.old) (H.faults host.new) }
+    ensures unchanged { ChangesNothing H.Host host.old host.new }
+    ensures tells { IfOk result (λ seen. AtReturn H.Host host.old host.new
+        (λ u w. LooksAt root.now digest.now kind u
+        seen.is_object seen.finding)) }
+    ensures fault_has_cause { FailsAlone H.Host host.old host.new (IsErrOf result HostEnd.Fault) }
 {
     let is = is_named(alloc, host, root, digest, kind)?;
     let finding = bad_unless(is, *digest, kind);

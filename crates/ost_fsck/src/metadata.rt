@@ -1,7 +1,6 @@
 //! Metadata objects: whether they are what their digests name.
 ghost use Rattle.std.specs.Prelude.{◌≡◌, ◌≤◌, false, Option, Some, length, IfOk, IsErrOf};
-ghost use Rattle.fp_host.specs.Causes.{IsCounted};
-ghost use Rattle.fp_host.specs.Frame.{AtEnd, Unchanged};
+ghost use Rattle.fp_host.specs.OverHost.{AtReturn, ChangesNothing, FailsAlone};
 ghost use Rattle.fp_base.specs.declared.object.ObjKind.TheVariants as kinds;
 ghost use Rattle.ost_model.specs.declared.object.Object.{Object};
 ghost use Rattle.ost_model.specs.declared.object.Object.TheVariants as objects;
@@ -102,11 +101,10 @@ pub(crate) fn has_metadata<H: Host>(
     kind: ObjKind,
 ) -> Result<bool, HostEnd>
     requires { may_be_link kind ≡ false }
-    ensures unchanged { Unchanged (H.moments host.old) (H.moments host.new) }
-    ensures tells { IfOk result (λ is. AtEnd (λ u w. IsTrueAt root.now digest.now kind u is)
-        (H.moments host.old) (H.moments host.new)) }
-    ensures fault_has_cause { IsCounted (IsErrOf result HostEnd.Fault)
-        (H.moments host.old) (H.faults host.old) (H.faults host.new) }
+    ensures unchanged { ChangesNothing H.Host host.old host.new }
+    ensures tells { IfOk result (λ is. AtReturn H.Host host.old host.new
+        (λ u w. IsTrueAt root.now digest.now kind u is)) }
+    ensures fault_has_cause { FailsAlone H.Host host.old host.new (IsErrOf result HostEnd.Fault) }
 {
     let got = get(alloc, host, root, digest, kind, MOST_METADATA_OBJECT_BYTES)?;
     is_true(alloc, digest, kind, &got)

@@ -1,7 +1,6 @@
 //! What is known of a path once it is read.
 ghost use Rattle.std.specs.Prelude.{◌≡◌, ◌++◌, ◌∷◌, [], length, IfOk, OnOk, IsErrOf};
-ghost use Rattle.fp_host.specs.Causes.{IsCounted};
-ghost use Rattle.fp_host.specs.Frame.{AtEnd, Unchanged};
+ghost use Rattle.fp_host.specs.OverHost.{AtReturn, ChangesNothing, FailsAlone};
 ghost use Rattle.ost_fsck.specs.declared.row.Row.TheVariants as rows;
 ghost use Rattle.ost_fsck.specs.Batches.{is_at, seen_by, Grows, IsRow, IsRowAt};
 
@@ -36,12 +35,11 @@ pub(crate) fn read<H: Host>(
     path: &Path,
     items: &mut Vec<Item>,
 ) -> Result<Row, HostEnd>
-    ensures unchanged { Unchanged (H.moments host.old) (H.moments host.new) }
+    ensures unchanged { ChangesNothing H.Host host.old host.new }
     ensures grows { OnOk result (Grows items.old.items items.new.items) }
-    ensures tells { IfOk result (λ row. AtEnd (λ u w. IsRow root.now path.now u items.new.items row)
-        (H.moments host.old) (H.moments host.new)) }
-    ensures fault_has_cause { IsCounted (IsErrOf result HostEnd.Fault)
-        (H.moments host.old) (H.faults host.old) (H.faults host.new) }
+    ensures tells { IfOk result (λ row. AtReturn H.Host host.old host.new
+        (λ u w. IsRow root.now path.now u items.new.items row)) }
+    ensures fault_has_cause { FailsAlone H.Host host.old host.new (IsErrOf result HostEnd.Fault) }
 {
     match object_named(alloc, root, path)? {
         Some(object) => read_object(alloc, host, root, &object.0, object.1, items),
@@ -58,13 +56,12 @@ fn read_object<H: Host>(
     kind: ObjKind,
     items: &mut Vec<Item>,
 ) -> Result<Row, HostEnd>
-    ensures unchanged { Unchanged (H.moments host.old) (H.moments host.new) }
+    ensures unchanged { ChangesNothing H.Host host.old host.new }
     ensures grows { OnOk result (Grows items.old.items items.new.items) }
     ensures tells { IfOk result
-        (λ row. AtEnd (λ u w. IsRowAt root.now digest.now kind u items.new.items row)
-        (H.moments host.old) (H.moments host.new)) }
-    ensures fault_has_cause { IsCounted (IsErrOf result HostEnd.Fault)
-        (H.moments host.old) (H.faults host.old) (H.faults host.new) }
+        (λ row. AtReturn H.Host host.old host.new
+        (λ u w. IsRowAt root.now digest.now kind u items.new.items row)) }
+    ensures fault_has_cause { FailsAlone H.Host host.old host.new (IsErrOf result HostEnd.Fault) }
 {
     let path = path_of(alloc, root, digest, kind)?;
     match small_item(alloc, host, &path, kind)? {

@@ -15,12 +15,12 @@ use Rattle.ost_walk.specs.declared.ends.WalkEnd.{WalkEnd}
 use Rattle.ost_walk.specs.declared.ends.WalkEnd.TheVariants as walks
 use Rattle.ost_walk.specs.Ends.{RefusesBy, EndsBy, IsFaultOf, fault_of}
 use Rattle.ost_walk.specs.Steps.{own_fault}
-use Rattle.ost_head.specs.declared.ends.PullEnd.{PullEnd}
+use Rattle.ost_walk.specs.declared.pull_end.PullEnd.{PullEnd}
 use Rattle.ost_head.specs.declared.head.Head.{Head}
-use Rattle.ost_head.specs.Ends.{walk_refusal, of_walk, Answers}
+use Rattle.ost_walk.specs.PullEnds.{walk_refusal, of_walk, Answers}
 use Rattle.ost_head.specs.Objects.{IsGood}
 use Rattle.ost_head.specs.Parts.{ReadsAs, IsReadAs}
-use Rattle.ost_head.specs.Refusals.{refusal_of, object_refused}
+use Rattle.ost_walk.specs.Refusals.{refusal_of, object_refused}
 use Rattle.ost_head.specs.Heads.{unless_refused, with_tree, with_commit, with_content, content_in, file_in, metadata_at, head_in, head_of}
 use Rattle.ost_head.specs.Roots.{of_tree, ReadsTree, ReadsRoot}
 

@@ -7,3 +7,8 @@ mod Looking
 mod Headed
 mod Parted
 mod Entered
+mod Pieces
+mod Checked
+mod Told
+mod Copied
+mod Brought

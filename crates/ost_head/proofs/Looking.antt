@@ -6,9 +6,9 @@ use Rattle.fp_host.proofs.Looking.{looks_start, looks_within}
 use Rattle.ost_walk.specs.declared.ends.WalkEnd.{WalkEnd}
 use Rattle.ost_walk.specs.declared.ends.WalkEnd.TheVariants as walks
 use Rattle.ost_walk.specs.Ends.{Outside, Observes}
-use Rattle.ost_head.specs.declared.ends.PullEnd.{PullEnd}
-use Rattle.ost_head.specs.declared.ends.PullEnd.TheVariants as ends
-use Rattle.ost_head.specs.Ends.{of_walk, NoFault, Looks}
+use Rattle.ost_walk.specs.declared.pull_end.PullEnd.{PullEnd}
+use Rattle.ost_walk.specs.declared.pull_end.PullEnd.TheVariants as ends
+use Rattle.ost_walk.specs.PullEnds.{of_walk, NoFault, Looks}
 
 -- what was looked at before a result that is no fault
 pub looks_to : {A B : Type 0} {first : Result A WalkEnd} {u w : Outside} (result : Result B PullEnd) → Observes first u w → NoFault result → Looks result u w

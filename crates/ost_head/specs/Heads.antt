@@ -24,7 +24,7 @@ use Rattle.ost_model.specs.Objects.{Have}
 use Rattle.ost_model.specs.Order.{commit_at, tree_at}
 use Rattle.ost_model.specs.Look.{Found, nothing, directory, file_at, entry_in}
 use Rattle.ost_model.specs.Binding.{binding_in}
-use Rattle.ost_head.specs.Refusals.{object_refused}
+use Rattle.ost_walk.specs.Refusals.{object_refused}
 use Rattle.ost_head.specs.declared.head.Head.{Head}
 
 -- ---- the commit

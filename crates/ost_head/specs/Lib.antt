@@ -1,10 +1,12 @@
-pub mod Ends
 pub mod Offers
 pub mod Objects
 pub mod Fetches
 pub mod Stored
 pub mod Found
-pub mod Refusals
 pub mod Heads
 pub mod Parts
 pub mod Roots
+pub mod Pieces
+pub mod Contents
+pub mod Copies
+pub mod Brings

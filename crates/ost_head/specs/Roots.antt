@@ -10,8 +10,8 @@ use Rattle.ost_object.specs.declared.dirtree.DirTree.{DirTree}
 use Rattle.ost_walk.specs.declared.ends.WalkEnd.{WalkEnd}
 use Rattle.ost_walk.specs.Ends.{EndsBy}
 use Rattle.fp_small.specs.declared.refusal.Refusal.{Refusal}
-use Rattle.ost_head.specs.Ends.{walk_refusal}
-use Rattle.ost_head.specs.Refusals.{object_refused}
+use Rattle.ost_walk.specs.PullEnds.{walk_refusal}
+use Rattle.ost_walk.specs.Refusals.{object_refused}
 use Rattle.ost_head.specs.Heads.{with_tree, head_in, head_of, unless_refused}
 use Rattle.ost_head.specs.declared.head.Head.{Head}
 use Rattle.ost_head.specs.declared.head.Root.{Root}

@@ -7,12 +7,11 @@ ghost use Rattle.ost_model.specs.Look.{entry_in, file_at};
 ghost use Rattle.ost_model.specs.Remotes.{Supplies};
 ghost use Rattle.ost_object.specs.Views.{commit_view, tree_view};
 ghost use Rattle.ost_walk.specs.Ends.{Observes, outside};
-ghost use Rattle.ost_head.specs.Ends.{Answers, Looks, NoFault};
+ghost use Rattle.ost_walk.specs.PullEnds.{Answers, Looks, NoFault};
 ghost use Rattle.ost_head.specs.Found.{found_object};
 ghost use Rattle.ost_head.specs.Heads.{commit_refused, content_in, head_in, head_of, metadata_at, root_refused, with_content};
 ghost use Rattle.ost_head.specs.Roots.{ReadsRoot, ReadsTree};
 
-use crate::ends::PullEnd;
 use crate::entries::file_in;
 use crate::found::{Found, find};
 use crate::parts::{find_commit, find_meta, find_tree};
@@ -23,7 +22,7 @@ use fp_name::{Digest, RefName};
 use fp_small::{Refusal, RemoteRow, repo_path};
 use ost_model::Object;
 use ost_object::{Commit, DirTree};
-use ost_walk::WalkEnd;
+use ost_walk::{PullEnd, WalkEnd};
 use std::alloc::{AllocError, Global};
 
 /// The head of a ref.

@@ -1,12 +1,17 @@
 //! What a remote offers: the commit of a ref, its head, and single objects, each checked.
 #![tactic(auto)]
 
-mod ends;
+mod bringing;
+mod checking;
+mod content;
+mod copying;
 mod entries;
 mod fetching;
 mod found;
 mod head;
 mod judging;
+pub mod laws;
+mod limits;
 mod modes;
 mod offering;
 mod parts;
@@ -14,7 +19,8 @@ mod refusing;
 mod small;
 mod storing;
 
-pub use ends::PullEnd;
+pub use bringing::bring;
+pub use checking::check_stored;
 pub use found::{Found, find};
 pub use head::{Head, read_head};
 pub use offering::offer;

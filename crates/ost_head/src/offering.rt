@@ -3,10 +3,9 @@ ghost use Rattle.std.specs.Prelude.{◌≡◌, IfOk, IsErrOf, Some};
 ghost use Rattle.fp_host.specs.Remote.{Holdings};
 ghost use Rattle.fp_small.specs.declared.refusal.Refusal.TheVariants as refusals;
 ghost use Rattle.ost_walk.specs.Ends.{IsRemotes};
-ghost use Rattle.ost_head.specs.Ends.{Answers, Tells};
+ghost use Rattle.ost_walk.specs.PullEnds.{Answers, Tells};
 ghost use Rattle.ost_head.specs.Offers.{config_path, wrong_mode, ref_path, ref_at, commit_said, offered};
 
-use crate::ends::PullEnd;
 use crate::modes::mode_in;
 use crate::small::load_remote;
 use fp_base::Text;
@@ -14,6 +13,7 @@ use fp_host::{Path, RemoteError, Remotes};
 use fp_name::{Digest, RefName};
 use fp_small::{Refusal, RemoteRow};
 use ost_refs::{REF_FILE_BYTES, RefFile, RefPlace, path_of, ref_file};
+use ost_walk::PullEnd;
 use std::alloc::{AllocError, Global};
 
 /// The most bytes of a repository's `config`.

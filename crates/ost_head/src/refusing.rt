@@ -2,80 +2,22 @@
 ghost use Rattle.std.specs.Prelude.{◌≡◌, IfOk};
 ghost use Rattle.fp_name.specs.Refs.{ref_text};
 ghost use Rattle.ost_object.specs.Views.{commit_view, tree_view};
-ghost use Rattle.ost_walk.specs.Ends.{fault_of};
 ghost use Rattle.fp_keyfile.specs.KeyFile.{file_of};
 ghost use Rattle.fl_meta.specs.Metadata.{meta_of, meta_kind};
 ghost use Rattle.ost_head.specs.Heads.{age_refused, binding_refused, commit_refused, lines_refused, lists, meta_refused, metadata_refused, no_metadata, root_refused};
-ghost use Rattle.ost_head.specs.Refusals.{long_what, refusal_of};
 
 use crate::entries::has_none;
 use fl_meta::{Meta, MetaError, meta_kind};
-use fp_base::{Blob, Items, MetaRule, MetadataRule, ObjKind, Text, What};
+use fp_base::{Blob, Items, MetaRule, MetadataRule, Text, What};
 use fp_keyfile::{KeyError, KeyFile};
 use fp_name::{Digest, RefName};
 use fp_small::Refusal;
-use ost_model::{MOST_LEVELS, MOST_METADATA_FILE_BYTES, MOST_OBJECTS};
+use ost_model::MOST_METADATA_FILE_BYTES;
 use ost_object::{Commit, DirTree, binding};
-use ost_walk::{ObjectFault, WalkFault};
 use std::alloc::{AllocError, Global};
-
-/// The most objects of a commit, and one.
-const TOO_MANY: u64 = MOST_OBJECTS as u64 + 1;
-
-/// The most directories below the root, and one.
-const TOO_DEEP: u64 = MOST_LEVELS as u64 + 1;
 
 /// The most bytes of the file `metadata`.
 const MOST_METADATA: usize = MOST_METADATA_FILE_BYTES as usize;
-
-/// What is too long where an object of the kind is.
-fn long_what(kind: ObjKind) -> What
-    ensures { result ≡ long_what kind }
-{
-    match kind {
-        ObjKind::File => What::Object,
-        ObjKind::Commit | ObjKind::DirTree | ObjKind::DirMeta => What::MetadataObject,
-    }
-}
-
-/// The refusal of an object with a fault.
-pub(crate) fn refuse_object(refused: &WalkFault) -> Refusal
-    ensures { result ≡ refusal_of refused.now.digest refused.now.kind (fault_of refused.now.fault) }
-{
-    match &refused.fault {
-        ObjectFault::TooMany => Refusal::Limit {
-            what: What::Objects,
-            number: TOO_MANY,
-        },
-        ObjectFault::TooDeep => Refusal::Limit {
-            what: What::Depth,
-            number: TOO_DEEP,
-        },
-        ObjectFault::Missing => Refusal::MissingObject {
-            digest: refused.digest,
-            kind: refused.kind,
-        },
-        ObjectFault::TooLong(number) => Refusal::Limit {
-            what: long_what(refused.kind),
-            number: *number,
-        },
-        ObjectFault::RefusedMode(mode) => Refusal::ModeRefused {
-            digest: refused.digest,
-            kind: refused.kind,
-            mode: *mode,
-        },
-        ObjectFault::Corrupt(got) => Refusal::CorruptObject {
-            digest: refused.digest,
-            kind: refused.kind,
-            got: *got,
-        },
-        ObjectFault::Malformed(rule) => Refusal::MalformedObject {
-            digest: refused.digest,
-            kind: refused.kind,
-            rule: *rule,
-        },
-    }
-}
 
 /// Whether the ref is among the names.
 fn lists(names: &Items<Text>, name: &RefName) -> bool

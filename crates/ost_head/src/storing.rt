@@ -1,9 +1,8 @@
 //! Objects of the store.
 ghost use Rattle.std.specs.Prelude.{◌≡◌, true, false, IfOk, IsErrOf, Some};
 ghost use Rattle.fp_base.specs.declared.object.ObjKind.TheVariants as kinds;
+ghost use Rattle.fp_host.specs.OverHost.{ChangesNothing, FailsAlone, FailsOnly};
 ghost use Rattle.fp_host.specs.Paths.{is_link_text};
-ghost use Rattle.fp_host.specs.Causes.{IsCaused, IsCounted};
-ghost use Rattle.fp_host.specs.Frame.{Unchanged};
 ghost use Rattle.fp_host.specs.Moments.{Moments};
 ghost use Rattle.fp_host.specs.Outcome.{shows};
 ghost use Rattle.ost_model.specs.declared.object.Object.TheVariants as objects;
@@ -32,14 +31,14 @@ fn read_file<H: Host>(
     mode: u32,
     size: u64,
 ) -> Result<Option<Object>, WalkEnd>
-    ensures unchanged { Unchanged (H.moments host.old) (H.moments host.new) }
+    ensures unchanged { ChangesNothing H.Host host.old host.new }
     ensures fit { IfOk result (IsFitIfThere kinds.File) }
     ensures tells { (m : Moments) → H.moments host.old ≡ Some m
         → IsFileOf mode size (store root.now (shows m.now) digest.now kinds.File)
         → ReadsIfThere digest.now kinds.File (store root.now (shows m.now) digest.now kinds.File)
         result }
-    ensures fault_has_cause { IsCaused (IsErrOf result WalkEnd.HostFault) (H.moments host.old)
-        (HasFile root.now digest.now) (H.faults host.old) (H.faults host.new) }
+    ensures fault_has_cause { FailsOnly H.Host host.old host.new
+        (HasFile root.now digest.now) (IsErrOf result WalkEnd.HostFault) }
     ensures remote { IsErrOf result WalkEnd.RemoteFault → ⊥ }
 {
     if size > MOST_FILE_BYTES {
@@ -89,13 +88,13 @@ fn read_content<H: Host>(
     root: &Path,
     digest: &Digest,
 ) -> Result<Option<Object>, WalkEnd>
-    ensures unchanged { Unchanged (H.moments host.old) (H.moments host.new) }
+    ensures unchanged { ChangesNothing H.Host host.old host.new }
     ensures fit { IfOk result (IsFitIfThere kinds.File) }
     ensures tells { (m : Moments) → H.moments host.old ≡ Some m
         → ReadsIfThere digest.now kinds.File (store root.now (shows m.now) digest.now kinds.File)
         result }
-    ensures fault_has_cause { IsCounted (IsErrOf result WalkEnd.HostFault) (H.moments host.old)
-        (H.faults host.old) (H.faults host.new) }
+    ensures fault_has_cause { FailsAlone H.Host host.old host.new
+        (IsErrOf result WalkEnd.HostFault) }
     ensures remote { IsErrOf result WalkEnd.RemoteFault → ⊥ }
 {
     match get(alloc, host, root, digest, ObjKind::File, MOST_FILE_BYTES)? {
@@ -115,12 +114,12 @@ fn read_meta<H: Host>(
     kind: ObjKind,
 ) -> Result<Option<Object>, WalkEnd>
     requires { may_be_link kind ≡ false }
-    ensures unchanged { Unchanged (H.moments host.old) (H.moments host.new) }
+    ensures unchanged { ChangesNothing H.Host host.old host.new }
     ensures fit { IfOk result (IsFitIfThere kind) }
     ensures tells { (m : Moments) → H.moments host.old ≡ Some m
         → ReadsIfThere digest.now kind (store root.now (shows m.now) digest.now kind) result }
-    ensures fault_has_cause { IsCounted (IsErrOf result WalkEnd.HostFault) (H.moments host.old)
-        (H.faults host.old) (H.faults host.new) }
+    ensures fault_has_cause { FailsAlone H.Host host.old host.new
+        (IsErrOf result WalkEnd.HostFault) }
     ensures remote { IsErrOf result WalkEnd.RemoteFault → ⊥ }
 {
     match get(alloc, host, root, digest, kind, MOST_METADATA_OBJECT_BYTES)? {
@@ -139,12 +138,12 @@ fn read_object<H: Host>(
     digest: &Digest,
     kind: ObjKind,
 ) -> Result<Option<Object>, WalkEnd>
-    ensures unchanged { Unchanged (H.moments host.old) (H.moments host.new) }
+    ensures unchanged { ChangesNothing H.Host host.old host.new }
     ensures fit { IfOk result (IsFitIfThere kind) }
     ensures tells { (m : Moments) → H.moments host.old ≡ Some m
         → ReadsIfThere digest.now kind (store root.now (shows m.now) digest.now kind) result }
-    ensures fault_has_cause { IsCounted (IsErrOf result WalkEnd.HostFault) (H.moments host.old)
-        (H.faults host.old) (H.faults host.new) }
+    ensures fault_has_cause { FailsAlone H.Host host.old host.new
+        (IsErrOf result WalkEnd.HostFault) }
     ensures remote { IsErrOf result WalkEnd.RemoteFault → ⊥ }
 {
     match kind {
@@ -164,12 +163,12 @@ pub(crate) fn stored<H: Host>(
     digest: &Digest,
     kind: ObjKind,
 ) -> Result<Option<Object>, WalkEnd>
-    ensures unchanged { Unchanged (H.moments host.old) (H.moments host.new) }
+    ensures unchanged { ChangesNothing H.Host host.old host.new }
     ensures good { IfOk result (IsGoodIfThere digest.now kind) }
     ensures tells { (m : Moments) → H.moments host.old ≡ Some m
         → JudgesIfThere digest.now kind (store root.now (shows m.now) digest.now kind) result }
-    ensures fault_has_cause { IsCounted (IsErrOf result WalkEnd.HostFault) (H.moments host.old)
-        (H.faults host.old) (H.faults host.new) }
+    ensures fault_has_cause { FailsAlone H.Host host.old host.new
+        (IsErrOf result WalkEnd.HostFault) }
     ensures remote { IsErrOf result WalkEnd.RemoteFault → ⊥ }
 {
     match read_object(alloc, host, root, digest, kind) {

@@ -121,27 +121,30 @@ last_entry = refl
 other_type : binding_in (Tree.array (tree (bound (listed (codes "a"))) (tree (bound (Tree.variant (Shape.basic basics.Str) (text (codes "b")))) no_trees))) ≡ None
 other_type = refl
 
--- 0775, 0644, 0400, 0666, 01755, 0375, 0004 (octal)
+-- 0775, 0644, 0000, 0111, 0311, 0375, 0666, 01755 (octal)
 within_one : is_permission 0x1fd ≡ true
 within_one = refl
 
 within_two : is_permission 0x1a4 ≡ true
 within_two = refl
 
-owner_alone : is_permission 0x100 ≡ true
-owner_alone = refl
+no_bits : is_permission 0 ≡ true
+no_bits = refl
+
+only_started : is_permission 0x49 ≡ true
+only_started = refl
+
+not_listed : is_permission 0xc9 ≡ true
+not_listed = refl
+
+not_read : is_permission 0xfd ≡ true
+not_read = refl
 
 others_may_write : is_permission 0x1b6 ≡ false
 others_may_write = refl
 
 sticky : is_permission 0x3ed ≡ false
 sticky = refl
-
-all_but_the_owner : is_permission 0xfd ≡ false
-all_but_the_owner = refl
-
-others_alone : is_permission 4 ≡ false
-others_alone = refl
 
 -- the names of the folders below `objects`
 two_digits : is_prefix (codes "0f") ≡ true

@@ -1,6 +1,6 @@
 -- The digests of objects (OSTree, "Repository format"): SHA-256 (FIPS 180-4) of a metadata object's
 -- bytes, and, for a file or a link, of its header and its content. A digest is 32 bytes.
-use Rattle.std.specs.Prelude.{ℕ, ◌+◌, Bool, ◌&&◌, ◌==◌, bit_and, List, [], ◌++◌, length}
+use Rattle.std.specs.Prelude.{ℕ, ◌+◌, Bool, ◌==◌, bit_and, List, [], ◌++◌, length}
 use Rattle.std.specs.Int.{w32, to_be_bytes}
 use Rattle.sha2.specs.Sha256.{sha256}
 use Rattle.gv_value.specs.declared.basic.Basic.TheVariants as basics
@@ -8,7 +8,7 @@ use Rattle.gv_value.specs.Bytes.{le_value, zeros}
 use Rattle.gv_value.specs.Shape.{Shape, no_shapes, shape}
 use Rattle.gv_value.specs.Tree.{Content, Tree, no_trees, tree}
 use Rattle.gv_value.specs.Spelling.{spelling}
-use Rattle.ost_model.specs.declared.limits.TheConstants.{STORED_BITS, OWNER_READS, REGULAR_MODE, LINK_MODE}
+use Rattle.ost_model.specs.declared.limits.TheConstants.{STORED_BITS, REGULAR_MODE, LINK_MODE}
 
 -- `u`, and a number in it: OSTree keeps numbers big endian, so GVariant, whose numbers are little
 -- endian, sees the bytes turned
@@ -46,10 +46,9 @@ with_length header = to_be_bytes w32 (length header) ++ (zeros 4 ++ header)
 abbrev pub header_bytes : ℕ → List ℕ → List ℕ
 header_bytes mode text = with_length (spelling (header_value mode text) header_shape)
 
--- The good permission bits of a file: at most 0775 (octal), bit by bit, and its owner may read it.
--- What the owner can't read, nobody but root could check, start or take away.
+-- The good permission bits of a file or a directory: at most 0775 (octal), bit by bit.
 abbrev pub is_permission : ℕ → Bool
-is_permission bits = (bit_and bits STORED_BITS == bits) && (bit_and bits OWNER_READS == OWNER_READS)
+is_permission bits = bit_and bits STORED_BITS == bits
 
 -- the header of a file with these permission bits: its mode is 0100000 (octal) and the bits, and
 -- its text is empty

@@ -1,4 +1,6 @@
 //! Laws of stores and commits. Each is the contract of a function that does nothing.
+ghost use Rattle.std.specs.Prelude.{◌≡◌, codes};
+ghost use Rattle.ost_model.specs.declared.limits.TheConstants.{MOST_OBJECTS, MOST_LEVELS, MOST_METADATA_OBJECT_BYTES, MOST_FILE_BYTES, MOST_METADATA_FILE_BYTES, STORED_BITS, LOWEST_TYPE_BIT, DIRECTORY_TYPE, REGULAR_MODE, LINK_MODE, REF_BINDING, STORE_CONFIG};
 ghost use Rattle.ost_model.specs.Laws.{OrderIsLocal, FaultIsLocal, LookIsLocal, DirsAreReached, FilesAreReached, PathsHaveNoFault, StandingIsLocal, StoreIsLocal, StoreGoesOn, NothingIsAStore, ObjectsAreNamed, ObjectsAreNoFolders, NamesAreApart, GoodTreesAreRead, GoodCommitsAreRead, WalkFaultsAreFaults, FirstOfTwo, OpensWithHeads, OpensAsRead, WalkGoesOn, WalkEnds, WalkFindsTheFirst, HostsStore, HostsSupply, ACommitIsSupplied};
 
 /// The order of a commit and its first fault depend on the objects of that order alone, and so does
@@ -76,4 +78,28 @@ pub fn objects_are_supplied()
     ensures stores { HostsStore }
     ensures supplies { HostsSupply }
     ensures commit { ACommitIsSupplied }
+{}
+
+/// What a commit and its objects have at most, as numbers.
+pub fn limits_as_numbers()
+    ensures objects { MOST_OBJECTS ≡ 200000 }
+    ensures levels { MOST_LEVELS ≡ 64 }
+    ensures metadata_object { MOST_METADATA_OBJECT_BYTES ≡ 16777216 }
+    ensures file { MOST_FILE_BYTES ≡ 1073741824 }
+    ensures metadata_file { MOST_METADATA_FILE_BYTES ≡ 1048576 }
+{}
+
+/// The modes of OSTree's objects, as numbers: 0775, 010000, 04, 0100000 and 0120777 in octal.
+pub fn modes_as_numbers()
+    ensures stored { STORED_BITS ≡ 0x1FD }
+    ensures types { LOWEST_TYPE_BIT ≡ 0x1000 }
+    ensures directory { DIRECTORY_TYPE ≡ 4 }
+    ensures regular { REGULAR_MODE ≡ 0x8000 }
+    ensures link { LINK_MODE ≡ 0xA1FF }
+{}
+
+/// The texts of a store and of a commit, letter by letter.
+pub fn texts_as_letters()
+    ensures config { STORE_CONFIG.now ≡ codes "[core]\nrepo_version=1\nmode=bare-user-only\n" }
+    ensures binding { REF_BINDING.now ≡ codes "ostree.ref-binding" }
 {}

@@ -18,9 +18,6 @@ pub const MOST_METADATA_FILE_BYTES: u64 = 1024 * 1024;
 /// The permission bits that a file may have.
 pub const STORED_BITS: u32 = 0o775;
 
-/// The permission bit that each file has: its owner may read it.
-pub const OWNER_READS: u32 = 0o400;
-
 /// The lowest bit of a mode that says the type: the bits below it are permission bits.
 pub const LOWEST_TYPE_BIT: u32 = 0o10000;
 

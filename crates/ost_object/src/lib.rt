@@ -11,6 +11,7 @@ mod dirtree;
 mod error;
 mod field_values;
 mod fields;
+mod numbers;
 mod reading_commits;
 mod reading_metas;
 mod reading_rows;

@@ -12,6 +12,7 @@ ghost use Rattle.ost_object.specs.Views.{text_at, time_at};
 ghost use Rattle.ost_model.specs.Types.{time_shape};
 
 use crate::error::ObjectError;
+use crate::numbers::{turned_u32, turned_u64};
 use fp_base::{Blob, Rule, Text};
 use gv_decode::{DecodeError, check_normal, children, decode};
 use gv_value::{Basic, GvType, GvValue, Parts};
@@ -111,7 +112,7 @@ pub fn number_of(value: &GvValue) -> Result<u32, ObjectError>
     ensures { Finds as_is result (number_in (plain value.now)) }
 {
     match value {
-        GvValue::Uint32(number) => Ok(number.swap_bytes()),
+        GvValue::Uint32(number) => Ok(turned_u32(*number)),
         _ => Err(ObjectError::Malformed(Rule::Value)),
     }
 }
@@ -121,7 +122,7 @@ pub fn time_of(value: &GvValue) -> Result<u64, ObjectError>
     ensures { Finds as_is result (time_in (plain value.now)) }
 {
     match value {
-        GvValue::Uint64(number) => Ok(number.swap_bytes()),
+        GvValue::Uint64(number) => Ok(turned_u64(*number)),
         _ => Err(ObjectError::Malformed(Rule::Value)),
     }
 }

@@ -13,6 +13,7 @@ ghost use Rattle.ost_object.specs.Writes.{Spells, Writes};
 use crate::commit::Commit;
 use crate::error::ObjectError;
 use crate::field_values::{bytes_as_value, digest_as_value, text_as_value};
+use crate::numbers::turned_u64;
 use crate::spelling::spelled;
 use crate::types::{commit_type, dictionary_type, related_type};
 use crate::values::value_of;
@@ -182,7 +183,7 @@ fn time_as_value(time: u64) -> GvValue
     ensures value { plain result ≡ time_value time }
     ensures small { time < 2 ^ 64 }
 {
-    GvValue::Uint64(time.swap_bytes())
+    GvValue::Uint64(turned_u64(time))
 }
 
 /// The value of a commit, of its members.

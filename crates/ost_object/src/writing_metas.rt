@@ -8,6 +8,7 @@ ghost use Rattle.ost_object.specs.Views.{meta_view};
 
 use crate::dirmeta::DirMeta;
 use crate::error::ObjectError;
+use crate::numbers::turned_u32;
 use crate::spelling::spelled;
 use crate::types::meta_type;
 use fp_base::{Blob, Rule};
@@ -36,7 +37,7 @@ fn value_of(alloc: Global, meta: DirMeta) -> Result<GvValue, AllocError>
     Ok(GvValue::Tuple(vec![in alloc;
         GvValue::Uint32(0),
         GvValue::Uint32(0),
-        GvValue::Uint32(meta.mode.swap_bytes()),
+        GvValue::Uint32(turned_u32(meta.mode)),
         GvValue::Array(Vec::new(alloc)),
     ]?))
 }

@@ -25,7 +25,7 @@ use Rattle.ost_store.specs.Names.{ListsNames, IsNamed, with_found, name_in, name
 use Rattle.ost_store.specs.Reads.{IsThere}
 use Rattle.ost_store.proofs.Lists.{in_none}
 use Rattle.ost_prune.specs.Prune.{IsUnused, ListsUnused}
-use Rattle.ost_prune.specs.Texts.{AreUsedTexts}
+use Rattle.ost_prune.specs.Texts.{AreUsedTexts, UnlessFaulty}
 use Rattle.ost_prune.specs.Finding.{IsUnusedAt, PicksUnused}
 
 abbrev Object : Type 0
@@ -190,6 +190,10 @@ all_unused root keep paths v found tree names picks = record {
 if_ok_to : {T E : Type 0} {P Q : T → Type 0} (r : Result T E) → ((t : T) → P t → Q t) → IfOk r P → IfOk r Q
 if_ok_to (Ok t) step is = step t is
 if_ok_to (Err e) step is = is
+
+-- what was found, where something was
+pub of_found : {A : Type 0} {found : Option A} {a : A} → found ≡ Some a → (root : Elements) (keep : List (List ℕ)) (v : View) (Is : A → Type 0) → UnlessFaulty root keep v Is found → Is a
+of_found {A = A} same root keep v Is told = subst (λ (o : Option A). UnlessFaulty root keep v Is o) same told
 
 pub found_all : {T : Type 0} {a b c : Option Moments} (d : Option Moments) {root : Elements} {keep : List (List ℕ)} {has : List ℕ → Bool} {paths l : List Elements} (items : T → List Object) (r : Result T HostEnd) → l ≡ paths
     → IsTold a → IsTold b → IsTold c → Unchanged a b → AtEnd (λ u w. AreUsedTexts root keep u has) a b → Unchanged b c → AtEnd (λ u w. ListsNames root u paths) b c

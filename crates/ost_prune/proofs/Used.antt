@@ -1,7 +1,6 @@
 -- The texts of the objects that commits use.
 use Rattle.std.proofs.Common.{◌≡◌, inl, inr, ◌<◌, ◌+◌, ℕ, suc, Bool, true, false, ◌||◌, cond, List, [], ◌∷◌, ◌++◌, take, get_or, length, Option, None, refl, sym, ◌∙◌, ap, subst, Contains, arith}
 use Rattle.std.specs.Option.{option_or}
-use Rattle.std.specs.Prelude.{IsErrOf, Err}
 use Rattle.std.specs.List.{list_any}
 use Rattle.std.specs.Str.{bytes_eq}
 use Rattle.std.proofs.Math.Seq.{take-suc, take-length}
@@ -11,11 +10,8 @@ use Rattle.std.proofs.lemmas.Slice.Eq.{bytes_eq-Decides}
 use Rattle.fp_host.specs.Paths.{Elements, elements_of}
 use Rattle.fp_host.specs.View.{View}
 use Rattle.fp_host.specs.Outcome.{shows}
-use Rattle.fp_host.specs.Causes.{IsCaused, IsCounted}
 use Rattle.fp_host.specs.Frame.{AtEnd, Unchanged}
 use Rattle.fp_host.specs.Moments.{Moments}
-use Rattle.fp_host.specs.declared.host.HostEnd.{HostEnd}
-use Rattle.fp_host.specs.declared.host.HostEnd.TheVariants as host_ends
 use Rattle.fp_host.proofs.Goes.{knowing}
 use Rattle.fp_base.specs.declared.object.ObjKind.{ObjKind}
 use Rattle.ost_model.specs.Objects.{Have, store}
@@ -30,7 +26,7 @@ use Rattle.ost_walk.specs.declared.ends.WalkEnd.TheVariants as ends
 use Rattle.ost_walk.specs.Ends.{RefusesBy, IsFirst}
 use Rattle.ost_walk.specs.UsedList.{IsUsedList}
 use Rattle.ost_store.specs.Names.{name_text}
-use Rattle.ost_prune.specs.Texts.{IsTextOf, AreTextsOf, AreUsedTexts, AreWhole, end_of}
+use Rattle.ost_prune.specs.Texts.{IsTextOf, AreTextsOf, AreUsedTexts, AreWhole}
 
 abbrev Object : Type 0
 Object = List ℕ × ObjKind
@@ -118,6 +114,19 @@ none_faulty have (commit ∷ keep) whole =
     ap (λ f. option_or f (used_fault have keep)) (walks_none have 0 (order have commit) (whole commit (in_first commit keep)))
     ∙ none_faulty have keep (λ c h. whole c (in_rest commit keep c h))
 
+-- the end is a refusal
+abbrev pub IsRefusal : WalkEnd → Type 0
+IsRefusal (ends.Refused w) = Unit {0}
+IsRefusal ends.HostFault = ⊥
+IsRefusal ends.RemoteFault = ⊥
+IsRefusal ends.NoMemory = ⊥
+
+has_fault : (have : Have) (keep : List (List ℕ)) (end : WalkEnd) → IsRefusal end → RefusesBy (IsFirst (used_fault have keep)) end → ((commit : List ℕ) → Contains keep commit → first_fault have commit ≡ None) → ⊥
+has_fault have keep (ends.Refused w) is refused whole = cc (sym (none_faulty have keep whole) ∙ refused.is)
+has_fault have keep ends.HostFault none refused whole = none
+has_fault have keep ends.RemoteFault none refused whole = none
+has_fault have keep ends.NoMemory none refused whole = none
+
 -- ---- over the moments
 
 pub used_told : {a b : Option Moments} (root : Elements) (keep : List (List ℕ)) (objects : List Object) (has : List ℕ → Bool) → Unchanged a b
@@ -128,16 +137,11 @@ used_told {a = a} root keep objects has still tells texts = record {
       (λ u w list same. tt) (λ u w list same. used_texts_of root keep u objects has list texts);
 }
 
-module _ {A B : Type 0} {a : Option Moments} (root : Elements) (keep : List (List ℕ)) (fa fb : ℕ) where
-  -- a walk over the store alone ends in no other way
-  pub walk_caused : (end : WalkEnd) (r : HostEnd) → r ≡ end_of end → IsCounted (IsErrOf {T = A} {E = WalkEnd} (Err end) ends.HostFault) a fa fb → (IsErrOf {T = A} {E = WalkEnd} (Err end) ends.RemoteFault → ⊥)
-      → ((have : Have) → Stores root a have → RefusesBy (IsFirst (used_fault have keep)) end) → IsCaused (IsErrOf {T = B} {E = HostEnd} (Err r) host_ends.Fault) a (AreWhole root keep) fa fb
-  walk_caused (ends.Refused w) r is cause remote tells = record {
-    later = cause.later;
-    fault = λ faulted m e can.
-        let refused = tells (store root (shows m.now)) (record { moments = m; told_is = e; is = refl }) in
-        absurd (cc (sym (none_faulty (store root (shows m.now)) keep can.whole) ∙ refused.is));
-  }
-  walk_caused ends.HostFault r is cause remote tells = record { later = cause.later; fault = λ faulted m e can. cause.fault refl m e tt }
-  walk_caused ends.RemoteFault r is cause remote tells = record { later = cause.later; fault = λ faulted m e can. absurd (remote refl) }
-  walk_caused ends.NoMemory r is cause remote tells = record { later = cause.later; fault = λ faulted m e can. absurd (cc (is, faulted)) }
+-- a walk over the store alone is refused where one of the commits has a fault
+pub faulty_told : {a b : Option Moments} (root : Elements) (keep : List (List ℕ)) (refused : WalkEnd) → IsRefusal refused → Unchanged a b
+    → ((have : Have) → Stores root a have → RefusesBy (IsFirst (used_fault have keep)) refused) → AtEnd (λ u w. AreWhole root keep u → ⊥) a b
+faulty_told root keep refused is still tells = record {
+  goes = knowing {P = λ u. AreWhole root keep u → ⊥}
+      (λ m e whole. has_fault (store root (shows m.now)) keep refused is (tells (store root (shows m.now)) (record { moments = m; told_is = e; is = refl })) whole.whole) still.goes
+      (λ u w faulty same. tt) (λ u w faulty same. faulty);
+}

@@ -9,9 +9,8 @@ use Rattle.fp_name.specs.Hex.{is_digest}
 use Rattle.fp_base.specs.declared.object.ObjKind.{ObjKind}
 use Rattle.fp_base.specs.declared.object.ObjKind.TheVariants as kinds
 use Rattle.ost_model.specs.Objects.{store}
-use Rattle.ost_model.specs.Order.{first_fault}
 use Rattle.ost_model.specs.Used.{IsUsed}
-use Rattle.ost_store.specs.Names.{CanList, name_in, name_text}
+use Rattle.ost_store.specs.Names.{name_in, name_text}
 
 -- the object is there, and no commit to keep uses it
 pub record IsUnused (root : Elements) (keep : List (List ℕ)) (v : View)
@@ -72,10 +71,3 @@ pub record WasPruned (root : Elements) (keep : List (List ℕ)) (number : ℕ) (
     pub count : number ≡ length objects
     pub gone : (object : List ℕ × ObjKind) → IsUnused root keep u object
         → w.names (name_in root object) ≡ absent
-
--- where it may be done: the orders of the commits have no fault in the store, and no path below
--- `objects` is too long
-pub record CanPrune (root : Elements) (keep : List (List ℕ)) (v : View) : Type 0 where
-  pub whole : (commit : List ℕ) → Contains keep commit
-      → first_fault (store root (shows v)) commit ≡ None
-  pub short : CanList root v

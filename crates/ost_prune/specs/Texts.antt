@@ -1,19 +1,15 @@
 -- The texts of the paths of objects.
-use Rattle.std.specs.Prelude.{◌≡◌, ℕ, List, Bool, true, None, Contains}
+use Rattle.std.specs.Prelude.{◌≡◌, ℕ, List, Bool, true, Option, Some, None, Contains}
 use Rattle.std.specs.List.{list_any}
 use Rattle.std.specs.Str.{bytes_eq}
 use Rattle.fp_host.specs.Paths.{Elements, elements_of}
 use Rattle.fp_host.specs.View.{View}
 use Rattle.fp_host.specs.Outcome.{shows}
-use Rattle.fp_host.specs.declared.host.HostEnd.{HostEnd}
-use Rattle.fp_host.specs.declared.host.HostEnd.TheVariants as host_ends
 use Rattle.fp_name.specs.Hex.{is_digest}
 use Rattle.fp_base.specs.declared.object.ObjKind.{ObjKind}
 use Rattle.ost_model.specs.Objects.{store}
 use Rattle.ost_model.specs.Order.{first_fault}
 use Rattle.ost_model.specs.Used.{IsUsed}
-use Rattle.ost_walk.specs.declared.ends.WalkEnd.{WalkEnd}
-use Rattle.ost_walk.specs.declared.ends.WalkEnd.TheVariants as ends
 use Rattle.ost_store.specs.Names.{name_in, name_text}
 
 -- the text is that of the object's path in the store at root, and is read as it
@@ -44,9 +40,8 @@ pub record AreWhole (root : Elements) (keep : List (List ℕ)) (v : View) : Type
   pub whole : (commit : List ℕ) → Contains keep commit
       → first_fault (store root (shows v)) commit ≡ None
 
--- how a function over a host ends where a walk does
-abbrev pub end_of : WalkEnd → HostEnd
-end_of (ends.Refused w) = host_ends.Fault
-end_of ends.HostFault = host_ends.Fault
-end_of ends.RemoteFault = host_ends.Fault
-end_of ends.NoMemory = host_ends.NoMemory
+-- So it is of what was found; nothing was, where the order of one of the commits has a fault.
+abbrev pub UnlessFaulty : {A : Type 0} → Elements → List (List ℕ) → View → (A → Type 0) → Option A
+    → Type 0
+UnlessFaulty root keep v Is None = AreWhole root keep v → ⊥
+UnlessFaulty root keep v Is (Some a) = Is a

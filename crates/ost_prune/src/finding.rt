@@ -1,12 +1,11 @@
 //! The objects of a store that no commit uses.
 ghost use Rattle.std.specs.Prelude.{◌≡◌, List, ℕ, IfOk, OnOk, IsErrOf};
 ghost use Rattle.std.specs.BTreeSet.{contains_text};
-ghost use Rattle.fp_host.specs.Causes.{IsCaused, IsCounted};
-ghost use Rattle.fp_host.specs.Frame.{AtEnd, Unchanged};
-ghost use Rattle.ost_prune.specs.Prune.{ListsUnused, CanPrune};
-ghost use Rattle.ost_prune.specs.Texts.{AreUsedTexts};
+ghost use Rattle.fp_host.specs.OverHost.{AtReturn, ChangesNothing, FailsAlone, FailsOnly};
+ghost use Rattle.ost_prune.specs.Prune.{ListsUnused};
+ghost use Rattle.ost_prune.specs.Texts.{AreUsedTexts, UnlessFaulty};
 ghost use Rattle.ost_prune.specs.Finding.{IsUnusedAt, PicksUnused};
-ghost use Rattle.ost_store.specs.Names.{with_found};
+ghost use Rattle.ost_store.specs.Names.{CanList, with_found};
 
 use crate::texts::used_texts;
 use fp_base::{Items, ObjKind};
@@ -24,12 +23,11 @@ fn unused_at<H: Host>(
     used: &BTreeSet<String>,
     path: &Path,
 ) -> Result<Option<(Digest, ObjKind)>, HostEnd>
-    ensures unchanged { Unchanged (H.moments host.old) (H.moments host.new) }
-    ensures tells { (keep : List (List ℕ)) → IfOk result (λ found. AtEnd
+    ensures unchanged { ChangesNothing H.Host host.old host.new }
+    ensures tells { (keep : List (List ℕ)) → IfOk result (λ found. AtReturn H.Host host.old host.new
         (λ u w. AreUsedTexts root.now keep u (contains_text used.now)
-        → IsUnusedAt root.now keep path.now u found) (H.moments host.old) (H.moments host.new)) }
-    ensures fault_has_cause { IsCounted (IsErrOf result HostEnd.Fault)
-        (H.moments host.old) (H.faults host.old) (H.faults host.new) }
+        → IsUnusedAt root.now keep path.now u found)) }
+    ensures fault_has_cause { FailsAlone H.Host host.old host.new (IsErrOf result HostEnd.Fault) }
 {
     if used.contains(path.text()) {
         return Ok(None);
@@ -65,13 +63,11 @@ fn pick_unused<H: Host>(
     used: &BTreeSet<String>,
     paths: &[Path],
 ) -> Result<Vec<(Digest, ObjKind)>, HostEnd>
-    ensures unchanged { Unchanged (H.moments host.old) (H.moments host.new) }
-    ensures tells { (keep : List (List ℕ)) → IfOk result (λ found. AtEnd
+    ensures unchanged { ChangesNothing H.Host host.old host.new }
+    ensures tells { (keep : List (List ℕ)) → IfOk result (λ found. AtReturn H.Host host.old host.new
         (λ u w. AreUsedTexts root.now keep u (contains_text used.now)
-        → PicksUnused root.now keep paths.now u found.items)
-        (H.moments host.old) (H.moments host.new)) }
-    ensures fault_has_cause { IsCounted (IsErrOf result HostEnd.Fault)
-        (H.moments host.old) (H.faults host.old) (H.faults host.new) }
+        → PicksUnused root.now keep paths.now u found.items)) }
+    ensures fault_has_cause { FailsAlone H.Host host.old host.new (IsErrOf result HostEnd.Fault) }
 {
     let mut found = Vec::new(alloc);
     for path in paths {
@@ -82,21 +78,24 @@ fn pick_unused<H: Host>(
 }
 
 /// The objects of the store in this folder that no commit to keep uses, ascending by the texts of
-/// their paths.
+/// their paths, or None where the order of one of these commits has a fault there.
 pub(crate) fn find_unused<H: Host>(
     alloc: Global,
     host: &mut H,
     root: &Path,
     keep: &[Digest],
-) -> Result<Vec<(Digest, ObjKind)>, HostEnd>
-    ensures unchanged { Unchanged (H.moments host.old) (H.moments host.new) }
-    ensures tells { IfOk result (λ objects. AtEnd
-        (λ u w. ListsUnused root.now keep.now u objects.items)
-        (H.moments host.old) (H.moments host.new)) }
-    ensures fault_has_cause { IsCaused (IsErrOf result HostEnd.Fault) (H.moments host.old)
-        (CanPrune root.now keep.now) (H.faults host.old) (H.faults host.new) }
+) -> Result<Option<Vec<(Digest, ObjKind)>>, HostEnd>
+    ensures unchanged { ChangesNothing H.Host host.old host.new }
+    ensures tells { IfOk result (λ found. AtReturn H.Host host.old host.new
+        (λ u w. UnlessFaulty root.now keep.now u
+        (λ objects. ListsUnused root.now keep.now u objects.items) found)) }
+    ensures fault_has_cause { FailsOnly H.Host host.old host.new
+        (CanList root.now) (IsErrOf result HostEnd.Fault) }
 {
-    let used = used_texts(alloc, host, root, keep)?;
+    let Some(used) = used_texts(alloc, host, root, keep)? else {
+        return Ok(None);
+    };
     let paths = names(alloc, host, root)?;
-    pick_unused(alloc, host, root, &used, paths.as_slice())
+    let unused = pick_unused(alloc, host, root, &used, paths.as_slice())?;
+    Ok(Some(unused))
 }

@@ -1,8 +1,7 @@
 //! Objects that are taken away, commits before the others.
 ghost use Rattle.std.specs.Prelude.{OnOk, IsErrOf};
-ghost use Rattle.fp_host.specs.Causes.{IsCaused};
-ghost use Rattle.fp_host.specs.Frame.{Frame, AtEnd, NoPath};
-ghost use Rattle.fp_host.specs.Moments.{Always};
+ghost use Rattle.fp_host.specs.OverHost.{AtEachMoment, AtReturn, FailsOnly};
+ghost use Rattle.fp_host.specs.Frame.{Frame, NoPath};
 ghost use Rattle.fp_small.specs.Unsynced.{MakesNoFile};
 ghost use Rattle.ost_prune.specs.Removing.{GoneAmong, AbsentAmong, AreGone, GoInOrder, CanRemoveAll};
 
@@ -23,11 +22,11 @@ fn remove_each<H: Host>(
 ) -> Result<(), HostEnd>
     ensures frame { Frame (GoneAmong root.now objects.now) (AbsentAmong root.now objects.now) NoPath
         (H.moments host.old) (H.moments host.new) }
-    ensures on_success { OnOk result (AtEnd (λ u w. AreGone root.now objects.now w)
-        (H.moments host.old) (H.moments host.new)) }
-    ensures unsynced { AtEnd MakesNoFile (H.moments host.old) (H.moments host.new) }
-    ensures fault_has_cause { IsCaused (IsErrOf result HostEnd.Fault) (H.moments host.old)
-        (CanRemoveAll root.now objects.now) (H.faults host.old) (H.faults host.new) }
+    ensures on_success { OnOk result (AtReturn H.Host host.old host.new
+        (λ u w. AreGone root.now objects.now w)) }
+    ensures unsynced { AtReturn H.Host host.old host.new MakesNoFile }
+    ensures fault_has_cause { FailsOnly H.Host host.old host.new
+        (CanRemoveAll root.now objects.now) (IsErrOf result HostEnd.Fault) }
 {
     for object in objects {
         remove(alloc, host, root, &object.0, object.1)?;
@@ -45,13 +44,12 @@ pub(crate) fn remove_all<H: Host>(
 ) -> Result<(), HostEnd>
     ensures frame { Frame (GoneAmong root.now objects.now) (AbsentAmong root.now objects.now) NoPath
         (H.moments host.old) (H.moments host.new) }
-    ensures order { Always (GoInOrder root.now objects.now)
-        (H.moments host.old) (H.moments host.new) }
-    ensures on_success { OnOk result (AtEnd (λ u w. AreGone root.now objects.now w)
-        (H.moments host.old) (H.moments host.new)) }
-    ensures unsynced { AtEnd MakesNoFile (H.moments host.old) (H.moments host.new) }
-    ensures fault_has_cause { IsCaused (IsErrOf result HostEnd.Fault) (H.moments host.old)
-        (CanRemoveAll root.now objects.now) (H.faults host.old) (H.faults host.new) }
+    ensures order { AtEachMoment H.Host host.old host.new (GoInOrder root.now objects.now) }
+    ensures on_success { OnOk result (AtReturn H.Host host.old host.new
+        (λ u w. AreGone root.now objects.now w)) }
+    ensures unsynced { AtReturn H.Host host.old host.new MakesNoFile }
+    ensures fault_has_cause { FailsOnly H.Host host.old host.new
+        (CanRemoveAll root.now objects.now) (IsErrOf result HostEnd.Fault) }
 {
     let (commits, others) = part(alloc, objects)?;
     remove_each(alloc, host, root, commits.as_slice())?;

@@ -1,9 +1,8 @@
 //! The objects that commits use, by the texts of their paths.
 ghost use Rattle.std.specs.Prelude.{◌≡◌, IfOk, IsErrOf, string_bytes};
 ghost use Rattle.std.specs.BTreeSet.{contains_text};
-ghost use Rattle.fp_host.specs.Causes.{IsCaused};
-ghost use Rattle.fp_host.specs.Frame.{AtEnd, Unchanged};
-ghost use Rattle.ost_prune.specs.Texts.{IsTextOf, AreTextsOf, AreUsedTexts, AreWhole, end_of};
+ghost use Rattle.fp_host.specs.OverHost.{AtReturn, ChangesNothing, FailsAlone};
+ghost use Rattle.ost_prune.specs.Texts.{IsTextOf, AreTextsOf, AreUsedTexts, UnlessFaulty};
 
 use fp_base::ObjKind;
 use fp_host::{Host, HostEnd, Path};
@@ -38,33 +37,24 @@ fn texts_of(
     Ok(texts)
 }
 
-/// How a function over a host ends where a walk over a store does.
-fn host_end(end: WalkEnd) -> HostEnd
-    ensures { result ≡ end_of end }
-{
-    match end {
-        WalkEnd::Refused(_) | WalkEnd::HostFault | WalkEnd::RemoteFault => HostEnd::Fault,
-        WalkEnd::NoMemory => HostEnd::NoMemory,
-    }
-}
-
-/// The texts of the paths of all objects that the commits use in the store in this folder. It is
-/// for commits whose orders have no fault.
+/// The texts of the paths of all objects that the commits use in the store in this folder, or None
+/// where the order of one of them has a fault there.
 pub(crate) fn used_texts<H: Host>(
     alloc: Global,
     host: &mut H,
     root: &Path,
     keep: &[Digest],
-) -> Result<BTreeSet<String>, HostEnd>
-    ensures unchanged { Unchanged (H.moments host.old) (H.moments host.new) }
-    ensures tells { IfOk result (λ texts. AtEnd
-        (λ u w. AreUsedTexts root.now keep.now u (contains_text texts))
-        (H.moments host.old) (H.moments host.new)) }
-    ensures fault_has_cause { IsCaused (IsErrOf result HostEnd.Fault) (H.moments host.old)
-        (AreWhole root.now keep.now) (H.faults host.old) (H.faults host.new) }
+) -> Result<Option<BTreeSet<String>>, HostEnd>
+    ensures unchanged { ChangesNothing H.Host host.old host.new }
+    ensures tells { IfOk result (λ texts. AtReturn H.Host host.old host.new
+        (λ u w. UnlessFaulty root.now keep.now u
+        (λ t. AreUsedTexts root.now keep.now u (contains_text t)) texts)) }
+    ensures fault_has_cause { FailsAlone H.Host host.old host.new (IsErrOf result HostEnd.Fault) }
 {
     match used(alloc, host, root, keep) {
-        Ok(objects) => Ok(texts_of(alloc, root, objects.as_slice())?),
-        Err(end) => Err(host_end(end)),
+        Ok(objects) => Ok(Some(texts_of(alloc, root, objects.as_slice())?)),
+        Err(WalkEnd::Refused(_)) => Ok(None),
+        Err(WalkEnd::HostFault | WalkEnd::RemoteFault) => Err(HostEnd::Fault),
+        Err(WalkEnd::NoMemory) => Err(HostEnd::NoMemory),
     }
 }

@@ -27,7 +27,7 @@ use Rattle.ost_head.specs.Objects.{IsFit}
 use Rattle.ost_pull.specs.declared.forms.Form.{Form}
 use Rattle.ost_pull.specs.declared.batches.Turn.{Turn}
 use Rattle.ost_pull.specs.declared.batches.Turn.TheVariants as turns
-use Rattle.ost_pull.specs.Batches.{IsParted, IsBatched, IsBatchedAt, IsReady, AreReady, AddsTurn}
+use Rattle.ost_pull.specs.Batches.{IsSmall, IsParted, IsBatched, IsBatchedAt, IsReady, AreReady, AddsTurn}
 use Rattle.ost_pull.specs.Pulls.{IsApart}
 use Rattle.ost_pull.specs.Takes.{TakesOne}
 use Rattle.ost_pull.specs.Work.{Works, Adds, KeepsOne}
@@ -88,7 +88,7 @@ ready_by url holds o items more (turns.Batched form place) on r = record {
   item = r.item;
   low = omega (arith, r.low, length-append items more);
   at = r.at ∙ sym (get_or_append_left items more r.item place r.low);
-  batched = record { fit = r.batched.fit; new = record { none = on r.batched.new.none; there = r.batched.new.there }; digest = r.batched.digest };
+  batched = record { fit = r.batched.fit; small = r.batched.small; new = record { none = on r.batched.new.none; there = r.batched.new.there }; digest = r.batched.digest };
 }
 
 pub ready_later : {root t : Elements} → IsApart root t → (url : List ℕ) {a b : Option Moments} (holds : Option Holdings) (o : Named) (items : List Item) (turn : Turn) → IsTold a → IsTold b → Always (Works t) a b → IsReady root url a holds o items turn → IsReady root url b holds o items turn
@@ -96,9 +96,9 @@ ready_later {root = root} apart url {b = b} holds o items turn told told' works 
     subst (λ (l : List Item). IsReady root url b holds o l turn) (append-nil items) (ready_by url holds o items [] turn (λ has. lacks_later apart o.0 o.1 told told' works has) r)
 
 -- one that was read whole
-pub batched_ready : {root : Elements} {url : List ℕ} {told : Option Moments} {holds : Option Holdings} (o : Named) (object : Object) (form : Form) (item : Item) (ts ts' : List Turn) (items items' : List Item) (place : ℕ) → IsFit o.1 object → IsNew root url told holds o.0 o.1 object
+pub batched_ready : {root : Elements} {url : List ℕ} {told : Option Moments} {holds : Option Holdings} (o : Named) (object : Object) (form : Form) (item : Item) (ts ts' : List Turn) (items items' : List Item) (place : ℕ) → IsFit o.1 object → IsSmall object → IsNew root url told holds o.0 o.1 object
     → IsParted object form item → place ≡ length items → items' ≡ items ++ item ∷ [] → ts' ≡ ts ++ turns.Batched form place ∷ [] → AddsTurn root url told holds o ts ts' items items'
-batched_ready {root = root} {url = url} {told = told} {holds = holds} o object form item ts ts' items items' place fit new parts is items_are turns_are = record {
+batched_ready {root = root} {url = url} {told = told} {holds = holds} o object form item ts ts' items items' place fit small new parts is items_are turns_are = record {
   turn = turns.Batched form place;
   more = item ∷ [];
   turns_are = turns_are;
@@ -109,6 +109,7 @@ batched_ready {root = root} {url = url} {told = told} {holds = holds} o object f
     at = sym (get_or_push items item item place (sym is));
     batched = record {
       fit = subst (IsFit o.1) (sym parts.whole) fit;
+      small = subst IsSmall (sym parts.whole) small;
       new = subst (IsNew root url told holds o.0 o.1) (sym parts.whole) new;
       digest = parts.digest ∙ ap digest_of (sym parts.whole);
     };

@@ -26,7 +26,7 @@ use Rattle.ost_model.specs.Remotes.{remote_at}
 use Rattle.ost_walk.specs.declared.ends.WalkEnd.{WalkEnd}
 use Rattle.ost_walk.specs.declared.ends.WalkEnd.TheVariants as ends
 use Rattle.ost_walk.specs.Ends.{of_host}
-use Rattle.ost_copy.specs.Brings.{Comes, CanBring}
+use Rattle.ost_head.specs.Brings.{Comes, CanBring}
 use Rattle.ost_store.specs.ObjectNames.{AreOpen}
 use Rattle.ost_pull.specs.Work.{Works, AreKept}
 use Rattle.ost_pull.proofs.Kept.{works_on, below_work, above_object}

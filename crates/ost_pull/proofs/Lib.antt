@@ -7,6 +7,7 @@ mod Apart
 mod Pulled
 mod Taken
 mod Placed
+mod Last
 mod Stored
 mod Whole
 mod Samples

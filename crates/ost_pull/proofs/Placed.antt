@@ -76,7 +76,7 @@ module _ (root t : Elements) (apart : IsApart root t) (o : Named) (good : is_dig
   off_work p same = off_object root t apart p.0 p.1 (below_work t o.0 o.1 (object_path root p.0 p.1) same)
 
   -- other objects of the store stay
-  other_stays : (p : Named) → is_digest p.0 ≡ true → (p ≡ o → ⊥) → Stays (object_path root p.0 p.1) v w
+  pub other_stays : (p : Named) → is_digest p.0 ≡ true → (p ≡ o → ⊥) → Stays (object_path root p.0 p.1) v w
   other_stays p digits off = placed_stays (object_path root p.0 p.1) (object_path t o.0 o.1) (object_path root o.0 o.1) v w places
       (not_in_itself root o.0 p.0 o.1 p.1 good digits (λ same. off (λ i. (same.0 i, same.1 i)))) (off_work p)
 

@@ -1,9 +1,10 @@
 -- Small objects of a remote that are read whole.
-use Rattle.std.proofs.Common.{◌≡◌, ◌≤◌, ◌*◌, ◌++◌, ℕ, List, [], length, true, false, Option, Some, None, refl, sym, ◌∙◌, ap, subst, arith}
+use Rattle.std.proofs.Common.{◌≡◌, ◌==◌, ◌&&◌, ◌≤◌, ◌*◌, ◌++◌, ℕ, List, [], length, leb, true, false, Option, Some, None, refl, sym, ◌∙◌, ap, subst, arith}
 use Rattle.std.specs.Option.{option_or}
 use Rattle.std.specs.Prelude.{not, if◌then◌else◌, IfOk, IfSome, Result, Ok, Err}
-use Rattle.std.specs.Str.{bytes_eq}
-use Rattle.std.proofs.lemmas.Bool.{le-leb}
+use Rattle.std.specs.List.{list_all}
+use Rattle.std.specs.Str.{bytes_eq, is_utf8}
+use Rattle.std.proofs.lemmas.Bool.{and_parts, le-leb, leb-true}
 use Rattle.std.proofs.lemmas.List.{append-nil}
 use Rattle.std.proofs.lemmas.Slice.Eq.{bytes_eq-Decides}
 use Rattle.sha2.specs.Sha256.{sha256}
@@ -82,6 +83,12 @@ fit_file mode size bytes few short bits = record { kind_is = refl; short = ap (�
 
 pub fit_link : (text : List ℕ) → is_link_text text ≡ true → IsFit kinds.File (objects.Link text)
 fit_link text good = record { kind_is = refl; short = refl; keepable = good }
+
+pub short_link : (text : List ℕ) → is_link_text text ≡ true → length text ≤ MOST_SMALL_BYTES
+short_link text good =
+    let front = and_parts (leb 1 (length text)) (leb (length text) 4095 && (list_all (λ b. not (b == 0)) text && is_utf8 text)) good in
+    let within = and_parts (leb (length text) 4095) (list_all (λ b. not (b == 0)) text && is_utf8 text) front.1 in
+    omega (arith, leb-true (length text) 4095 within.0)
 
 pub fit_meta : (kind : ObjKind) (size : ℕ) (bytes : List ℕ) → may_be_link kind ≡ false → length bytes ≤ size → size ≤ MOST_SMALL_BYTES → IsFit kind (objects.Meta bytes)
 fit_meta kind size bytes meta few short = record { kind_is = ap not meta; short = ap (λ b. unless b (too_long (length bytes))) (le-leb (length bytes) (16 * 1024 * 1024) (omega (arith, few, short))); keepable = tt }

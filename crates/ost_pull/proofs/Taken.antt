@@ -33,10 +33,10 @@ use Rattle.ost_walk.specs.declared.surveys.Survey.{Survey}
 use Rattle.ost_walk.specs.Ends.{RefusesBy, EndsBy, IsFaultOf, IsRemotes, fault_of, of_host}
 use Rattle.ost_walk.specs.Steps.{IsGood, own_fault}
 use Rattle.ost_walk.specs.Surveys.{named_fault, first_named, found_in, first_bad, told_fault, IsSurvey}
-use Rattle.ost_copy.specs.Contents.{IsGoodThere}
+use Rattle.ost_head.specs.Contents.{IsGoodThere}
 use Rattle.ost_head.specs.Found.{HostHas}
 use Rattle.ost_head.specs.Objects.{IsFaultThere}
-use Rattle.ost_copy.specs.Brings.{JudgesRemote}
+use Rattle.ost_head.specs.Brings.{JudgesRemote}
 use Rattle.ost_pull.specs.Pulls.{IsApart, CanPull}
 use Rattle.ost_pull.specs.Takes.{IsCovered, AreTaken, AreTakenNow, TakesOne, TakesAll, AddsAmong, CoversOrder}
 use Rattle.ost_store.specs.ObjectNames.{AreOpen}

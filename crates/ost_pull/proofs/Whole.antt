@@ -38,9 +38,9 @@ use Rattle.ost_walk.specs.Ends.{fault_of}
 use Rattle.ost_walk.specs.Ends.{RefusesBy as WalkRefuses}
 use Rattle.ost_walk.specs.Steps.{place_name}
 use Rattle.ost_walk.specs.Surveys.{named_fault, first_named, told_fault}
-use Rattle.ost_head.specs.Ends.{RefusesBy, of_host, of_walk}
-use Rattle.ost_head.specs.Refusals.{refusal_of}
-use Rattle.ost_head.specs.declared.ends.PullEnd.TheVariants as ends
+use Rattle.ost_walk.specs.PullEnds.{RefusesBy, of_host, of_walk}
+use Rattle.ost_walk.specs.Refusals.{refusal_of}
+use Rattle.ost_walk.specs.declared.pull_end.PullEnd.TheVariants as ends
 use Rattle.ost_pull.specs.Pulls.{IsApart, IsLacked, PullsSoundly, WasPulled, WasRefused, CanPull, first_refusal}
 use Rattle.ost_pull.specs.Placing.{PullsKept, WasStored, CanStore}
 use Rattle.ost_pull.specs.Takes.{IsCovered, AreTaken, CoversOrder}

@@ -5,6 +5,7 @@ use Rattle.fp_host.specs.Moments.{Moments}
 use Rattle.fp_host.specs.Remote.{Holdings}
 use Rattle.fp_base.specs.declared.object.ObjKind.{ObjKind}
 use Rattle.par_digest.specs.declared.item.Item.{Item}
+use Rattle.par_digest.specs.declared.limits.TheConstants.{MOST_SMALL_BYTES}
 use Rattle.par_digest.specs.Digests.{item_digest}
 use Rattle.ost_model.specs.declared.object.Object.{Object}
 use Rattle.ost_model.specs.declared.object.Object.TheVariants as objects
@@ -27,10 +28,17 @@ pub record IsParted (object : Object) (form : Form) (item : Item) : Type 0 where
   pub whole : object_in form item ≡ object
   pub digest : item_digest item ≡ digest_of object
 
--- the remote's object, which the store lacks, was read whole
+-- the object has at most 256 KiB
+abbrev pub IsSmall : Object → Type 0
+IsSmall (objects.Meta bytes) = length bytes ≤ MOST_SMALL_BYTES
+IsSmall (objects.File mode bytes) = length bytes ≤ MOST_SMALL_BYTES
+IsSmall (objects.Link text) = length text ≤ MOST_SMALL_BYTES
+
+-- the remote's object, which is small and which the store lacks, was read whole
 pub record IsBatched (root : Elements) (url : List ℕ) (told : Option Moments)
     (holds : Option Holdings) (o : List ℕ × ObjKind) (form : Form) (item : Item) : Type 0 where
   pub fit : IsFit o.1 (object_in form item)
+  pub small : IsSmall (object_in form item)
   pub new : IsNew root url told holds o.0 o.1 (object_in form item)
   pub digest : item_digest item ≡ digest_of (object_in form item)
 

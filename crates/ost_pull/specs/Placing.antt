@@ -1,5 +1,5 @@
 -- Objects that come from the work folder to their names.
-use Rattle.std.specs.Prelude.{◌≡◌, ◌⊎◌, ◌≤◌, ◌+◌, ℕ, List, length, true, Option, Contains}
+use Rattle.std.specs.Prelude.{◌≡◌, ◌≢◌, ◌⊎◌, ◌≤◌, ◌+◌, ℕ, List, ◌∷◌, length, true, Option, Contains}
 use Rattle.fp_host.specs.Paths.{Elements, absent, file, IsAbove}
 use Rattle.fp_host.specs.View.{View}
 use Rattle.fp_host.specs.Outcome.{shows, IsSettled}
@@ -84,6 +84,19 @@ pub record PlacesSome (root t : Elements) (objects left : List (List ℕ × ObjK
       → Stays (object_path t o.0 o.1) u w × Stays (object_path root o.0 o.1) u w
   pub others : (d : List ℕ) (kind : ObjKind) → is_digest d ≡ true → (In objects (d, kind) → ⊥)
       → Stays (object_path root d kind) u w
+
+-- the first has its name only where all the others have theirs
+pub record ComesLast (root : Elements) (first : List ℕ × ObjKind)
+    (others : List (List ℕ × ObjKind)) (w : View) : Type 0 where
+  pub last : w.names (object_path root first.0 first.1) ≢ absent
+      → (o : List ℕ × ObjKind) → In others o → w.names (object_path root o.0 o.1) ≢ absent
+
+-- So the first of these comes last, where they are ready and nothing stood at their names. Of a
+-- commit's order that is the commit.
+abbrev pub FirstComesLast : Elements → Elements → List (List ℕ × ObjKind) → View → View → Type 0
+FirstComesLast root t objects u w = AreReady t objects u → AreLacking root objects u
+    → (first : List ℕ × ObjKind) (others : List (List ℕ × ObjKind)) → objects ≡ first ∷ others
+    → ComesLast root first others w
 
 -- they came to their names, the folder t is gone, and every stop leaves what stands
 pub record WasStored (root t : Elements) (objects : List (List ℕ × ObjKind)) (u w : View) : Type 0

@@ -17,9 +17,9 @@ use Rattle.ost_model.specs.Stores.{objects_folder}
 use Rattle.ost_store.specs.Created.{Creates}
 use Rattle.ost_store.specs.Place.{LeavesStore}
 use Rattle.ost_walk.specs.Steps.{place_name}
-use Rattle.ost_head.specs.Ends.{RefusesBy}
-use Rattle.ost_head.specs.Refusals.{refusal_of}
-use Rattle.ost_head.specs.declared.ends.PullEnd.{PullEnd}
+use Rattle.ost_walk.specs.PullEnds.{RefusesBy}
+use Rattle.ost_walk.specs.Refusals.{refusal_of}
+use Rattle.ost_walk.specs.declared.pull_end.PullEnd.{PullEnd}
 use Rattle.ost_store.specs.ObjectNames.{IsAboveObject, AreOpen}
 use Rattle.ost_pull.specs.Work.{WorksAt, WorksName}
 

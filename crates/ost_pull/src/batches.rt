@@ -1,12 +1,11 @@
 //! Batches of objects: what is read of them before any is judged.
-ghost use Rattle.std.specs.Prelude.{◌≡◌, length, None, IfOk, IfSome, IsTrue, OnOk, IsErrOf};
-ghost use Rattle.fp_host.specs.Causes.{IsCounted};
-ghost use Rattle.fp_host.specs.Frame.{Unchanged};
+ghost use Rattle.std.specs.Prelude.{◌≡◌, ◌≤◌, length, None, IfOk, IfSome, IsTrue, OnOk, IsErrOf};
+ghost use Rattle.fp_host.specs.OverHost.{ChangesNothing, FailsAlone};
 ghost use Rattle.ost_walk.specs.Ends.{IsRemotes};
 ghost use Rattle.ost_walk.specs.declared.ends.WalkFault.{WalkFault};
 ghost use Rattle.ost_head.specs.Found.{HostHas, IsNew};
 ghost use Rattle.ost_head.specs.Objects.{IsFit};
-ghost use Rattle.ost_pull.specs.Batches.{AddsTurn, AreReady};
+ghost use Rattle.ost_pull.specs.Batches.{AddsTurn, AreReady, IsSmall};
 
 use crate::forms::{Form, parted};
 use crate::small::small_object;
@@ -16,7 +15,7 @@ use fp_name::Digest;
 use ost_model::Object;
 use ost_store::{has, path_of};
 use ost_walk::WalkEnd;
-use par_digest::Item;
+use par_digest::{Item, MOST_IN_BATCH};
 use std::alloc::Global;
 
 /// How an object of a batch is taken when its turn comes.
@@ -49,11 +48,10 @@ fn is_wanted<H: Host>(
     kind: ObjKind,
     before: &[(Digest, ObjKind)],
 ) -> Result<bool, HostEnd>
-    ensures unchanged { Unchanged (H.moments host.old) (H.moments host.new) }
+    ensures unchanged { ChangesNothing H.Host host.old host.new }
     ensures lacks { IfOk result (λ wanted. IsTrue wanted
         → HostHas root.now (H.moments host.new) digest.now kind None) }
-    ensures fault_has_cause { IsCounted (IsErrOf result HostEnd.Fault) (H.moments host.old)
-        (H.faults host.old) (H.faults host.new) }
+    ensures fault_has_cause { FailsAlone H.Host host.old host.new (IsErrOf result HostEnd.Fault) }
 {
     if before.contains(&(*digest, kind)) {
         return Ok(false);
@@ -81,14 +79,15 @@ fn read_wanted<H: Host, R: Remotes>(
     kind: ObjKind,
     before: &[(Digest, ObjKind)],
 ) -> Result<Option<Object>, WalkEnd>
-    ensures unchanged { Unchanged (H.moments host.old) (H.moments host.new) }
+    ensures unchanged { ChangesNothing H.Host host.old host.new }
     ensures same { R.holds remotes.new ≡ R.holds remotes.old }
     ensures fit { IfOk result (λ found. IfSome found (IsFit kind)) }
+    ensures small { IfOk result (λ found. IfSome found IsSmall) }
     ensures new { IfOk result (λ found. IfSome found (IsNew root.now url.now (H.moments host.new)
         (R.holds remotes.old) digest.now kind)) }
     ensures refuses { (w : WalkFault) → IsErrOf result (WalkEnd.Refused w) → ⊥ }
-    ensures fault_has_cause { IsCounted (IsErrOf result WalkEnd.HostFault) (H.moments host.old)
-        (H.faults host.old) (H.faults host.new) }
+    ensures fault_has_cause { FailsAlone H.Host host.old host.new
+        (IsErrOf result WalkEnd.HostFault) }
     ensures remote_fault_has_cause { IsRemotes (IsErrOf result WalkEnd.RemoteFault)
         (R.faults remotes.old) (R.faults remotes.new) }
 {
@@ -113,14 +112,14 @@ fn add<H: Host, R: Remotes>(
     before: &[(Digest, ObjKind)],
     batch: &mut Batch,
 ) -> Result<(), WalkEnd>
-    ensures unchanged { Unchanged (H.moments host.old) (H.moments host.new) }
+    ensures unchanged { ChangesNothing H.Host host.old host.new }
     ensures same { R.holds remotes.new ≡ R.holds remotes.old }
     ensures adds { OnOk result (AddsTurn root.now url.now (H.moments host.new) (R.holds remotes.old)
         (digest.now, kind) batch.old.turns.items batch.new.turns.items batch.old.items.items
         batch.new.items.items) }
     ensures refuses { (w : WalkFault) → IsErrOf result (WalkEnd.Refused w) → ⊥ }
-    ensures fault_has_cause { IsCounted (IsErrOf result WalkEnd.HostFault) (H.moments host.old)
-        (H.faults host.old) (H.faults host.new) }
+    ensures fault_has_cause { FailsAlone H.Host host.old host.new
+        (IsErrOf result WalkEnd.HostFault) }
     ensures remote_fault_has_cause { IsRemotes (IsErrOf result WalkEnd.RemoteFault)
         (R.faults remotes.old) (R.faults remotes.new) }
 {
@@ -140,7 +139,7 @@ fn add<H: Host, R: Remotes>(
     }
 }
 
-/// What is read of these objects before any is judged: of each that the store lacks and that isn't
+/// What is read of these objects, 64 at most, before any is judged: of each that the store lacks and that isn't
 /// kept in the work folder, the remote's where it is small.
 pub(crate) fn read_batch<H: Host, R: Remotes>(
     alloc: Global,
@@ -151,14 +150,15 @@ pub(crate) fn read_batch<H: Host, R: Remotes>(
     work: &Path,
     objects: &[(Digest, ObjKind)],
 ) -> Result<Batch, WalkEnd>
-    ensures unchanged { Unchanged (H.moments host.old) (H.moments host.new) }
+    requires { length objects.now ≤ MOST_IN_BATCH }
+    ensures unchanged { ChangesNothing H.Host host.old host.new }
     ensures same { R.holds remotes.new ≡ R.holds remotes.old }
     ensures ready { IfOk result (λ batch. AreReady root.now url.now (H.moments host.new)
         (R.holds remotes.old) (length objects.now) objects.now batch.turns.items
         batch.items.items) }
     ensures refuses { (w : WalkFault) → IsErrOf result (WalkEnd.Refused w) → ⊥ }
-    ensures fault_has_cause { IsCounted (IsErrOf result WalkEnd.HostFault) (H.moments host.old)
-        (H.faults host.old) (H.faults host.new) }
+    ensures fault_has_cause { FailsAlone H.Host host.old host.new
+        (IsErrOf result WalkEnd.HostFault) }
     ensures remote_fault_has_cause { IsRemotes (IsErrOf result WalkEnd.RemoteFault)
         (R.faults remotes.old) (R.faults remotes.new) }
 {

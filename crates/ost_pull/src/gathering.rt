@@ -1,9 +1,7 @@
 //! All that a store lacks of a commit, gathered in the work folder.
 ghost use Rattle.std.specs.Prelude.{◌≡◌, None, Some, [], IfOk, OnOk, IsErrOf, option_map};
 ghost use Rattle.std.specs.Option.{option_or};
-ghost use Rattle.fp_host.specs.Causes.{IsCaused};
-ghost use Rattle.fp_host.specs.Frame.{AtEnd};
-ghost use Rattle.fp_host.specs.Moments.{Always};
+ghost use Rattle.fp_host.specs.OverHost.{AtEachMoment, AtReturn, FailsOnly};
 ghost use Rattle.ost_model.specs.Objects.{Have};
 ghost use Rattle.ost_model.specs.Order.{first_fault};
 ghost use Rattle.ost_model.specs.Remotes.{Supplies};
@@ -50,14 +48,13 @@ fn take_surveyed<H: Host, R: Remotes, G: Gate + Sync>(
     gate: &G,
 ) -> Result<(), WalkEnd>
     requires { IsApart root.now work.now }
-    ensures any_moment { Always (Works work.now) (H.moments host.old) (H.moments host.new) }
+    ensures any_moment { AtEachMoment H.Host host.old host.new (Works work.now) }
     ensures same { R.holds remotes.new ≡ R.holds remotes.old }
     ensures only { OnOk result (AddsAmong survey.now.objects kept.old.items kept.new.items
         × (survey.now.fault ≡ None)) }
-    ensures on_success { OnOk result (AtEnd
+    ensures on_success { OnOk result (AtReturn H.Host host.old host.new
         (TakesAll root.now work.now url.now (R.holds remotes.old) survey.now.objects kept.old.items
-        kept.new.items)
-        (H.moments host.old) (H.moments host.new)) }
+        kept.new.items)) }
     ensures tells { (have : Have) → Supplies root.now (Some url.now) (H.moments host.old)
         (R.holds remotes.old) have
         → AreTakenNow root.now work.now url.now (R.holds remotes.old) kept.old.items
@@ -65,8 +62,8 @@ fn take_surveyed<H: Host, R: Remotes, G: Gate + Sync>(
         → EndsBy (λ _. (first_bad have survey.now.objects ≡ None) × (survey.now.fault ≡ None))
         (λ w. option_or (first_bad have survey.now.objects) (option_map told_fault survey.now.fault)
         ≡ Some (told_fault w)) result }
-    ensures fault_has_cause { IsCaused (IsErrOf result WalkEnd.HostFault) (H.moments host.old)
-        (AreOpen work.now) (H.faults host.old) (H.faults host.new) }
+    ensures fault_has_cause { FailsOnly H.Host host.old host.new
+        (AreOpen work.now) (IsErrOf result WalkEnd.HostFault) }
     ensures remote_fault_has_cause { IsRemotes (IsErrOf result WalkEnd.RemoteFault)
         (R.faults remotes.old) (R.faults remotes.new) }
 {
@@ -104,24 +101,23 @@ fn take_order<H: Host, R: Remotes, G: Gate + Sync>(
     gate: &G,
 ) -> Result<(), WalkEnd>
     requires { IsApart root.now work.now }
-    ensures any_moment { Always (Works work.now) (H.moments host.old) (H.moments host.new) }
+    ensures any_moment { AtEachMoment H.Host host.old host.new (Works work.now) }
     ensures same { R.holds remotes.new ≡ R.holds remotes.old }
-    ensures on_success { OnOk result (AtEnd
-        (StaysTaken root.now work.now url.now (R.holds remotes.old) kept.old.items kept.new.items)
-        (H.moments host.old) (H.moments host.new)) }
+    ensures on_success { OnOk result (AtReturn H.Host host.old host.new
+        (StaysTaken root.now work.now url.now (R.holds remotes.old) kept.old.items kept.new.items)) }
     ensures covers { (have : Have) → Supplies root.now (Some url.now) (H.moments host.old)
-        (R.holds remotes.old) have → kept.old.items ≡ [] → OnOk result (AtEnd
+        (R.holds remotes.old) have → kept.old.items ≡ []
+        → OnOk result (AtReturn H.Host host.old host.new
         (λ u w. AreTaken root.now work.now url.now (R.holds remotes.old) [] u
-        → CoversOrder root.now have commit.now kept.new.items w)
-        (H.moments host.old) (H.moments host.new)) }
+        → CoversOrder root.now have commit.now kept.new.items w)) }
     ensures refuses { (have : Have) → Supplies root.now (Some url.now) (H.moments host.old)
         (R.holds remotes.old) have
         → AreTakenNow root.now work.now url.now (R.holds remotes.old) kept.old.items
         (H.moments host.old)
         → EndsBy (λ _. first_fault have commit.now ≡ None)
         (λ w. first_named have commit.now ≡ Some (told_fault w)) result }
-    ensures fault_has_cause { IsCaused (IsErrOf result WalkEnd.HostFault) (H.moments host.old)
-        (AreOpen work.now) (H.faults host.old) (H.faults host.new) }
+    ensures fault_has_cause { FailsOnly H.Host host.old host.new
+        (AreOpen work.now) (IsErrOf result WalkEnd.HostFault) }
     ensures remote_fault_has_cause { IsRemotes (IsErrOf result WalkEnd.RemoteFault)
         (R.faults remotes.old) (R.faults remotes.new) }
 {
@@ -150,23 +146,20 @@ pub(crate) fn gather<H: Host, R: Remotes, G: Gate + Sync>(
 ) -> Result<(), WalkEnd>
     requires apart { IsApart root.now work.now }
     requires empty { kept.old.items ≡ [] }
-    ensures any_moment { Always (Works work.now) (H.moments host.old) (H.moments host.new) }
+    ensures any_moment { AtEachMoment H.Host host.old host.new (Works work.now) }
     ensures same { R.holds remotes.new ≡ R.holds remotes.old }
-    ensures on_success { OnOk result (AtEnd
-        (λ u w. AreTaken root.now work.now url.now (R.holds remotes.old) kept.new.items w)
-        (H.moments host.old) (H.moments host.new)) }
-    ensures gathers { OnOk result (AtEnd (GathersAnew work.now)
-        (H.moments host.old) (H.moments host.new)) }
+    ensures on_success { OnOk result (AtReturn H.Host host.old host.new
+        (λ u w. AreTaken root.now work.now url.now (R.holds remotes.old) kept.new.items w)) }
+    ensures gathers { OnOk result (AtReturn H.Host host.old host.new (GathersAnew work.now)) }
     ensures covers { (have : Have) → Supplies root.now (Some url.now) (H.moments host.old)
-        (R.holds remotes.old) have → OnOk result (AtEnd
-        (λ u w. CoversOrder root.now have commit.now kept.new.items w)
-        (H.moments host.old) (H.moments host.new)) }
+        (R.holds remotes.old) have → OnOk result (AtReturn H.Host host.old host.new
+        (λ u w. CoversOrder root.now have commit.now kept.new.items w)) }
     ensures refuses { (have : Have) → Supplies root.now (Some url.now) (H.moments host.old)
         (R.holds remotes.old) have
         → EndsBy (λ _. first_fault have commit.now ≡ None)
         (λ w. first_named have commit.now ≡ Some (told_fault w)) result }
-    ensures fault_has_cause { IsCaused (IsErrOf result WalkEnd.HostFault) (H.moments host.old)
-        (CanPull root.now work.now) (H.faults host.old) (H.faults host.new) }
+    ensures fault_has_cause { FailsOnly H.Host host.old host.new
+        (CanPull root.now work.now) (IsErrOf result WalkEnd.HostFault) }
     ensures remote_fault_has_cause { IsRemotes (IsErrOf result WalkEnd.RemoteFault)
         (R.faults remotes.old) (R.faults remotes.new) }
 {

@@ -1,10 +1,8 @@
 //! Objects that come from the work folder to their names.
 ghost use Rattle.std.specs.Prelude.{OnOk, IsErrOf, ℕ, List, Option};
-ghost use Rattle.fp_host.specs.Causes.{IsCaused};
-ghost use Rattle.fp_host.specs.Frame.{AtEnd};
-ghost use Rattle.fp_host.specs.Moments.{Always};
+ghost use Rattle.fp_host.specs.OverHost.{AtEachMoment, AtReturn, FailsOnly};
 ghost use Rattle.fp_host.specs.Remote.{Holdings};
-ghost use Rattle.ost_pull.specs.Placing.{AreReady, CanPlaceAll, CanStore, PlacesAll, PullsKept, PullsReady, WasStored};
+ghost use Rattle.ost_pull.specs.Placing.{AreReady, CanPlaceAll, CanStore, FirstComesLast, PlacesAll, PullsKept, PullsReady, WasStored};
 ghost use Rattle.ost_pull.specs.Pulls.{IsApart};
 ghost use Rattle.ost_pull.specs.Takes.{AreTaken};
 
@@ -15,8 +13,8 @@ use fp_small::clear;
 use ost_store::place_from;
 use std::alloc::Global;
 
-/// Gives these objects, which stand in the work folder, their names in the store. Nothing is
-/// synced. It is for different objects that the store lacks and that were synced.
+/// Gives these objects, which stand in the work folder, their names in the store, the last of them
+/// first. Nothing is synced. It is for different objects that the store lacks and that were synced.
 fn place_all<H: Host>(
     alloc: Global,
     host: &mut H,
@@ -25,14 +23,16 @@ fn place_all<H: Host>(
     objects: &mut Vec<(Digest, ObjKind)>,
 ) -> Result<(), HostEnd>
     requires { IsApart root.now work.now }
-    ensures any_moment { Always (PullsReady root.now work.now objects.old.items)
-        (H.moments host.old) (H.moments host.new) }
-    ensures on_success { OnOk result (AtEnd
+    ensures any_moment { AtEachMoment H.Host host.old host.new
+        (PullsReady root.now work.now objects.old.items) }
+    // A commit is the first of its order, so it has its name only when all that it needs is there.
+    ensures order { AtEachMoment H.Host host.old host.new
+        (FirstComesLast root.now work.now objects.old.items) }
+    ensures on_success { OnOk result (AtReturn H.Host host.old host.new
         (λ u w. AreReady work.now objects.old.items u
-        → PlacesAll root.now work.now objects.old.items u w)
-        (H.moments host.old) (H.moments host.new)) }
-    ensures fault_has_cause { IsCaused (IsErrOf result HostEnd.Fault) (H.moments host.old)
-        (CanPlaceAll root.now work.now objects.old.items) (H.faults host.old) (H.faults host.new) }
+        → PlacesAll root.now work.now objects.old.items u w)) }
+    ensures fault_has_cause { FailsOnly H.Host host.old host.new
+        (CanPlaceAll root.now work.now objects.old.items) (IsErrOf result HostEnd.Fault) }
 {
     while let Some(object) = objects.pop() {
         place_from(alloc, host, root, work, &object.0, object.1)?;
@@ -51,16 +51,15 @@ pub(crate) fn store_kept<H: Host>(
 ) -> Result<(), HostEnd>
     requires { IsApart root.now work.now }
     ensures any_moment { (url : List ℕ) (holds : Option Holdings)
-        → Always (PullsKept root.now work.now url holds kept.old.items)
-        (H.moments host.old) (H.moments host.new) }
-    ensures on_success { (url : List ℕ) (holds : Option Holdings) → OnOk result (AtEnd
+        → AtEachMoment H.Host host.old host.new
+        (PullsKept root.now work.now url holds kept.old.items) }
+    ensures on_success { (url : List ℕ) (holds : Option Holdings)
+        → OnOk result (AtReturn H.Host host.old host.new
         (λ u w. AreTaken root.now work.now url holds kept.old.items u
-        → WasStored root.now work.now kept.old.items u w)
-        (H.moments host.old) (H.moments host.new)) }
+        → WasStored root.now work.now kept.old.items u w)) }
     ensures fault_has_cause { (url : List ℕ) (holds : Option Holdings)
-        → IsCaused (IsErrOf result HostEnd.Fault) (H.moments host.old)
-        (CanStore root.now work.now url holds kept.old.items) (H.faults host.old)
-        (H.faults host.new) }
+        → FailsOnly H.Host host.old host.new
+        (CanStore root.now work.now url holds kept.old.items) (IsErrOf result HostEnd.Fault) }
 {
     host.sync()?;
     place_all(alloc, host, root, work, kept)?;

@@ -1,8 +1,6 @@
 //! A commit that is pulled.
 ghost use Rattle.std.specs.Prelude.{◌≡◌, Some, [], OnOk, IsErrOf};
-ghost use Rattle.fp_host.specs.Causes.{IsCaused};
-ghost use Rattle.fp_host.specs.Frame.{AtEnd};
-ghost use Rattle.fp_host.specs.Moments.{Always};
+ghost use Rattle.fp_host.specs.OverHost.{AtEachMoment, AtReturn, FailsOnly};
 ghost use Rattle.fp_small.specs.declared.refusal.Refusal.{Refusal};
 ghost use Rattle.ost_model.specs.Objects.{Have};
 ghost use Rattle.ost_model.specs.Remotes.{Supplies};
@@ -15,8 +13,7 @@ use fp_base::ObjKind;
 use fp_host::{Host, HostEnd, Path, Remotes};
 use fp_name::Digest;
 use fp_small::clear;
-use ost_head::PullEnd;
-use ost_walk::WalkEnd;
+use ost_walk::{PullEnd, WalkEnd};
 use par_digest::{Gate, NoGate};
 use std::alloc::Global;
 use std::thread::Threads;
@@ -40,20 +37,19 @@ pub fn pull<H: Host, R: Remotes>(
     ensures same { R.holds remotes.new ≡ R.holds remotes.old }
     // Where the names of the store are true at every stop before, a stop at any moment leaves a
     // store whose names are true, with each object that was there.
-    ensures any_moment { Always (PullsSoundly root.now work.now)
-        (H.moments host.old) (H.moments host.new) }
+    ensures any_moment { AtEachMoment H.Host host.old host.new (PullsSoundly root.now work.now) }
     ensures on_success { (have : Have) → Supplies root.now (Some url.now) (H.moments host.old)
         (R.holds remotes.old) have
-        → OnOk result (AtEnd (WasPulled root.now work.now have commit.now) (H.moments host.old)
-        (H.moments host.new)) }
+        → OnOk result (AtReturn H.Host host.old host.new
+        (WasPulled root.now work.now have commit.now)) }
     ensures refuses { (have : Have) → Supplies root.now (Some url.now) (H.moments host.old)
         (R.holds remotes.old) have → Refuses (first_refusal have commit.now) result }
     ensures refused_unchanged { (r : Refusal) → IsErrOf result (PullEnd.Refused r)
-        → AtEnd (WasRefused work.now) (H.moments host.old) (H.moments host.new) }
+        → AtReturn H.Host host.old host.new (WasRefused work.now) }
     ensures remote_fault_unchanged { IsErrOf result PullEnd.RemoteFault
-        → AtEnd (WasRefused work.now) (H.moments host.old) (H.moments host.new) }
-    ensures fault_has_cause { IsCaused (IsErrOf result PullEnd.HostFault) (H.moments host.old)
-        (CanPull root.now work.now) (H.faults host.old) (H.faults host.new) }
+        → AtReturn H.Host host.old host.new (WasRefused work.now) }
+    ensures fault_has_cause { FailsOnly H.Host host.old host.new
+        (CanPull root.now work.now) (IsErrOf result PullEnd.HostFault) }
     ensures remote_fault_has_cause { IsRemotes (IsErrOf result PullEnd.RemoteFault)
         (R.faults remotes.old) (R.faults remotes.new) }
 {
@@ -80,20 +76,19 @@ pub fn pull_gated<H: Host, R: Remotes, G: Gate + Sync>(
     ensures same { R.holds remotes.new ≡ R.holds remotes.old }
     // Where the names of the store are true at every stop before, a stop at any moment leaves a
     // store whose names are true, with each object that was there.
-    ensures any_moment { Always (PullsSoundly root.now work.now)
-        (H.moments host.old) (H.moments host.new) }
+    ensures any_moment { AtEachMoment H.Host host.old host.new (PullsSoundly root.now work.now) }
     ensures on_success { (have : Have) → Supplies root.now (Some url.now) (H.moments host.old)
         (R.holds remotes.old) have
-        → OnOk result (AtEnd (WasPulled root.now work.now have commit.now) (H.moments host.old)
-        (H.moments host.new)) }
+        → OnOk result (AtReturn H.Host host.old host.new
+        (WasPulled root.now work.now have commit.now)) }
     ensures refuses { (have : Have) → Supplies root.now (Some url.now) (H.moments host.old)
         (R.holds remotes.old) have → Refuses (first_refusal have commit.now) result }
     ensures refused_unchanged { (r : Refusal) → IsErrOf result (PullEnd.Refused r)
-        → AtEnd (WasRefused work.now) (H.moments host.old) (H.moments host.new) }
+        → AtReturn H.Host host.old host.new (WasRefused work.now) }
     ensures remote_fault_unchanged { IsErrOf result PullEnd.RemoteFault
-        → AtEnd (WasRefused work.now) (H.moments host.old) (H.moments host.new) }
-    ensures fault_has_cause { IsCaused (IsErrOf result PullEnd.HostFault) (H.moments host.old)
-        (CanPull root.now work.now) (H.faults host.old) (H.faults host.new) }
+        → AtReturn H.Host host.old host.new (WasRefused work.now) }
+    ensures fault_has_cause { FailsOnly H.Host host.old host.new
+        (CanPull root.now work.now) (IsErrOf result PullEnd.HostFault) }
     ensures remote_fault_has_cause { IsRemotes (IsErrOf result PullEnd.RemoteFault)
         (R.faults remotes.old) (R.faults remotes.new) }
 {

@@ -9,6 +9,7 @@ ghost use Rattle.ost_model.specs.Remotes.{as_spot, remote_at};
 ghost use Rattle.ost_walk.specs.Ends.{IsRemotes};
 ghost use Rattle.ost_walk.specs.declared.ends.WalkFault.{WalkFault};
 ghost use Rattle.ost_head.specs.Objects.{IsFit};
+ghost use Rattle.ost_pull.specs.Batches.{IsSmall};
 
 use fp_base::{Blob, ObjKind, Text};
 use fp_host::{Node, Path, Remotes, is_link_text};
@@ -32,6 +33,7 @@ fn small_file<R: Remotes>(
 ) -> Result<Option<Object>, WalkEnd>
     ensures same { R.holds remotes.new ≡ R.holds remotes.old }
     ensures fit { IfOk result (λ found. IfSome found (IsFit kinds.File)) }
+    ensures small { IfOk result (λ found. IfSome found IsSmall) }
     ensures there { (held : Holdings) → R.holds remotes.old ≡ Some held
         → IsNode (held url.now path.now) (nodes.File mode size)
         → IfOk result (λ found. IfSome found
@@ -49,9 +51,10 @@ fn small_file<R: Remotes>(
 }
 
 /// The link with this text, where the text may be a link's.
-#[tactic(auto, using(crate::proofs::Read::fit_link, crate::proofs::Read::text_there))]
+#[tactic(auto, using(crate::proofs::Read::fit_link, crate::proofs::Read::short_link, crate::proofs::Read::text_there))]
 fn small_link(text: Text) -> Option<Object>
     ensures fit { IfSome result (IsFit kinds.File) }
+    ensures small { IfSome result IsSmall }
     ensures there { IfSome result (λ object. object_at kinds.File (points text) ≡ Some object) }
 {
     if is_link_text(text.as_str()) {
@@ -71,6 +74,7 @@ fn small_content<R: Remotes>(
 ) -> Result<Option<Object>, WalkEnd>
     ensures same { R.holds remotes.new ≡ R.holds remotes.old }
     ensures fit { IfOk result (λ found. IfSome found (IsFit kinds.File)) }
+    ensures small { IfOk result (λ found. IfSome found IsSmall) }
     ensures there { (held : Holdings) → R.holds remotes.old ≡ Some held
         → IfOk result (λ found. IfSome found
         (λ object. object_at kinds.File (as_spot (held url.now path.now)) ≡ Some object)) }
@@ -100,6 +104,7 @@ fn small_bytes<R: Remotes>(
     requires { may_be_link kind ≡ false }
     ensures same { R.holds remotes.new ≡ R.holds remotes.old }
     ensures fit { IfOk result (λ found. IfSome found (IsFit kind)) }
+    ensures small { IfOk result (λ found. IfSome found IsSmall) }
     ensures there { (held : Holdings) → R.holds remotes.old ≡ Some held → (mode : ℕ)
         → IsNode (held url.now path.now) (nodes.File mode size)
         → IfOk result (λ found. IfSome found
@@ -127,6 +132,7 @@ fn small_meta<R: Remotes>(
     requires { may_be_link kind ≡ false }
     ensures same { R.holds remotes.new ≡ R.holds remotes.old }
     ensures fit { IfOk result (λ found. IfSome found (IsFit kind)) }
+    ensures small { IfOk result (λ found. IfSome found IsSmall) }
     ensures there { (held : Holdings) → R.holds remotes.old ≡ Some held
         → IfOk result (λ found. IfSome found
         (λ object. object_at kind (as_spot (held url.now path.now)) ≡ Some object)) }
@@ -152,6 +158,7 @@ pub(crate) fn small_object<R: Remotes>(
 ) -> Result<Option<Object>, WalkEnd>
     ensures same { R.holds remotes.new ≡ R.holds remotes.old }
     ensures fit { IfOk result (λ found. IfSome found (IsFit kind)) }
+    ensures small { IfOk result (λ found. IfSome found IsSmall) }
     ensures there { (held : Holdings) → R.holds remotes.old ≡ Some held
         → IfOk result (λ found. IfSome found
         (λ object. remote_at held url.now digest.now kind ≡ Some object)) }

@@ -1,9 +1,7 @@
 //! Objects of an order that are found, checked, and kept where they are new.
 ghost use Rattle.std.specs.Prelude.{◌≡◌, Some, OnOk, IsErrOf};
 ghost use Rattle.fp_base.specs.declared.object.ObjKind.TheVariants as kinds;
-ghost use Rattle.fp_host.specs.Causes.{IsCaused};
-ghost use Rattle.fp_host.specs.Frame.{AtEnd};
-ghost use Rattle.fp_host.specs.Moments.{Always};
+ghost use Rattle.fp_host.specs.OverHost.{AtEachMoment, AtReturn, FailsOnly};
 ghost use Rattle.ost_model.specs.Objects.{Have};
 ghost use Rattle.ost_model.specs.Remotes.{Supplies};
 ghost use Rattle.ost_walk.specs.Ends.{EndsBy, IsFaultOf, IsRemotes, of_host};
@@ -17,8 +15,7 @@ use crate::keeping::{keep, keep_content};
 use fp_base::ObjKind;
 use fp_host::{Host, HostEnd, Path, Remotes};
 use fp_name::Digest;
-use ost_copy::check_stored;
-use ost_head::{Found, find};
+use ost_head::{Found, check_stored, find};
 use ost_model::Object;
 use ost_walk::{ObjectFault, WalkEnd, WalkFault};
 use std::alloc::Global;
@@ -48,19 +45,18 @@ fn take_whole<H: Host, R: Remotes>(
     kept: &mut Vec<(Digest, ObjKind)>,
 ) -> Result<(), WalkEnd>
     requires { IsApart root.now work.now }
-    ensures any_moment { Always (Works work.now) (H.moments host.old) (H.moments host.new) }
+    ensures any_moment { AtEachMoment H.Host host.old host.new (Works work.now) }
     ensures same { R.holds remotes.new ≡ R.holds remotes.old }
     ensures adds { OnOk result (Adds (digest.now, kind) kept.old.items kept.new.items) }
-    ensures on_success { OnOk result (AtEnd
+    ensures on_success { OnOk result (AtReturn H.Host host.old host.new
         (TakesOne root.now work.now url.now (R.holds remotes.old)
-        (digest.now, kind) kept.old.items kept.new.items)
-        (H.moments host.old) (H.moments host.new)) }
+        (digest.now, kind) kept.old.items kept.new.items)) }
     ensures tells { (have : Have) → Supplies root.now (Some url.now) (H.moments host.old)
         (R.holds remotes.old) have
         → EndsBy (λ _. IsGood have digest.now kind)
         (IsFaultOf digest.now kind (own_fault have digest.now kind)) result }
-    ensures fault_has_cause { IsCaused (IsErrOf result WalkEnd.HostFault) (H.moments host.old)
-        (AreOpen work.now) (H.faults host.old) (H.faults host.new) }
+    ensures fault_has_cause { FailsOnly H.Host host.old host.new
+        (AreOpen work.now) (IsErrOf result WalkEnd.HostFault) }
     ensures remote_fault_has_cause { IsRemotes (IsErrOf result WalkEnd.RemoteFault)
         (R.faults remotes.old) (R.faults remotes.new) }
 {
@@ -89,21 +85,20 @@ fn take_content<H: Host, R: Remotes>(
     kept: &mut Vec<(Digest, ObjKind)>,
 ) -> Result<(), WalkEnd>
     requires { IsApart root.now work.now }
-    ensures any_moment { Always (Works work.now) (H.moments host.old) (H.moments host.new) }
+    ensures any_moment { AtEachMoment H.Host host.old host.new (Works work.now) }
     ensures same { R.holds remotes.new ≡ R.holds remotes.old }
     ensures adds { OnOk result (Adds (digest.now, kinds.File) kept.old.items kept.new.items) }
-    ensures on_success { OnOk result (AtEnd
+    ensures on_success { OnOk result (AtReturn H.Host host.old host.new
         (TakesOne root.now work.now url.now (R.holds remotes.old)
-        (digest.now, kinds.File) kept.old.items kept.new.items)
-        (H.moments host.old) (H.moments host.new)) }
+        (digest.now, kinds.File) kept.old.items kept.new.items)) }
     ensures tells { (have : Have) → Supplies root.now (Some url.now) (H.moments host.old)
         (R.holds remotes.old) have
         → AreTakenNow root.now work.now url.now (R.holds remotes.old) kept.old.items
         (H.moments host.old)
         → EndsBy (λ _. IsGood have digest.now kinds.File)
         (IsFaultOf digest.now kinds.File (own_fault have digest.now kinds.File)) result }
-    ensures fault_has_cause { IsCaused (IsErrOf result WalkEnd.HostFault) (H.moments host.old)
-        (AreOpen work.now) (H.faults host.old) (H.faults host.new) }
+    ensures fault_has_cause { FailsOnly H.Host host.old host.new
+        (AreOpen work.now) (IsErrOf result WalkEnd.HostFault) }
     ensures remote_fault_has_cause { IsRemotes (IsErrOf result WalkEnd.RemoteFault)
         (R.faults remotes.old) (R.faults remotes.new) }
 {
@@ -130,21 +125,20 @@ pub(crate) fn take<H: Host, R: Remotes>(
     kept: &mut Vec<(Digest, ObjKind)>,
 ) -> Result<(), WalkEnd>
     requires { IsApart root.now work.now }
-    ensures any_moment { Always (Works work.now) (H.moments host.old) (H.moments host.new) }
+    ensures any_moment { AtEachMoment H.Host host.old host.new (Works work.now) }
     ensures same { R.holds remotes.new ≡ R.holds remotes.old }
     ensures adds { OnOk result (Adds (digest.now, kind) kept.old.items kept.new.items) }
-    ensures on_success { OnOk result (AtEnd
+    ensures on_success { OnOk result (AtReturn H.Host host.old host.new
         (TakesOne root.now work.now url.now (R.holds remotes.old)
-        (digest.now, kind) kept.old.items kept.new.items)
-        (H.moments host.old) (H.moments host.new)) }
+        (digest.now, kind) kept.old.items kept.new.items)) }
     ensures tells { (have : Have) → Supplies root.now (Some url.now) (H.moments host.old)
         (R.holds remotes.old) have
         → AreTakenNow root.now work.now url.now (R.holds remotes.old) kept.old.items
         (H.moments host.old)
         → EndsBy (λ _. IsGood have digest.now kind)
         (IsFaultOf digest.now kind (own_fault have digest.now kind)) result }
-    ensures fault_has_cause { IsCaused (IsErrOf result WalkEnd.HostFault) (H.moments host.old)
-        (AreOpen work.now) (H.faults host.old) (H.faults host.new) }
+    ensures fault_has_cause { FailsOnly H.Host host.old host.new
+        (AreOpen work.now) (IsErrOf result WalkEnd.HostFault) }
     ensures remote_fault_has_cause { IsRemotes (IsErrOf result WalkEnd.RemoteFault)
         (R.faults remotes.old) (R.faults remotes.new) }
 {

@@ -1,9 +1,7 @@
 //! Objects of an order that are taken a batch at a time: read whole where they are small, hashed
 //! together, then judged in order.
 ghost use Rattle.std.specs.Prelude.{◌≡◌, ◌+◌, ◌<◌, ◌≤◌, length, None, Some, OnOk, IsErrOf};
-ghost use Rattle.fp_host.specs.Causes.{IsCaused};
-ghost use Rattle.fp_host.specs.Frame.{AtEnd};
-ghost use Rattle.fp_host.specs.Moments.{Always};
+ghost use Rattle.fp_host.specs.OverHost.{AtEachMoment, AtReturn, FailsOnly};
 ghost use Rattle.par_digest.specs.Digests.{item_digest, item_digests};
 ghost use Rattle.ost_model.specs.Objects.{Have};
 ghost use Rattle.ost_model.specs.Remotes.{Supplies};
@@ -48,21 +46,20 @@ fn take_read<H: Host, R: Remotes>(
     requires read { IsBatched root.now url.now (H.moments host.old) (R.holds remotes.old)
         (digest.now, kind) form.now item.now }
     requires got { got.now ≡ item_digest item.now }
-    ensures any_moment { Always (Works work.now) (H.moments host.old) (H.moments host.new) }
+    ensures any_moment { AtEachMoment H.Host host.old host.new (Works work.now) }
     ensures same { R.holds remotes.new ≡ R.holds remotes.old }
     ensures adds { OnOk result (Adds (digest.now, kind) kept.old.items kept.new.items) }
-    ensures on_success { OnOk result (AtEnd
+    ensures on_success { OnOk result (AtReturn H.Host host.old host.new
         (TakesOne root.now work.now url.now (R.holds remotes.old)
-        (digest.now, kind) kept.old.items kept.new.items)
-        (H.moments host.old) (H.moments host.new)) }
+        (digest.now, kind) kept.old.items kept.new.items)) }
     ensures tells { (have : Have) → Supplies root.now (Some url.now) (H.moments host.old)
         (R.holds remotes.old) have
         → AreTakenNow root.now work.now url.now (R.holds remotes.old) kept.old.items
         (H.moments host.old)
         → EndsBy (λ _. IsGood have digest.now kind)
         (IsFaultOf digest.now kind (own_fault have digest.now kind)) result }
-    ensures fault_has_cause { IsCaused (IsErrOf result WalkEnd.HostFault) (H.moments host.old)
-        (AreOpen work.now) (H.faults host.old) (H.faults host.new) }
+    ensures fault_has_cause { FailsOnly H.Host host.old host.new
+        (AreOpen work.now) (IsErrOf result WalkEnd.HostFault) }
     ensures remote_fault_has_cause { IsRemotes (IsErrOf result WalkEnd.RemoteFault)
         (R.faults remotes.old) (R.faults remotes.new) }
 {
@@ -97,21 +94,20 @@ fn take_turn<H: Host, R: Remotes>(
     requires ready { IsReady root.now url.now (H.moments host.old) (R.holds remotes.old)
         (digest.now, kind) items.now turn.now }
     requires digests { digests.now ≡ item_digests items.now }
-    ensures any_moment { Always (Works work.now) (H.moments host.old) (H.moments host.new) }
+    ensures any_moment { AtEachMoment H.Host host.old host.new (Works work.now) }
     ensures same { R.holds remotes.new ≡ R.holds remotes.old }
     ensures adds { OnOk result (Adds (digest.now, kind) kept.old.items kept.new.items) }
-    ensures on_success { OnOk result (AtEnd
+    ensures on_success { OnOk result (AtReturn H.Host host.old host.new
         (TakesOne root.now work.now url.now (R.holds remotes.old)
-        (digest.now, kind) kept.old.items kept.new.items)
-        (H.moments host.old) (H.moments host.new)) }
+        (digest.now, kind) kept.old.items kept.new.items)) }
     ensures tells { (have : Have) → Supplies root.now (Some url.now) (H.moments host.old)
         (R.holds remotes.old) have
         → AreTakenNow root.now work.now url.now (R.holds remotes.old) kept.old.items
         (H.moments host.old)
         → EndsBy (λ _. IsGood have digest.now kind)
         (IsFaultOf digest.now kind (own_fault have digest.now kind)) result }
-    ensures fault_has_cause { IsCaused (IsErrOf result WalkEnd.HostFault) (H.moments host.old)
-        (AreOpen work.now) (H.faults host.old) (H.faults host.new) }
+    ensures fault_has_cause { FailsOnly H.Host host.old host.new
+        (AreOpen work.now) (IsErrOf result WalkEnd.HostFault) }
     ensures remote_fault_has_cause { IsRemotes (IsErrOf result WalkEnd.RemoteFault)
         (R.faults remotes.old) (R.faults remotes.new) }
 {
@@ -153,22 +149,21 @@ fn take_turns<H: Host, R: Remotes>(
     requires ready { AreReady root.now url.now (H.moments host.old) (R.holds remotes.old)
         (length objects.now) objects.now turns.now items.now }
     requires digests { digests.now ≡ item_digests items.now }
-    ensures any_moment { Always (Works work.now) (H.moments host.old) (H.moments host.new) }
+    ensures any_moment { AtEachMoment H.Host host.old host.new (Works work.now) }
     ensures same { R.holds remotes.new ≡ R.holds remotes.old }
     ensures only { OnOk result (AddsAmong objects.now kept.old.items kept.new.items) }
     ensures noted { OnOk result (StaysNoted kept.old.items kept.new.items) }
-    ensures on_success { OnOk result (AtEnd
+    ensures on_success { OnOk result (AtReturn H.Host host.old host.new
         (TakesAll root.now work.now url.now (R.holds remotes.old) objects.now kept.old.items
-        kept.new.items)
-        (H.moments host.old) (H.moments host.new)) }
+        kept.new.items)) }
     ensures tells { (have : Have) → Supplies root.now (Some url.now) (H.moments host.old)
         (R.holds remotes.old) have
         → AreTakenNow root.now work.now url.now (R.holds remotes.old) kept.old.items
         (H.moments host.old)
         → EndsBy (λ _. first_bad have objects.now ≡ None)
         (λ w. first_bad have objects.now ≡ Some (told_fault w)) result }
-    ensures fault_has_cause { IsCaused (IsErrOf result WalkEnd.HostFault) (H.moments host.old)
-        (AreOpen work.now) (H.faults host.old) (H.faults host.new) }
+    ensures fault_has_cause { FailsOnly H.Host host.old host.new
+        (AreOpen work.now) (IsErrOf result WalkEnd.HostFault) }
     ensures remote_fault_has_cause { IsRemotes (IsErrOf result WalkEnd.RemoteFault)
         (R.faults remotes.old) (R.faults remotes.new) }
 {
@@ -184,7 +179,7 @@ fn take_turns<H: Host, R: Remotes>(
     Ok(())
 }
 
-/// Takes the objects of a batch: reads those of the remote that are small, takes the digests of
+/// Takes the objects of a batch, 64 at most: reads those of the remote that are small, takes the digests of
 /// these, then takes each object in order. It is refused with the first that has a fault, where
 /// what was noted before is kept.
 fn take_batch<H: Host, R: Remotes, G: Gate + Sync>(
@@ -199,23 +194,23 @@ fn take_batch<H: Host, R: Remotes, G: Gate + Sync>(
     kept: &mut Vec<(Digest, ObjKind)>,
     gate: &G,
 ) -> Result<(), WalkEnd>
-    requires { IsApart root.now work.now }
-    ensures any_moment { Always (Works work.now) (H.moments host.old) (H.moments host.new) }
+    requires apart { IsApart root.now work.now }
+    requires few { length objects.now ≤ MOST_IN_BATCH }
+    ensures any_moment { AtEachMoment H.Host host.old host.new (Works work.now) }
     ensures same { R.holds remotes.new ≡ R.holds remotes.old }
     ensures only { OnOk result (AddsAmong objects.now kept.old.items kept.new.items) }
     ensures noted { OnOk result (StaysNoted kept.old.items kept.new.items) }
-    ensures on_success { OnOk result (AtEnd
+    ensures on_success { OnOk result (AtReturn H.Host host.old host.new
         (TakesAll root.now work.now url.now (R.holds remotes.old) objects.now kept.old.items
-        kept.new.items)
-        (H.moments host.old) (H.moments host.new)) }
+        kept.new.items)) }
     ensures tells { (have : Have) → Supplies root.now (Some url.now) (H.moments host.old)
         (R.holds remotes.old) have
         → AreTakenNow root.now work.now url.now (R.holds remotes.old) kept.old.items
         (H.moments host.old)
         → EndsBy (λ _. first_bad have objects.now ≡ None)
         (λ w. first_bad have objects.now ≡ Some (told_fault w)) result }
-    ensures fault_has_cause { IsCaused (IsErrOf result WalkEnd.HostFault) (H.moments host.old)
-        (AreOpen work.now) (H.faults host.old) (H.faults host.new) }
+    ensures fault_has_cause { FailsOnly H.Host host.old host.new
+        (AreOpen work.now) (IsErrOf result WalkEnd.HostFault) }
     ensures remote_fault_has_cause { IsRemotes (IsErrOf result WalkEnd.RemoteFault)
         (R.faults remotes.old) (R.faults remotes.new) }
 {
@@ -265,21 +260,20 @@ pub(crate) fn take_all<H: Host, R: Remotes, G: Gate + Sync>(
     gate: &G,
 ) -> Result<(), WalkEnd>
     requires { IsApart root.now work.now }
-    ensures any_moment { Always (Works work.now) (H.moments host.old) (H.moments host.new) }
+    ensures any_moment { AtEachMoment H.Host host.old host.new (Works work.now) }
     ensures same { R.holds remotes.new ≡ R.holds remotes.old }
     ensures only { OnOk result (AddsAmong objects.now kept.old.items kept.new.items) }
-    ensures on_success { OnOk result (AtEnd
+    ensures on_success { OnOk result (AtReturn H.Host host.old host.new
         (TakesAll root.now work.now url.now (R.holds remotes.old) objects.now kept.old.items
-        kept.new.items)
-        (H.moments host.old) (H.moments host.new)) }
+        kept.new.items)) }
     ensures tells { (have : Have) → Supplies root.now (Some url.now) (H.moments host.old)
         (R.holds remotes.old) have
         → AreTakenNow root.now work.now url.now (R.holds remotes.old) kept.old.items
         (H.moments host.old)
         → EndsBy (λ _. first_bad have objects.now ≡ None)
         (λ w. first_bad have objects.now ≡ Some (told_fault w)) result }
-    ensures fault_has_cause { IsCaused (IsErrOf result WalkEnd.HostFault) (H.moments host.old)
-        (AreOpen work.now) (H.faults host.old) (H.faults host.new) }
+    ensures fault_has_cause { FailsOnly H.Host host.old host.new
+        (AreOpen work.now) (IsErrOf result WalkEnd.HostFault) }
     ensures remote_fault_has_cause { IsRemotes (IsErrOf result WalkEnd.RemoteFault)
         (R.faults remotes.old) (R.faults remotes.new) }
 {

@@ -1,8 +1,7 @@
 //! Refs that are written and dropped.
 ghost use Rattle.std.specs.Prelude.{◌≡◌, IfOk, OnOk, IsErrOf};
-ghost use Rattle.fp_host.specs.Causes.{IsCaused};
-ghost use Rattle.fp_host.specs.Frame.{Frame, AtEnd, NoPath};
-ghost use Rattle.fp_host.specs.Moments.{Always};
+ghost use Rattle.fp_host.specs.OverHost.{AtEachMoment, AtReturn, FailsOnly};
+ghost use Rattle.fp_host.specs.Frame.{Frame, NoPath};
 ghost use Rattle.fp_small.specs.Clear.{GoneAt, AbsentAt};
 ghost use Rattle.fp_small.specs.Replace.{Replaces, WasReplaced, IsFreeFile};
 ghost use Rattle.ost_refs.specs.Places.{place_path};
@@ -28,15 +27,16 @@ pub fn write_ref<H: Host>(
 ) -> Result<(), HostEnd>
     // A stop at any moment leaves at the place what some stop before would have left, or the whole
     // new file.
-    ensures any_moment { Always (Replaces (place_path root.now place.now) (ref_bytes digest.now))
-        (H.moments host.old) (H.moments host.new) }
+    ensures any_moment { AtEachMoment H.Host host.old host.new
+        (Replaces (place_path root.now place.now) (ref_bytes digest.now)) }
     // After it every stop leaves the new file.
-    ensures on_success { OnOk result (AtEnd (WasReplaced (place_path root.now place.now)
-        (ref_bytes digest.now)) (H.moments host.old) (H.moments host.new)) }
-    ensures fault_has_cause { IsCaused (IsErrOf result HostEnd.Fault) (H.moments host.old)
-        (CanWrite root.now place.now) (H.faults host.old) (H.faults host.new) }
-    ensures starved_unchanged { IsErrOf result HostEnd.NoMemory → AtEnd (λ u w. w ≡ u)
-        (H.moments host.old) (H.moments host.new) }
+    ensures on_success { OnOk result (AtReturn H.Host host.old host.new
+        (WasReplaced (place_path root.now place.now)
+        (ref_bytes digest.now))) }
+    ensures fault_has_cause { FailsOnly H.Host host.old host.new
+        (CanWrite root.now place.now) (IsErrOf result HostEnd.Fault) }
+    ensures starved_unchanged { IsErrOf result HostEnd.NoMemory → AtReturn H.Host host.old host.new
+        (λ u w. w ≡ u) }
 {
     let path = path_of(root, place)?;
     let bytes = ref_bytes(alloc, digest)?;
@@ -66,12 +66,12 @@ pub fn drop_ref<H: Host>(
         (AbsentAt (place_path root.now place.now)) NoPath
         (H.moments host.old) (H.moments host.new) }
     // After it no stop leaves anything there.
-    ensures on_success { OnOk result (AtEnd (λ u w. WasDropped (place_path root.now place.now) w)
-        (H.moments host.old) (H.moments host.new)) }
-    ensures fault_has_cause { IsCaused (IsErrOf result HostEnd.Fault) (H.moments host.old)
-        (IsFreeFile (place_path root.now place.now)) (H.faults host.old) (H.faults host.new) }
-    ensures starved_unchanged { IsErrOf result HostEnd.NoMemory → AtEnd (λ u w. w ≡ u)
-        (H.moments host.old) (H.moments host.new) }
+    ensures on_success { OnOk result (AtReturn H.Host host.old host.new
+        (λ u w. WasDropped (place_path root.now place.now) w)) }
+    ensures fault_has_cause { FailsOnly H.Host host.old host.new
+        (IsFreeFile (place_path root.now place.now)) (IsErrOf result HostEnd.Fault) }
+    ensures starved_unchanged { IsErrOf result HostEnd.NoMemory → AtReturn H.Host host.old host.new
+        (λ u w. w ≡ u) }
 {
     let path = path_of(root, place)?;
     take_away(host, &path)?;

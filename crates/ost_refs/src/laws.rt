@@ -10,6 +10,8 @@ ghost use Rattle.fp_small.specs.Replace.{WasReplaced};
 ghost use Rattle.ost_refs.specs.Places.{place_path};
 ghost use Rattle.ost_refs.specs.Files.{ref_bytes, ref_file, ref_in};
 ghost use Rattle.ost_refs.specs.Changes.{WasDropped};
+ghost use Rattle.ost_refs.specs.declared.reading.TheConstants.{REF_FILE_BYTES};
+ghost use Rattle.ost_refs.specs.declared.listing.TheConstants.{HEAD_DEPTH, REMOTE_DEPTH};
 ghost use Rattle.ost_refs.specs.declared.place.RefPlace.{RefPlace};
 ghost use Rattle.ost_refs.specs.declared.place.RefFile.TheVariants.{Digest, Absent};
 
@@ -33,4 +35,12 @@ pub fn changed_refs_are_read()
 /// Two places of one store have two paths.
 pub fn places_have_paths_of_their_own()
     ensures { (root : Elements) (a b : RefPlace) → place_path root a ≡ place_path root b → a ≡ b }
+{}
+
+/// How long a ref's file is, and how deep refs stand below `refs/heads` and `refs/remotes`, as
+/// numbers.
+pub fn places_as_numbers()
+    ensures bytes { REF_FILE_BYTES ≡ 65 }
+    ensures heads { HEAD_DEPTH ≡ 4 }
+    ensures remotes { REMOTE_DEPTH ≡ 5 }
 {}

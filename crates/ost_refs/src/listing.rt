@@ -1,7 +1,6 @@
 //! The refs of a store in a list.
 ghost use Rattle.std.specs.Prelude.{IfOk, OnOk, IsErrOf};
-ghost use Rattle.fp_host.specs.Causes.{IsCounted};
-ghost use Rattle.fp_host.specs.Frame.{AtEnd, Unchanged};
+ghost use Rattle.fp_host.specs.OverHost.{AtReturn, ChangesNothing, FailsAlone};
 ghost use Rattle.ost_refs.specs.Lists.{ListsRefs, ListsReached};
 ghost use Rattle.ost_refs.specs.Found.{place_named, ArePaths, Puts, Adds, Finds};
 
@@ -27,15 +26,14 @@ pub fn list_refs<H: Host>(
     host: &mut H,
     root: &Path,
 ) -> Result<Items<RefPlace>, HostEnd>
-    ensures unchanged { Unchanged (H.moments host.old) (H.moments host.new) }
-    ensures tells { IfOk result (λ places. AtEnd (λ u w. ListsRefs root.now u places)
-        (H.moments host.old) (H.moments host.new)) }
+    ensures unchanged { ChangesNothing H.Host host.old host.new }
+    ensures tells { IfOk result (λ places. AtReturn H.Host host.old host.new
+        (λ u w. ListsRefs root.now u places)) }
     // It looks four names below `refs/heads` and five below `refs/remotes`: what stands deeper
     // makes no difference.
-    ensures reach { IfOk result (λ places. AtEnd (λ u w. ListsReached root.now u places)
-        (H.moments host.old) (H.moments host.new)) }
-    ensures fault_has_cause { IsCounted (IsErrOf result HostEnd.Fault)
-        (H.moments host.old) (H.faults host.old) (H.faults host.new) }
+    ensures reach { IfOk result (λ places. AtReturn H.Host host.old host.new
+        (λ u w. ListsReached root.now u places)) }
+    ensures fault_has_cause { FailsAlone H.Host host.old host.new (IsErrOf result HostEnd.Fault) }
 {
     let paths = paths_of(alloc, host, root)?;
     let found = places_among(alloc, host, &paths)?;
@@ -44,11 +42,10 @@ pub fn list_refs<H: Host>(
 
 /// The paths at which refs may stand.
 fn paths_of<H: Host>(alloc: Global, host: &mut H, root: &Path) -> Result<Vec<Path>, HostEnd>
-    ensures unchanged { Unchanged (H.moments host.old) (H.moments host.new) }
-    ensures tells { IfOk result (λ paths. AtEnd (λ u w. ArePaths root.now u paths.items)
-        (H.moments host.old) (H.moments host.new)) }
-    ensures fault_has_cause { IsCounted (IsErrOf result HostEnd.Fault)
-        (H.moments host.old) (H.faults host.old) (H.faults host.new) }
+    ensures unchanged { ChangesNothing H.Host host.old host.new }
+    ensures tells { IfOk result (λ paths. AtReturn H.Host host.old host.new
+        (λ u w. ArePaths root.now u paths.items)) }
+    ensures fault_has_cause { FailsAlone H.Host host.old host.new (IsErrOf result HostEnd.Fault) }
 {
     let refs = root.child("refs")?;
     let heads = refs.child("heads")?;
@@ -65,11 +62,10 @@ fn places_among<H: Host>(
     host: &mut H,
     paths: &[Path],
 ) -> Result<BTreeMap<String, RefPlace>, HostEnd>
-    ensures unchanged { Unchanged (H.moments host.old) (H.moments host.new) }
-    ensures tells { IfOk result (λ found. AtEnd (λ u w. Finds paths.now u found.entries)
-        (H.moments host.old) (H.moments host.new)) }
-    ensures fault_has_cause { IsCounted (IsErrOf result HostEnd.Fault)
-        (H.moments host.old) (H.faults host.old) (H.faults host.new) }
+    ensures unchanged { ChangesNothing H.Host host.old host.new }
+    ensures tells { IfOk result (λ found. AtReturn H.Host host.old host.new
+        (λ u w. Finds paths.now u found.entries)) }
+    ensures fault_has_cause { FailsAlone H.Host host.old host.new (IsErrOf result HostEnd.Fault) }
 {
     let mut found = BTreeMap::new(alloc);
     for path in paths {
@@ -85,11 +81,10 @@ fn add_place<H: Host>(
     path: &Path,
     found: &mut BTreeMap<String, RefPlace>,
 ) -> Result<(), HostEnd>
-    ensures unchanged { Unchanged (H.moments host.old) (H.moments host.new) }
-    ensures tells { OnOk result (AtEnd (λ u w. Adds path.now u found.old.entries found.new.entries)
-        (H.moments host.old) (H.moments host.new)) }
-    ensures fault_has_cause { IsCounted (IsErrOf result HostEnd.Fault)
-        (H.moments host.old) (H.faults host.old) (H.faults host.new) }
+    ensures unchanged { ChangesNothing H.Host host.old host.new }
+    ensures tells { OnOk result (AtReturn H.Host host.old host.new
+        (λ u w. Adds path.now u found.old.entries found.new.entries)) }
+    ensures fault_has_cause { FailsAlone H.Host host.old host.new (IsErrOf result HostEnd.Fault) }
 {
     match host.stat(path)? {
         Stat::File { .. } => Ok(put_place(alloc, path, found)?),

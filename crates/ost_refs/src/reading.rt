@@ -1,7 +1,6 @@
 //! A ref that is read.
 ghost use Rattle.std.specs.Prelude.{◌≡◌, IfOk, IsErrOf};
-ghost use Rattle.fp_host.specs.Causes.{IsCounted};
-ghost use Rattle.fp_host.specs.Frame.{AtEnd, Unchanged};
+ghost use Rattle.fp_host.specs.OverHost.{AtReturn, ChangesNothing, FailsAlone};
 ghost use Rattle.ost_refs.specs.Places.{place_path};
 ghost use Rattle.ost_refs.specs.Files.{ref_file, ReadsRef};
 
@@ -23,11 +22,11 @@ pub fn read_ref<H: Host>(
     root: &Path,
     place: &RefPlace,
 ) -> Result<RefFile, HostEnd>
-    ensures unchanged { Unchanged (H.moments host.old) (H.moments host.new) }
-    ensures tells { IfOk result (λ ref. AtEnd (λ u w. ReadsRef (place_path root.now place.now) u
-        ref) (H.moments host.old) (H.moments host.new)) }
-    ensures fault_has_cause { IsCounted (IsErrOf result HostEnd.Fault)
-        (H.moments host.old) (H.faults host.old) (H.faults host.new) }
+    ensures unchanged { ChangesNothing H.Host host.old host.new }
+    ensures tells { IfOk result (λ ref. AtReturn H.Host host.old host.new
+        (λ u w. ReadsRef (place_path root.now place.now) u
+        ref)) }
+    ensures fault_has_cause { FailsAlone H.Host host.old host.new (IsErrOf result HostEnd.Fault) }
 {
     let path = path_of(root, place)?;
     match load(alloc, host, &path, REF_FILE_BYTES)? {

@@ -1,7 +1,6 @@
 //! The paths at one depth below a folder.
 ghost use Rattle.std.specs.Prelude.{IfOk, IsErrOf};
-ghost use Rattle.fp_host.specs.Causes.{IsCounted};
-ghost use Rattle.fp_host.specs.Frame.{AtEnd, Unchanged};
+ghost use Rattle.fp_host.specs.OverHost.{AtReturn, ChangesNothing, FailsAlone};
 ghost use Rattle.ost_refs.specs.Walks.{AreBelow, AreLevel};
 
 use fp_host::{Host, HostEnd, Path};
@@ -10,11 +9,10 @@ use std::alloc::Global;
 
 /// The paths directly below these folders.
 fn children<H: Host>(alloc: Global, host: &mut H, folders: &[Path]) -> Result<Vec<Path>, HostEnd>
-    ensures unchanged { Unchanged (H.moments host.old) (H.moments host.new) }
-    ensures tells { IfOk result (λ paths. AtEnd (λ u w. AreBelow folders.now u paths.items)
-        (H.moments host.old) (H.moments host.new)) }
-    ensures fault_has_cause { IsCounted (IsErrOf result HostEnd.Fault)
-        (H.moments host.old) (H.faults host.old) (H.faults host.new) }
+    ensures unchanged { ChangesNothing H.Host host.old host.new }
+    ensures tells { IfOk result (λ paths. AtReturn H.Host host.old host.new
+        (λ u w. AreBelow folders.now u paths.items)) }
+    ensures fault_has_cause { FailsAlone H.Host host.old host.new (IsErrOf result HostEnd.Fault) }
 {
     let mut paths = Vec::new(alloc);
     for folder in folders {
@@ -32,11 +30,10 @@ pub fn paths_below<H: Host>(
     folder: Path,
     depth: usize,
 ) -> Result<Vec<Path>, HostEnd>
-    ensures unchanged { Unchanged (H.moments host.old) (H.moments host.new) }
-    ensures tells { IfOk result (λ paths. AtEnd (λ u w. AreLevel depth folder u paths.items)
-        (H.moments host.old) (H.moments host.new)) }
-    ensures fault_has_cause { IsCounted (IsErrOf result HostEnd.Fault)
-        (H.moments host.old) (H.faults host.old) (H.faults host.new) }
+    ensures unchanged { ChangesNothing H.Host host.old host.new }
+    ensures tells { IfOk result (λ paths. AtReturn H.Host host.old host.new
+        (λ u w. AreLevel depth folder u paths.items)) }
+    ensures fault_has_cause { FailsAlone H.Host host.old host.new (IsErrOf result HostEnd.Fault) }
 {
     let mut paths = list_of_one(alloc, folder)?;
     for _level in 0..depth {

@@ -1,7 +1,7 @@
 -- Objects that are written on their way to their names.
-use Rattle.std.proofs.Common.{◌≡◌, ◌==◌, ◌≢◌, ◌≤◌, inl, inr, ℕ, List, [], ◌∷◌, true, Option, Some, None, Result, Ok, refl, sym, ◌∙◌, ap, subst, arith}
+use Rattle.std.proofs.Common.{◌≡◌, ◌≢◌, ◌≤◌, inl, inr, ℕ, List, [], ◌∷◌, true, Option, Some, None, Result, Ok, refl, sym, ◌∙◌, ap, subst, arith}
 use Rattle.std.specs.Prelude.{bit_and}
-use Rattle.std.proofs.lemmas.Bool.{and_parts, eqb-true, cases_eq}
+use Rattle.std.proofs.lemmas.Bool.{eqb-true, cases_eq}
 use Rattle.std.proofs.lemmas.Nat.{and_le_r}
 use Rattle.fp_host.specs.Paths.{Elements, Slot, absent, dir, file, link}
 use Rattle.fp_host.specs.View.{View, Inode, IsTree}
@@ -139,7 +139,7 @@ module _ {t : Elements} {u v : View} (made : Keeps (FoldersAt (ancestors t)) (Di
 
 within_bits : (mode : ℕ) → is_permission mode ≡ true → mode ≤ 4095
 within_bits mode good =
-    let same : bit_and mode 0x1FD ≡ mode = eqb-true (bit_and mode 0x1FD) mode (and_parts (bit_and mode 0x1FD == mode) (bit_and mode 0x100 == 0x100) good).0 in
+    let same : bit_and mode 0x1FD ≡ mode = eqb-true (bit_and mode 0x1FD) mode good in
     let low : bit_and mode 0x1FD ≤ 0x1FD = and_le_r mode 0x1FD in
     omega arith
 

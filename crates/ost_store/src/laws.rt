@@ -8,6 +8,7 @@ ghost use Rattle.fp_host.specs.Calls.{creates, appends, syncs, done, CanCreate};
 ghost use Rattle.fp_host.specs.Outcome.{Nothing, shows, IsSettled};
 ghost use Rattle.fp_host.specs.Frame.{Keeps, NoPath, Only, NoName};
 ghost use Rattle.fp_name.specs.Hex.{is_digest};
+ghost use Rattle.ost_store.specs.declared.naming.TheConstants.{REST_DIGITS};
 ghost use Rattle.fp_base.specs.declared.object.ObjKind.{ObjKind};
 ghost use Rattle.fp_base.specs.declared.object.ObjKind.TheVariants as kinds;
 ghost use Rattle.ost_model.specs.declared.object.Object.{Object};
@@ -166,4 +167,9 @@ pub fn made_objects()
     ensures lacking { (root : Elements) (o : List ℕ × ObjKind) (v : View)
         → ((text : List ℕ) → Contains v.stood (object_path root o.0 o.1, link text) → ⊥)
         → Creates root (λ x. x ≡ o) v v → ⊥ }
+{}
+
+/// How many digits of its digest an object's name has in its folder, as a number.
+pub fn digits_as_number()
+    ensures { REST_DIGITS ≡ 62 }
 {}

@@ -1,7 +1,6 @@
 //! The names of a store in a list.
 ghost use Rattle.std.specs.Prelude.{◌-◌, IfOk, IsErrOf};
-ghost use Rattle.fp_host.specs.Causes.{IsCaused};
-ghost use Rattle.fp_host.specs.Frame.{AtEnd, Unchanged};
+ghost use Rattle.fp_host.specs.OverHost.{AtReturn, ChangesNothing, FailsOnly};
 ghost use Rattle.fp_small.specs.Clear.{Reaches};
 ghost use Rattle.fp_small.specs.declared.limits.TheConstants.{MOST_ELEMENTS};
 ghost use Rattle.ost_model.specs.Stores.{objects_folder};
@@ -19,15 +18,15 @@ use std::collections::BTreeMap;
 /// bytes of their paths, whether or not they are objects. It isn't for paths of more than 128
 /// elements.
 pub fn names<H: Host>(alloc: Global, host: &mut H, root: &Path) -> Result<Items<Path>, HostEnd>
-    ensures unchanged { Unchanged (H.moments host.old) (H.moments host.new) }
-    ensures tells { IfOk result (λ paths. AtEnd (λ u w. ListsNames root.now u paths)
-        (H.moments host.old) (H.moments host.new)) }
+    ensures unchanged { ChangesNothing H.Host host.old host.new }
+    ensures tells { IfOk result (λ paths. AtReturn H.Host host.old host.new
+        (λ u w. ListsNames root.now u paths)) }
     // No path below `objects` is longer.
-    ensures reach { IfOk result (λ _. AtEnd (λ u w. Reaches (objects_folder root.now)
-        (MOST_ELEMENTS - 1) u)
-        (H.moments host.old) (H.moments host.new)) }
-    ensures fault_has_cause { IsCaused (IsErrOf result HostEnd.Fault) (H.moments host.old)
-        (CanList root.now) (H.faults host.old) (H.faults host.new) }
+    ensures reach { IfOk result (λ _. AtReturn H.Host host.old host.new
+        (λ u w. Reaches (objects_folder root.now)
+        (MOST_ELEMENTS - 1) u)) }
+    ensures fault_has_cause { FailsOnly H.Host host.old host.new
+        (CanList root.now) (IsErrOf result HostEnd.Fault) }
 {
     let objects = root.child("objects")?;
     let found = leaves_below(alloc, host, objects)?;

@@ -1,8 +1,7 @@
 //! Objects that come to their names, and go.
 ghost use Rattle.std.specs.Prelude.{◌≡◌, OnOk, IsErrOf};
-ghost use Rattle.fp_host.specs.Causes.{IsCaused};
-ghost use Rattle.fp_host.specs.Frame.{Frame, AtEnd, NoPath};
-ghost use Rattle.fp_host.specs.Moments.{Always};
+ghost use Rattle.fp_host.specs.OverHost.{AtEachMoment, AtReturn, FailsOnly};
+ghost use Rattle.fp_host.specs.Frame.{Frame, NoPath};
 ghost use Rattle.ost_model.specs.Objects.{object_path};
 ghost use Rattle.fp_small.specs.Clear.{GoneAt, AbsentAt};
 ghost use Rattle.fp_small.specs.Unsynced.{MakesNoFile};
@@ -31,16 +30,16 @@ pub fn place<H: Host>(
     // A stop at any moment leaves at the name what some stop before would have left, or what the
     // path held; and all else as it was, but that the path may be gone and folders above the name
     // made.
-    ensures any_moment { Always (Places tmp.now (object_path root.now digest.now kind))
-        (H.moments host.old) (H.moments host.new) }
-    ensures on_success { OnOk result (AtEnd (WasPlaced tmp.now
-        (object_path root.now digest.now kind)) (H.moments host.old) (H.moments host.new)) }
+    ensures any_moment { AtEachMoment H.Host host.old host.new
+        (Places tmp.now (object_path root.now digest.now kind)) }
+    ensures on_success { OnOk result (AtReturn H.Host host.old host.new (WasPlaced tmp.now
+        (object_path root.now digest.now kind))) }
     // What was unsettled stays so.
-    ensures unsynced { AtEnd MakesNoFile (H.moments host.old) (H.moments host.new) }
-    ensures fault_has_cause { IsCaused (IsErrOf result HostEnd.Fault) (H.moments host.old)
-        (CanPlace root.now tmp.now digest.now kind) (H.faults host.old) (H.faults host.new) }
-    ensures starved_unchanged { IsErrOf result HostEnd.NoMemory → AtEnd (λ u w. w ≡ u)
-        (H.moments host.old) (H.moments host.new) }
+    ensures unsynced { AtReturn H.Host host.old host.new MakesNoFile }
+    ensures fault_has_cause { FailsOnly H.Host host.old host.new
+        (CanPlace root.now tmp.now digest.now kind) (IsErrOf result HostEnd.Fault) }
+    ensures starved_unchanged { IsErrOf result HostEnd.NoMemory → AtReturn H.Host host.old host.new
+        (λ u w. w ≡ u) }
 {
     let path = path_of(alloc, root, digest, kind)?;
     make_above(alloc, host, &path)?;
@@ -57,15 +56,14 @@ pub fn place_from<H: Host>(
     digest: &Digest,
     kind: ObjKind,
 ) -> Result<(), HostEnd>
-    ensures any_moment { Always
-        (Places (object_path work.now digest.now kind) (object_path root.now digest.now kind))
-        (H.moments host.old) (H.moments host.new) }
-    ensures on_success { OnOk result (AtEnd (WasPlaced (object_path work.now digest.now kind)
-        (object_path root.now digest.now kind)) (H.moments host.old) (H.moments host.new)) }
-    ensures unsynced { AtEnd MakesNoFile (H.moments host.old) (H.moments host.new) }
-    ensures fault_has_cause { IsCaused (IsErrOf result HostEnd.Fault) (H.moments host.old)
-        (CanPlace root.now (object_path work.now digest.now kind) digest.now kind)
-        (H.faults host.old) (H.faults host.new) }
+    ensures any_moment { AtEachMoment H.Host host.old host.new
+        (Places (object_path work.now digest.now kind) (object_path root.now digest.now kind)) }
+    ensures on_success { OnOk result (AtReturn H.Host host.old host.new
+        (WasPlaced (object_path work.now digest.now kind)
+        (object_path root.now digest.now kind))) }
+    ensures unsynced { AtReturn H.Host host.old host.new MakesNoFile }
+    ensures fault_has_cause { FailsOnly H.Host host.old host.new
+        (CanPlace root.now (object_path work.now digest.now kind) digest.now kind) (IsErrOf result HostEnd.Fault) }
 {
     let path = path_of(alloc, work, digest, kind)?;
     place(alloc, host, root, &path, digest, kind)
@@ -85,14 +83,14 @@ pub fn remove<H: Host>(
     ensures frame { Frame (GoneAt (object_path root.now digest.now kind))
         (AbsentAt (object_path root.now digest.now kind)) NoPath
         (H.moments host.old) (H.moments host.new) }
-    ensures on_success { OnOk result (AtEnd (WasRemoved (object_path root.now digest.now kind))
-        (H.moments host.old) (H.moments host.new)) }
+    ensures on_success { OnOk result (AtReturn H.Host host.old host.new
+        (WasRemoved (object_path root.now digest.now kind))) }
     // What was unsettled stays so.
-    ensures unsynced { AtEnd MakesNoFile (H.moments host.old) (H.moments host.new) }
-    ensures fault_has_cause { IsCaused (IsErrOf result HostEnd.Fault) (H.moments host.old)
-        (HasObject root.now digest.now kind) (H.faults host.old) (H.faults host.new) }
-    ensures starved_unchanged { IsErrOf result HostEnd.NoMemory → AtEnd (λ u w. w ≡ u)
-        (H.moments host.old) (H.moments host.new) }
+    ensures unsynced { AtReturn H.Host host.old host.new MakesNoFile }
+    ensures fault_has_cause { FailsOnly H.Host host.old host.new
+        (HasObject root.now digest.now kind) (IsErrOf result HostEnd.Fault) }
+    ensures starved_unchanged { IsErrOf result HostEnd.NoMemory → AtReturn H.Host host.old host.new
+        (λ u w. w ≡ u) }
 {
     let name = path_of(alloc, root, digest, kind)?;
     Ok(host.unlink(&name)?)

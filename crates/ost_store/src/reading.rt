@@ -1,7 +1,6 @@
 //! Objects that are looked up and read.
 ghost use Rattle.std.specs.Prelude.{◌≡◌, ◌≤◌, ℕ, List, length, Some, IfOk, IsErrOf};
-ghost use Rattle.fp_host.specs.Causes.{IsCaused, IsCounted};
-ghost use Rattle.fp_host.specs.Frame.{AtEnd, Unchanged};
+ghost use Rattle.fp_host.specs.OverHost.{AtReturn, ChangesNothing, FailsAlone, FailsOnly};
 ghost use Rattle.fp_host.specs.Moments.{Moments};
 ghost use Rattle.fp_host.specs.Outcome.{shows};
 ghost use Rattle.fp_base.specs.declared.object.ObjKind.TheVariants as kinds;
@@ -51,11 +50,10 @@ pub fn has<H: Host>(
     digest: &Digest,
     kind: ObjKind,
 ) -> Result<bool, HostEnd>
-    ensures unchanged { Unchanged (H.moments host.old) (H.moments host.new) }
-    ensures tells { IfOk result (λ there. AtEnd (λ u w. IsThere root.now digest.now kind u there)
-        (H.moments host.old) (H.moments host.new)) }
-    ensures fault_has_cause { IsCounted (IsErrOf result HostEnd.Fault)
-        (H.moments host.old) (H.faults host.old) (H.faults host.new) }
+    ensures unchanged { ChangesNothing H.Host host.old host.new }
+    ensures tells { IfOk result (λ there. AtReturn H.Host host.old host.new
+        (λ u w. IsThere root.now digest.now kind u there)) }
+    ensures fault_has_cause { FailsAlone H.Host host.old host.new (IsErrOf result HostEnd.Fault) }
 {
     let path = path_of(alloc, root, digest, kind)?;
     match host.stat(&path)? {
@@ -76,12 +74,11 @@ pub fn get<H: Host>(
     kind: ObjKind,
     max: u64,
 ) -> Result<Got, HostEnd>
-    ensures unchanged { Unchanged (H.moments host.old) (H.moments host.new) }
-    ensures tells { IfOk result (λ got. AtEnd (λ u w. Gets root.now digest.now kind max u got)
-        (H.moments host.old) (H.moments host.new)) }
+    ensures unchanged { ChangesNothing H.Host host.old host.new }
+    ensures tells { IfOk result (λ got. AtReturn H.Host host.old host.new
+        (λ u w. Gets root.now digest.now kind max u got)) }
     ensures kinds { IfOk result (IsGotOf kind) }
-    ensures fault_has_cause { IsCounted (IsErrOf result HostEnd.Fault)
-        (H.moments host.old) (H.faults host.old) (H.faults host.new) }
+    ensures fault_has_cause { FailsAlone H.Host host.old host.new (IsErrOf result HostEnd.Fault) }
 {
     let path = path_of(alloc, root, digest, kind)?;
     match kind {
@@ -92,12 +89,11 @@ pub fn get<H: Host>(
 
 /// The file or link at the path, as an object.
 fn get_content<H: Host>(alloc: Global, host: &mut H, path: &Path, max: u64) -> Result<Got, HostEnd>
-    ensures unchanged { Unchanged (H.moments host.old) (H.moments host.new) }
-    ensures tells { IfOk result (λ got. AtEnd (λ u w. GetsAt kinds.File path.now max u got)
-        (H.moments host.old) (H.moments host.new)) }
+    ensures unchanged { ChangesNothing H.Host host.old host.new }
+    ensures tells { IfOk result (λ got. AtReturn H.Host host.old host.new
+        (λ u w. GetsAt kinds.File path.now max u got)) }
     ensures kinds { IfOk result (IsGotOf kinds.File) }
-    ensures fault_has_cause { IsCounted (IsErrOf result HostEnd.Fault)
-        (H.moments host.old) (H.faults host.old) (H.faults host.new) }
+    ensures fault_has_cause { FailsAlone H.Host host.old host.new (IsErrOf result HostEnd.Fault) }
 {
     match host.stat(path)? {
         Stat::Absent | Stat::Dir => Ok(Got::Absent),
@@ -109,12 +105,11 @@ fn get_content<H: Host>(alloc: Global, host: &mut H, path: &Path, max: u64) -> R
 
 /// The metadata object at the path.
 fn get_meta<H: Host>(alloc: Global, host: &mut H, path: &Path, max: u64) -> Result<Got, HostEnd>
-    ensures unchanged { Unchanged (H.moments host.old) (H.moments host.new) }
-    ensures tells { IfOk result (λ got. AtEnd (λ u w. GetsAt kinds.Commit path.now max u got)
-        (H.moments host.old) (H.moments host.new)) }
+    ensures unchanged { ChangesNothing H.Host host.old host.new }
+    ensures tells { IfOk result (λ got. AtReturn H.Host host.old host.new
+        (λ u w. GetsAt kinds.Commit path.now max u got)) }
     ensures kinds { IfOk result (IsGotOf kinds.Commit) }
-    ensures fault_has_cause { IsCounted (IsErrOf result HostEnd.Fault)
-        (H.moments host.old) (H.faults host.old) (H.faults host.new) }
+    ensures fault_has_cause { FailsAlone H.Host host.old host.new (IsErrOf result HostEnd.Fault) }
 {
     match load(alloc, host, path, max)? {
         Loaded::Bytes(bytes) => Ok(Got::Meta(bytes)),
@@ -134,11 +129,11 @@ pub fn read_piece<H: Host>(
     into: &mut [u8],
 ) -> Result<usize, HostEnd>
     ensures bound { IfOk result (λ n. n ≤ length into.old) }
-    ensures unchanged { Unchanged (H.moments host.old) (H.moments host.new) }
-    ensures tells { IfOk result (λ n. AtEnd (λ u w. ReadsPiece root.now digest.now at into.new u n)
-        (H.moments host.old) (H.moments host.new)) }
-    ensures fault_has_cause { IsCaused (IsErrOf result HostEnd.Fault) (H.moments host.old)
-        (HasFile root.now digest.now) (H.faults host.old) (H.faults host.new) }
+    ensures unchanged { ChangesNothing H.Host host.old host.new }
+    ensures tells { IfOk result (λ n. AtReturn H.Host host.old host.new
+        (λ u w. ReadsPiece root.now digest.now at into.new u n)) }
+    ensures fault_has_cause { FailsOnly H.Host host.old host.new
+        (HasFile root.now digest.now) (IsErrOf result HostEnd.Fault) }
 {
     let path = path_of(alloc, root, digest, ObjKind::File)?;
     Ok(host.read_at(&path, at, into)?)
@@ -153,14 +148,14 @@ pub fn read_sized<H: Host>(
     digest: &Digest,
     size: u64,
 ) -> Result<Blob, HostEnd>
-    ensures unchanged { Unchanged (H.moments host.old) (H.moments host.new) }
+    ensures unchanged { ChangesNothing H.Host host.old host.new }
     ensures short { IfOk result (λ bytes. length bytes ≤ size) }
     ensures tells { (m : Moments) → H.moments host.old ≡ Some m
         → (mode : ℕ) (content : List ℕ)
         → store root.now (shows m.now) digest.now kinds.File ≡ Some (objects.File mode content)
         → length content ≡ size → IfOk result (λ bytes. bytes ≡ content) }
-    ensures fault_has_cause { IsCaused (IsErrOf result HostEnd.Fault) (H.moments host.old)
-        (HasFile root.now digest.now) (H.faults host.old) (H.faults host.new) }
+    ensures fault_has_cause { FailsOnly H.Host host.old host.new
+        (HasFile root.now digest.now) (IsErrOf result HostEnd.Fault) }
 {
     let mut bytes = vec![in alloc; 0u8; size as usize]?;
     let count = read_piece(alloc, host, root, digest, 0, &mut bytes)?;
@@ -177,11 +172,10 @@ pub fn read_within<H: Host>(
     digest: &Digest,
     most: u64,
 ) -> Result<Option<Blob>, HostEnd>
-    ensures unchanged { Unchanged (H.moments host.old) (H.moments host.new) }
+    ensures unchanged { ChangesNothing H.Host host.old host.new }
     ensures tells { (have : Have) → Stores root.now (H.moments host.old) have
         → IfOk result (λ bytes. bytes ≡ content_within most (have digest.now kinds.File)) }
-    ensures fault_has_cause { IsCounted (IsErrOf result HostEnd.Fault)
-        (H.moments host.old) (H.faults host.old) (H.faults host.new) }
+    ensures fault_has_cause { FailsAlone H.Host host.old host.new (IsErrOf result HostEnd.Fault) }
 {
     let Got::File { size, .. } = get(alloc, host, root, digest, ObjKind::File, most)? else {
         return Ok(None);

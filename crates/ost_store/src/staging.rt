@@ -1,9 +1,8 @@
 //! Objects that are written on their way to their names.
 ghost use Rattle.std.specs.Prelude.{◌≡◌, [], OnOk, IsErrOf};
-ghost use Rattle.fp_host.specs.Moments.{Always};
-ghost use Rattle.fp_host.specs.Causes.{IsCaused};
+ghost use Rattle.fp_host.specs.OverHost.{AtEachMoment, AtReturn, FailsOnly};
 ghost use Rattle.fp_host.specs.Outcome.{Nothing};
-ghost use Rattle.fp_host.specs.Frame.{Frame, AtEnd, Only, NoName};
+ghost use Rattle.fp_host.specs.Frame.{Frame, Only, NoName};
 ghost use Rattle.ost_model.specs.declared.object.Object.TheVariants as objects;
 ghost use Rattle.fp_small.specs.Unsynced.{MakesNoFile, MakesOneFile};
 ghost use Rattle.ost_store.specs.Stage.{Stages, WasStaged, Grows, CanStage, CanGrow};
@@ -27,16 +26,15 @@ pub fn stage<H: Host>(
     // A stop at any moment leaves at the path what some stop before would have left, or such a file
     // or link, and all else as it was, but for folders above. Each file that was there keeps its
     // bytes.
-    ensures any_moment { Always (Stages tmp.now object.now)
-        (H.moments host.old) (H.moments host.new) }
-    ensures on_success { OnOk result (AtEnd (WasStaged tmp.now object.now)
-        (H.moments host.old) (H.moments host.new)) }
+    ensures any_moment { AtEachMoment H.Host host.old host.new (Stages tmp.now object.now) }
+    ensures on_success { OnOk result (AtReturn H.Host host.old host.new
+        (WasStaged tmp.now object.now)) }
     // What was unsettled stays so.
-    ensures unsynced { AtEnd MakesOneFile (H.moments host.old) (H.moments host.new) }
-    ensures fault_has_cause { IsCaused (IsErrOf result HostEnd.Fault) (H.moments host.old)
-        (CanStage tmp.now object.now) (H.faults host.old) (H.faults host.new) }
-    ensures starved_unchanged { IsErrOf result HostEnd.NoMemory → AtEnd (λ u w. w ≡ u)
-        (H.moments host.old) (H.moments host.new) }
+    ensures unsynced { AtReturn H.Host host.old host.new MakesOneFile }
+    ensures fault_has_cause { FailsOnly H.Host host.old host.new
+        (CanStage tmp.now object.now) (IsErrOf result HostEnd.Fault) }
+    ensures starved_unchanged { IsErrOf result HostEnd.NoMemory → AtReturn H.Host host.old host.new
+        (λ u w. w ≡ u) }
 {
     match object {
         Object::Meta(bytes) => stage_bytes(alloc, host, tmp, FILE_MODE, bytes.as_slice()),
@@ -53,15 +51,15 @@ fn stage_bytes<H: Host>(
     mode: u32,
     bytes: &[u8],
 ) -> Result<(), HostEnd>
-    ensures any_moment { Always (Stages tmp.now (objects.File mode bytes.now))
-        (H.moments host.old) (H.moments host.new) }
-    ensures on_success { OnOk result (AtEnd (WasStaged tmp.now (objects.File mode bytes.now))
-        (H.moments host.old) (H.moments host.new)) }
-    ensures unsynced { AtEnd MakesOneFile (H.moments host.old) (H.moments host.new) }
-    ensures fault_has_cause { IsCaused (IsErrOf result HostEnd.Fault) (H.moments host.old)
-        (CanStage tmp.now (objects.File mode bytes.now)) (H.faults host.old) (H.faults host.new) }
-    ensures starved_unchanged { IsErrOf result HostEnd.NoMemory → AtEnd (λ u w. w ≡ u)
-        (H.moments host.old) (H.moments host.new) }
+    ensures any_moment { AtEachMoment H.Host host.old host.new
+        (Stages tmp.now (objects.File mode bytes.now)) }
+    ensures on_success { OnOk result (AtReturn H.Host host.old host.new
+        (WasStaged tmp.now (objects.File mode bytes.now))) }
+    ensures unsynced { AtReturn H.Host host.old host.new MakesOneFile }
+    ensures fault_has_cause { FailsOnly H.Host host.old host.new
+        (CanStage tmp.now (objects.File mode bytes.now)) (IsErrOf result HostEnd.Fault) }
+    ensures starved_unchanged { IsErrOf result HostEnd.NoMemory → AtReturn H.Host host.old host.new
+        (λ u w. w ≡ u) }
 {
     stage_file(alloc, host, tmp, mode)?;
     stage_piece(host, tmp, bytes)
@@ -69,15 +67,15 @@ fn stage_bytes<H: Host>(
 
 /// Makes the absent path a link with this text.
 fn stage_link<H: Host>(alloc: Global, host: &mut H, tmp: &Path, text: &str) -> Result<(), HostEnd>
-    ensures any_moment { Always (Stages tmp.now (objects.Link text.now))
-        (H.moments host.old) (H.moments host.new) }
-    ensures on_success { OnOk result (AtEnd (WasStaged tmp.now (objects.Link text.now))
-        (H.moments host.old) (H.moments host.new)) }
-    ensures unsynced { AtEnd MakesNoFile (H.moments host.old) (H.moments host.new) }
-    ensures fault_has_cause { IsCaused (IsErrOf result HostEnd.Fault) (H.moments host.old)
-        (CanStage tmp.now (objects.Link text.now)) (H.faults host.old) (H.faults host.new) }
-    ensures starved_unchanged { IsErrOf result HostEnd.NoMemory → AtEnd (λ u w. w ≡ u)
-        (H.moments host.old) (H.moments host.new) }
+    ensures any_moment { AtEachMoment H.Host host.old host.new
+        (Stages tmp.now (objects.Link text.now)) }
+    ensures on_success { OnOk result (AtReturn H.Host host.old host.new
+        (WasStaged tmp.now (objects.Link text.now))) }
+    ensures unsynced { AtReturn H.Host host.old host.new MakesNoFile }
+    ensures fault_has_cause { FailsOnly H.Host host.old host.new
+        (CanStage tmp.now (objects.Link text.now)) (IsErrOf result HostEnd.Fault) }
+    ensures starved_unchanged { IsErrOf result HostEnd.NoMemory → AtReturn H.Host host.old host.new
+        (λ u w. w ≡ u) }
 {
     make_above(alloc, host, tmp)?;
     Ok(host.symlink(text, tmp)?)
@@ -93,16 +91,16 @@ pub fn stage_file<H: Host>(
     tmp: &Path,
     mode: u32,
 ) -> Result<(), HostEnd>
-    ensures any_moment { Always (Stages tmp.now (objects.File mode []))
-        (H.moments host.old) (H.moments host.new) }
-    ensures on_success { OnOk result (AtEnd (WasStaged tmp.now (objects.File mode []))
-        (H.moments host.old) (H.moments host.new)) }
+    ensures any_moment { AtEachMoment H.Host host.old host.new
+        (Stages tmp.now (objects.File mode [])) }
+    ensures on_success { OnOk result (AtReturn H.Host host.old host.new
+        (WasStaged tmp.now (objects.File mode []))) }
     // What was unsettled stays so.
-    ensures unsynced { AtEnd MakesOneFile (H.moments host.old) (H.moments host.new) }
-    ensures fault_has_cause { IsCaused (IsErrOf result HostEnd.Fault) (H.moments host.old)
-        (CanStage tmp.now (objects.File mode [])) (H.faults host.old) (H.faults host.new) }
-    ensures starved_unchanged { IsErrOf result HostEnd.NoMemory → AtEnd (λ u w. w ≡ u)
-        (H.moments host.old) (H.moments host.new) }
+    ensures unsynced { AtReturn H.Host host.old host.new MakesOneFile }
+    ensures fault_has_cause { FailsOnly H.Host host.old host.new
+        (CanStage tmp.now (objects.File mode [])) (IsErrOf result HostEnd.Fault) }
+    ensures starved_unchanged { IsErrOf result HostEnd.NoMemory → AtReturn H.Host host.old host.new
+        (λ u w. w ≡ u) }
 {
     make_above(alloc, host, tmp)?;
     Ok(host.create(tmp, mode)?)
@@ -112,11 +110,10 @@ pub fn stage_file<H: Host>(
 pub fn stage_piece<H: Host>(host: &mut H, tmp: &Path, piece: &[u8]) -> Result<(), HostEnd>
     // No name changes, and no file but this.
     ensures frame { Frame Nothing NoName (Only tmp.now) (H.moments host.old) (H.moments host.new) }
-    ensures on_success { OnOk result (AtEnd (Grows tmp.now piece.now)
-        (H.moments host.old) (H.moments host.new)) }
-    ensures unsynced { AtEnd MakesNoFile (H.moments host.old) (H.moments host.new) }
-    ensures fault_has_cause { IsCaused (IsErrOf result HostEnd.Fault) (H.moments host.old)
-        (CanGrow tmp.now) (H.faults host.old) (H.faults host.new) }
+    ensures on_success { OnOk result (AtReturn H.Host host.old host.new (Grows tmp.now piece.now)) }
+    ensures unsynced { AtReturn H.Host host.old host.new MakesNoFile }
+    ensures fault_has_cause { FailsOnly H.Host host.old host.new
+        (CanGrow tmp.now) (IsErrOf result HostEnd.Fault) }
     ensures needs_no_memory { IsErrOf result HostEnd.NoMemory → ⊥ }
 {
     Ok(host.append(tmp, piece)?)

@@ -1,7 +1,6 @@
 //! The files and links below a folder.
 ghost use Rattle.std.specs.Prelude.{◌≡◌, ◌++◌, ◌-◌, ◌∷◌, [], IfOk, OnOk, IsErrOf};
-ghost use Rattle.fp_host.specs.Causes.{IsCaused, IsCounted};
-ghost use Rattle.fp_host.specs.Frame.{AtEnd, Unchanged};
+ghost use Rattle.fp_host.specs.OverHost.{AtReturn, ChangesNothing, FailsAlone, FailsOnly};
 ghost use Rattle.fp_small.specs.Clear.{Reaches};
 ghost use Rattle.ost_store.specs.Walks.{Visits, VisitsAll, AreLeavesWithin, AreLeavesBelow};
 
@@ -26,11 +25,11 @@ fn visit<H: Host>(
     found: &mut Vec<Path>,
     next: &mut Vec<Path>,
 ) -> Result<(), HostEnd>
-    ensures unchanged { Unchanged (H.moments host.old) (H.moments host.new) }
-    ensures tells { OnOk result (AtEnd (λ u w. Visits path.now u found.old.items next.old.items
-        found.new.items next.new.items) (H.moments host.old) (H.moments host.new)) }
-    ensures fault_has_cause { IsCounted (IsErrOf result HostEnd.Fault)
-        (H.moments host.old) (H.faults host.old) (H.faults host.new) }
+    ensures unchanged { ChangesNothing H.Host host.old host.new }
+    ensures tells { OnOk result (AtReturn H.Host host.old host.new
+        (λ u w. Visits path.now u found.old.items next.old.items
+        found.new.items next.new.items)) }
+    ensures fault_has_cause { FailsAlone H.Host host.old host.new (IsErrOf result HostEnd.Fault) }
 {
     match host.stat(path)? {
         Stat::Absent => Ok(()),
@@ -49,11 +48,11 @@ fn visit_all<H: Host>(
     paths: &[Path],
     found: &mut Vec<Path>,
 ) -> Result<Vec<Path>, HostEnd>
-    ensures unchanged { Unchanged (H.moments host.old) (H.moments host.new) }
-    ensures tells { IfOk result (λ next. AtEnd (λ u w. VisitsAll paths.now u found.old.items
-        found.new.items next.items) (H.moments host.old) (H.moments host.new)) }
-    ensures fault_has_cause { IsCounted (IsErrOf result HostEnd.Fault)
-        (H.moments host.old) (H.faults host.old) (H.faults host.new) }
+    ensures unchanged { ChangesNothing H.Host host.old host.new }
+    ensures tells { IfOk result (λ next. AtReturn H.Host host.old host.new
+        (λ u w. VisitsAll paths.now u found.old.items
+        found.new.items next.items)) }
+    ensures fault_has_cause { FailsAlone H.Host host.old host.new (IsErrOf result HostEnd.Fault) }
 {
     let mut next = Vec::new(alloc);
     for path in paths {
@@ -64,13 +63,13 @@ fn visit_all<H: Host>(
 
 /// The files and links at the path and below. It isn't for what is 128 folders deep.
 fn leaves_within<H: Host>(alloc: Global, host: &mut H, folder: Path) -> Result<Vec<Path>, HostEnd>
-    ensures unchanged { Unchanged (H.moments host.old) (H.moments host.new) }
-    ensures tells { IfOk result (λ found. AtEnd (λ u w. AreLeavesWithin folder u found.items)
-        (H.moments host.old) (H.moments host.new)) }
-    ensures reach { IfOk result (λ _. AtEnd (λ u w. Reaches folder (MOST_ELEMENTS - 1) u)
-        (H.moments host.old) (H.moments host.new)) }
-    ensures fault_has_cause { IsCaused (IsErrOf result HostEnd.Fault) (H.moments host.old)
-        (Reaches folder (MOST_ELEMENTS - 1)) (H.faults host.old) (H.faults host.new) }
+    ensures unchanged { ChangesNothing H.Host host.old host.new }
+    ensures tells { IfOk result (λ found. AtReturn H.Host host.old host.new
+        (λ u w. AreLeavesWithin folder u found.items)) }
+    ensures reach { IfOk result (λ _. AtReturn H.Host host.old host.new
+        (λ u w. Reaches folder (MOST_ELEMENTS - 1) u)) }
+    ensures fault_has_cause { FailsOnly H.Host host.old host.new
+        (Reaches folder (MOST_ELEMENTS - 1)) (IsErrOf result HostEnd.Fault) }
 {
     let mut found = Vec::new(alloc);
     let mut level = list_of_one(alloc, folder)?;
@@ -90,13 +89,13 @@ pub(crate) fn leaves_below<H: Host>(
     host: &mut H,
     folder: Path,
 ) -> Result<Vec<Path>, HostEnd>
-    ensures unchanged { Unchanged (H.moments host.old) (H.moments host.new) }
-    ensures tells { IfOk result (λ found. AtEnd (λ u w. AreLeavesBelow folder u found.items)
-        (H.moments host.old) (H.moments host.new)) }
-    ensures reach { IfOk result (λ _. AtEnd (λ u w. Reaches folder (MOST_ELEMENTS - 1) u)
-        (H.moments host.old) (H.moments host.new)) }
-    ensures fault_has_cause { IsCaused (IsErrOf result HostEnd.Fault) (H.moments host.old)
-        (Reaches folder (MOST_ELEMENTS - 1)) (H.faults host.old) (H.faults host.new) }
+    ensures unchanged { ChangesNothing H.Host host.old host.new }
+    ensures tells { IfOk result (λ found. AtReturn H.Host host.old host.new
+        (λ u w. AreLeavesBelow folder u found.items)) }
+    ensures reach { IfOk result (λ _. AtReturn H.Host host.old host.new
+        (λ u w. Reaches folder (MOST_ELEMENTS - 1) u)) }
+    ensures fault_has_cause { FailsOnly H.Host host.old host.new
+        (Reaches folder (MOST_ELEMENTS - 1)) (IsErrOf result HostEnd.Fault) }
 {
     match host.stat(&folder)? {
         Stat::Dir => leaves_within(alloc, host, folder),

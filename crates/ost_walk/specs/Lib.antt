@@ -4,3 +4,5 @@ pub mod Dirs
 pub mod Looked
 pub mod UsedList
 pub mod Surveys
+pub mod Refusals
+pub mod PullEnds

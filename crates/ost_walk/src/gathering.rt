@@ -2,8 +2,7 @@
 ghost use Rattle.std.specs.Prelude.{◌≡◌, List, ℕ, None, IfOk, OnOk, IsErrOf};
 ghost use Rattle.std.specs.String.{string_cmp};
 ghost use Rattle.std.specs.BTreeMap.{IsOrdered, values};
-ghost use Rattle.fp_host.specs.Causes.{IsCounted};
-ghost use Rattle.fp_host.specs.Frame.{Unchanged};
+ghost use Rattle.fp_host.specs.OverHost.{ChangesNothing, FailsAlone};
 ghost use Rattle.ost_model.specs.Objects.{Have};
 ghost use Rattle.ost_model.specs.Order.{first_walk_fault};
 ghost use Rattle.ost_model.specs.Remotes.{Stores};
@@ -60,12 +59,12 @@ fn put_order<H: Host>(
     found: &mut BTreeMap<String, (Digest, ObjKind)>,
 ) -> Result<(), WalkEnd>
     requires { places.now.url ≡ None }
-    ensures unchanged { Unchanged (H.moments host.old) (H.moments host.new) }
+    ensures unchanged { ChangesNothing H.Host host.old host.new }
     ensures tells { (have : Have) → Stores places.now.root (H.moments host.old) have
         → EndsBy (λ _. PutsOrder have commit.now found.old.entries found.new.entries)
         (IsFirst (first_walk_fault have commit.now)) result }
-    ensures fault_has_cause { IsCounted (IsErrOf result WalkEnd.HostFault)
-        (H.moments host.old) (H.faults host.old) (H.faults host.new) }
+    ensures fault_has_cause { FailsAlone H.Host host.old host.new
+        (IsErrOf result WalkEnd.HostFault) }
     ensures remote { IsErrOf result WalkEnd.RemoteFault → ⊥ }
 {
     let mut remotes = NoRemotes;
@@ -101,12 +100,12 @@ fn gather<H: Host>(
     commits: &[Digest],
 ) -> Result<BTreeMap<String, (Digest, ObjKind)>, WalkEnd>
     requires { places.now.url ≡ None }
-    ensures unchanged { Unchanged (H.moments host.old) (H.moments host.new) }
+    ensures unchanged { ChangesNothing H.Host host.old host.new }
     ensures tells { (have : Have) → Stores places.now.root (H.moments host.old) have
         → EndsBy (λ found. AreUsed have commits.now found.entries)
         (IsFirst (used_fault have commits.now)) result }
-    ensures fault_has_cause { IsCounted (IsErrOf result WalkEnd.HostFault)
-        (H.moments host.old) (H.faults host.old) (H.faults host.new) }
+    ensures fault_has_cause { FailsAlone H.Host host.old host.new
+        (IsErrOf result WalkEnd.HostFault) }
     ensures remote { IsErrOf result WalkEnd.RemoteFault → ⊥ }
 {
     let mut found = BTreeMap::new(alloc);
@@ -138,11 +137,11 @@ pub fn used<H: Host>(
     root: &Path,
     commits: &[Digest],
 ) -> Result<Items<(Digest, ObjKind)>, WalkEnd>
-    ensures unchanged { Unchanged (H.moments host.old) (H.moments host.new) }
+    ensures unchanged { ChangesNothing H.Host host.old host.new }
     ensures tells { (have : Have) → Stores root.now (H.moments host.old) have
         → EndsBy (IsUsedList have commits.now) (IsFirst (used_fault have commits.now)) result }
-    ensures fault_has_cause { IsCounted (IsErrOf result WalkEnd.HostFault)
-        (H.moments host.old) (H.faults host.old) (H.faults host.new) }
+    ensures fault_has_cause { FailsAlone H.Host host.old host.new
+        (IsErrOf result WalkEnd.HostFault) }
     ensures remote { IsErrOf result WalkEnd.RemoteFault → ⊥ }
 {
     let places = store_alone(root)?;

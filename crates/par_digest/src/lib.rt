@@ -9,4 +9,4 @@ mod limits;
 pub use gate::{Gate, NoGate};
 pub use halves::{digests, digests_gated};
 pub use item::Item;
-pub use limits::{MOST_IN_BATCH, MOST_SMALL_BYTES};
+pub use limits::{MOST_IN_BATCH, MOST_SMALL_BYTES, limits_as_numbers};

@@ -1,5 +1,5 @@
 use Rattle.std.proofs.Common.{subst}
-use Rattle.ost_head.specs.Ends.{Answers}
+use Rattle.ost_walk.specs.PullEnds.{Answers}
 use Rattle.ost_head.specs.Found.{found_object}
 use Rattle.ost_head.specs.Heads.{with_content}
 use Rattle.ost_model.specs.Look.{file_at}

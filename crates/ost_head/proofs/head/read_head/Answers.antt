@@ -4,7 +4,7 @@ use Rattle.fp_small.specs.Places.{repo}
 use Rattle.ost_model.specs.Objects.{Have}
 use Rattle.ost_model.specs.Remotes.{Supplies}
 use Rattle.ost_object.specs.Views.{commit_view, tree_view}
-use Rattle.ost_head.specs.Ends.{Answers}
+use Rattle.ost_walk.specs.PullEnds.{Answers}
 use Rattle.ost_head.specs.Heads.{head_of}
 use Rattle.ost_head.proofs.Quiet.{supplied}
 use Rattle.ost_head.proofs.Looking.{looks_on, looks_err}

@@ -1,8 +1,8 @@
-use Rattle.std.proofs.Common.{List, ℕ, subst}
+use Rattle.std.proofs.Common.{List, ℕ, sym, subst}
 use Rattle.std.specs.BTreeSet.{contains_text}
 use Rattle.fp_base.specs.declared.object.ObjKind.{ObjKind}
 use Rattle.ost_prune.specs.Texts.{AreTextsOf}
-use Rattle.ost_prune.proofs.Used.{used_told, walk_caused}
+use Rattle.ost_prune.proofs.Used.{IsRefusal, used_told, faulty_told}
 use Rattle.ost_prune.proofs.texts.used_texts.Goals as goal
 
 pub returns-in_ok-texts_of-in-Ok-clause-tells : goal.returns-in_ok-texts_of-in-Ok-clause-tells
@@ -11,6 +11,5 @@ returns-in_ok-texts_of-in-Ok-clause-tells g c =
     used_told c.args.root.now c.args.keep.now c.in-Ok.objects has c.in-Ok.ensures.unchanged c.in-Ok.ensures.tells
     (subst (λ (l : List (List ℕ × ObjKind)). AreTextsOf c.args.root.now l has) c.as_slice.ensures c.in_ok-texts_of-in-Ok.ensures)
 
-pub returns-in-Err-clause-fault_has_cause : goal.returns-in-Err-clause-fault_has_cause
-returns-in-Err-clause-fault_has_cause g c =
-    walk_caused c.args.root.now c.args.keep.now _ _ c.in-Err.end c.host_end.result c.host_end.ensures c.in-Err.ensures.fault_has_cause c.in-Err.ensures.remote c.in-Err.ensures.tells
+pub returns-in-Err-Refused-clause-tells : goal.returns-in-Err-Refused-clause-tells
+returns-in-Err-Refused-clause-tells g c = faulty_told c.args.root.now c.args.keep.now _ (subst IsRefusal (sym c.in-Err-Refused.field-0-is) tt) c.in-Err-Refused.ensures.unchanged c.in-Err-Refused.ensures.tells

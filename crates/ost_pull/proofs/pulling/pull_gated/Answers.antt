@@ -2,9 +2,9 @@ use Rattle.std.proofs.Common.{◌≡◌, Err, Some, sym, subst, arith}
 use Rattle.std.specs.Prelude.{IsErrOf}
 use Rattle.fp_host.proofs.Ending.{ends_both, ends_goes}
 use Rattle.fp_small.specs.Clear.{CanClear}
-use Rattle.ost_head.specs.Ends.{RefusesBy}
-use Rattle.ost_head.specs.declared.ends.PullEnd.{PullEnd}
-use Rattle.ost_head.specs.declared.ends.PullEnd.TheVariants as ends
+use Rattle.ost_walk.specs.PullEnds.{RefusesBy}
+use Rattle.ost_walk.specs.declared.pull_end.PullEnd.{PullEnd}
+use Rattle.ost_walk.specs.declared.pull_end.PullEnd.TheVariants as ends
 use Rattle.ost_pull.specs.Placing.{CanStore}
 use Rattle.ost_pull.specs.Pulls.{CanPull, first_refusal}
 use Rattle.ost_pull.proofs.Kept.{works_clear, works_within}

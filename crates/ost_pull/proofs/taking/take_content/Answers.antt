@@ -5,7 +5,7 @@ use Rattle.fp_host.specs.View.{View}
 use Rattle.fp_host.specs.Outcome.{shows}
 use Rattle.fp_host.proofs.Ending.{ends_looks}
 use Rattle.ost_model.specs.Objects.{store}
-use Rattle.ost_copy.specs.Contents.{ChecksIfThere}
+use Rattle.ost_head.specs.Contents.{ChecksIfThere}
 use Rattle.ost_head.specs.Found.{HostHas}
 use Rattle.ost_store.specs.ObjectNames.{AreOpen}
 use Rattle.ost_pull.specs.Work.{AreKept}

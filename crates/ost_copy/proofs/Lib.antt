@@ -1,5 +1,0 @@
-mod Pieces
-mod Checked
-mod Told
-mod Copied
-mod Brought

@@ -1,4 +1,0 @@
-pub mod Pieces
-pub mod Contents
-pub mod Copies
-pub mod Brings

@@ -1,0 +1,172 @@
+//! Files and links of the store, checked piece by piece.
+ghost use Rattle.std.specs.Prelude.{◌≡◌, ◌<◌, ◌≤◌, ◌++◌, ℕ, List, length, take, true, IfOk, IsErrOf, Some};
+ghost use Rattle.fp_base.specs.declared.object.ObjKind.TheVariants as kinds;
+ghost use Rattle.fp_host.specs.OverHost.{ChangesNothing, FailsAlone, FailsOnly};
+ghost use Rattle.fp_host.specs.Moments.{Moments};
+ghost use Rattle.fp_host.specs.Outcome.{shows};
+ghost use Rattle.fp_host.specs.Paths.{is_link_text};
+ghost use Rattle.fp_host.specs.Remote.{CameFrom};
+ghost use Rattle.ost_model.specs.declared.object.Object.TheVariants as objects;
+ghost use Rattle.ost_model.specs.Contents.{file_digest, is_permission};
+ghost use Rattle.ost_model.specs.Objects.{store};
+ghost use Rattle.ost_store.specs.Reads.{HasFile};
+ghost use Rattle.ost_walk.specs.Ends.{NoFault};
+ghost use Rattle.ost_walk.specs.declared.ends.WalkFault.{WalkFault};
+ghost use Rattle.ost_head.specs.Contents.{ChecksIfThere};
+ghost use Rattle.ost_head.specs.Pieces.{TakesIn};
+ghost use Rattle.ost_head.specs.Stored.{IsFileOf};
+
+use crate::limits::{check_limits, check_link, refused};
+use fp_base::{ObjKind, Text};
+use fp_host::{Host, HostEnd, PIECE_BYTES, Path};
+use fp_name::Digest;
+use ost_content::ContentHasher;
+use ost_model::MOST_FILE_BYTES;
+use ost_store::{Got, get, read_piece};
+use ost_walk::{ObjectFault, WalkEnd};
+use std::alloc::Global;
+
+/// Takes in the bytes of the file from this place on, until the room is full or none is left, and
+/// says how many.
+fn hash_piece<H: Host>(
+    alloc: Global,
+    host: &mut H,
+    root: &Path,
+    digest: &Digest,
+    at: u64,
+    hasher: &mut ContentHasher,
+    room: &mut [u8],
+) -> Result<usize, HostEnd>
+    ensures bound { IfOk result (λ n. n ≤ length room.old) }
+    ensures unchanged { ChangesNothing H.Host host.old host.new }
+    ensures tells { (m : Moments) → H.moments host.old ≡ Some m
+        → (mode : ℕ) (content : List ℕ) → store root.now (shows m.now) digest.now kinds.File
+        ≡ Some (objects.File mode content)
+        → IfOk result (CameFrom content at room.new) }
+    ensures hashes { IfOk result (λ n. TakesIn (take n room.new) hasher.old hasher.new) }
+    ensures fault_has_cause { FailsOnly H.Host host.old host.new
+        (HasFile root.now digest.now) (IsErrOf result HostEnd.Fault) }
+{
+    let count = read_piece(alloc, host, root, digest, at, room)?;
+    hasher.update(&room[..count]);
+    Ok(count)
+}
+
+/// Takes in the content of the file of this size, as many bytes at once as the buffer has room for.
+fn hash_pieces<H: Host>(
+    alloc: Global,
+    host: &mut H,
+    root: &Path,
+    digest: &Digest,
+    size: u64,
+    hasher: &mut ContentHasher,
+    buffer: &mut [u8],
+) -> Result<(), HostEnd>
+    requires { 0 < length buffer.old }
+    ensures unchanged { ChangesNothing H.Host host.old host.new }
+    ensures tells { (m : Moments) → H.moments host.old ≡ Some m
+        → (mode : ℕ) (content : List ℕ) → store root.now (shows m.now) digest.now kinds.File
+        ≡ Some (objects.File mode content)
+        → length content ≡ size → IfOk result (λ _. TakesIn content hasher.old hasher.new) }
+    ensures fault_has_cause { FailsOnly H.Host host.old host.new
+        (HasFile root.now digest.now) (IsErrOf result HostEnd.Fault) }
+{
+    let mut at = 0;
+    while at < size {
+        let room = (size - at).min(buffer.len() as u64) as usize;
+        let count = hash_piece(alloc, host, root, digest, at, hasher, &mut buffer[..room])?;
+        if count == 0 {
+            break;
+        }
+        at += count as u64;
+    }
+    Ok(())
+}
+
+/// The digest of the file with these permission bits and of this size.
+fn stored_digest<H: Host>(
+    alloc: Global,
+    host: &mut H,
+    root: &Path,
+    digest: &Digest,
+    mode: u32,
+    size: u64,
+) -> Result<Digest, HostEnd>
+    requires { is_permission mode ≡ true }
+    ensures unchanged { ChangesNothing H.Host host.old host.new }
+    ensures tells { (m : Moments) → H.moments host.old ≡ Some m
+        → (bits : ℕ) (content : List ℕ) → store root.now (shows m.now) digest.now kinds.File
+        ≡ Some (objects.File bits content)
+        → length content ≡ size → IfOk result (λ got. got ≡ file_digest mode content) }
+    ensures fault_has_cause { FailsOnly H.Host host.old host.new
+        (HasFile root.now digest.now) (IsErrOf result HostEnd.Fault) }
+{
+    let mut buffer = vec![in alloc; 0u8; PIECE_BYTES]?;
+    let mut hasher = ContentHasher::new(mode);
+    hash_pieces(alloc, host, root, digest, size, &mut hasher, &mut buffer)?;
+    Ok(hasher.finish())
+}
+
+/// Checks that the file with these permission bits and of this size is the one that its digest
+/// names.
+#[tactic(auto, using(crate::proofs::Checked::stored_refused, crate::proofs::Checked::stored_good, crate::proofs::Checked::stored_corrupt))]
+fn check_file<H: Host>(
+    alloc: Global,
+    host: &mut H,
+    root: &Path,
+    digest: &Digest,
+    mode: u32,
+    size: u64,
+) -> Result<bool, WalkEnd>
+    ensures unchanged { ChangesNothing H.Host host.old host.new }
+    ensures tells { (m : Moments) → H.moments host.old ≡ Some m
+        → IsFileOf mode size (store root.now (shows m.now) digest.now kinds.File)
+        → ChecksIfThere digest.now (store root.now (shows m.now) digest.now kinds.File) result }
+    ensures fault_has_cause { FailsOnly H.Host host.old host.new
+        (HasFile root.now digest.now) (IsErrOf result WalkEnd.HostFault) }
+    ensures remote { IsErrOf result WalkEnd.RemoteFault → ⊥ }
+{
+    check_limits(digest, mode, size)?;
+    let got = stored_digest(alloc, host, root, digest, mode, size)?;
+    if got == *digest {
+        Ok(true)
+    } else {
+        Err(refused(digest, ObjectFault::Corrupt(got)))
+    }
+}
+
+/// Checks that the link with this text is the one that its digest names.
+#[tactic(auto, using(crate::proofs::Checked::text_good, crate::proofs::Checked::text_refused))]
+fn check_text(alloc: Global, digest: &Digest, text: &Text) -> Result<bool, WalkEnd>
+    ensures tells { is_link_text text.now ≡ true
+        → ChecksIfThere digest.now (Some (objects.Link text.now)) result }
+    ensures faults { NoFault result }
+{
+    match check_link(alloc, digest, text.as_str()) {
+        Ok(()) => Ok(true),
+        Err(end) => Err(end),
+    }
+}
+
+/// Whether the store in this folder has the file or link, which is checked as that of a remote is.
+/// A file is read piece by piece and never stands whole in memory.
+pub fn check_stored<H: Host>(
+    alloc: Global,
+    host: &mut H,
+    root: &Path,
+    digest: &Digest,
+) -> Result<bool, WalkEnd>
+    ensures unchanged { ChangesNothing H.Host host.old host.new }
+    ensures tells { (m : Moments) → H.moments host.old ≡ Some m
+        → ChecksIfThere digest.now (store root.now (shows m.now) digest.now kinds.File) result }
+    ensures fault_has_cause { FailsAlone H.Host host.old host.new
+        (IsErrOf result WalkEnd.HostFault) }
+    ensures remote { IsErrOf result WalkEnd.RemoteFault → ⊥ }
+{
+    match get(alloc, host, root, digest, ObjKind::File, MOST_FILE_BYTES)? {
+        Got::File { mode, size } => check_file(alloc, host, root, digest, mode, size),
+        Got::Link(text) => check_text(alloc, digest, &text),
+        Got::TooLong(size) => Err(refused(digest, ObjectFault::TooLong(size))),
+        _ => Ok(false),
+    }
+}

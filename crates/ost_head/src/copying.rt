@@ -1,0 +1,126 @@
+//! A file of the remote that is copied piece by piece while its digest is taken.
+ghost use Rattle.std.specs.Prelude.{◌≡◌, ◌<◌, ◌≤◌, length, take, true, IfOk, OnOk, IsErrOf, Some};
+ghost use Rattle.fp_host.specs.OverHost.{AtReturn, FailsOnly};
+ghost use Rattle.fp_host.specs.Frame.{Frame, Only, NoName};
+ghost use Rattle.fp_host.specs.Outcome.{Nothing};
+ghost use Rattle.fp_host.specs.Remote.{Holdings, CameFrom, bytes_of};
+ghost use Rattle.ost_model.specs.Contents.{is_permission};
+ghost use Rattle.ost_walk.specs.Ends.{IsRemotes};
+ghost use Rattle.ost_walk.specs.declared.ends.WalkFault.{WalkFault};
+ghost use Rattle.ost_head.specs.Pieces.{TakesIn};
+ghost use Rattle.ost_head.specs.Copies.{Appends, CopiesFile, IsCopied, IsNewFile};
+
+use fp_host::{Host, Path, Remotes};
+use fp_name::Digest;
+use ost_content::ContentHasher;
+use ost_store::stage_piece;
+use ost_walk::WalkEnd;
+
+/// Adds the bytes of the remote's file from this place on, until the room is full or none is left,
+/// to the end of the new file, and takes them in. Says how many.
+fn copy_piece<H: Host, R: Remotes>(
+    host: &mut H,
+    remotes: &mut R,
+    url: &str,
+    from: &Path,
+    to: &Path,
+    at: u64,
+    hasher: &mut ContentHasher,
+    room: &mut [u8],
+) -> Result<usize, WalkEnd>
+    ensures frame { Frame Nothing NoName (Only to.now) (H.moments host.old) (H.moments host.new) }
+    ensures same { R.holds remotes.new ≡ R.holds remotes.old }
+    ensures bound { IfOk result (λ n. n ≤ length room.old) }
+    ensures tells { (held : Holdings) → R.holds remotes.old ≡ Some held
+        → IfOk result (CameFrom (bytes_of (held url.now from.now)) at room.new) }
+    ensures appends { IfOk result
+        (λ n. AtReturn H.Host host.old host.new (Appends to.now (take n room.new))) }
+    ensures hashes { IfOk result (λ n. TakesIn (take n room.new) hasher.old hasher.new) }
+    ensures long { IfOk result (λ n. length (take n room.new) ≡ n) }
+    ensures refuses { (w : WalkFault) → IsErrOf result (WalkEnd.Refused w) → ⊥ }
+    ensures fault_has_cause { FailsOnly H.Host host.old host.new
+        (IsNewFile to.now) (IsErrOf result WalkEnd.HostFault) }
+    ensures remote_fault_has_cause { IsRemotes (IsErrOf result WalkEnd.RemoteFault)
+        (R.faults remotes.old) (R.faults remotes.new) }
+{
+    let count = remotes.read_at(url, from, at, room)?;
+    let piece = &room[..count];
+    hasher.update(piece);
+    stage_piece(host, to, piece)?;
+    Ok(count)
+}
+
+/// Adds the remote's file of this size to the end of the new file, as many bytes at once as the
+/// buffer has room for, and takes them in. It ends where the remote has no more bytes, and takes no
+/// more than the size.
+fn copy_pieces<H: Host, R: Remotes>(
+    host: &mut H,
+    remotes: &mut R,
+    url: &str,
+    from: &Path,
+    to: &Path,
+    size: u64,
+    hasher: &mut ContentHasher,
+    buffer: &mut [u8],
+) -> Result<(), WalkEnd>
+    requires { 0 < length buffer.old }
+    ensures frame { Frame Nothing NoName (Only to.now) (H.moments host.old) (H.moments host.new) }
+    ensures same { R.holds remotes.new ≡ R.holds remotes.old }
+    ensures copies { OnOk result (CopiesFile to.now from.now url.now (R.holds remotes.old) size
+        hasher.old hasher.new (H.moments host.old) (H.moments host.new)) }
+    ensures refuses { (w : WalkFault) → IsErrOf result (WalkEnd.Refused w) → ⊥ }
+    ensures fault_has_cause { FailsOnly H.Host host.old host.new
+        (IsNewFile to.now) (IsErrOf result WalkEnd.HostFault) }
+    ensures remote_fault_has_cause { IsRemotes (IsErrOf result WalkEnd.RemoteFault)
+        (R.faults remotes.old) (R.faults remotes.new) }
+{
+    let mut at = 0;
+    while at < size {
+        let room = (size - at).min(buffer.len() as u64) as usize;
+        let count = copy_piece(
+            host,
+            remotes,
+            url,
+            from,
+            to,
+            at,
+            hasher,
+            &mut buffer[..room],
+        )?;
+        if count == 0 {
+            return Ok(());
+        }
+        at += count as u64;
+    }
+    Ok(())
+}
+
+/// Adds the remote's file of this size to the end of the new file with these permission bits, which
+/// is empty, and gives the digest of what it then is.
+#[tactic(auto, using(crate::proofs::Copied::copied_digest))]
+pub(crate) fn copy_file<H: Host, R: Remotes>(
+    host: &mut H,
+    remotes: &mut R,
+    url: &str,
+    from: &Path,
+    to: &Path,
+    mode: u32,
+    size: u64,
+    buffer: &mut [u8],
+) -> Result<Digest, WalkEnd>
+    requires bits { is_permission mode ≡ true }
+    requires room { 0 < length buffer.old }
+    ensures frame { Frame Nothing NoName (Only to.now) (H.moments host.old) (H.moments host.new) }
+    ensures same { R.holds remotes.new ≡ R.holds remotes.old }
+    ensures copies { IfOk result (IsCopied to.now from.now url.now (R.holds remotes.old) mode size
+        (H.moments host.old) (H.moments host.new)) }
+    ensures refuses { (w : WalkFault) → IsErrOf result (WalkEnd.Refused w) → ⊥ }
+    ensures fault_has_cause { FailsOnly H.Host host.old host.new
+        (IsNewFile to.now) (IsErrOf result WalkEnd.HostFault) }
+    ensures remote_fault_has_cause { IsRemotes (IsErrOf result WalkEnd.RemoteFault)
+        (R.faults remotes.old) (R.faults remotes.new) }
+{
+    let mut hasher = ContentHasher::new(mode);
+    copy_pieces(host, remotes, url, from, to, size, &mut hasher, buffer)?;
+    Ok(hasher.finish())
+}
