@@ -9,6 +9,7 @@ mod field;
 mod fixed;
 mod header;
 mod known;
+pub mod laws;
 mod limits;
 mod message;
 mod names;

@@ -5,3 +5,8 @@ pub mod Telling
 pub mod Sights
 pub mod Opening
 pub mod Happening
+pub mod Calling
+pub mod Keeping
+pub mod Replies
+pub mod Refusing
+pub mod Standing

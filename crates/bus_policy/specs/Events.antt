@@ -1,6 +1,6 @@
 -- What is known of names and calls from the events before: the messages of both sides, each with
 -- its verdict, the latest first.
-use Rattle.std.specs.Prelude.{ℕ, ◌%◌, Bool, true, false, ◌||◌, ◌&&◌, ◌==◌, not, if◌then◌else◌, List, [], ◌∷◌, ◌++◌, codes, Option, Some, None, is_some}
+use Rattle.std.specs.Prelude.{ℕ, ◌%◌, Bool, true, false, ◌||◌, ◌&&◌, ◌==◌, nat_le, not, if◌then◌else◌, List, [], ◌∷◌, ◌++◌, codes, Option, Some, None, is_some}
 use Rattle.std.specs.Option.{option_map_or}
 use Rattle.std.specs.List.{list_any, filter_map}
 use Rattle.std.specs.Str.{bytes_eq}
@@ -133,34 +133,46 @@ abbrev pub is_serial : Option ℕ → ℕ → Bool
 is_serial None serial = false
 is_serial (Some n) serial = n == serial
 
--- a forwarded call of the client with this serial that wants a reply, and a forwarded reply to it
-abbrev pub is_client_call : ℕ → Judged → Bool
-is_client_call serial j =
-    not (is_bus_side j.event.side) && is_call j.event.header && j.event.header.serial == serial
-    && not (wants_no_reply j.event.header) && is_forwarded j.verdict
+-- a forwarded call of the client; one with this serial; and such a one that wants a reply
+abbrev pub is_sent : Judged → Bool
+is_sent j = not (is_bus_side j.event.side) && is_call j.event.header && is_forwarded j.verdict
 
+abbrev pub is_sent_as : ℕ → Judged → Bool
+is_sent_as serial j = is_sent j && j.event.header.serial == serial
+
+abbrev pub is_client_call : ℕ → Judged → Bool
+is_client_call serial j = is_sent_as serial j && not (wants_no_reply j.event.header)
+
+-- a forwarded reply to the client's calls with this serial
 abbrev pub is_bus_reply : ℕ → Judged → Bool
 is_bus_reply serial j =
     is_bus_side j.event.side && is_reply j.event.header
     && is_serial j.event.header.reply_serial serial && is_forwarded j.verdict
 
--- whether calls of the client with this serial wait; a reply ends all of them
+-- A call of the client with this serial, or with a higher one, was forwarded before: a call that
+-- has the serial now is no first use of it.
+abbrev pub was_used : List Judged → ℕ → Bool
+was_used before serial = list_any (λ j. is_sent j && nat_le serial j.event.header.serial) before
+
+-- whether this is so of an event since the last forwarded reply to a serial, and those before it
+abbrev pub since_reply : ℕ → (List Judged → Judged → Bool) → List Judged → Bool
+since_reply serial is_so [] = false
+since_reply serial is_so (j ∷ before) =
+    if is_bus_reply serial j then false
+    else is_so before j || since_reply serial is_so before
+
+-- whether calls of the client with a serial wait, whether one of them lists names, and whether a
+-- call with it, also one that wants no reply, was no first use; a reply ends all of them
 abbrev pub client_waits : List Judged → ℕ → Bool
-client_waits [] serial = false
-client_waits (j ∷ before) serial =
-    if is_client_call serial j then true
-    else (if is_bus_reply serial j then false else client_waits before serial)
+client_waits noted serial = since_reply serial (λ before j. is_client_call serial j) noted
 
--- A forwarded call of the client with this serial that lists names, also one that wants no reply: a
--- bus may answer that one all the same.
-abbrev pub is_listing_call : ℕ → Judged → Bool
-is_listing_call serial j =
-    not (is_bus_side j.event.side) && is_call j.event.header && j.event.header.serial == serial
-    && is_listing j.event.header && is_forwarded j.verdict
+abbrev pub names_wait : List Judged → ℕ → Bool
+names_wait noted serial =
+    since_reply serial (λ before j. is_client_call serial j && is_listing j.event.header) noted
 
--- whether a call of the client with this serial ever listed names
-abbrev pub has_listed : List Judged → ℕ → Bool
-has_listed noted serial = list_any (is_listing_call serial) noted
+abbrev pub is_reused : List Judged → ℕ → Bool
+is_reused noted serial =
+    since_reply serial (λ before j. is_sent_as serial j && was_used before serial) noted
 
 -- a call from a peer to the client with this serial that wants a reply, and a forwarded reply to it
 abbrev pub is_bus_call : List ℕ → ℕ → Judged → Bool

@@ -4,3 +4,4 @@ pub mod Events
 pub mod Verdicts
 pub mod Watching
 pub mod Rows
+pub mod Laws

@@ -62,6 +62,21 @@ reply_header kind = record {
 abbrev pub reply : MessageType → List ℕ → Event
 reply kind bytes = record { side = side.Bus; header = reply_header kind; bytes = bytes }
 
+-- a return of a peer, and one of the bus that is a text
+abbrev pub peer_reply : List ℕ → Event
+peer_reply bytes = record {
+  side = side.Bus;
+  header = record (reply_header type.MethodReturn) { sender = Some (codes ":1.5") };
+  bytes = bytes;
+}
+
+abbrev pub text_reply : List ℕ → Event
+text_reply bytes = record {
+  side = side.Bus;
+  header = record (reply_header type.MethodReturn) { signature = Some (codes "s") };
+  bytes = bytes;
+}
+
 abbrev pub HoldsNames : List ℕ → Type 0
 HoldsNames bytes = is_some (names_in (reply_header type.MethodReturn) bytes) ≡ true
 

@@ -13,19 +13,21 @@ use Rattle.bus_policy.specs.declared.policy.RuleKind.{RuleKind}
 use Rattle.bus_policy.specs.declared.policy.RuleKind.TheVariants as kind
 use Rattle.bus_policy.specs.declared.driver.Handler.{Handler}
 use Rattle.bus_policy.specs.declared.driver.Handler.TheVariants as handler
+use Rattle.bus_policy.specs.declared.calls.WaitingCalls.{WaitingCalls}
 use Rattle.bus_policy.specs.declared.verdict.Verdict.{Verdict}
 use Rattle.bus_policy.specs.declared.verdict.Verdict.TheVariants as verdict
+use Rattle.bus_rules.specs.Rules.{says}
 use Rattle.bus_policy.specs.Levels.{is_at_least}
 use Rattle.bus_policy.specs.Driver.{driver, handler_of}
 use Rattle.bus_policy.specs.Events.{Event, is_bus_side, is_return, wants_no_reply, tells_owner}
 
 -- What is known before an event: the level of a name; whether a rule for calls or broadcasts gives
--- leave to a message of a peer; whether calls of the client with a serial wait for a reply, and if
--- so, whether one with that serial ever listed names; whether a call of a peer waits.
+-- leave to a message of a peer; the calls of the client with a serial that wait for a reply; whether
+-- a call of a peer waits.
 pub record Sight : Type 0 where
   pub level_of : List ℕ → Level
   pub gives_leave : RuleKind → List ℕ → Header → Bool
-  pub client_waits : ℕ → Option Bool
+  pub calls_waiting : ℕ → Option WaitingCalls
   pub peer_waits : List ℕ → ℕ → Bool
 
 abbrev pub has_level : Sight → Level → List ℕ → Bool
@@ -102,18 +104,30 @@ of_client sight e (type.Unknown n) = verdict.Drop
 
 -- ---- messages of the bus
 
--- A reply to calls that wait. Where a call with their serial ever listed names, the names of a return
--- are filtered: a bus answers late, or a call that wants no answer.
-abbrev pub reply_to : Event → Bool → Verdict
-reply_to e for_names =
-    if is_return e.header && for_names
+-- a message of the bus itself, and one with the type of a list of names
+abbrev pub is_of_driver : Header → Bool
+is_of_driver h = is_none h.sender || says h.sender driver
+
+abbrev pub is_list : Header → Bool
+is_list h = says h.signature (codes "as")
+
+-- A return that may have names of the bus: of the bus itself, to calls of which one lists names; or
+-- a list, to a serial that was used before, since an earlier call with it may have listed names.
+abbrev pub may_name : Header → WaitingCalls → Bool
+may_name h calls =
+    is_return h && is_of_driver h && (calls.list_names || (calls.reused && is_list h))
+
+-- a reply to calls that wait
+abbrev pub reply_to : Event → WaitingCalls → Verdict
+reply_to e calls =
+    if may_name e.header calls
     then (if is_some (names_in e.header e.bytes) then verdict.FilterNameList else verdict.Drop)
     else verdict.Pass
 
 abbrev pub bus_reply : Sight → Event → Option ℕ → Verdict
 bus_reply sight e None = verdict.Drop
 bus_reply sight e (Some serial) =
-    option_map_or (reply_to e) (sight.client_waits serial) verdict.Drop
+    option_map_or (reply_to e) (sight.calls_waiting serial) verdict.Drop
 
 abbrev pub owner_signal : Sight → Option (List ℕ × List ℕ × List ℕ) → Bool
 owner_signal sight None = false

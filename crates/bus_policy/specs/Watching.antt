@@ -1,6 +1,6 @@
 -- What is known after events, and that a watch knows it.
-use Rattle.std.specs.Prelude.{◌≡◌, ℕ, Bool, true, false, ◌||◌, ◌&&◌, ◌==◌, not, if◌then◌else◌, List, [], ◌∷◌, map, nat_eq, Option, Some, None}
-use Rattle.indexmap.specs.IndexMap.{get, get_by_text}
+use Rattle.std.specs.Prelude.{◌≡◌, ℕ, ◌+◌, Bool, true, false, ◌||◌, ◌&&◌, ◌==◌, not, if◌then◌else◌, List, [], ◌∷◌, map, nat_eq, nat_le, Option, Some, None, is_some}
+use Rattle.indexmap.specs.IndexMap.{get, get_by_text, index_map_len}
 use Rattle.indexmap.specs.IndexSet as set
 use Rattle.std.specs.List.{list_any}
 use Rattle.std.specs.Str.{bytes_eq}
@@ -13,14 +13,14 @@ use Rattle.bus_policy.specs.declared.policy.RuleKind.{RuleKind}
 use Rattle.bus_policy.specs.declared.policy.PolicyRule.{PolicyRule}
 use Rattle.bus_policy.specs.declared.peer.Peer.{Peer}
 use Rattle.bus_policy.specs.declared.calls.ClientCalls.{ClientCalls}
-use Rattle.bus_policy.specs.declared.calls.ClientCalls.TheVariants as calls
+use Rattle.bus_policy.specs.declared.calls.WaitingCalls.{WaitingCalls}
 use Rattle.bus_policy.specs.declared.watch.Watch.{Watch}
 use Rattle.bus_policy.specs.declared.peer.RawNews.{RawNews}
 use Rattle.bus_policy.specs.declared.peer.RawNews.TheVariants as raw
 use Rattle.bus_policy.specs.declared.verdict.Verdict.{Verdict}
 use Rattle.bus_policy.specs.Levels.{greater, rules_level, allows, pattern_matches}
-use Rattle.bus_policy.specs.Events.{Event, Judged, is_unique_like, is_call, wants_no_reply, is_forwarded, name_given, names_of, is_addressed_by, has_written, is_client_call, is_bus_reply, is_listing_call, is_bus_call, is_client_reply, client_waits, has_listed, peer_waits}
-use Rattle.bus_policy.specs.Driver.{driver, is_listing}
+use Rattle.bus_policy.specs.Events.{Event, Judged, is_unique_like, is_call, wants_no_reply, is_forwarded, name_given, names_of, is_addressed_by, has_written, is_bus_call, is_client_reply, was_used, client_waits, names_wait, is_reused, peer_waits}
+use Rattle.bus_policy.specs.Driver.{driver}
 use Rattle.bus_policy.specs.Verdicts.{Sight, verdict_in}
 
 -- ---- what is known
@@ -64,15 +64,20 @@ leave_after rules owners noted kind peer header =
     list_any (λ rule. allows kind header rule.grant
     && is_meant (names_of owners noted peer) peer rule) rules
 
--- where calls wait, whether one with their serial ever listed names
-abbrev pub names_awaited : (waits listed : Bool) → Option Bool
-names_awaited waits listed = if waits then Some listed else None
+-- the calls of the client with a serial that wait
+abbrev pub calls_by : (waits list_names reused : Bool) → Option WaitingCalls
+calls_by waits list_names reused =
+    if waits then Some (record { list_names = list_names; reused = reused }) else None
+
+abbrev pub calls_after : List Judged → ℕ → Option WaitingCalls
+calls_after noted serial =
+    calls_by (client_waits noted serial) (names_wait noted serial) (is_reused noted serial)
 
 abbrev pub sight_after : List PolicyRule → Option (List ℕ) → Owners → List Judged → Sight
 sight_after rules client owners noted = record {
   level_of = level_after rules client owners noted;
   gives_leave = leave_after rules owners noted;
-  client_waits = λ serial. names_awaited (client_waits noted serial) (has_listed noted serial);
+  calls_waiting = calls_after noted;
   peer_waits = peer_waits noted;
 }
 
@@ -174,6 +179,14 @@ abbrev pub with_news : List PolicyRule → RawNews → Known → Known
 with_news rules (raw.Name name) k = with_name rules name.now k
 with_news rules (raw.Message wrote call) k = with_message_if wrote (with_call_if call k)
 
+-- whether it tells anything: of a name, where a rule's pattern matches it
+abbrev pub speaks_of : List PolicyRule → List ℕ → Bool
+speaks_of rules name = list_any (λ rule. pattern_matches rule.pattern name) rules
+
+abbrev pub tells : List PolicyRule → RawNews → Bool
+tells rules (raw.Name name) = speaks_of rules name.now
+tells rules (raw.Message wrote call) = wrote || is_some call
+
 -- what is known of a peer with an event more
 abbrev pub with_name_if : List PolicyRule → Option (List ℕ) → Known → Known
 with_name_if rules None k = k
@@ -199,54 +212,41 @@ abbrev pub judged_event : Side → Header → List ℕ → Verdict → Judged
 judged_event side header bytes verdict =
     record { event = record { side = side; header = header; bytes = bytes }; verdict = verdict }
 
--- what is known of the client's calls with a serial: whether they wait, and whether one ever listed
--- names
-abbrev pub calls_by : (waits listed : Bool) → Option ClientCalls
-calls_by true true = Some calls.WaitingForNames
-calls_by true false = Some calls.Waiting
-calls_by false true = Some calls.NamesListed
-calls_by false false = None
+-- whether the highest serial so far, if there is one, is this serial or above it
+abbrev pub is_up_to : Option ℕ → ℕ → Bool
+is_up_to None serial = false
+is_up_to (Some highest) serial = nat_le serial highest
 
-abbrev pub waits_by : ClientCalls → Bool
-waits_by calls.Waiting = true
-waits_by calls.WaitingForNames = true
-waits_by calls.NamesListed = false
+-- the calls with a serial that wait, with one more: whether it wants no reply, whether it lists
+-- names, and whether the serial was used before
+abbrev pub calls_with : (silent lists used : Bool) → Option WaitingCalls → Option WaitingCalls
+calls_with true lists used None = None
+calls_with true lists used (Some calls) = Some (record calls { reused = used })
+calls_with false lists used None = Some (record { list_names = lists; reused = used })
+calls_with false lists used (Some calls) =
+    Some (record { list_names = calls.list_names || lists; reused = used })
 
-abbrev pub listed_by : ClientCalls → Bool
-listed_by calls.Waiting = false
-listed_by calls.WaitingForNames = true
-listed_by calls.NamesListed = true
+-- the calls of the client that wait after these events, and the highest serial so far
+pub record CallsAt {S H : Type 0} (calls : ClientCalls S H) (noted : List Judged) : Type 0 where
+  pub waiting : (serial : ℕ) → get nat_eq calls.waiting serial ≡ calls_after noted serial
+  pub used : (serial : ℕ) → is_up_to calls.highest serial ≡ was_used noted serial
 
-abbrev pub are_waiting : Option ClientCalls → Bool
-are_waiting None = false
-are_waiting (Some calls) = waits_by calls
-
-abbrev pub have_listed : Option ClientCalls → Bool
-have_listed None = false
-have_listed (Some calls) = listed_by calls
-
--- the same with an event more
-abbrev pub calls_with_event : Judged → ℕ → Option ClientCalls → Option ClientCalls
-calls_with_event j serial calls =
-    calls_by (if is_client_call serial j then true
-    else (if is_bus_reply serial j then false else are_waiting calls))
-    (is_listing_call serial j || have_listed calls)
-
--- with a call more, and with a reply
-abbrev pub calls_with : Header → Option ClientCalls → Option ClientCalls
-calls_with h calls =
-    calls_by (not (wants_no_reply h) || are_waiting calls) (is_listing h || have_listed calls)
-
-abbrev pub calls_answered : Option ClientCalls → Option ClientCalls
-calls_answered calls = calls_by false (have_listed calls)
+-- no peer is kept of which nothing is known
+abbrev pub KeepsKnown : {S H : Type 0} → List PolicyRule → (List ℕ → Option (Peer S H)) → Type 0
+KeepsKnown rules peers =
+    (name : List ℕ) → known_of rules (peers name) ≡ unknown rules → peers name ≡ None
 
 -- a watch knows what is known after these events
 pub record WatchAt {S H : Type 0} (w : Watch S H) (owners : Owners) (noted : List Judged) : Type 0
   where
     pub peers : (name : List ℕ) → known_of (rules_of w) (get_by_text w.peers name)
         ≡ known_after (rules_of w) owners noted name
-    pub calls : (serial : ℕ) → get nat_eq w.calls serial
-        ≡ calls_by (client_waits noted serial) (has_listed noted serial)
+    pub kept : KeepsKnown (rules_of w) (get_by_text w.peers)
+    pub calls : CallsAt w.calls noted
+
+-- how many peers and serials of the client's calls it keeps
+abbrev pub count_kept : {S H : Type 0} → Watch S H → ℕ
+count_kept w = index_map_len w.peers + index_map_len w.calls.waiting
 
 -- ---- what it answers by
 
@@ -260,19 +260,18 @@ any_leave kind peer header (rule ∷ rules) (m ∷ meant) =
     || any_leave kind peer header rules meant
 
 abbrev pub sight_by : List PolicyRule → Option (List ℕ) → (List ℕ → Known)
-    → (ℕ → Option Bool) → Sight
-sight_by rules client known waits = record {
+    → (ℕ → Option WaitingCalls) → Sight
+sight_by rules client known calls = record {
   level_of = λ name. level_by_parts rules client name (known name).had (known name).wrote;
   gives_leave = λ kind peer header. any_leave kind peer header rules (known peer).meant;
-  client_waits = waits;
+  calls_waiting = calls;
   peer_waits = λ peer serial. (known peer).waits serial;
 }
 
 unfoldable pub sight_of : {S H : Type 0} → Watch S H → Sight
 sight_of w = sight_by (rules_of w) (client_of w)
     (λ name. known_of (rules_of w) (get_by_text w.peers name))
-    (λ serial. names_awaited (are_waiting (get nat_eq w.calls serial))
-    (have_listed (get nat_eq w.calls serial)))
+    (λ serial. get nat_eq w.calls.waiting serial)
 
 abbrev pub event : Side → Header → List ℕ → Event
 event side header bytes = record { side = side; header = header; bytes = bytes }

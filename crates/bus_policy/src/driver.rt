@@ -1,12 +1,11 @@
 //! Calls to the bus itself: its methods, and what xdg-dbus-proxy(1) makes of them.
 
 ghost use Rattle.std.specs.Prelude.{◌≡◌};
-ghost use Rattle.bus_rules.specs.Rules.{says};
 ghost use Rattle.bus_policy.specs.Driver.{is_to_driver, called_interface, called_member, own_handler, other_handler, handler_of, is_listing};
 
 use crate::level::Level;
 use bus_frame::{BUS_NAME, Header};
-use fp_base::Text;
+use bus_rules::is_text;
 
 /// The interface of a bus that tells what it has.
 const INTROSPECTABLE: &str = "org.freedesktop.DBus.Introspectable";
@@ -27,16 +26,6 @@ pub enum Handler {
     Validate(Level),
     /// It is denied.
     Deny,
-}
-
-/// Whether a header's text is this one.
-pub fn is_text(found: &Option<Text>, text: &str) -> bool
-    ensures { result ≡ says found.now text.now }
-{
-    match found {
-        Some(found) => found.as_str() == text,
-        None => false,
-    }
 }
 
 fn is_for_driver(header: &Header) -> bool

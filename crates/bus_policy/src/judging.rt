@@ -2,12 +2,13 @@
 
 ghost use Rattle.std.specs.Prelude.{◌≡◌};
 ghost use Rattle.bus_policy.specs.Events.{is_call, is_reply, tells_owner};
-ghost use Rattle.bus_policy.specs.Verdicts.{pass_if as passed_if, holds_word, reply_to};
+ghost use Rattle.bus_policy.specs.Verdicts.{pass_if as passed_if, holds_word, is_of_driver, may_name, reply_to};
 ghost use Rattle.bus_policy.specs.Watching.{event};
 
-use crate::driver::is_text;
+use crate::calls::WaitingCalls;
 use crate::verdict::Verdict;
 use bus_frame::{BUS_NAME, Header, MessageType, is_names};
+use bus_rules::is_text;
 use fp_base::Side;
 
 /// A message that has leave passes, and another is dropped.
@@ -55,11 +56,27 @@ pub fn holds(word: &[u8], text: &[u8]) -> bool
     false
 }
 
-/// What becomes of a reply to calls of the client that wait, of which one may list names.
-pub fn replied(header: &Header, message: &[u8], for_names: bool) -> Verdict
-    ensures { result ≡ reply_to (event Side.Bus header.now message.now) for_names }
+/// Whether a message is of the bus itself.
+fn is_from_driver(header: &Header) -> bool
+    ensures { result ≡ is_of_driver header.now }
 {
-    if !matches!(header.kind, MessageType::MethodReturn) || !for_names {
+    header.sender.is_none() || is_text(&header.sender, BUS_NAME)
+}
+
+/// Whether a reply to calls that wait may have names of the bus.
+fn may_have_names(header: &Header, calls: WaitingCalls) -> bool
+    ensures { result ≡ may_name header.now calls }
+{
+    matches!(header.kind, MessageType::MethodReturn)
+        && is_from_driver(header)
+        && (calls.list_names || (calls.reused && is_text(&header.signature, "as")))
+}
+
+/// What becomes of a reply to calls of the client that wait.
+pub fn replied(header: &Header, message: &[u8], calls: WaitingCalls) -> Verdict
+    ensures { result ≡ reply_to (event Side.Bus header.now message.now) calls }
+{
+    if !may_have_names(header, calls) {
         Verdict::Pass
     } else if is_names(header, message) {
         Verdict::FilterNameList

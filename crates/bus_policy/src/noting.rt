@@ -1,13 +1,11 @@
 //! Noting events.
 
-ghost use Rattle.std.specs.Prelude.{◌≡◌, ◌&&◌, ◌==◌, if◌then◌else◌, ℕ, nat_eq, List, false, is_some, OnOk, OnErr};
-ghost use Rattle.indexmap.specs.IndexMap.{get, get_by_text};
-ghost use Rattle.bus_policy.specs.declared.policy.PolicyRule.{PolicyRule as TheRule};
-ghost use Rattle.bus_policy.specs.Events.{tells_owner, is_unique_like};
-ghost use Rattle.bus_policy.specs.Watching.{known_of, waiting_call, with_event, calls_with, calls_with_event, judged_event};
+ghost use Rattle.std.specs.Prelude.{◌≡◌, ◌&&◌, ◌∷◌, ℕ, List, false, is_some, OnOk, OnErr};
+ghost use Rattle.indexmap.specs.IndexMap.{get_by_text};
+ghost use Rattle.bus_policy.specs.Events.{Judged, tells_owner, is_unique_like};
+ghost use Rattle.bus_policy.specs.Watching.{CallsAt, KeepsKnown, known_of, waiting_call, with_event, judged_event};
 
-use crate::calls::{CallTable, ClientCalls, end_calls, has_listed_names, is_awaited};
-use crate::driver::asks_for_names;
+use crate::calls::ClientCalls;
 use crate::judging::{is_a_call, is_a_reply, is_about_owner};
 use crate::pattern::is_like_unique;
 use crate::peer::RawNews;
@@ -36,53 +34,36 @@ fn is_written_by(header: &Header, sender: &str) -> bool
     is_like_unique(sender.as_bytes()) && header.destination.is_some()
 }
 
-/// Adds a call of the client. Without memory nothing changes.
-fn add_call<S: BuildHasher + Copy>(
-    calls: &mut CallTable<S>,
-    header: &Header,
-) -> Result<(), AllocError>
-    ensures ok { OnOk result ((s : ℕ) → get nat_eq calls.new s
-        ≡ (if header.now.serial == s then calls_with header.now (get nat_eq calls.old s)
-        else get nat_eq calls.old s)) }
-    ensures err { OnErr result ((s : ℕ) → get nat_eq calls.new s ≡ get nat_eq calls.old s) }
-{
-    let serial = header.serial;
-    let waits = !header.flags.want_no_reply() || is_awaited(calls, serial);
-    let has_listed = asks_for_names(header) || has_listed_names(calls, serial);
-    if let Some(known) = ClientCalls::new(waits, has_listed) {
-        calls.insert(serial, known)?;
-    }
-    Ok(())
-}
-
-/// A message of the client may be a call that waits, or that lists names.
+/// A message of the client may be a call.
 pub fn note_client_call<S: BuildHasher + Copy>(
-    calls: &mut CallTable<S>,
+    calls: &mut ClientCalls<S>,
     header: &Header,
-    message: &[u8],
     verdict: Verdict,
 ) -> Result<(), AllocError>
-    ensures ok { OnOk result ((s : ℕ) → get nat_eq calls.new s
-        ≡ calls_with_event (judged_event Side.Client header.now message.now verdict) s
-        (get nat_eq calls.old s)) }
-    ensures err { OnErr result ((s : ℕ) → get nat_eq calls.new s ≡ get nat_eq calls.old s) }
+    ensures ok { (noted : List Judged) (bytes : List ℕ) → CallsAt calls.old noted
+        → OnOk result (CallsAt calls.new
+        (judged_event Side.Client header.now bytes verdict ∷ noted)) }
+    ensures err { (noted : List Judged) → CallsAt calls.old noted
+        → OnErr result (CallsAt calls.new noted) }
 {
     if !is_a_call(header) || !verdict.is_forwarding() {
         return Ok(());
     }
-    add_call(calls, header)
+    calls.add(header)
 }
 
 /// A message of the client may be a reply to a peer's call.
 pub fn note_client_reply<S: BuildHasher + Copy>(
     peers: &mut Peers<S>,
+    rules: &[PolicyRule],
     header: &Header,
-    message: &[u8],
     verdict: Verdict,
 )
-    ensures { (rules : List TheRule) (q : List ℕ) → known_of rules (get_by_text peers.new q)
-        ≡ with_event rules (judged_event Side.Client header.now message.now verdict) q
-        (known_of rules (get_by_text peers.old q)) }
+    ensures known { (q bytes : List ℕ) → known_of rules.now (get_by_text peers.new q)
+        ≡ with_event rules.now (judged_event Side.Client header.now bytes verdict) q
+        (known_of rules.now (get_by_text peers.old q)) }
+    ensures kept { KeepsKnown rules.now (get_by_text peers.old)
+        → KeepsKnown rules.now (get_by_text peers.new) }
 {
     if !is_a_reply(header) || !verdict.is_forwarding() {
         return;
@@ -90,25 +71,23 @@ pub fn note_client_reply<S: BuildHasher + Copy>(
     let (Some(peer), Some(serial)) = (&header.destination, header.reply_serial) else {
         return;
     };
-    settle(peers, peer.as_str(), serial);
+    settle(peers, rules, peer.as_str(), serial);
 }
 
-/// A message of the bus may be a reply to the client's call.
+/// A message of the bus may be a reply to the client's calls.
 pub fn note_bus_reply<S: BuildHasher + Copy>(
-    calls: &mut CallTable<S>,
+    calls: &mut ClientCalls<S>,
     header: &Header,
-    message: &[u8],
     verdict: Verdict,
 )
-    ensures { (s : ℕ) → get nat_eq calls.new s
-        ≡ calls_with_event (judged_event Side.Bus header.now message.now verdict) s
-        (get nat_eq calls.old s) }
+    ensures { (noted : List Judged) (bytes : List ℕ) → CallsAt calls.old noted
+        → CallsAt calls.new (judged_event Side.Bus header.now bytes verdict ∷ noted) }
 {
     if !is_a_reply(header) || !verdict.is_forwarding() {
         return;
     }
     if let Some(serial) = header.reply_serial {
-        end_calls(calls, serial);
+        calls.end(serial);
     }
 }
 
@@ -117,15 +96,17 @@ fn note_sender<S: BuildHasher + Copy>(
     peers: &mut Peers<S>,
     rules: &[PolicyRule],
     header: &Header,
-    message: &[u8],
     verdict: Verdict,
 ) -> Result<(), AllocError>
     requires { tells_owner header.now ≡ false }
-    ensures ok { OnOk result ((q : List ℕ) → known_of rules.now (get_by_text peers.new q)
-        ≡ with_event rules.now (judged_event Side.Bus header.now message.now verdict) q
+    ensures ok { (bytes : List ℕ) → OnOk result ((q : List ℕ)
+        → known_of rules.now (get_by_text peers.new q)
+        ≡ with_event rules.now (judged_event Side.Bus header.now bytes verdict) q
         (known_of rules.now (get_by_text peers.old q))) }
     ensures err { OnErr result ((q : List ℕ) → known_of rules.now (get_by_text peers.new q)
         ≡ known_of rules.now (get_by_text peers.old q)) }
+    ensures kept { KeepsKnown rules.now (get_by_text peers.old)
+        → KeepsKnown rules.now (get_by_text peers.new) }
 {
     let Some(sender) = &header.sender else {
         return Ok(());
@@ -150,9 +131,11 @@ pub fn note_bus_peer<S: BuildHasher + Copy>(
         (known_of rules.now (get_by_text peers.old q))) }
     ensures err { OnErr result ((q : List ℕ) → known_of rules.now (get_by_text peers.new q)
         ≡ known_of rules.now (get_by_text peers.old q)) }
+    ensures kept { KeepsKnown rules.now (get_by_text peers.old)
+        → KeepsKnown rules.now (get_by_text peers.new) }
 {
     if !is_about_owner(header) {
-        return note_sender(peers, rules, header, message, verdict);
+        return note_sender(peers, rules, header, verdict);
     }
     match three_strings(header, message) {
         Some((name, _, owner)) => add_owned(peers, rules, owner, name),

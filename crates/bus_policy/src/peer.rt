@@ -3,10 +3,10 @@
 ghost use Rattle.std.specs.Prelude.{◌≡◌, ◌||◌, ◌==◌, ◌++◌, [], ℕ, Bool, false, List, true, map, if◌then◌else◌, slice_set, IfOk, OnOk, OnErr, Some};
 ghost use Rattle.bus_policy.specs.declared.policy.PolicyRule.{PolicyRule as TheRule};
 ghost use Rattle.bus_policy.specs.Levels.{pattern_matches};
-ghost use Rattle.bus_policy.specs.Watching.{known_of, unknown, name_level, or_each, with_name, with_message_if, with_call_if, without_call, with_news};
+ghost use Rattle.bus_policy.specs.Watching.{known_of, unknown, name_level, or_each, with_name, with_message_if, with_call_if, without_call, with_news, speaks_of, tells};
 
 use crate::level::Level;
-use crate::pattern::matches_name;
+use crate::pattern::{is_like_unique, matches_name};
 use crate::policy::{PolicyRule, level_by_rules};
 use indexmap::IndexSet;
 use std::alloc::{AllocError, Global};
@@ -34,11 +34,35 @@ pub enum RawNews<'a> {
     Message(bool, Option<u32>),
 }
 
+impl RawNews<'_> {
+    /// Whether anything is known with it that wasn't without.
+    pub fn tells(self, rules: &[PolicyRule]) -> bool
+        ensures { result ≡ tells rules.now self.entry }
+    {
+        match self {
+            RawNews::Name(name) => is_spoken_of(rules, name.as_bytes()),
+            RawNews::Message(wrote, call) => wrote || call.is_some(),
+        }
+    }
+}
+
+/// Whether a rule's pattern matches a name.
+fn is_spoken_of(rules: &[PolicyRule], name: &[u8]) -> bool
+    ensures { result ≡ speaks_of rules.now name.now }
+{
+    for rule in rules {
+        if matches_name(rule.pattern.as_str().as_bytes(), name) {
+            return true;
+        }
+    }
+    false
+}
+
 /// The level of a name that a peer has; a unique name gives none.
 fn level_had(rules: &[PolicyRule], name: &[u8]) -> Level
     ensures { result ≡ name_level rules.now name.now }
 {
-    if name.first() == Some(&b':') {
+    if is_like_unique(name) {
         return Level::None;
     }
     level_by_rules(rules, name)
@@ -52,6 +76,22 @@ fn unmeant(alloc: Global, rules: &[PolicyRule]) -> Result<Vec<bool>, AllocError>
         flags.push(false)?;
     }
     Ok(flags)
+}
+
+/// Whether no flag is raised, and each rule has one.
+fn are_unmeant(flags: &[bool], rules: &[PolicyRule]) -> bool
+    ensures blank { result ≡ true → flags.now ≡ map (λ rule. false) rules.now }
+    ensures raised { flags.now ≡ map (λ rule. false) rules.now → result ≡ true }
+{
+    if flags.len() != rules.len() {
+        return false;
+    }
+    for flag in flags {
+        if *flag {
+            return false;
+        }
+    }
+    true
 }
 
 fn raise(flags: &mut Vec<bool>, at: usize, raised: bool)
@@ -150,6 +190,20 @@ impl<S: BuildHasher + Copy> Peer<S> {
             }
         }
         Ok(())
+    }
+
+    /// Whether nothing is known of the peer.
+    pub fn is_blank(&self, rules: &[PolicyRule]) -> bool
+        ensures blank { result ≡ true → known_of rules.now (Some self.now) ≡ unknown rules.now }
+        ensures known { known_of rules.now (Some self.now) ≡ unknown rules.now → result ≡ true }
+    {
+        if self.wrote || !matches!(self.had, Level::None) {
+            return false;
+        }
+        if !self.waiting.is_empty() {
+            return false;
+        }
+        are_unmeant(&self.meant, rules)
     }
 
     /// A call of the peer that waits no more.

@@ -1,10 +1,11 @@
 //! The peers of which something is known.
 
-ghost use Rattle.std.specs.Prelude.{◌≡◌, ◌&&◌, ℕ, List, [], IfOk, OnOk, OnErr, None};
+ghost use Rattle.std.specs.Prelude.{◌≡◌, ◌&&◌, ℕ, List, [], true, false, IfOk, OnOk, OnErr, None};
+ghost use Rattle.std.specs.Option.{option_copied};
 ghost use Rattle.bus_policy.specs.declared.policy.PolicyRule.{PolicyRule as TheRule};
 ghost use Rattle.indexmap.specs.IndexMap.{get_by_text};
 ghost use Rattle.std.specs.Str.{bytes_eq};
-ghost use Rattle.bus_policy.specs.Watching.{known_of, known_after, changed_if, with_name, with_news, without_call};
+ghost use Rattle.bus_policy.specs.Watching.{KeepsKnown, known_of, unknown, known_after, changed_if, with_name, with_news, tells, without_call};
 ghost use Rattle.bus_policy.specs.Events.{is_unique_like};
 
 use crate::pattern::is_like_unique;
@@ -25,12 +26,15 @@ fn add_peer<S: BuildHasher + Copy>(
     name: &str,
     news: RawNews<'_>,
 ) -> Result<(), AllocError>
-    requires { get_by_text peers.old name.now ≡ None }
+    requires fresh { get_by_text peers.old name.now ≡ None }
+    requires tells { tells rules.now news ≡ true }
     ensures ok { OnOk result ((q : List ℕ) → known_of rules.now (get_by_text peers.new q)
         ≡ changed_if (bytes_eq name.now q) (with_news rules.now news.entry)
         (known_of rules.now (get_by_text peers.old q))) }
     ensures err { OnErr result ((q : List ℕ) → known_of rules.now (get_by_text peers.new q)
         ≡ known_of rules.now (get_by_text peers.old q)) }
+    ensures kept { KeepsKnown rules.now (get_by_text peers.old)
+        → KeepsKnown rules.now (get_by_text peers.new) }
 {
     let alloc = *peers.allocator();
     let name = String::from_str(alloc, name)?;
@@ -39,7 +43,30 @@ fn add_peer<S: BuildHasher + Copy>(
     Ok(())
 }
 
-/// What an event tells of a peer. Without memory nothing changes.
+/// What an event that tells something tells of a peer.
+fn learn_more<S: BuildHasher + Copy>(
+    peers: &mut Peers<S>,
+    rules: &[PolicyRule],
+    name: &str,
+    news: RawNews<'_>,
+) -> Result<(), AllocError>
+    requires tells { tells rules.now news ≡ true }
+    ensures ok { OnOk result ((q : List ℕ) → known_of rules.now (get_by_text peers.new q)
+        ≡ changed_if (bytes_eq name.now q) (with_news rules.now news.entry)
+        (known_of rules.now (get_by_text peers.old q))) }
+    ensures err { OnErr result ((q : List ℕ) → known_of rules.now (get_by_text peers.new q)
+        ≡ known_of rules.now (get_by_text peers.old q)) }
+    ensures kept { KeepsKnown rules.now (get_by_text peers.old)
+        → KeepsKnown rules.now (get_by_text peers.new) }
+{
+    match peers.get_mut(name) {
+        Some(peer) => peer.learn(rules, news),
+        None => add_peer(peers, rules, name, news),
+    }
+}
+
+/// What an event tells of a peer. Where it tells nothing, nothing is kept, and without memory
+/// nothing changes.
 pub fn learn<S: BuildHasher + Copy>(
     peers: &mut Peers<S>,
     rules: &[PolicyRule],
@@ -51,11 +78,13 @@ pub fn learn<S: BuildHasher + Copy>(
         (known_of rules.now (get_by_text peers.old q))) }
     ensures err { OnErr result ((q : List ℕ) → known_of rules.now (get_by_text peers.new q)
         ≡ known_of rules.now (get_by_text peers.old q)) }
+    ensures kept { KeepsKnown rules.now (get_by_text peers.old)
+        → KeepsKnown rules.now (get_by_text peers.new) }
 {
-    match peers.get_mut(name) {
-        Some(peer) => peer.learn(rules, news),
-        None => add_peer(peers, rules, name, news),
+    if !news.tells(rules) {
+        return Ok(());
     }
+    learn_more(peers, rules, name, news)
 }
 
 /// A name that a peer has now, if it is a unique name. Without memory nothing changes.
@@ -71,6 +100,8 @@ pub fn add_owned<S: BuildHasher + Copy>(
         (known_of rules.now (get_by_text peers.old q))) }
     ensures err { OnErr result ((q : List ℕ) → known_of rules.now (get_by_text peers.new q)
         ≡ known_of rules.now (get_by_text peers.old q)) }
+    ensures kept { KeepsKnown rules.now (get_by_text peers.old)
+        → KeepsKnown rules.now (get_by_text peers.new) }
 {
     if !is_like_unique(owner.as_bytes()) {
         return Ok(());
@@ -85,8 +116,9 @@ pub fn opening<S: BuildHasher + Copy>(
     rules: &[PolicyRule],
     owners: &[(Text, Text)],
 ) -> Result<Peers<S>, AllocError>
-    ensures { IfOk result (λ peers. (q : List ℕ) →
+    ensures known { IfOk result (λ peers. (q : List ℕ) →
         known_of rules.now (get_by_text peers q) ≡ known_after rules.now owners.now [] q) }
+    ensures kept { IfOk result (λ peers. KeepsKnown rules.now (get_by_text peers)) }
 {
     let mut peers = IndexMap::with_hasher(alloc, hash_builder);
     for (name, owner) in owners {
@@ -96,12 +128,57 @@ pub fn opening<S: BuildHasher + Copy>(
 }
 
 /// A call of a peer waits no more.
-pub fn settle<S: BuildHasher + Copy>(peers: &mut Peers<S>, name: &str, serial: u32)
-    ensures { (rules : List TheRule) (q : List ℕ) → known_of rules (get_by_text peers.new q)
+fn end_call<S: BuildHasher + Copy>(peers: &mut Peers<S>, name: &str, serial: u32)
+    ensures known { (rules : List TheRule) (q : List ℕ) → known_of rules (get_by_text peers.new q)
         ≡ changed_if (bytes_eq name.now q) (without_call serial)
         (known_of rules (get_by_text peers.old q)) }
+    ensures others { (q : List ℕ) → bytes_eq name.now q ≡ false
+        → get_by_text peers.new q ≡ get_by_text peers.old q }
 {
     if let Some(peer) = peers.get_mut(name) {
         peer.remove_call(serial);
     }
+}
+
+/// Whether something is known of a peer.
+fn is_known<S: BuildHasher + Copy>(peer: Option<&Peer<S>>, rules: &[PolicyRule]) -> bool
+    ensures blank { result ≡ false
+        → known_of rules.now (option_copied peer.entry) ≡ unknown rules.now }
+    ensures known { known_of rules.now (option_copied peer.entry) ≡ unknown rules.now
+        → result ≡ false }
+{
+    match peer {
+        Some(peer) => !peer.is_blank(rules),
+        None => false,
+    }
+}
+
+/// A peer of which nothing is known is forgotten.
+fn forget_unknown<S: BuildHasher + Copy>(peers: &mut Peers<S>, rules: &[PolicyRule], name: &str)
+    ensures known { (q : List ℕ) → known_of rules.now (get_by_text peers.new q)
+        ≡ known_of rules.now (get_by_text peers.old q) }
+    ensures kept { ((q : List ℕ) → bytes_eq name.now q ≡ false
+        → known_of rules.now (get_by_text peers.old q) ≡ unknown rules.now
+        → get_by_text peers.old q ≡ None) → KeepsKnown rules.now (get_by_text peers.new) }
+{
+    if !is_known(peers.get(name), rules) {
+        peers.swap_remove(name);
+    }
+}
+
+/// A call of a peer waits no more. If nothing else is known of it, it is forgotten.
+pub fn settle<S: BuildHasher + Copy>(
+    peers: &mut Peers<S>,
+    rules: &[PolicyRule],
+    name: &str,
+    serial: u32,
+)
+    ensures known { (q : List ℕ) → known_of rules.now (get_by_text peers.new q)
+        ≡ changed_if (bytes_eq name.now q) (without_call serial)
+        (known_of rules.now (get_by_text peers.old q)) }
+    ensures kept { KeepsKnown rules.now (get_by_text peers.old)
+        → KeepsKnown rules.now (get_by_text peers.new) }
+{
+    end_call(peers, name, serial);
+    forget_unknown(peers, rules, name);
 }

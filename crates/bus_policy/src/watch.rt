@@ -10,10 +10,10 @@ ghost use Rattle.bus_policy.specs.Levels.{greater};
 ghost use Rattle.bus_policy.specs.Driver.{handler_of};
 ghost use Rattle.bus_policy.specs.Events.{Judged};
 ghost use Rattle.bus_policy.specs.Verdicts.{has_level, refused, match_call, name_call, driver_call, call_to, client_call, client_reply, client_signal, of_client, bus_reply, owner_signal, broadcast, bus_signal, of_bus, verdict_in};
-ghost use Rattle.bus_policy.specs.Watching.{Owners, WatchAt, rules_of, client_of, known_of, level_if as level_when, sight_of, level_after, verdict_after, event, judged_event};
+ghost use Rattle.bus_policy.specs.Watching.{Owners, WatchAt, rules_of, client_of, known_of, level_if as level_when, sight_of, count_kept, level_after, verdict_after, event, judged_event};
 
-use crate::calls::{CallTable, has_listed_names, is_awaited};
-use crate::driver::{Handler, handler_of_call, is_text};
+use crate::calls::{ClientCalls, WaitingCalls};
+use crate::driver::{Handler, handler_of_call};
 use crate::judging::{holds, is_about_owner, pass_if, replied};
 use crate::level::Level;
 use crate::noting::{note_bus_peer, note_bus_reply, note_client_call, note_client_reply};
@@ -23,13 +23,13 @@ use crate::peers::{Peers, opening};
 use crate::policy::{Policy, RuleKind, any_gives_leave, level_by_rules};
 use crate::verdict::Verdict;
 use bus_frame::{BUS_NAME, Header, MessageType, copy_text, first_string, three_strings};
+use bus_rules::is_text;
 use fp_base::{Items, Side, Text};
-use indexmap::IndexMap;
 use std::alloc::{AllocError, Global};
 use std::hash::{BuildHasher, BuildHasherDefault, FoldHasher};
 
-/// The hasher of `Watch::new`. Its seed is fixed, so an application can choose names and serials
-/// that make its own filter slow, and nobody else's.
+/// The hasher of `Watch::new`. Its seed is fixed, so an application can choose serials, and a peer
+/// that calls it names and serials, that make the application's own filter slow.
 pub type FixedHasher = BuildHasherDefault<FoldHasher>;
 
 /// What a filter knows of the events so far: of each peer its level, whether it wrote, which rules
@@ -40,8 +40,7 @@ pub struct Watch<S: BuildHasher = FixedHasher> {
     policy: Policy,
     client: Option<Text>,
     peers: Peers<S>,
-    /// The client's calls that wait, and those that ever listed names.
-    calls: CallTable<S>,
+    calls: ClientCalls<S>,
 }
 
 fn level_had<S: BuildHasher>(peer: Option<&Peer<S>>) -> Level
@@ -104,7 +103,7 @@ impl<S: BuildHasher + Copy> Watch<S> {
             policy,
             client,
             peers,
-            calls: IndexMap::with_hasher(alloc, hash_builder),
+            calls: ClientCalls::new(alloc, hash_builder),
         })
     }
 
@@ -125,27 +124,22 @@ impl<S: BuildHasher + Copy> Watch<S> {
         ensures client { client_of self.new ≡ client_of self.old }
     {
         match side {
-            Side::Client => self.note_client(header, message, verdict),
+            Side::Client => self.note_client(header, verdict),
             Side::Bus => self.note_bus(header, message, verdict),
         }
     }
 
-    fn note_client(
-        &mut self,
-        header: &Header,
-        message: &[u8],
-        verdict: Verdict,
-    ) -> Result<(), AllocError>
-        ensures ok { (owners : Owners) (noted : List Judged) → WatchAt self.old owners noted
-            → OnOk result (WatchAt self.new owners
-            (judged_event Side.Client header.now message.now verdict ∷ noted)) }
+    fn note_client(&mut self, header: &Header, verdict: Verdict) -> Result<(), AllocError>
+        ensures ok { (owners : Owners) (noted : List Judged) (bytes : List ℕ)
+            → WatchAt self.old owners noted → OnOk result (WatchAt self.new owners
+            (judged_event Side.Client header.now bytes verdict ∷ noted)) }
         ensures err { (owners : Owners) (noted : List Judged) → WatchAt self.old owners noted
             → OnErr result (WatchAt self.new owners noted) }
         ensures policy { rules_of self.new ≡ rules_of self.old }
         ensures client { client_of self.new ≡ client_of self.old }
     {
-        note_client_call(&mut self.calls, header, message, verdict)?;
-        note_client_reply(&mut self.peers, header, message, verdict);
+        note_client_call(&mut self.calls, header, verdict)?;
+        note_client_reply(&mut self.peers, self.policy.rules(), header, verdict);
         Ok(())
     }
 
@@ -165,7 +159,7 @@ impl<S: BuildHasher + Copy> Watch<S> {
     {
         let rules = self.policy.rules();
         note_bus_peer(&mut self.peers, rules, header, message, verdict)?;
-        note_bus_reply(&mut self.calls, header, message, verdict);
+        note_bus_reply(&mut self.calls, header, verdict);
         Ok(())
     }
 
@@ -189,6 +183,14 @@ impl<S: BuildHasher + Copy> Watch<S> {
 
 /// What is known.
 impl<S: BuildHasher> Watch<S> {
+    /// How many peers are kept, and serials with calls of the client that wait. What else a watch
+    /// keeps doesn't grow, but for the serials of a peer's calls that wait.
+    pub fn count_kept(&self) -> usize
+        ensures { result ≡ count_kept self.now }
+    {
+        self.peers.len() + self.calls.count()
+    }
+
     fn level_of_unique(&self, name: &str) -> Level
         ensures { result
             ≡ greater (known_of (rules_of self.now) (get_by_text self.now.peers name.now)).had
@@ -234,15 +236,12 @@ impl<S: BuildHasher> Watch<S> {
         }
     }
 
-    /// Where calls of the client wait, whether one with their serial ever listed names.
+    /// The calls of the client with a serial that wait.
     #[tactic(auto, unfolding(crate::specs::Watching::sight_of))]
-    fn client_waits(&self, serial: u32) -> Option<bool>
-        ensures { result ≡ (sight_of self.now).client_waits serial }
+    fn calls_waiting(&self, serial: u32) -> Option<WaitingCalls>
+        ensures { result ≡ (sight_of self.now).calls_waiting serial }
     {
-        if !is_awaited(&self.calls, serial) {
-            return None;
-        }
-        Some(has_listed_names(&self.calls, serial))
+        self.calls.with_serial(serial)
     }
 
     /// Whether a call of a peer waits.
@@ -374,8 +373,8 @@ impl<S: BuildHasher> Watch<S> {
         let Some(serial) = header.reply_serial else {
             return Verdict::Drop;
         };
-        match self.client_waits(serial) {
-            Some(for_names) => replied(header, message, for_names),
+        match self.calls_waiting(serial) {
+            Some(calls) => replied(header, message, calls),
             None => Verdict::Drop,
         }
     }

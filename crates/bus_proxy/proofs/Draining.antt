@@ -40,17 +40,5 @@ stepped pieces i item piece lt is same =
     ∙ ap (λ (p : Side × List ℕ). p ∷ reverse (take i pieces)) (sym is)
     ∙ ap (λ (b : List ℕ). (item.0, b) ∷ reverse (take i pieces)) (sym same)
 
-pub not_some : (o : Option End) → is_some o ≡ false → o ≡ None
-not_some None e = refl
-not_some (Some end) e = absurd cc
-
--- a recording that ends too soon ends so with all that comes later
-pub cut_short : (pieces fed : Pieces) (i : ℕ) (bad : Option End) → reverse (take i pieces) ≡ fed → bad ≡ breach fed → is_some bad ≡ true
-    → (events (reverse pieces) ≡ events fed) × (end_of (reverse pieces) ≡ bad)
-cut_short pieces fed i None e is some = absurd cc
-cut_short pieces fed i (Some end) e is some =
-    let all : reverse pieces ≡ reverse (drop i pieces) ++ fed = all_pieces pieces i ∙ ap (λ (l : Pieces). reverse (drop i pieces) ++ l) e in
-    (ap events all ∙ nothing_comes (reverse (drop i pieces)) fed end (sym is), ap end_of all ∙ end_stays (reverse (drop i pieces)) fed end (sym is))
-
 pub at_the_end : (pieces : Pieces) (i : ℕ) → length pieces ≤ i → reverse (take i pieces) ≡ reverse pieces
 at_the_end pieces i le = ap reverse (take_all i pieces le)

@@ -9,3 +9,5 @@ pub mod Giving
 pub mod Seeing
 pub mod Draining
 pub mod Naming
+pub mod Unseen
+pub mod Getting

@@ -1,12 +1,7 @@
 -- The names that may be seen, one name more.
 use Rattle.std.proofs.Common.{◌≡◌, ℕ, Bool, true, false, cond, List, [], ◌∷◌, ◌++◌, Option, Some, None, refl, sym, ap, ◌∙◌}
 use Rattle.std.specs.List.{filter}
-use Rattle.std.specs.Option.{option_map_or}
 use Rattle.std.proofs.lemmas.List.{append-nil}
-use Rattle.bus_frame.specs.Bodies.{names_in}
-use Rattle.bus_frame.specs.Writing.{with_names_bytes}
-use Rattle.bus_policy.specs.Events.{Event}
-use Rattle.bus_proxy.specs.Outs.{Levels, seen_names, reduced}
 
 push_cond : (b : Bool) (y : List ℕ) (before after more : List (List ℕ)) → after ≡ before ++ more → cond b (y ∷ after) after ≡ cond b (y ∷ before) before ++ more
 push_cond true y before after more e = ap (λ (l : List (List ℕ)). y ∷ l) e
@@ -25,11 +20,3 @@ pub one_unseen : (test : List ℕ → Bool) (seen names : List (List ℕ)) (name
 one_unseen test seen names name e is =
     e
     ∙ sym (filter_push test names name ∙ ap (λ (b : Bool). filter test names ++ cond b (name ∷ []) []) is ∙ append-nil (filter test names))
-
-pub shortened : (level_of : Levels) (e : Event) (names : List (List ℕ)) → names_in e.header e.bytes ≡ Some names → reduced level_of e ≡ with_names_bytes e.header e.bytes (seen_names level_of names)
-shortened level_of e names is =
-    ap (λ (o : Option (List (List ℕ))). option_map_or (λ names. with_names_bytes e.header e.bytes (seen_names level_of names)) o e.bytes) is
-
-pub as_it_is : (level_of : Levels) (e : Event) → names_in e.header e.bytes ≡ None → reduced level_of e ≡ e.bytes
-as_it_is level_of e is =
-    ap (λ (o : Option (List (List ℕ))). option_map_or (λ names. with_names_bytes e.header e.bytes (seen_names level_of names)) o e.bytes) is

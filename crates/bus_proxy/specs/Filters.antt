@@ -1,14 +1,14 @@
 -- What a filter is, by what it was fed, what was taken of it, and what it gave.
 use Rattle.std.specs.Prelude.{◌≡◌, ℕ, List, [], ◌∷◌, ◌++◌, Option, Some, None, option_map, Result, Ok, Err}
 use Rattle.fp_base.specs.declared.side.Side.{Side}
+use Rattle.bus_policy.specs.declared.verdict.Verdict.{Verdict}
+use Rattle.bus_policy.specs.declared.verdict.Verdict.TheVariants as verdict
 use Rattle.bus_policy.specs.Events.{Event}
-use Rattle.bus_policy.specs.Watching.{Owners, WatchAt, rules_of, client_of}
+use Rattle.bus_policy.specs.Watching.{Owners, WatchAt, rules_of, client_of, count_kept}
 use Rattle.bus_proxy.specs.declared.out.Out.{Out}
 use Rattle.bus_proxy.specs.declared.error.FilterError.{FilterError}
 use Rattle.bus_proxy.specs.declared.error.FilterError.TheVariants.{Bad, NoMemory}
 use Rattle.bus_proxy.specs.declared.judge.Judge.{Judge}
-use Rattle.bus_proxy.specs.declared.judge.Fate.{Fate}
-use Rattle.bus_proxy.specs.declared.judge.Fate.TheVariants as fate
 use Rattle.bus_proxy.specs.declared.proxy.Filter.{Filter}
 use Rattle.bus_proxy.specs.declared.proxy.Next.{Next}
 use Rattle.bus_proxy.specs.declared.proxy.Next.TheVariants as next
@@ -23,11 +23,13 @@ pub record JudgeAt {S H : Type 0} (j : Judge S H) (s : Setting) (taken : List Ev
   pub client : client_of j.watch ≡ s.client
   pub named : option_map (λ name. name.text) j.client ≡ s.client
 
--- what goes to a side of a message
-abbrev pub fate_of : Fate → Side → List ℕ → Option Out
-fate_of fate.Passes side bytes = Some (record { to = other_side side; bytes = bytes })
-fate_of (fate.Replaced out) side bytes = Some out
-fate_of fate.Vanishes side bytes = None
+-- what a message gives: itself where it passes, else what goes somewhere in its place
+abbrev pub given_by : Verdict → Side → List ℕ → Option Out → Option Out
+given_by verdict.Pass side bytes instead = Some (record { to = other_side side; bytes = bytes })
+given_by verdict.FilterNameList side bytes instead = instead
+given_by verdict.Deny side bytes instead = instead
+given_by verdict.Hide side bytes instead = instead
+given_by verdict.Drop side bytes instead = instead
 
 -- A filter that was made with this setting and fed these pieces, of which these events were taken,
 -- the latest first. What it gave is what these events give.
@@ -86,3 +88,7 @@ AnswersEnd (Err NoMemory) end = ⊥
 
 abbrev pub unread : {S H : Type 0} → Filter S H → ℕ
 unread f = unread_bytes f.streams
+
+-- how many peers and serials of the client's calls it keeps
+abbrev pub kept_by : {S H : Type 0} → Filter S H → ℕ
+kept_by f = count_kept f.judge.watch

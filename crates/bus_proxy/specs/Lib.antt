@@ -3,3 +3,4 @@ pub mod Outs
 pub mod Streaming
 pub mod Filters
 pub mod Rows
+pub mod Laws

@@ -1,7 +1,7 @@
 -- What a filter gives: for each event, by the events before it, the message itself, with fewer
 -- names, or an error.
-use Rattle.std.specs.Prelude.{ℕ, List, [], ◌∷◌, ◌++◌, Option, Some, None}
-use Rattle.std.specs.Option.{option_map_or, option_to_list}
+use Rattle.std.specs.Prelude.{ℕ, List, [], ◌∷◌, ◌++◌, Option, Some, None, option_map}
+use Rattle.std.specs.Option.{option_to_list}
 use Rattle.std.specs.List.{filter}
 use Rattle.fp_base.specs.declared.side.Side.TheVariants as side
 use Rattle.bus_frame.specs.declared.header.Header.{Header}
@@ -36,10 +36,10 @@ abbrev pub seen_names : Levels → List (List ℕ) → List (List ℕ)
 seen_names level_of = filter (λ name. is_at_least level.See (level_of name))
 
 -- a list of names without those that may not be seen
-abbrev pub reduced : Levels → Event → List ℕ
+abbrev pub reduced : Levels → Event → Option (List ℕ)
 reduced level_of e =
-    option_map_or (λ names. with_names_bytes e.header e.bytes (seen_names level_of names))
-    (names_in e.header e.bytes) e.bytes
+    option_map (λ names. with_names_bytes e.header e.bytes (seen_names level_of names))
+    (names_in e.header e.bytes)
 
 -- the error that answers a call
 abbrev pub refusal : List ℕ → Option (List ℕ) → Header → Out
@@ -50,7 +50,7 @@ refusal name client call =
 abbrev pub out_by : Levels → Option (List ℕ) → Event → Verdict → Option Out
 out_by level_of client e verdict.Pass = Some (record { to = other_side e.side; bytes = e.bytes })
 out_by level_of client e verdict.FilterNameList =
-    Some (record { to = other_side e.side; bytes = reduced level_of e })
+    option_map (λ bytes. record { to = other_side e.side; bytes = bytes }) (reduced level_of e)
 out_by level_of client e verdict.Deny =
     Some (refusal DENIED.now client e.header)
 out_by level_of client e verdict.Hide =

@@ -9,13 +9,14 @@ ghost use Rattle.bus_policy.specs.Events.{Event, Judged};
 ghost use Rattle.bus_policy.specs.Watching.{Owners, WatchAt, rules_of, client_of, level_after, event};
 ghost use Rattle.bus_proxy.specs.Arrivals.{other_side};
 ghost use Rattle.bus_proxy.specs.Outs.{Setting, setting, out_by, out_after};
-ghost use Rattle.bus_proxy.specs.Filters.{JudgeAt, fate_of};
+ghost use Rattle.bus_proxy.specs.Filters.{JudgeAt, given_by};
 
 use crate::client::{Name, name_of};
 use crate::out::Out;
 use crate::reducing::without_unseen;
 use bus_frame::{Header, error_frame};
 use bus_policy::{Policy, Verdict, Watch};
+use bytes::Bytes;
 use fp_base::{Blob, Items, Side, Text};
 use std::alloc::{AllocError, Global};
 use std::hash::BuildHasher;
@@ -28,17 +29,6 @@ pub struct Judge<S: BuildHasher> {
     pub watch: Watch<S>,
     /// The name, once it is known.
     pub client: Option<Name>,
-}
-
-/// What becomes of a message.
-#[derive(Drop)]
-pub enum Fate {
-    /// It goes to the other side.
-    Passes,
-    /// Something else goes to a side in its place.
-    Replaced(Out),
-    /// Nothing.
-    Vanishes,
 }
 
 /// The error of a call that isn't let through.
@@ -57,17 +47,25 @@ fn opposite(side: Side) -> Side
     }
 }
 
-fn passed(fate: Fate, side: Side, message: Blob) -> Option<Out>
-    ensures { result ≡ fate_of fate side message }
+/// A message that goes to a side in the place of another.
+fn sent(to: Side, bytes: Blob) -> Result<Out, AllocError>
+    ensures { IfOk result (λ out. out ≡ record { to = to; bytes = bytes }) }
 {
-    match fate {
-        Fate::Passes => Some(Out {
-            to: opposite(side),
-            bytes: message,
-        }),
-        Fate::Replaced(out) => Some(out),
-        Fate::Vanishes => None,
+    let bytes = Bytes::from_vec(bytes.into_vec())?;
+    Ok(Out { to, bytes })
+}
+
+/// What a message gives: itself where it passes, else what goes somewhere in its place.
+fn given(verdict: Verdict, side: Side, message: Bytes, instead: Option<Out>) -> Option<Out>
+    ensures { result ≡ given_by verdict side message instead }
+{
+    if verdict != Verdict::Pass {
+        return instead;
     }
+    Some(Out {
+        to: opposite(side),
+        bytes: message,
+    })
 }
 
 impl<S: BuildHasher + Copy> Judge<S> {
@@ -104,38 +102,51 @@ impl<S: BuildHasher + Copy> Judge<S> {
             None => None,
         };
         let bytes = error_frame(self.alloc, call.little, name, call.serial, client)?;
-        Ok(Out {
-            to: Side::Client,
-            bytes,
-        })
+        sent(Side::Client, bytes)
     }
 
-    /// What a verdict makes of a message.
-    fn fate(
+    /// A list of names with those alone that may be seen, for the other side.
+    fn shortened(
+        &self,
+        side: Side,
+        header: &Header,
+        message: &[u8],
+    ) -> Result<Option<Out>, AllocError>
+        requires { frame_of message.now ≡ whole header.now (length message.now) }
+        ensures { IfOk result (λ out. (owners : Owners) (noted : List Judged)
+            → WatchAt self.now.watch owners noted
+            → out ≡ out_by
+            (level_after (rules_of self.now.watch) (client_of self.now.watch) owners noted)
+            (option_map (λ name. name.text) self.now.client)
+            (event side header.now message.now) Verdict.FilterNameList) }
+    {
+        match without_unseen(self.alloc, &self.watch, header, message)? {
+            Some(bytes) => Ok(Some(sent(opposite(side), bytes)?)),
+            None => Ok(None),
+        }
+    }
+
+    /// What goes somewhere in the place of a message that doesn't pass as it is.
+    fn instead(
         &self,
         verdict: Verdict,
         side: Side,
         header: &Header,
         message: &[u8],
-    ) -> Result<Fate, AllocError>
+    ) -> Result<Option<Out>, AllocError>
         requires { frame_of message.now ≡ whole header.now (length message.now) }
         ensures { IfOk result
-            (λ fate. (owners : Owners) (noted : List Judged) → WatchAt self.now.watch owners noted
-            → fate_of fate side message.now
+            (λ out. (owners : Owners) (noted : List Judged) → WatchAt self.now.watch owners noted
+            → given_by verdict side message.now out
             ≡ out_by (level_after (rules_of self.now.watch) (client_of self.now.watch) owners noted)
             (option_map (λ name. name.text) self.now.client)
             (event side header.now message.now) verdict) }
     {
         match verdict {
-            Verdict::Pass => Ok(Fate::Passes),
-            Verdict::FilterNameList => {
-                let bytes = without_unseen(self.alloc, &self.watch, header, message)?;
-                let to = opposite(side);
-                Ok(Fate::Replaced(Out { to, bytes }))
-            }
-            Verdict::Deny => Ok(Fate::Replaced(self.refusal(DENIED, header)?)),
-            Verdict::Hide => Ok(Fate::Replaced(self.refusal(UNKNOWN, header)?)),
-            Verdict::Drop => Ok(Fate::Vanishes),
+            Verdict::FilterNameList => self.shortened(side, header, message),
+            Verdict::Deny => Ok(Some(self.refusal(DENIED, header)?)),
+            Verdict::Hide => Ok(Some(self.refusal(UNKNOWN, header)?)),
+            Verdict::Pass | Verdict::Drop => Ok(None),
         }
     }
 
@@ -144,7 +155,7 @@ impl<S: BuildHasher + Copy> Judge<S> {
         &mut self,
         side: Side,
         header: &Header,
-        message: Blob,
+        message: Bytes,
     ) -> Result<Option<Out>, AllocError>
         requires { frame_of message ≡ whole header.now (length message) }
         ensures { (s : Setting) (before : List Event) → JudgeAt self.old s before
@@ -152,8 +163,8 @@ impl<S: BuildHasher + Copy> Judge<S> {
             × JudgeAt self.new s (event side header.now message ∷ before)) }
     {
         let verdict = self.watch.verdict(side, header, message.as_slice());
-        let fate = self.fate(verdict, side, header, message.as_slice())?;
+        let instead = self.instead(verdict, side, header, message.as_slice())?;
         self.watch.note(side, header, message.as_slice(), verdict)?;
-        Ok(passed(fate, side, message))
+        Ok(given(verdict, side, message, instead))
     }
 }

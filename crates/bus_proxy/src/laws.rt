@@ -1,11 +1,14 @@
-//! Laws of events, and of what a filter gives on worked examples.
+//! Laws of events, and of what a filter gives: for every policy and all events, and on worked
+//! examples.
 
-ghost use Rattle.std.specs.Prelude.{◌≡◌, [], ◌∷◌, take, drop, Some, None};
+ghost use Rattle.std.specs.Prelude.{◌≡◌, [], ◌∷◌, take, drop, codes, Some, None};
 ghost use Rattle.fp_base.specs.declared.side.Side.TheVariants as side;
 ghost use Rattle.fp_base.specs.declared.frame_rule.FrameRule.TheVariants as rule;
 ghost use Rattle.bus_policy.specs.declared.level.Level.TheVariants as level;
 ghost use Rattle.bus_proxy.specs.Arrivals.{Pieces, events, end_of, bytes_fed, Alike};
+ghost use Rattle.bus_proxy.specs.declared.judge.TheConstants.{DENIED, UNKNOWN};
 ghost use Rattle.bus_proxy.specs.Outs.{out_after, reduced, level_in};
+ghost use Rattle.bus_proxy.specs.Laws.{ClientGets, LeftNamesAreSeen, UnseenNamesChangeNothing};
 ghost use Rattle.bus_proxy.specs.Rows.{with_level, call_bytes, call, unknown_bytes, names, fewer_names_bytes};
 
 /// The events of what was fed, and how they end, depend on the bytes and their sides alone, and not
@@ -36,7 +39,30 @@ pub fn answers_to_a_call()
         ≡ Some (record { to = side.Client; bytes = unknown_bytes }) }
 {}
 
+/// What goes to the client is a message of the bus that is forwarded, or the filter's own error in
+/// answer to a call that isn't.
+pub fn what_the_client_gets()
+    ensures { ClientGets }
+{}
+
+/// Each name that is left in a list may be seen.
+pub fn names_left_may_be_seen()
+    ensures { LeftNamesAreSeen }
+{}
+
+/// Two recordings that differ only in names that may not be seen, in lists that are filtered, give
+/// the same bytes to either side.
+pub fn unseen_names_change_nothing()
+    ensures { UnseenNamesChangeNothing }
+{}
+
+/// The errors' names, as the D-Bus specification spells them.
+pub fn names_of_errors()
+    ensures denied { DENIED.now ≡ codes "org.freedesktop.DBus.Error.AccessDenied" }
+    ensures unknown { UNKNOWN.now ≡ codes "org.freedesktop.DBus.Error.ServiceUnknown" }
+{}
+
 /// The names that may not be seen are taken out of a list of names.
 pub fn names_that_may_be_seen()
-    ensures { reduced (level_in (with_level level.See) []) names ≡ fewer_names_bytes }
+    ensures { reduced (level_in (with_level level.See) []) names ≡ Some fewer_names_bytes }
 {}

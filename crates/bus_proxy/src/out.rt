@@ -1,6 +1,7 @@
 //! What a filter gives.
 
-use fp_base::{Blob, Side};
+use bytes::Bytes;
+use fp_base::Side;
 
 /// A message that goes to a side.
 #[derive(Drop)]
@@ -8,5 +9,5 @@ pub struct Out {
     /// The side that it goes to.
     pub to: Side,
     /// The whole message.
-    pub bytes: Blob,
+    pub bytes: Bytes,
 }

@@ -9,7 +9,7 @@ ghost use Rattle.bus_policy.specs.Watching.{event};
 ghost use Rattle.bus_proxy.specs.declared.out.Out.{Out as TheOut};
 ghost use Rattle.bus_proxy.specs.Arrivals.{Pieces, End, events, breach, end_of};
 ghost use Rattle.bus_proxy.specs.Outs.{Setting, setting};
-ghost use Rattle.bus_proxy.specs.Filters.{JudgeAt, FilterAt, AllTaken, Made, Gives, TookEvent, AnswersEnd, IsNotYet, unread};
+ghost use Rattle.bus_proxy.specs.Filters.{JudgeAt, FilterAt, AllTaken, Made, Gives, TookEvent, AnswersEnd, IsNotYet, unread, kept_by};
 
 use crate::error::FilterError;
 use crate::judge::Judge;
@@ -18,7 +18,8 @@ use crate::stream::Arrival;
 use crate::streams::Streams;
 use bus_frame::Header;
 use bus_policy::{FixedHasher, Policy};
-use fp_base::{Blob, FrameRule, Items, Side, Text};
+use bytes::Bytes;
+use fp_base::{FrameRule, Items, Side, Text};
 use std::alloc::{AllocError, Global};
 use std::hash::{BuildHasher, BuildHasherDefault};
 
@@ -120,7 +121,7 @@ impl<S: BuildHasher + Copy> Filter<S> {
     }
 
     /// What a message gives, which is taken from now on.
-    fn take(&mut self, side: Side, header: &Header, message: Blob) -> Result<Next, FilterError>
+    fn take(&mut self, side: Side, header: &Header, message: Bytes) -> Result<Next, FilterError>
         requires { frame_of message ≡ whole header.now (length message) }
         ensures streams { self.new.streams ≡ self.old.streams }
         ensures made { (s : Setting) (taken : List Event) → JudgeAt self.old.judge s taken
@@ -130,6 +131,13 @@ impl<S: BuildHasher + Copy> Filter<S> {
             Some(out) => Ok(Next::Out(out)),
             None => Ok(Next::Quiet),
         }
+    }
+
+    /// How many peers are kept, and serials with calls of the client that wait.
+    pub fn count_kept(&self) -> usize
+        ensures { result ≡ kept_by self.now }
+    {
+        self.judge.watch.count_kept()
     }
 
     /// How what was fed ends, where every message is taken: cut within a message, the client's

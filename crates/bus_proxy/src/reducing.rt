@@ -45,26 +45,23 @@ fn seen<S: BuildHasher + Copy>(
     Ok(Items::from_vec(seen))
 }
 
-/// A message with those of its names alone that may be seen; one that has no list of names as it
-/// came.
+/// A list of names with those alone that may be seen; nothing where the message is no such list.
 pub fn without_unseen<S: BuildHasher + Copy>(
     alloc: Global,
     watch: &Watch<S>,
     header: &Header,
     message: &[u8],
-) -> Result<Blob, AllocError>
+) -> Result<Option<Blob>, AllocError>
     requires { frame_of message.now ≡ whole header.now (length message.now) }
     ensures { IfOk result
-        (λ bytes. (side : Side) (owners : Owners) (noted : List Judged)
+        (λ found. (side : Side) (owners : Owners) (noted : List Judged)
         → WatchAt watch.now owners noted
-        → bytes ≡ reduced (level_after (rules_of watch.now) (client_of watch.now) owners noted)
+        → found ≡ reduced (level_after (rules_of watch.now) (client_of watch.now) owners noted)
         (event side header.now message.now)) }
 {
-    match names_body(alloc, header, message)? {
-        Some(names) => {
-            let seen = seen(alloc, watch, names)?;
-            with_names(alloc, header, message, &seen)
-        }
-        None => Blob::from_slice(alloc, message),
-    }
+    let Some(names) = names_body(alloc, header, message)? else {
+        return Ok(None);
+    };
+    let seen = seen(alloc, watch, names)?;
+    Ok(Some(with_names(alloc, header, message, &seen)?))
 }

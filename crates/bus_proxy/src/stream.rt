@@ -6,14 +6,15 @@ ghost use Rattle.bus_proxy.specs.Streaming.{StreamAt, StreamGave};
 use crate::error::FilterError;
 use bus_frame::{FrameError, Header};
 use bus_stream::{Cut, Cutter};
-use fp_base::{Blob, Side};
+use bytes::Bytes;
+use fp_base::Side;
 use std::alloc::{AllocError, Global};
 
 /// What comes next.
 #[derive(Drop)]
 pub enum Arrival {
     /// A message of a side, with its header.
-    Message(Side, Header, Blob),
+    Message(Side, Header, Bytes),
     /// Nothing that is whole yet.
     NotYet,
 }

@@ -8,5 +8,6 @@ mod reading;
 mod rule;
 mod within;
 
+pub use matching::is_text;
 pub use rule::{Members, Objects, Rule, RuleError};
 pub use within::is_at_or_under;

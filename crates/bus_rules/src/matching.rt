@@ -8,11 +8,12 @@ use crate::within::is_at_or_under;
 use bus_frame::Header;
 use fp_base::Text;
 
-fn is_text(found: &Option<Text>, text: &Text) -> bool
+/// Whether a header's text is there, and is this one.
+pub fn is_text(found: &Option<Text>, text: &str) -> bool
     ensures { result ≡ says found.now text.now }
 {
     match found {
-        Some(found) => found.as_str() == text.as_str(),
+        Some(found) => found.as_str() == text,
         None => false,
     }
 }
@@ -22,9 +23,10 @@ fn is_member(members: &Members, header: &Header) -> bool
 {
     match members {
         Members::All => true,
-        Members::Of(interface) => is_text(&header.interface, interface),
+        Members::Of(interface) => is_text(&header.interface, interface.as_str()),
         Members::One(interface, member) => {
-            is_text(&header.interface, interface) && is_text(&header.member, member)
+            is_text(&header.interface, interface.as_str())
+                && is_text(&header.member, member.as_str())
         }
     }
 }

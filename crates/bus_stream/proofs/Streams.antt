@@ -16,8 +16,7 @@ use Rattle.bus_frame.proofs.MessageLaws.{found, found_broken, frame_whole, break
 use Rattle.bus_stream.specs.declared.cutter.Cut.{Cut}
 use Rattle.bus_stream.specs.declared.cutter.Cut.TheVariants as cut
 use Rattle.bus_stream.specs.Stream.{Message, IsMessage, joined, CutterAt, NothingYet, first_taken, taken_in, messages_in, rule_remainder, broken_remainder, broken_in}
-use Rattle.bus_stream.specs.Fronts.{IsNeed}
-use Rattle.bus_stream.specs.Cuts.{AnswersCut, with_given, AreAll, IsNotYet}
+use Rattle.bus_stream.specs.Cuts.{IsNeed, AnswersCut, with_given, AreAll, IsNotYet}
 
 -- ---- feeding
 

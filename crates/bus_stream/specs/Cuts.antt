@@ -2,12 +2,17 @@
 use Rattle.std.specs.Prelude.{◌≡◌, ℕ, List, [], ◌∷◌, ◌++◌, length, Some, None, Result, Ok, Err}
 use Rattle.bus_frame.specs.declared.error.FrameError.{FrameError}
 use Rattle.bus_frame.specs.declared.error.FrameError.TheVariants.{Bad, NoMemory}
-use Rattle.bus_frame.specs.Reading.{bad, whole, frame_of}
+use Rattle.bus_frame.specs.Reading.{Read, need, bad, whole, frame_of}
 use Rattle.bus_frame.specs.Answers.{IsWhole}
 use Rattle.bus_stream.specs.declared.cutter.Cut.{Cut}
 use Rattle.bus_stream.specs.declared.cutter.Cut.TheVariants as cut
-use Rattle.bus_stream.specs.Fronts.{IsNeed}
 use Rattle.bus_stream.specs.Stream.{Message, messages_in, broken_in}
+
+-- less than a message stands there
+abbrev pub IsNeed : Read → Type 0
+IsNeed (need n) = Unit {0}
+IsNeed (bad rule) = ⊥
+IsNeed (whole header len) = ⊥
 
 -- The answer is what stands at the front of the bytes that aren't taken. A message is taken off;
 -- nothing else changes.

@@ -1,4 +1,3 @@
 pub mod Cuts
-pub mod Fronts
 pub mod Recordings
 pub mod Stream

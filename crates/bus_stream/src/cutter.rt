@@ -1,14 +1,14 @@
 //! A stream of messages that comes in pieces.
 
-ghost use Rattle.std.specs.Prelude.{◌≡◌, ◌↔◌, ℕ, List, [], ◌++◌, ◌<◌, slice_index, length, IfOk, OnOk, OnErr, IsErrOf};
+ghost use Rattle.std.specs.Prelude.{◌≡◌, ◌↔◌, ℕ, List, [], ◌++◌, ◌<◌, ◌≤◌, slice_index, length, take, IfOk, OnOk, OnErr, IsErrOf};
 ghost use Rattle.fp_base.specs.declared.frame_rule.FrameRule.{FrameRule};
-ghost use Rattle.bus_frame.specs.Answers.{BeginsBroken};
-ghost use Rattle.bus_stream.specs.Fronts.{AnswersFront};
+ghost use Rattle.bus_frame.specs.Answers.{AnswersFrame, BeginsBroken, IfFrame};
+ghost use Rattle.bus_frame.specs.Frame.{Frame};
+ghost use Rattle.bus_frame.specs.Reading.{frame_of};
 ghost use Rattle.bus_stream.specs.Stream.{Message, CutterAt, NothingYet};
 
 use bus_frame::{FrameError, Header, ReadFrame, read_frame};
-use bytes::BytesMut;
-use fp_base::Blob;
+use bytes::{Bytes, BytesMut};
 use std::alloc::{AllocError, Global};
 use std::marker::Model;
 
@@ -17,24 +17,20 @@ const FIRST_ROOM: usize = 4_096;
 /// What the next bytes of a stream are.
 #[derive(Drop)]
 pub enum Cut {
-    /// A whole message with its header.
-    Message(Header, Blob),
+    /// A whole message with its header, split off with no copy.
+    Message(Header, Bytes),
     /// Less than a whole message, and no rule broken yet.
     NotYet,
 }
 
-/// The whole message at the front of some bytes, where there is one.
-fn message_at_front(alloc: Global, bytes: &[u8]) -> Result<Option<(Header, Blob)>, FrameError>
-    ensures exact { AnswersFront result bytes.now }
+/// What stands at the front of some bytes, each of which is below 256.
+fn front(alloc: Global, bytes: &[u8]) -> Result<ReadFrame, FrameError>
+    ensures exact { AnswersFrame result (frame_of bytes.now) }
+    ensures message { IfFrame result (λ header len. (len ≤ length bytes.now) × Frame
+        (take len bytes.now) header) }
     ensures bytes { (i : ℕ) → slice_index bytes.now i < 256 }
 {
-    match read_frame(alloc, bytes)? {
-        ReadFrame::Need(_) => Ok(None),
-        ReadFrame::Frame(header, len) => {
-            let message = Blob::from_slice(alloc, &bytes[..len as usize])?;
-            Ok(Some((header, message)))
-        }
-    }
+    read_frame(alloc, bytes)
 }
 
 /// A stream of messages that comes in pieces. It keeps the bytes that aren't taken yet, and no
@@ -105,10 +101,10 @@ impl Cutter {
         ensures bytes { (i : ℕ) → slice_index self.old i < 256 }
     {
         let alloc = *self.bytes.allocator();
-        match message_at_front(alloc, self.bytes.as_slice())? {
-            None => Ok(Cut::NotYet),
-            Some((header, message)) => {
-                self.bytes.advance(message.as_slice().len());
+        match front(alloc, self.bytes.as_slice())? {
+            ReadFrame::Need(_) => Ok(Cut::NotYet),
+            ReadFrame::Frame(header, len) => {
+                let message = self.bytes.freeze_to(len as usize)?;
                 Ok(Cut::Message(header, message))
             }
         }

@@ -1,7 +1,7 @@
 //! Printing what a filter gives.
 ghost use Rattle.std.specs.Prelude.{[], ◌∷◌, List, ℕ, option_map, IfOk, OnOk, IsErrOf, IsTrue};
 ghost use Rattle.std.specs.Option.{ForSome};
-ghost use Rattle.fp_host.specs.Causes.{IsCounted};
+ghost use Rattle.fp_host.specs.OverHost.{FailsAlone};
 ghost use Rattle.fp_host.specs.Moments.{Goes};
 ghost use Rattle.bus_frame.specs.Names.{is_unique};
 ghost use Rattle.bus_policy.specs.Events.{Event};
@@ -35,8 +35,7 @@ pub fn filter_recording<H: Host>(
     ensures any_moment { Goes (H.moments host.old) (H.moments host.new)
         (PrintsFirst (filtered policy recording.now).lines)
         (Printed (filtered policy recording.now) result) }
-    ensures fault_has_cause { IsCounted (IsErrOf result FilterEnd.Fault)
-        (H.moments host.old) (H.faults host.old) (H.faults host.new) }
+    ensures fault_has_cause { FailsAlone H.Host host.old host.new (IsErrOf result FilterEnd.Fault) }
 {
     let mut filter = filter_of(alloc, policy, recording)?;
     for (side, piece) in recording.pieces.as_slice() {
@@ -69,8 +68,7 @@ fn print_ready<H: Host>(alloc: Global, host: &mut H, filter: &mut Filter) -> Res
         → FilterAt filter.old s fed taken given
         → OnOk result (FilterAt filter.new s fed (events fed) (forwarded s (events fed))
         × AllTaken fed (events fed)) }
-    ensures fault_has_cause { IsCounted (IsErrOf result FilterEnd.Fault)
-        (H.moments host.old) (H.faults host.old) (H.faults host.new) }
+    ensures fault_has_cause { FailsAlone H.Host host.old host.new (IsErrOf result FilterEnd.Fault) }
 {
     loop {
         match filter.next()? {
@@ -85,8 +83,7 @@ fn print_ready<H: Host>(alloc: Global, host: &mut H, filter: &mut Filter) -> Res
 fn print_one<H: Host>(alloc: Global, host: &mut H, out: &Out) -> Result<(), HostEnd>
     ensures any_moment { Goes (H.moments host.old) (H.moments host.new)
         (PrintsFirst (out_text out.now ∷ [])) (PrintedAll (out_text out.now ∷ []) result) }
-    ensures fault_has_cause { IsCounted (IsErrOf result HostEnd.Fault)
-        (H.moments host.old) (H.faults host.old) (H.faults host.new) }
+    ensures fault_has_cause { FailsAlone H.Host host.old host.new (IsErrOf result HostEnd.Fault) }
 {
     let line = out_line(alloc, out)?;
     host.say(line.as_str().as_bytes())?;

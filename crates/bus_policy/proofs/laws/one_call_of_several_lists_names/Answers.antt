@@ -15,4 +15,8 @@ returns-clause-latest c = λ bytes e. ap (λ (b : Bool). if b then verdict.Filte
 
 pub returns-clause-none : goal.returns-clause-none
 unfolding verdict_in handler_of
-returns-clause-none c = λ bytes. refl
+returns-clause-none c = λ bytes e. ap (λ (b : Bool). if b then verdict.FilterNameList else verdict.Drop) e
+
+pub returns-clause-one : goal.returns-clause-one
+unfolding verdict_in handler_of
+returns-clause-one c = λ bytes. refl

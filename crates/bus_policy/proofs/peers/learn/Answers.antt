@@ -1,26 +1,9 @@
-use Rattle.std.proofs.Common.{◌≡◌, ℕ, List, Option, Some, ap, sym, ◌∙◌, rules}
+use Rattle.std.proofs.Common.{◌≡◌, ◌∙◌, Bool, ap, sym}
 use Rattle.indexmap.specs.IndexMap.{get_by_text}
-use Rattle.std.proofs.lemmas.Map.Text.{hash_map_updates_text}
-use Rattle.bus_policy.specs.Watching.{known_of, with_news}
-use Rattle.bus_policy.proofs.Telling.{told, kept, same_known, ok_then, err_then}
+use Rattle.std.specs.Str.{bytes_eq}
+use Rattle.bus_policy.specs.Watching.{known_of, tells}
+use Rattle.bus_policy.proofs.Keeping.{unchanged}
 use Rattle.bus_policy.proofs.peers.learn.Goals as goal
 
-pub returns-in-Some-clause-ok : goal.returns-in-Some-clause-ok
-returns-in-Some-clause-ok g c =
-    let policy = c.args.rules.now in
-    let name = c.args.name.now in
-    let before = get_by_text c.args.peers.now in
-    let peer = c.learn.new.self in
-    let there : before name ≡ Some c.in-Some.peer.now = sym c.in-Some.ensures.value in
-    let put = hash_map_updates_text name c.args.peers.now (c.get_mut.follows.lender peer) (Some peer) ((c.get_mut.follows.holds peer).3 (search rules)) in
-    ok_then c.learn.result (λ e q. ap (known_of policy) (put q) ∙ told policy name q before peer (with_news policy c.args.news) (e ∙ ap (with_news policy c.args.news) (same_known policy _ _ (sym there)))) c.learn.ensures.ok
-
-pub returns-in-Some-clause-err : goal.returns-in-Some-clause-err
-returns-in-Some-clause-err g c =
-    let policy = c.args.rules.now in
-    let name = c.args.name.now in
-    let before = get_by_text c.args.peers.now in
-    let peer = c.learn.new.self in
-    let there : before name ≡ Some c.in-Some.peer.now = sym c.in-Some.ensures.value in
-    let put = hash_map_updates_text name c.args.peers.now (c.get_mut.follows.lender peer) (Some peer) ((c.get_mut.follows.holds peer).3 (search rules)) in
-    err_then c.learn.result (λ e q. ap (known_of policy) (put q) ∙ kept policy name q before peer (e ∙ same_known policy _ _ (sym there))) c.learn.ensures.err
+pub returns-then-not-tells-clause-ok : goal.returns-then-not-tells-clause-ok
+returns-then-not-tells-clause-ok g c = λ q. unchanged c.args.rules.now c.args.news (bytes_eq c.args.name.now q) (known_of c.args.rules.now (get_by_text c.args.peers.now q)) (sym c.tells.ensures ∙ c.if-not-tells.true)

@@ -1,22 +1,10 @@
-use Rattle.std.proofs.Common.{◌≡◌, ℕ, List, Option, Some, None, ap, sym, ◌∙◌, rules}
+use Rattle.std.proofs.Common.{◌≡◌, ◌∙◌}
 use Rattle.indexmap.specs.IndexMap.{get_by_text}
-use Rattle.std.proofs.lemmas.Map.Text.{hash_map_updates_text}
-use Rattle.bus_policy.specs.Watching.{known_of, without_call}
-use Rattle.bus_policy.proofs.Telling.{told, same_known, none_settled}
+use Rattle.bus_policy.proofs.Keeping.{end_keeps}
 use Rattle.bus_policy.proofs.peers.settle.Goals as goal
 
-pub returns-in-Some : goal.returns-in-Some
-returns-in-Some g c = λ policy q.
-    let name = c.args.name.now in
-    let before = get_by_text c.args.peers.now in
-    let peer = c.remove_call.new.self in
-    let there : before name ≡ Some c.in-Some.peer.now = sym c.in-Some.ensures.value in
-    let put = hash_map_updates_text name c.args.peers.now (c.get_mut.follows.lender peer) (Some peer) ((c.get_mut.follows.holds peer).3 (search rules)) q in
-    ap (known_of policy) put ∙ told policy name q before peer (without_call c.args.serial) (c.remove_call.ensures policy ∙ ap (without_call c.args.serial) (same_known policy _ _ (sym there)))
+pub returns-clause-known : goal.returns-clause-known
+returns-clause-known g c = λ q. c.forget_unknown.ensures.known q ∙ c.end_call.ensures.known c.args.rules.now q
 
-pub returns-in_default : goal.returns-in_default
-returns-in_default g c = λ policy q.
-    let before = get_by_text c.args.peers.now in
-    let none : before c.args.name.now ≡ None = search rules in
-    let same : get_by_text c.get_mut.follows.lender-at-none q ≡ before q = search rules in
-    same_known policy _ _ same ∙ none_settled policy c.args.name.now q before c.args.serial none
+pub returns-clause-kept : goal.returns-clause-kept
+returns-clause-kept g c = λ kept. c.forget_unknown.ensures.kept (end_keeps c.args.rules.now c.args.name.now (get_by_text c.args.peers.now) _ c.end_call.ensures.others kept)

@@ -7,4 +7,4 @@ with_names-requires-clause-room g c =
     let h = c.args.header.now in
     let names = c.in-Some.names in
     let is : c.in_ok-names.field-0 ≡ Some names = search rules in
-    still_room h c.in_ok-seen-in-Some.seen names (c.in_ok-seen-in-Some.ensures.shorter h.little (h.body_at + 4)) (room h c.args.message.now names ((c.in_ok-names.ensures.names names).0 is))
+    still_room h c.in_ok-seen.seen names (c.in_ok-seen.ensures.shorter h.little (h.body_at + 4)) (room h c.args.message.now names ((c.in_ok-names.ensures.names names).0 is))

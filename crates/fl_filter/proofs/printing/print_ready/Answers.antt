@@ -39,8 +39,20 @@ loop-out-preserved g c = record {
   later = c.loop-out.invariant.later;
 }
 
-pub loop-out-preserved-in-Out : goal.loop-out-preserved-in-Out
-loop-out-preserved-in-Out g c = record {
+pub loop-out-preserved-in_ok-print_one-in-Out : goal.loop-out-preserved-in_ok-print_one-in-Out
+loop-out-preserved-in_ok-print_one-in-Out g c = record {
+  ready = λ s fed taken given at.
+      let r = c.loop-out.invariant.ready s fed taken given at in
+      let is : c.next.result ≡ Ok (next.Out c.in-Out.out) = search rules in
+      ready_out c.loop-out.filter c.next.new.self s fed given c.in-Out.out (g.met.H.Host.is_tree c.loop-out.host) r
+      (subst (λ (x : Result Next FilterError). Gives x c.next.new.self s fed r.taken (given ++ r.now)) is (c.next.ensures.at s fed r.taken (given ++ r.now) r.at))
+      c.in_ok-print_one-in-Out.ensures.any_moment;
+  goes = goes_on (g.met.H.Host.is_tree c.loop-out.host) c.loop-out.invariant.goes c.in_ok-print_one-in-Out.ensures.any_moment (λ u v w t a q p. tt) (λ u v w t a q p k. tt);
+  later = omega (arith, c.loop-out.invariant.later, c.print_one.ensures.fault_has_cause.later);
+}
+
+pub loop-out-preserved-in_ok-print_one-in-Out-2 : goal.loop-out-preserved-in_ok-print_one-in-Out-2
+loop-out-preserved-in_ok-print_one-in-Out-2 g c = record {
   ready = λ s fed taken given at.
       let r = c.loop-out.invariant.ready s fed taken given at in
       let is : c.next.result ≡ Ok (next.Out c.in-Out.out) = search rules in

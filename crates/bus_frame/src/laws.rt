@@ -1,0 +1,26 @@
+//! Laws of constants: each is the octets or the number that the D-Bus specification writes.
+
+ghost use Rattle.std.specs.Prelude.{◌≡◌, codes};
+ghost use Rattle.bus_frame.specs.declared.limits.TheConstants.{GREATEST_SERIAL, MOST_ARRAY_BYTES, MOST_ARRAYS, MOST_CONTAINERS, MOST_MESSAGE_BYTES, MOST_NAME_BYTES, MOST_SIGNATURE_BYTES, MOST_STRUCTS};
+ghost use Rattle.bus_frame.specs.declared.message.TheConstants.Flags.{NONE, NO_REPLY_EXPECTED};
+ghost use Rattle.bus_frame.specs.declared.names.TheConstants.{BUS_NAME};
+
+/// The limits: 64 MiB of an array, 16 MiB of a message, 255 bytes of a name and of a signature, 64
+/// containers, of which 32 are arrays and 32 structs, and the serial of 32 ones.
+pub fn limits_of_messages()
+    ensures array { MOST_ARRAY_BYTES ≡ 67108864 }
+    ensures message { MOST_MESSAGE_BYTES ≡ 16777216 }
+    ensures name { MOST_NAME_BYTES ≡ 255 }
+    ensures signature { MOST_SIGNATURE_BYTES ≡ 255 }
+    ensures containers { MOST_CONTAINERS ≡ 64 }
+    ensures arrays { MOST_ARRAYS ≡ 32 }
+    ensures structs { MOST_STRUCTS ≡ 32 }
+    ensures serial { GREATEST_SERIAL ≡ 4294967295 }
+{}
+
+/// The flag of a call that wants no reply is the lowest bit, and the bus has its name.
+pub fn flags_and_the_name_of_the_bus()
+    ensures none { NONE.bits ≡ 0 }
+    ensures no_reply { NO_REPLY_EXPECTED.bits ≡ 1 }
+    ensures bus { BUS_NAME.now ≡ codes "org.freedesktop.DBus" }
+{}

@@ -1,0 +1,157 @@
+-- Laws of what a filter lets through, after any events with any verdicts.
+use Rattle.std.specs.Prelude.{◌≡◌, ◌⊎◌, ℕ, Bool, true, false, ◌&&◌, not, if◌then◌else◌, List, [], ◌∷◌, ◌++◌, Option, Some, None, is_some}
+use Rattle.std.specs.List.{list_any}
+use Rattle.bus_frame.specs.declared.header.Header.{Header}
+use Rattle.bus_frame.specs.Bodies.{three_texts, names_in}
+use Rattle.bus_policy.specs.declared.level.Level.{Level}
+use Rattle.bus_policy.specs.declared.level.Level.TheVariants as level
+use Rattle.bus_policy.specs.declared.policy.RuleKind.{RuleKind}
+use Rattle.bus_policy.specs.declared.policy.PolicyRule.{PolicyRule}
+use Rattle.bus_policy.specs.declared.verdict.Verdict.{Verdict}
+use Rattle.bus_policy.specs.declared.verdict.Verdict.TheVariants as verdict
+use Rattle.bus_policy.specs.Levels.{is_at_least}
+use Rattle.bus_policy.specs.Driver.{is_listing}
+use Rattle.bus_policy.specs.Events.{Event, Judged, is_bus_side, is_call, is_return, is_reply, wants_no_reply, tells_owner, is_forwarded, is_sent, is_sent_as, is_client_call, is_bus_reply, was_used, client_waits, names_wait, peer_waits}
+use Rattle.bus_policy.specs.Verdicts.{is_of_driver, is_list}
+use Rattle.bus_policy.specs.Watching.{Owners, unknown, known_after, level_after, leave_after, verdict_after}
+
+-- a fact of each message, after any events, under any policy
+abbrev pub OfEach : (List PolicyRule → Option (List ℕ) → Owners → List Judged → Event → Type 0) → Type 0
+OfEach Fact =
+    (rules : List PolicyRule) (client : Option (List ℕ)) (owners : Owners) (noted : List Judged)
+    (e : Event) → Fact rules client owners noted e
+
+-- ---- replies
+
+-- A call of the client with this serial waits for a reply: it was forwarded and wants one, and none
+-- was forwarded since.
+pub record Awaits (noted : List Judged) (serial : ℕ) : Type 0 where
+  pub since : List Judged
+  pub call : Judged
+  pub before : List Judged
+  pub parts : noted ≡ since ++ call ∷ before
+  pub is : is_client_call serial call ≡ true
+  pub none : list_any (is_bus_reply serial) since ≡ false
+
+-- what answers a call that waits
+abbrev pub AnswersCall : List Judged → Event → Type 0
+AnswersCall noted e = (serial : ℕ) × (e.header.reply_serial ≡ Some serial) × Awaits noted serial
+
+-- a return or an error of the bus's side is forwarded to a call that waits for it alone
+abbrev pub RepliesAreAwaited : Type 0
+RepliesAreAwaited = OfEach (λ rules client owners noted e.
+    is_bus_side e.side ≡ true → is_reply e.header ≡ true
+    → is_forwarded (verdict_after rules client owners noted e) ≡ true → AnswersCall noted e)
+
+-- the filter's own errors answer calls of the client that want a reply, and aren't forwarded
+abbrev pub is_refusal : Verdict → Bool
+is_refusal verdict.Pass = false
+is_refusal verdict.FilterNameList = false
+is_refusal verdict.Deny = true
+is_refusal verdict.Hide = true
+is_refusal verdict.Drop = false
+
+abbrev pub IsRefusedCall : Event → Type 0
+IsRefusedCall e = (is_bus_side e.side ≡ false) × (is_call e.header ≡ true)
+    × (wants_no_reply e.header ≡ false)
+
+abbrev pub RefusalsAnswerCalls : Type 0
+RefusalsAnswerCalls = OfEach (λ rules client owners noted e.
+    is_refusal (verdict_after rules client owners noted e) ≡ true → IsRefusedCall e)
+
+-- ---- lists of names
+
+-- a return of the bus itself with this reply serial
+pub record IsReturn (e : Event) (serial : ℕ) : Type 0 where
+  pub side : is_bus_side e.side ≡ true
+  pub is : is_return e.header ≡ true
+  pub driver : is_of_driver e.header ≡ true
+  pub answers : e.header.reply_serial ≡ Some serial
+
+-- whether a forwarded call of the client with a serial ever listed names
+abbrev pub has_listed : List Judged → ℕ → Bool
+has_listed noted serial = list_any (λ j. is_sent_as serial j && is_listing j.event.header) noted
+
+-- A return of the bus to a serial that ever listed names passes as it is only where it is no list.
+abbrev pub NamesStayFiltered : Type 0
+NamesStayFiltered = OfEach (λ rules client owners noted e. (serial : ℕ)
+    → IsReturn e serial → has_listed noted serial ≡ true
+    → verdict_after rules client owners noted e ≡ verdict.Pass → is_list e.header ≡ false)
+
+-- each forwarded call of the client has a higher serial than those before it
+abbrev pub Rising : List Judged → Type 0
+Rising [] = Unit {0}
+Rising (j ∷ before) =
+    (is_sent j ≡ true → was_used before j.event.header.serial ≡ false) × Rising before
+
+-- a return of the bus by the calls that wait alone: where one lists names, the names are filtered
+abbrev pub return_by_calls : List Judged → Event → ℕ → Verdict
+return_by_calls noted e serial =
+    if not (client_waits noted serial) then verdict.Drop
+    else (if not (names_wait noted serial) then verdict.Pass
+    else (if is_some (names_in e.header e.bytes) then verdict.FilterNameList
+    else verdict.Drop))
+
+abbrev pub RisingSerialsLoseNothing : Type 0
+RisingSerialsLoseNothing = OfEach (λ rules client owners noted e. (serial : ℕ)
+    → Rising noted → IsReturn e serial
+    → verdict_after rules client owners noted e ≡ return_by_calls noted e serial)
+
+-- A reply that isn't the bus's own, or an error, passes where a call waits.
+abbrev pub is_plain_reply : Header → Bool
+is_plain_reply h = is_reply h && not (is_return h && is_of_driver h)
+
+abbrev pub OthersPassOnce : Type 0
+OthersPassOnce = OfEach (λ rules client owners noted e. (serial : ℕ)
+    → is_bus_side e.side ≡ true → is_plain_reply e.header ≡ true
+    → e.header.reply_serial ≡ Some serial
+    → verdict_after rules client owners noted e
+    ≡ (if client_waits noted serial then verdict.Pass else verdict.Drop))
+
+-- ---- names
+
+-- a name that had a level has it after each later event
+abbrev pub LevelsStay : Type 0
+LevelsStay = (rules : List PolicyRule) (client : Option (List ℕ)) (owners : Owners)
+    (noted : List Judged) (later : Judged) (wanted : Level) (name : List ℕ)
+    → is_at_least wanted (level_after rules client owners noted name) ≡ true
+    → is_at_least wanted (level_after rules client owners (later ∷ noted) name) ≡ true
+
+-- a signal that a name has another owner is dropped where the name may not be seen, and where its
+-- body isn't three texts
+abbrev pub HiddenOwnersAreUntold : Type 0
+HiddenOwnersAreUntold = OfEach (λ rules client owners noted e. (name old new : List ℕ)
+    → is_bus_side e.side ≡ true → tells_owner e.header ≡ true
+    → three_texts e.header e.bytes ≡ Some (name, old, new)
+    → is_at_least level.See (level_after rules client owners noted name) ≡ false
+    → verdict_after rules client owners noted e ≡ verdict.Drop)
+
+abbrev pub BadOwnersAreUntold : Type 0
+BadOwnersAreUntold = OfEach (λ rules client owners noted e.
+    is_bus_side e.side ≡ true → tells_owner e.header ≡ true → three_texts e.header e.bytes ≡ None
+    → verdict_after rules client owners noted e ≡ verdict.Drop)
+
+-- ---- what needn't be kept
+
+-- nothing is known of a name
+abbrev pub IsUnheardOf : List PolicyRule → Owners → List Judged → List ℕ → Type 0
+IsUnheardOf rules owners noted name = known_after rules owners noted name ≡ unknown rules
+
+-- What is asked of a name of which nothing is known is answered as if nothing had happened.
+pub record AsAtFirst (rules : List PolicyRule) (client : Option (List ℕ)) (owners : Owners)
+    (noted : List Judged) (name : List ℕ) : Type 0 where
+  pub level : level_after rules client owners noted name ≡ level_after rules client [] [] name
+  pub leave : (kind : RuleKind) (header : Header)
+      → leave_after rules owners noted kind name header ≡ leave_after rules [] [] kind name header
+  pub waits : (serial : ℕ) → peer_waits noted name serial ≡ false
+
+abbrev pub UnheardOfIsAsAtFirst : Type 0
+UnheardOfIsAsAtFirst = (rules : List PolicyRule) (client : Option (List ℕ)) (owners : Owners)
+    (noted : List Judged) (name : List ℕ) → IsUnheardOf rules owners noted name
+    → AsAtFirst rules client owners noted name
+
+-- What is known of it after later events is what these tell alone.
+abbrev pub LaterEventsTellAll : Type 0
+LaterEventsTellAll = (rules : List PolicyRule) (owners : Owners) (later noted : List Judged)
+    (name : List ℕ) → IsUnheardOf rules owners noted name
+    → known_after rules owners (later ++ noted) name ≡ known_after rules [] later name
