@@ -19,7 +19,8 @@ use Rattle.fp_keyfile.specs.declared.group.Group.{Group}
 use Rattle.fp_keyfile.specs.Grammar.{is_return, ends_so, is_value_byte, is_value}
 use Rattle.fp_keyfile.specs.KeyFile.{names_of, keys_of, are_distinct, is_good_pair, is_good_group, is_good}
 use Rattle.fp_keyfile.proofs.Good.{good_pair_parts, good_pair_from, good_group_parts, good_group_from, good_parts, good_from}
-use Rattle.fl_export.specs.Rewritten.{first_word, is_command_byte, is_command, command_option, launch_line, is_left_out, launching, rewritten_pair, rewritten_group, rewritten_file}
+use Rattle.fl_export.specs.Keys.{is_left_out}
+use Rattle.fl_export.specs.Rewritten.{first_word, is_command_byte, is_command, command_option, launch_line, launching, rewritten_pair, rewritten_group, rewritten_file}
 
 -- ---- the bytes of a command line
 

@@ -9,6 +9,7 @@ use Rattle.fp_name.specs.Refs.{Ref}
 use Rattle.ost_model.specs.Look.{Found, directory, look, next}
 use Rattle.fl_export.specs.declared.rows.ExportRow.{ExportRow}
 use Rattle.fl_export.specs.Exported.{in_export, desktop_row, desktop_files, icon_row, icon_files, icons_of, icons, desktops_by, icons_by, in_order, exported}
+use Rattle.fl_export.specs.Keys.{is_locale_end}
 use Rattle.fl_export.specs.Rewritten.{rewritten}
 use Rattle.fl_export.specs.Texts.{applications, hicolor}
 use Rattle.fl_export.specs.Trees.{tree_found, files_in, dirs_in}
@@ -84,7 +85,7 @@ module _ (name : Ref) where
       ∙ ap (λ l. l ++ []) size_is
 
 stable_desktops : desktop_files sample.have sample.stable sample.desktop_files ≡ desktop_row sample.stable (codes "org.x.App.desktop") (codes "[Desktop Entry]\nName=App\nExec=fpk launch app/org.x.App/x86_64/stable --command=run\n") ∷ []
-unfolding rewritten file_of text_of line_says with_pair with_group is_utf8 chars encode
+unfolding rewritten is_locale_end file_of text_of line_says with_pair with_group is_utf8 chars encode
 stable_desktops = refl
 
 stable_icons : icon_files sample.have sample.stable (codes "48x48") sample.icon_files ≡ icon_row sample.stable (codes "48x48") (codes "org.x.App.png") ∷ []
@@ -96,7 +97,7 @@ stable_rows =
     ∙ ap (λ (l : List ExportRow). desktop_row sample.stable (codes "org.x.App.desktop") (codes "[Desktop Entry]\nName=App\nExec=fpk launch app/org.x.App/x86_64/stable --command=run\n") ∷ l) (icons_are sample.stable ∙ ap (λ (l : List ExportRow). l ++ []) stable_icons)
 
 beta_desktops : desktop_files sample.have sample.beta sample.desktop_files ≡ desktop_row sample.beta (codes "org.x.App.desktop") (codes "[Desktop Entry]\nName=App\nExec=fpk launch app/org.x.App/x86_64/beta --command=run\n") ∷ []
-unfolding rewritten file_of text_of line_says with_pair with_group is_utf8 chars encode
+unfolding rewritten is_locale_end file_of text_of line_says with_pair with_group is_utf8 chars encode
 beta_desktops = refl
 
 beta_icons : icon_files sample.have sample.beta (codes "48x48") sample.icon_files ≡ icon_row sample.beta (codes "48x48") (codes "org.x.App.png") ∷ []
@@ -126,37 +127,57 @@ unfolding exported
 absent_exports_none = refl
 
 pub rewrites_path : rewritten (codes "[A]\nExec=/app/bin/r-u_n.s+h %F\n") sample.stable ≡ Some (codes "[A]\nExec=fpk launch app/org.x.App/x86_64/stable --command=/app/bin/r-u_n.s+h\n")
-unfolding rewritten file_of text_of line_says with_pair with_group is_utf8 chars encode
+unfolding rewritten is_locale_end file_of text_of line_says with_pair with_group is_utf8 chars encode
 rewrites_path = refl
 
 pub rewrites_field : rewritten (codes "[A]\nExec=%i x\n") sample.stable ≡ Some (codes "[A]\nExec=fpk launch app/org.x.App/x86_64/stable\n")
-unfolding rewritten file_of text_of line_says with_pair with_group is_utf8 chars encode
+unfolding rewritten is_locale_end file_of text_of line_says with_pair with_group is_utf8 chars encode
 rewrites_field = refl
 
 pub rewrites_quote : rewritten (codes "[A]\nExec=\"run\" x\n") sample.stable ≡ Some (codes "[A]\nExec=fpk launch app/org.x.App/x86_64/stable\n")
-unfolding rewritten file_of text_of line_says with_pair with_group is_utf8 chars encode
+unfolding rewritten is_locale_end file_of text_of line_says with_pair with_group is_utf8 chars encode
 rewrites_quote = refl
 
 pub rewrites_dollar : rewritten (codes "[A]\nExec=$HOME/run\n") sample.stable ≡ Some (codes "[A]\nExec=fpk launch app/org.x.App/x86_64/stable\n")
-unfolding rewritten file_of text_of line_says with_pair with_group is_utf8 chars encode
+unfolding rewritten is_locale_end file_of text_of line_says with_pair with_group is_utf8 chars encode
 rewrites_dollar = refl
 
 pub rewrites_backslash : rewritten (codes "[A]\nExec=r\\\\sun\n") sample.stable ≡ Some (codes "[A]\nExec=fpk launch app/org.x.App/x86_64/stable\n")
-unfolding rewritten file_of text_of line_says with_pair with_group is_utf8 chars encode
+unfolding rewritten is_locale_end file_of text_of line_says with_pair with_group is_utf8 chars encode
 rewrites_backslash = refl
 
 pub rewrites_empty : rewritten (codes "[A]\nExec=\n") sample.stable ≡ Some (codes "[A]\nExec=fpk launch app/org.x.App/x86_64/stable\n")
-unfolding rewritten file_of text_of line_says with_pair with_group is_utf8 chars encode
+unfolding rewritten is_locale_end file_of text_of line_says with_pair with_group is_utf8 chars encode
 rewrites_empty = refl
 
 pub rewrites_language : rewritten (codes "[A]\nExec[de]=a\nTryExec[de]=b\nTryExec=c\nName=d\n") sample.stable ≡ Some (codes "[A]\nName=d\n")
-unfolding rewritten file_of text_of line_says with_pair with_group is_utf8 chars encode
+unfolding rewritten is_locale_end file_of text_of line_says with_pair with_group is_utf8 chars encode
 rewrites_language = refl
 
 pub rewrites_foreign : rewritten (codes "[A]\nX-Flatpak=a\nX-GNOME-Bugzilla-ExtraInfoScript=b\nName=d\n") sample.stable ≡ Some (codes "[A]\nName=d\n")
-unfolding rewritten file_of text_of line_says with_pair with_group is_utf8 chars encode
+unfolding rewritten is_locale_end file_of text_of line_says with_pair with_group is_utf8 chars encode
 rewrites_foreign = refl
 
 pub rewrites_no_key_file : rewritten (codes "Exec=run\n") sample.stable ≡ None
-unfolding rewritten file_of text_of line_says with_pair with_group is_utf8 chars encode
+unfolding rewritten is_locale_end file_of text_of line_says with_pair with_group is_utf8 chars encode
 rewrites_no_key_file = refl
+
+pub leaves_folder_out : rewritten (codes "[A]\nPath=/srv\nName=d\n") sample.stable ≡ Some (codes "[A]\nName=d\n")
+unfolding rewritten is_locale_end file_of text_of line_says with_pair with_group is_utf8 chars encode
+leaves_folder_out = refl
+
+pub leaves_service_out : rewritten (codes "[A]\nDBusActivatable=true\nName=d\n") sample.stable ≡ Some (codes "[A]\nName=d\n")
+unfolding rewritten is_locale_end file_of text_of line_says with_pair with_group is_utf8 chars encode
+leaves_service_out = refl
+
+pub leaves_expanded_out : rewritten (codes "[A]\nIcon[$e]=$HOME/x\nIcon[de][$e]=a\nName=d\n") sample.stable ≡ Some (codes "[A]\nName=d\n")
+unfolding rewritten is_locale_end file_of text_of line_says with_pair with_group is_utf8 chars encode
+leaves_expanded_out = refl
+
+pub leaves_odd_out : rewritten (codes "[A]\nIcon\\x=a\nIcon[de=b\nIcon[]=c\nName=d\n") sample.stable ≡ Some (codes "[A]\nName=d\n")
+unfolding rewritten is_locale_end file_of text_of line_says with_pair with_group is_utf8 chars encode
+leaves_odd_out = refl
+
+pub keeps_locale : rewritten (codes "[A]\nX-A9=a\nName[sr_RS.UTF-8@latin]=b\n") sample.stable ≡ Some (codes "[A]\nX-A9=a\nName[sr_RS.UTF-8@latin]=b\n")
+unfolding rewritten is_locale_end file_of text_of line_says with_pair with_group is_utf8 chars encode
+keeps_locale = refl

@@ -1,3 +1,4 @@
+pub mod Keys
 pub mod Rewritten
 pub mod Texts
 pub mod Trees

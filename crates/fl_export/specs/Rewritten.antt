@@ -1,6 +1,6 @@
 -- A desktop file as it is exported.
-use Rattle.std.specs.Prelude.{ℕ, Bool, ◌||◌, ◌&&◌, ◌==◌, not, nat_eq, List, [], ◌∷◌, ◌++◌, length, map, codes, Option, Some, None, Result, Ok, Err, if◌then◌else◌}
-use Rattle.std.specs.List.{before_first, flat_map, list_all, starts_with}
+use Rattle.std.specs.Prelude.{ℕ, Bool, ◌||◌, ◌&&◌, ◌==◌, not, List, [], ◌∷◌, ◌++◌, length, map, codes, Option, Some, None, Result, Ok, Err, if◌then◌else◌}
+use Rattle.std.specs.List.{before_first, flat_map, list_all}
 use Rattle.std.specs.Char.{is_ascii_alphanumeric}
 use Rattle.std.specs.Str.{bytes_eq}
 use Rattle.fp_name.specs.Refs.{Ref, ref_text}
@@ -8,6 +8,7 @@ use Rattle.fp_keyfile.specs.declared.group.Pair.{Pair}
 use Rattle.fp_keyfile.specs.declared.group.Group.{Group}
 use Rattle.fp_keyfile.specs.declared.fault.KeyFault.{KeyFault}
 use Rattle.fp_keyfile.specs.KeyFile.{file_of, text_of}
+use Rattle.fl_export.specs.Keys.{is_left_out}
 
 -- what stands before the first space; all, where there is none
 abbrev pub first_word : List ℕ → List ℕ
@@ -27,16 +28,6 @@ command_option word = if is_command word then codes " --command=" ++ word else [
 -- `fpk launch REF --command=WORD`, WORD being that of the old value
 abbrev pub launch_line : Ref → List ℕ → List ℕ
 launch_line name value = codes "fpk launch " ++ (ref_text name ++ command_option (first_word value))
-
--- what is run outside the sandbox, and what says whose application it is
-abbrev pub is_foreign : List ℕ → Bool
-is_foreign key = bytes_eq key (codes "X-GNOME-Bugzilla-ExtraInfoScript")
-    || bytes_eq key (codes "X-Flatpak")
-
--- `TryExec`, and `Exec` and `TryExec` in a language
-abbrev pub is_left_out : List ℕ → Bool
-is_left_out key = is_foreign key || (bytes_eq key (codes "TryExec")
-    || (starts_with nat_eq key (codes "Exec[") || starts_with nat_eq key (codes "TryExec[")))
 
 abbrev pub launching : Ref → Pair → Pair
 launching name p =

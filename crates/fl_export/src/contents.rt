@@ -1,8 +1,7 @@
 //! The content of files of the installation's store.
 ghost use Rattle.std.specs.Prelude.{◌≡◌, IfOk, IsErrOf};
 ghost use Rattle.fp_base.specs.declared.object.ObjKind.TheVariants as kinds;
-ghost use Rattle.fp_host.specs.Causes.{IsCounted};
-ghost use Rattle.fp_host.specs.Frame.{Unchanged};
+ghost use Rattle.fp_host.specs.OverHost.{ChangesNothing, FailsAlone};
 ghost use Rattle.fp_small.specs.Places.{repo};
 ghost use Rattle.ost_model.specs.Objects.{Have};
 ghost use Rattle.ost_model.specs.Remotes.{Stores};
@@ -24,11 +23,10 @@ pub(crate) fn read_short<H: Host>(
     host: &mut H,
     digest: &Digest,
 ) -> Result<Option<Blob>, HostEnd>
-    ensures unchanged { Unchanged (H.moments host.old) (H.moments host.new) }
+    ensures unchanged { ChangesNothing H.Host host.old host.new }
     ensures tells { (have : Have) → Stores repo (H.moments host.old) have
         → IfOk result (λ bytes. bytes ≡ spec.short_content (have digest.now kinds.File)) }
-    ensures fault_has_cause { IsCounted (IsErrOf result HostEnd.Fault)
-        (H.moments host.old) (H.faults host.old) (H.faults host.new) }
+    ensures fault_has_cause { FailsAlone H.Host host.old host.new (IsErrOf result HostEnd.Fault) }
 {
     let root = repo_path(alloc)?;
     read_within(alloc, host, &root, digest, MOST_BYTES)
@@ -40,11 +38,10 @@ pub(crate) fn is_file<H: Host>(
     host: &mut H,
     digest: &Digest,
 ) -> Result<bool, HostEnd>
-    ensures unchanged { Unchanged (H.moments host.old) (H.moments host.new) }
+    ensures unchanged { ChangesNothing H.Host host.old host.new }
     ensures tells { (have : Have) → Stores repo (H.moments host.old) have
         → IfOk result (λ is. is ≡ spec.is_file (have digest.now kinds.File)) }
-    ensures fault_has_cause { IsCounted (IsErrOf result HostEnd.Fault)
-        (H.moments host.old) (H.faults host.old) (H.faults host.new) }
+    ensures fault_has_cause { FailsAlone H.Host host.old host.new (IsErrOf result HostEnd.Fault) }
 {
     let root = repo_path(alloc)?;
     match get(alloc, host, &root, digest, ObjKind::File, MOST_BYTES)? {

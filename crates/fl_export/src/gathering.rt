@@ -1,7 +1,6 @@
 //! What an application exports.
 ghost use Rattle.std.specs.Prelude.{◌≡◌, ◌++◌, map, option_map, option_to_list, true, IfOk, OnOk, IsErrOf};
-ghost use Rattle.fp_host.specs.Causes.{IsCounted};
-ghost use Rattle.fp_host.specs.Frame.{Unchanged};
+ghost use Rattle.fp_host.specs.OverHost.{ChangesNothing, FailsAlone};
 ghost use Rattle.fp_host.specs.Paths.{is_element as is_name};
 ghost use Rattle.fp_small.specs.Places.{repo};
 ghost use Rattle.ost_model.specs.Objects.{Have};
@@ -51,11 +50,10 @@ fn desktop_of<H: Host>(
     name: &RefName,
     file: &FileEntry,
 ) -> Result<Option<ExportRow>, HostEnd>
-    ensures unchanged { Unchanged (H.moments host.old) (H.moments host.new) }
+    ensures unchanged { ChangesNothing H.Host host.old host.new }
     ensures tells { (have : Have) → Stores repo (H.moments host.old) have
         → IfOk result (λ row. row ≡ spec.desktop_of have name.now (file_row file.now)) }
-    ensures fault_has_cause { IsCounted (IsErrOf result HostEnd.Fault)
-        (H.moments host.old) (H.faults host.old) (H.faults host.new) }
+    ensures fault_has_cause { FailsAlone H.Host host.old host.new (IsErrOf result HostEnd.Fault) }
 {
     let own = file.name.as_str();
     if !(is_own(name, own) && is_desktop(own)) {
@@ -85,12 +83,11 @@ fn add_desktop_files<H: Host>(
     files: &[FileEntry],
     rows: &mut Vec<ExportRow>,
 ) -> Result<(), HostEnd>
-    ensures unchanged { Unchanged (H.moments host.old) (H.moments host.new) }
+    ensures unchanged { ChangesNothing H.Host host.old host.new }
     ensures tells { (have : Have) → Stores repo (H.moments host.old) have
         → OnOk result (rows.new.items ≡ rows.old.items
         ++ spec.desktop_files have name.now (map file_row files.now)) }
-    ensures fault_has_cause { IsCounted (IsErrOf result HostEnd.Fault)
-        (H.moments host.old) (H.faults host.old) (H.faults host.new) }
+    ensures fault_has_cause { FailsAlone H.Host host.old host.new (IsErrOf result HostEnd.Fault) }
 {
     for file in files {
         let found = desktop_of(alloc, host, name, file)?;
@@ -123,11 +120,10 @@ fn icon_of<H: Host>(
     file: &FileEntry,
 ) -> Result<Option<ExportRow>, HostEnd>
     requires { is_name size.now ≡ true }
-    ensures unchanged { Unchanged (H.moments host.old) (H.moments host.new) }
+    ensures unchanged { ChangesNothing H.Host host.old host.new }
     ensures tells { (have : Have) → Stores repo (H.moments host.old) have
         → IfOk result (λ row. row ≡ spec.icon_of have name.now size.now (file_row file.now)) }
-    ensures fault_has_cause { IsCounted (IsErrOf result HostEnd.Fault)
-        (H.moments host.old) (H.faults host.old) (H.faults host.new) }
+    ensures fault_has_cause { FailsAlone H.Host host.old host.new (IsErrOf result HostEnd.Fault) }
 {
     let own = file.name.as_str();
     if !is_own(name, own) {
@@ -150,12 +146,11 @@ fn add_icon_files<H: Host>(
     rows: &mut Vec<ExportRow>,
 ) -> Result<(), HostEnd>
     requires { is_name size.now ≡ true }
-    ensures unchanged { Unchanged (H.moments host.old) (H.moments host.new) }
+    ensures unchanged { ChangesNothing H.Host host.old host.new }
     ensures tells { (have : Have) → Stores repo (H.moments host.old) have
         → OnOk result (rows.new.items ≡ rows.old.items
         ++ spec.icon_files have name.now size.now (map file_row files.now)) }
-    ensures fault_has_cause { IsCounted (IsErrOf result HostEnd.Fault)
-        (H.moments host.old) (H.faults host.old) (H.faults host.new) }
+    ensures fault_has_cause { FailsAlone H.Host host.old host.new (IsErrOf result HostEnd.Fault) }
 {
     for file in files {
         let found = icon_of(alloc, host, name, size, file)?;
@@ -172,12 +167,11 @@ fn add_size<H: Host>(
     size: &DirEntry,
     rows: &mut Vec<ExportRow>,
 ) -> Result<(), HostEnd>
-    ensures unchanged { Unchanged (H.moments host.old) (H.moments host.new) }
+    ensures unchanged { ChangesNothing H.Host host.old host.new }
     ensures tells { (have : Have) → Stores repo (H.moments host.old) have
         → OnOk result (rows.new.items ≡ rows.old.items
         ++ spec.icons_of have name.now (dir_row size.now)) }
-    ensures fault_has_cause { IsCounted (IsErrOf result HostEnd.Fault)
-        (H.moments host.old) (H.faults host.old) (H.faults host.new) }
+    ensures fault_has_cause { FailsAlone H.Host host.old host.new (IsErrOf result HostEnd.Fault) }
 {
     let pixels = size.name.as_str();
     if !is_element(pixels) {
@@ -197,12 +191,11 @@ fn add_sizes<H: Host>(
     sizes: &[DirEntry],
     rows: &mut Vec<ExportRow>,
 ) -> Result<(), HostEnd>
-    ensures unchanged { Unchanged (H.moments host.old) (H.moments host.new) }
+    ensures unchanged { ChangesNothing H.Host host.old host.new }
     ensures tells { (have : Have) → Stores repo (H.moments host.old) have
         → OnOk result (rows.new.items ≡ rows.old.items
         ++ spec.icons have name.now (map dir_row sizes.now)) }
-    ensures fault_has_cause { IsCounted (IsErrOf result HostEnd.Fault)
-        (H.moments host.old) (H.faults host.old) (H.faults host.new) }
+    ensures fault_has_cause { FailsAlone H.Host host.old host.new (IsErrOf result HostEnd.Fault) }
 {
     for size in sizes {
         add_size(alloc, host, name, size, rows)?;
@@ -218,12 +211,11 @@ fn add_applications<H: Host>(
     commit: &Digest,
     rows: &mut Vec<ExportRow>,
 ) -> Result<(), HostEnd>
-    ensures unchanged { Unchanged (H.moments host.old) (H.moments host.new) }
+    ensures unchanged { ChangesNothing H.Host host.old host.new }
     ensures tells { (have : Have) → Stores repo (H.moments host.old) have
         → OnOk result (rows.new.items ≡ rows.old.items
         ++ spec.desktops_by have name.now commit.now) }
-    ensures fault_has_cause { IsCounted (IsErrOf result HostEnd.Fault)
-        (H.moments host.old) (H.faults host.old) (H.faults host.new) }
+    ensures fault_has_cause { FailsAlone H.Host host.old host.new (IsErrOf result HostEnd.Fault) }
 {
     match applications_of(alloc, host, commit)? {
         Some(tree) => add_desktop_files(alloc, host, name, tree.files.as_slice(), rows),
@@ -239,12 +231,11 @@ fn add_icons<H: Host>(
     commit: &Digest,
     rows: &mut Vec<ExportRow>,
 ) -> Result<(), HostEnd>
-    ensures unchanged { Unchanged (H.moments host.old) (H.moments host.new) }
+    ensures unchanged { ChangesNothing H.Host host.old host.new }
     ensures tells { (have : Have) → Stores repo (H.moments host.old) have
         → OnOk result (rows.new.items ≡ rows.old.items
         ++ spec.icons_by have name.now commit.now) }
-    ensures fault_has_cause { IsCounted (IsErrOf result HostEnd.Fault)
-        (H.moments host.old) (H.faults host.old) (H.faults host.new) }
+    ensures fault_has_cause { FailsAlone H.Host host.old host.new (IsErrOf result HostEnd.Fault) }
 {
     match hicolor_of(alloc, host, commit)? {
         Some(tree) => add_sizes(alloc, host, name, tree.dirs.as_slice(), rows),
@@ -260,12 +251,11 @@ fn add_app<H: Host>(
     commit: &Digest,
     rows: &mut Vec<ExportRow>,
 ) -> Result<(), HostEnd>
-    ensures unchanged { Unchanged (H.moments host.old) (H.moments host.new) }
+    ensures unchanged { ChangesNothing H.Host host.old host.new }
     ensures tells { (have : Have) → Stores repo (H.moments host.old) have
         → OnOk result (rows.new.items ≡ rows.old.items
         ++ spec.exported_by have name.now commit.now) }
-    ensures fault_has_cause { IsCounted (IsErrOf result HostEnd.Fault)
-        (H.moments host.old) (H.faults host.old) (H.faults host.new) }
+    ensures fault_has_cause { FailsAlone H.Host host.old host.new (IsErrOf result HostEnd.Fault) }
 {
     add_applications(alloc, host, name, commit, rows)?;
     add_icons(alloc, host, name, commit, rows)
@@ -278,12 +268,11 @@ pub(crate) fn add_exports<H: Host>(
     row: &RefRow,
     rows: &mut Vec<ExportRow>,
 ) -> Result<(), HostEnd>
-    ensures unchanged { Unchanged (H.moments host.old) (H.moments host.new) }
+    ensures unchanged { ChangesNothing H.Host host.old host.new }
     ensures tells { (have : Have) → Stores repo (H.moments host.old) have
         → OnOk result (rows.new.items ≡ rows.old.items
         ++ spec.exported_at have row.now) }
-    ensures fault_has_cause { IsCounted (IsErrOf result HostEnd.Fault)
-        (H.moments host.old) (H.faults host.old) (H.faults host.new) }
+    ensures fault_has_cause { FailsAlone H.Host host.old host.new (IsErrOf result HostEnd.Fault) }
 {
     match row.name.kind() {
         RefKind::App => add_app(alloc, host, &row.name, &row.commit, rows),

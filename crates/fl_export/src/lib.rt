@@ -3,6 +3,7 @@
 
 mod contents;
 mod gathering;
+mod keys;
 pub mod laws;
 mod listing;
 mod places;

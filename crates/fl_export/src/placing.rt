@@ -1,8 +1,7 @@
 //! Rows that are put at their places.
 ghost use Rattle.std.specs.Prelude.{◌↔◌, ◌∷◌, [], IsTrue, OnOk, IsErrOf};
-ghost use Rattle.fp_host.specs.Causes.{IsCaused};
-ghost use Rattle.fp_host.specs.Frame.{Frame, AtEnd, NoPath};
-ghost use Rattle.fp_host.specs.Moments.{Always};
+ghost use Rattle.fp_host.specs.OverHost.{AtEachMoment, AtReturn, FailsOnly};
+ghost use Rattle.fp_host.specs.Frame.{Frame, NoPath};
 ghost use Rattle.fp_small.specs.Clear.{GoneWithin, AbsentWithin, CanClear};
 ghost use Rattle.fp_small.specs.Replace.{IsFreeFile};
 ghost use Rattle.fl_export.specs.declared.rows.ExportWhat.TheVariants as what;
@@ -30,10 +29,10 @@ fn may_stay(stat: &Stat) -> bool
 fn make_way<H: Host>(alloc: Global, host: &mut H, place: &Path) -> Result<(), HostEnd>
     ensures frame { Frame (GoneWithin place.now) (AbsentWithin place.now) NoPath
         (H.moments host.old) (H.moments host.new) }
-    ensures on_success { OnOk result (AtEnd (λ u w. IsFreeFile place.now w)
-        (H.moments host.old) (H.moments host.new)) }
-    ensures fault_has_cause { IsCaused (IsErrOf result HostEnd.Fault) (H.moments host.old)
-        (CanClear place.now) (H.faults host.old) (H.faults host.new) }
+    ensures on_success { OnOk result (AtReturn H.Host host.old host.new
+        (λ u w. IsFreeFile place.now w)) }
+    ensures fault_has_cause { FailsOnly H.Host host.old host.new
+        (CanClear place.now) (IsErrOf result HostEnd.Fault) }
 {
     if may_stay(&host.stat(place)?) {
         return Ok(());
@@ -43,12 +42,12 @@ fn make_way<H: Host>(alloc: Global, host: &mut H, place: &Path) -> Result<(), Ho
 
 /// Puts a file with these bytes there.
 fn put_text<H: Host>(alloc: Global, host: &mut H, place: &Path, bytes: &Blob) -> Result<(), HostEnd>
-    ensures any_moment { Always (PutsAt place.now (what.Text bytes.now))
-        (H.moments host.old) (H.moments host.new) }
-    ensures on_success { OnOk result (AtEnd (WasPut place.now (what.Text bytes.now))
-        (H.moments host.old) (H.moments host.new)) }
-    ensures fault_has_cause { IsCaused (IsErrOf result HostEnd.Fault) (H.moments host.old)
-        (CanPut place.now (what.Text bytes.now)) (H.faults host.old) (H.faults host.new) }
+    ensures any_moment { AtEachMoment H.Host host.old host.new
+        (PutsAt place.now (what.Text bytes.now)) }
+    ensures on_success { OnOk result (AtReturn H.Host host.old host.new
+        (WasPut place.now (what.Text bytes.now))) }
+    ensures fault_has_cause { FailsOnly H.Host host.old host.new
+        (CanPut place.now (what.Text bytes.now)) (IsErrOf result HostEnd.Fault) }
 {
     make_way(alloc, host, place)?;
     replace(alloc, host, place, bytes.as_slice())
@@ -56,12 +55,12 @@ fn put_text<H: Host>(alloc: Global, host: &mut H, place: &Path, bytes: &Blob) ->
 
 /// Puts a link with this text there.
 fn put_link<H: Host>(alloc: Global, host: &mut H, place: &Path, text: &Text) -> Result<(), HostEnd>
-    ensures any_moment { Always (PutsAt place.now (what.Link text.now))
-        (H.moments host.old) (H.moments host.new) }
-    ensures on_success { OnOk result (AtEnd (WasPut place.now (what.Link text.now))
-        (H.moments host.old) (H.moments host.new)) }
-    ensures fault_has_cause { IsCaused (IsErrOf result HostEnd.Fault) (H.moments host.old)
-        (CanPut place.now (what.Link text.now)) (H.faults host.old) (H.faults host.new) }
+    ensures any_moment { AtEachMoment H.Host host.old host.new
+        (PutsAt place.now (what.Link text.now)) }
+    ensures on_success { OnOk result (AtReturn H.Host host.old host.new
+        (WasPut place.now (what.Link text.now))) }
+    ensures fault_has_cause { FailsOnly H.Host host.old host.new
+        (CanPut place.now (what.Link text.now)) (IsErrOf result HostEnd.Fault) }
 {
     clear(alloc, host, place)?;
     make_above(alloc, host, place)?;
@@ -70,12 +69,11 @@ fn put_link<H: Host>(alloc: Global, host: &mut H, place: &Path, text: &Text) -> 
 
 /// Puts it there.
 fn put<H: Host>(alloc: Global, host: &mut H, place: &Path, what: &ExportWhat) -> Result<(), HostEnd>
-    ensures any_moment { Always (PutsAt place.now what.now)
-        (H.moments host.old) (H.moments host.new) }
-    ensures on_success { OnOk result (AtEnd (WasPut place.now what.now)
-        (H.moments host.old) (H.moments host.new)) }
-    ensures fault_has_cause { IsCaused (IsErrOf result HostEnd.Fault) (H.moments host.old)
-        (CanPut place.now what.now) (H.faults host.old) (H.faults host.new) }
+    ensures any_moment { AtEachMoment H.Host host.old host.new (PutsAt place.now what.now) }
+    ensures on_success { OnOk result (AtReturn H.Host host.old host.new
+        (WasPut place.now what.now)) }
+    ensures fault_has_cause { FailsOnly H.Host host.old host.new
+        (CanPut place.now what.now) (IsErrOf result HostEnd.Fault) }
 {
     match what {
         ExportWhat::Text(bytes) => put_text(alloc, host, place, bytes),
@@ -85,12 +83,10 @@ fn put<H: Host>(alloc: Global, host: &mut H, place: &Path, what: &ExportWhat) ->
 
 /// Puts the row at its place, where something else stands there.
 fn put_row<H: Host>(alloc: Global, host: &mut H, row: &ExportRow) -> Result<(), HostEnd>
-    ensures any_moment { Always (PutsRows (row.now ∷ []))
-        (H.moments host.old) (H.moments host.new) }
-    ensures on_success { OnOk result (AtEnd (WerePut (row.now ∷ []))
-        (H.moments host.old) (H.moments host.new)) }
-    ensures fault_has_cause { IsCaused (IsErrOf result HostEnd.Fault) (H.moments host.old)
-        (CanPutRows (row.now ∷ [])) (H.faults host.old) (H.faults host.new) }
+    ensures any_moment { AtEachMoment H.Host host.old host.new (PutsRows (row.now ∷ [])) }
+    ensures on_success { OnOk result (AtReturn H.Host host.old host.new (WerePut (row.now ∷ []))) }
+    ensures fault_has_cause { FailsOnly H.Host host.old host.new
+        (CanPutRows (row.now ∷ [])) (IsErrOf result HostEnd.Fault) }
 {
     let place = place_of(alloc, &row.path)?;
     if is_there(alloc, host, &place, &row.what)? {
@@ -105,11 +101,10 @@ pub(crate) fn put_rows<H: Host>(
     host: &mut H,
     rows: &[ExportRow],
 ) -> Result<(), HostEnd>
-    ensures any_moment { Always (PutsRows rows.now) (H.moments host.old) (H.moments host.new) }
-    ensures on_success { OnOk result (AtEnd (WereAllPut rows.now)
-        (H.moments host.old) (H.moments host.new)) }
-    ensures fault_has_cause { IsCaused (IsErrOf result HostEnd.Fault) (H.moments host.old)
-        (CanPutRows rows.now) (H.faults host.old) (H.faults host.new) }
+    ensures any_moment { AtEachMoment H.Host host.old host.new (PutsRows rows.now) }
+    ensures on_success { OnOk result (AtReturn H.Host host.old host.new (WereAllPut rows.now)) }
+    ensures fault_has_cause { FailsOnly H.Host host.old host.new
+        (CanPutRows rows.now) (IsErrOf result HostEnd.Fault) }
 {
     for row in rows {
         put_row(alloc, host, row)?;

@@ -1,8 +1,6 @@
 //! The folder `exports`, brought in step with the state.
 ghost use Rattle.std.specs.Prelude.{OnOk, IsErrOf};
-ghost use Rattle.fp_host.specs.Causes.{IsCaused};
-ghost use Rattle.fp_host.specs.Frame.{AtEnd};
-ghost use Rattle.fp_host.specs.Moments.{Always};
+ghost use Rattle.fp_host.specs.OverHost.{AtEachMoment, AtReturn, FailsOnly};
 ghost use Rattle.dep_states.specs.Sound.{Opens};
 ghost use Rattle.fl_export.specs.Steps.{Refreshes, WasRefreshed};
 
@@ -20,11 +18,10 @@ use std::alloc::Global;
 /// replaced as small files are. Where all is right already, no name and no file changes. It is for
 /// an installation that every stop leaves in this state and sound.
 pub fn refresh<H: Host>(alloc: Global, host: &mut H, state: &State) -> Result<(), HostEnd>
-    ensures any_moment { Always (Refreshes state.now) (H.moments host.old) (H.moments host.new) }
-    ensures on_success { OnOk result (AtEnd (WasRefreshed state.now)
-        (H.moments host.old) (H.moments host.new)) }
-    ensures fault_has_cause { IsCaused (IsErrOf result HostEnd.Fault) (H.moments host.old)
-        (Opens state.now) (H.faults host.old) (H.faults host.new) }
+    ensures any_moment { AtEachMoment H.Host host.old host.new (Refreshes state.now) }
+    ensures on_success { OnOk result (AtReturn H.Host host.old host.new (WasRefreshed state.now)) }
+    ensures fault_has_cause { FailsOnly H.Host host.old host.new
+        (Opens state.now) (IsErrOf result HostEnd.Fault) }
 {
     let rows = wanted(alloc, host, state)?;
     let places = places_of(alloc, rows.as_slice())?;

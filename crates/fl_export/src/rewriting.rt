@@ -5,6 +5,7 @@ ghost use Rattle.std.specs.List.{list_all, starts_with};
 ghost use Rattle.fp_keyfile.specs.KeyFile.{text_of};
 ghost use Rattle.fl_export.specs.Rewritten as spec;
 
+use crate::keys::is_left_out;
 use fp_base::{Blob, Items, Text};
 use fp_keyfile::{Group, KeyError, KeyFile, Pair};
 use fp_name::RefName;
@@ -74,23 +75,6 @@ pub(crate) fn begins_with(text: &str, prefix: &str) -> bool
     ensures { result ≡ starts_with nat_eq text.now prefix.now }
 {
     text.starts_with(prefix)
-}
-
-/// Whether a desktop would run the value of this key outside the sandbox, or learn from it whose
-/// application it is.
-fn is_foreign(key: &str) -> bool
-    ensures { result ≡ spec.is_foreign key.now }
-{
-    key == "X-GNOME-Bugzilla-ExtraInfoScript" || key == "X-Flatpak"
-}
-
-/// Whether pairs of this key are left out: `TryExec`, which names a program of the application's
-/// own, the commands in a language, and what isn't the application's to say.
-fn is_left_out(key: &str) -> bool
-    ensures { result ≡ spec.is_left_out key.now }
-{
-    is_foreign(key)
-        || (key == "TryExec" || begins_with(key, "Exec[") || begins_with(key, "TryExec["))
 }
 
 /// The pair, with the launch of the application where it is the command.
@@ -163,8 +147,10 @@ fn rewritten_text(alloc: Global, name: &RefName, file: &KeyFile) -> Result<Blob,
 /// The desktop file as it is exported for the application: the value of each `Exec` is `fpk launch
 /// REF --command=WORD`, WORD being what stood before its first space. The option is left out where
 /// the word is empty or has anything but ASCII letters, digits and `-_./+`: a desktop reads `%i`,
-/// quotes, `$` and backslashes as other words. Pairs `TryExec`, `Exec[..]` and `TryExec[..]` are
-/// left out. None exactly where the bytes are no key file.
+/// quotes, `$` and backslashes as other words. Left out are the pairs `TryExec`, `Exec[..]`,
+/// `TryExec[..]`, `Path`, `DBusActivatable`, `X-Flatpak`, `X-GNOME-Bugzilla-ExtraInfoScript`, and
+/// those whose key has anything but letters, digits and `-`, and at most one `[LOCALE]`. None
+/// exactly where the bytes are no key file.
 #[tactic(auto, unfolding(crate::specs::Rewritten::rewritten))]
 pub fn rewrite(alloc: Global, bytes: &[u8], name: &RefName) -> Result<Option<Blob>, AllocError>
     ensures { IfOk result (λ text. text ≡ spec.rewritten bytes.now name.now) }

@@ -1,7 +1,6 @@
 //! What stands at a place already.
 ghost use Rattle.std.specs.Prelude.{◌≡◌, IfOk, IsErrOf};
-ghost use Rattle.fp_host.specs.Causes.{IsCounted};
-ghost use Rattle.fp_host.specs.Frame.{AtEnd, Unchanged};
+ghost use Rattle.fp_host.specs.OverHost.{AtReturn, ChangesNothing, FailsAlone};
 ghost use Rattle.fp_host.specs.Outcome.{shows};
 ghost use Rattle.fl_export.specs.Placed as spec;
 
@@ -13,11 +12,10 @@ use std::alloc::Global;
 
 /// Whether a file with these permission bits is there.
 fn has_bits<H: Host>(host: &mut H, place: &Path) -> Result<bool, HostEnd>
-    ensures unchanged { Unchanged (H.moments host.old) (H.moments host.new) }
-    ensures tells { IfOk result (λ has. AtEnd (λ u w. has ≡ spec.has_bits (shows u place.now))
-        (H.moments host.old) (H.moments host.new)) }
-    ensures fault_has_cause { IsCounted (IsErrOf result HostEnd.Fault)
-        (H.moments host.old) (H.faults host.old) (H.faults host.new) }
+    ensures unchanged { ChangesNothing H.Host host.old host.new }
+    ensures tells { IfOk result (λ has. AtReturn H.Host host.old host.new
+        (λ u w. has ≡ spec.has_bits (shows u place.now))) }
+    ensures fault_has_cause { FailsAlone H.Host host.old host.new (IsErrOf result HostEnd.Fault) }
 {
     match host.stat(place)? {
         Stat::File { mode, .. } => Ok(mode == FILE_MODE),
@@ -32,12 +30,10 @@ fn has_bytes<H: Host>(
     place: &Path,
     bytes: &Blob,
 ) -> Result<bool, HostEnd>
-    ensures unchanged { Unchanged (H.moments host.old) (H.moments host.new) }
-    ensures tells { IfOk result (λ has. AtEnd
-        (λ u w. has ≡ spec.has_bytes bytes.now (shows u place.now))
-        (H.moments host.old) (H.moments host.new)) }
-    ensures fault_has_cause { IsCounted (IsErrOf result HostEnd.Fault)
-        (H.moments host.old) (H.faults host.old) (H.faults host.new) }
+    ensures unchanged { ChangesNothing H.Host host.old host.new }
+    ensures tells { IfOk result (λ has. AtReturn H.Host host.old host.new
+        (λ u w. has ≡ spec.has_bytes bytes.now (shows u place.now))) }
+    ensures fault_has_cause { FailsAlone H.Host host.old host.new (IsErrOf result HostEnd.Fault) }
 {
     match load(alloc, host, place, bytes.len() as u64)? {
         Loaded::Bytes(found) => Ok(found.as_slice() == bytes.as_slice()),
@@ -52,12 +48,10 @@ fn is_text<H: Host>(
     place: &Path,
     bytes: &Blob,
 ) -> Result<bool, HostEnd>
-    ensures unchanged { Unchanged (H.moments host.old) (H.moments host.new) }
-    ensures tells { IfOk result (λ is. AtEnd
-        (λ u w. is ≡ spec.is_text bytes.now (shows u place.now))
-        (H.moments host.old) (H.moments host.new)) }
-    ensures fault_has_cause { IsCounted (IsErrOf result HostEnd.Fault)
-        (H.moments host.old) (H.faults host.old) (H.faults host.new) }
+    ensures unchanged { ChangesNothing H.Host host.old host.new }
+    ensures tells { IfOk result (λ is. AtReturn H.Host host.old host.new
+        (λ u w. is ≡ spec.is_text bytes.now (shows u place.now))) }
+    ensures fault_has_cause { FailsAlone H.Host host.old host.new (IsErrOf result HostEnd.Fault) }
 {
     if has_bits(host, place)? {
         has_bytes(alloc, host, place, bytes)
@@ -68,12 +62,10 @@ fn is_text<H: Host>(
 
 /// Whether a link with this text is there.
 fn is_link<H: Host>(alloc: Global, host: &mut H, place: &Path, text: &Text) -> Result<bool, HostEnd>
-    ensures unchanged { Unchanged (H.moments host.old) (H.moments host.new) }
-    ensures tells { IfOk result (λ is. AtEnd
-        (λ u w. is ≡ spec.is_link text.now (shows u place.now))
-        (H.moments host.old) (H.moments host.new)) }
-    ensures fault_has_cause { IsCounted (IsErrOf result HostEnd.Fault)
-        (H.moments host.old) (H.faults host.old) (H.faults host.new) }
+    ensures unchanged { ChangesNothing H.Host host.old host.new }
+    ensures tells { IfOk result (λ is. AtReturn H.Host host.old host.new
+        (λ u w. is ≡ spec.is_link text.now (shows u place.now))) }
+    ensures fault_has_cause { FailsAlone H.Host host.old host.new (IsErrOf result HostEnd.Fault) }
 {
     match host.stat(place)? {
         Stat::Link => Ok(host.read_link(alloc, place)? == *text),
@@ -88,12 +80,10 @@ pub(crate) fn is_there<H: Host>(
     place: &Path,
     what: &ExportWhat,
 ) -> Result<bool, HostEnd>
-    ensures unchanged { Unchanged (H.moments host.old) (H.moments host.new) }
-    ensures tells { IfOk result (λ is. AtEnd
-        (λ u w. is ≡ spec.is_exported what.now (shows u place.now))
-        (H.moments host.old) (H.moments host.new)) }
-    ensures fault_has_cause { IsCounted (IsErrOf result HostEnd.Fault)
-        (H.moments host.old) (H.faults host.old) (H.faults host.new) }
+    ensures unchanged { ChangesNothing H.Host host.old host.new }
+    ensures tells { IfOk result (λ is. AtReturn H.Host host.old host.new
+        (λ u w. is ≡ spec.is_exported what.now (shows u place.now))) }
+    ensures fault_has_cause { FailsAlone H.Host host.old host.new (IsErrOf result HostEnd.Fault) }
 {
     match what {
         ExportWhat::Text(bytes) => is_text(alloc, host, place, bytes),

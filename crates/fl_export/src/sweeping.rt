@@ -1,10 +1,9 @@
 //! Files and links that are exported no more.
 ghost use Rattle.std.specs.Prelude.{◌≡◌, ◌↔◌, IsTrue, OnOk, IsErrOf, Contains};
+ghost use Rattle.fp_host.specs.OverHost.{AtEachMoment, AtReturn, FailsOnly};
 ghost use Rattle.fp_host.specs.Paths.{dir, IsAbove};
 ghost use Rattle.fp_host.specs.Calls.{IsNoDir};
-ghost use Rattle.fp_host.specs.Causes.{IsCaused};
-ghost use Rattle.fp_host.specs.Frame.{AtEnd, Only};
-ghost use Rattle.fp_host.specs.Moments.{Always};
+ghost use Rattle.fp_host.specs.Frame.{Only};
 ghost use Rattle.fp_small.specs.Clear.{IsWithin, Reaches};
 ghost use Rattle.fl_export.specs.Placed.{exports};
 ghost use Rattle.fl_export.specs.Steps.{Sweeps, SweepsAt, HasNoStaleIn, Cleans, HasNoStale};
@@ -39,12 +38,11 @@ fn is_same(path: &Path, other: &Path) -> bool
 
 /// Takes the file or link at the path away, where that is none of the places.
 fn sweep_path<H: Host>(host: &mut H, places: &[Path], path: &Path) -> Result<(), HostEnd>
-    ensures any_moment { Always (SweepsAt path.now places.now)
-        (H.moments host.old) (H.moments host.new) }
-    ensures on_success { OnOk result (AtEnd (λ u w. HasNoStaleIn (Only path.now) places.now w)
-        (H.moments host.old) (H.moments host.new)) }
-    ensures fault_has_cause { IsCaused (IsErrOf result HostEnd.Fault) (H.moments host.old)
-        (λ v. IsNoDir (v.names path.now)) (H.faults host.old) (H.faults host.new) }
+    ensures any_moment { AtEachMoment H.Host host.old host.new (SweepsAt path.now places.now) }
+    ensures on_success { OnOk result (AtReturn H.Host host.old host.new
+        (λ u w. HasNoStaleIn (Only path.now) places.now w)) }
+    ensures fault_has_cause { FailsOnly H.Host host.old host.new
+        (λ v. IsNoDir (v.names path.now)) (IsErrOf result HostEnd.Fault) }
 {
     if has_path(places, path) {
         return Ok(());
@@ -61,14 +59,14 @@ fn sweep_within<H: Host>(
     path: &Path,
     depth: usize,
 ) -> Result<(), HostEnd>
-    ensures any_moment { Always (Sweeps (IsWithin path.now) places.now)
-        (H.moments host.old) (H.moments host.new) }
-    ensures on_success { OnOk result (AtEnd (λ u w. HasNoStaleIn (IsWithin path.now) places.now w)
-        (H.moments host.old) (H.moments host.new)) }
-    ensures reach { OnOk result (AtEnd (λ u w. Reaches path.now depth u)
-        (H.moments host.old) (H.moments host.new)) }
-    ensures fault_has_cause { IsCaused (IsErrOf result HostEnd.Fault) (H.moments host.old)
-        (Reaches path.now depth) (H.faults host.old) (H.faults host.new) }
+    ensures any_moment { AtEachMoment H.Host host.old host.new
+        (Sweeps (IsWithin path.now) places.now) }
+    ensures on_success { OnOk result (AtReturn H.Host host.old host.new
+        (λ u w. HasNoStaleIn (IsWithin path.now) places.now w)) }
+    ensures reach { OnOk result (AtReturn H.Host host.old host.new
+        (λ u w. Reaches path.now depth u)) }
+    ensures fault_has_cause { FailsOnly H.Host host.old host.new
+        (Reaches path.now depth) (IsErrOf result HostEnd.Fault) }
 {
     match host.stat(path)? {
         Stat::Absent => Ok(()),
@@ -86,15 +84,14 @@ fn sweep_names<H: Host>(
     path: &Path,
     depth: usize,
 ) -> Result<(), HostEnd>
-    ensures any_moment { Always (Sweeps (IsAbove path.now) places.now)
-        (H.moments host.old) (H.moments host.new) }
-    ensures on_success { OnOk result (AtEnd (λ u w. HasNoStaleIn (IsAbove path.now) places.now w)
-        (H.moments host.old) (H.moments host.new)) }
-    ensures reach { OnOk result (AtEnd (λ u w. Reaches path.now depth u)
-        (H.moments host.old) (H.moments host.new)) }
-    ensures fault_has_cause { IsCaused (IsErrOf result HostEnd.Fault) (H.moments host.old)
-        (λ v. (v.names path.now ≡ dir) × Reaches path.now depth v)
-        (H.faults host.old) (H.faults host.new) }
+    ensures any_moment { AtEachMoment H.Host host.old host.new
+        (Sweeps (IsAbove path.now) places.now) }
+    ensures on_success { OnOk result (AtReturn H.Host host.old host.new
+        (λ u w. HasNoStaleIn (IsAbove path.now) places.now w)) }
+    ensures reach { OnOk result (AtReturn H.Host host.old host.new
+        (λ u w. Reaches path.now depth u)) }
+    ensures fault_has_cause { FailsOnly H.Host host.old host.new
+        (λ v. (v.names path.now ≡ dir) × Reaches path.now depth v) (IsErrOf result HostEnd.Fault) }
 {
     let names = host.list(alloc, path)?;
     for name in names.as_slice() {
@@ -109,14 +106,14 @@ fn sweep_names<H: Host>(
 
 /// Takes each file and link at or below `exports` away that is at none of the places.
 pub(crate) fn sweep<H: Host>(alloc: Global, host: &mut H, places: &[Path]) -> Result<(), HostEnd>
-    ensures any_moment { Always (Cleans places.now) (H.moments host.old) (H.moments host.new) }
-    ensures on_success { OnOk result (AtEnd (λ u w. HasNoStale places.now w)
-        (H.moments host.old) (H.moments host.new)) }
+    ensures any_moment { AtEachMoment H.Host host.old host.new (Cleans places.now) }
+    ensures on_success { OnOk result (AtReturn H.Host host.old host.new
+        (λ u w. HasNoStale places.now w)) }
     // No path below `exports` was deeper.
-    ensures reach { OnOk result (AtEnd (λ u w. Reaches exports MOST_LEVELS u)
-        (H.moments host.old) (H.moments host.new)) }
-    ensures fault_has_cause { IsCaused (IsErrOf result HostEnd.Fault) (H.moments host.old)
-        (Reaches exports MOST_LEVELS) (H.faults host.old) (H.faults host.new) }
+    ensures reach { OnOk result (AtReturn H.Host host.old host.new
+        (λ u w. Reaches exports MOST_LEVELS u)) }
+    ensures fault_has_cause { FailsOnly H.Host host.old host.new
+        (Reaches exports MOST_LEVELS) (IsErrOf result HostEnd.Fault) }
 {
     let exports = exports_path(alloc)?;
     sweep_within(alloc, host, places, &exports, MOST_LEVELS)

@@ -2,8 +2,7 @@
 //! read has nothing in it.
 ghost use Rattle.std.specs.Prelude.{◌≡◌, ◌∷◌, [], map, option_map, option_and_then, IfOk, IsErrOf, codes};
 ghost use Rattle.fp_base.specs.declared.object.ObjKind.TheVariants as kinds;
-ghost use Rattle.fp_host.specs.Causes.{IsCounted};
-ghost use Rattle.fp_host.specs.Frame.{Unchanged};
+ghost use Rattle.fp_host.specs.OverHost.{ChangesNothing, FailsAlone};
 ghost use Rattle.fp_small.specs.Places.{repo};
 ghost use Rattle.ost_model.specs.Objects.{Have};
 ghost use Rattle.ost_model.specs.Order.{tree_at, commit_at};
@@ -51,11 +50,10 @@ fn read_tree<H: Host>(
     host: &mut H,
     digest: &Digest,
 ) -> Result<Option<DirTree>, HostEnd>
-    ensures unchanged { Unchanged (H.moments host.old) (H.moments host.new) }
+    ensures unchanged { ChangesNothing H.Host host.old host.new }
     ensures tells { (have : Have) → Stores repo (H.moments host.old) have
         → IfOk result (λ tree. option_map tree_view tree ≡ tree_at have digest.now) }
-    ensures fault_has_cause { IsCounted (IsErrOf result HostEnd.Fault)
-        (H.moments host.old) (H.faults host.old) (H.faults host.new) }
+    ensures fault_has_cause { FailsAlone H.Host host.old host.new (IsErrOf result HostEnd.Fault) }
 {
     let root = repo_path(alloc)?;
     match get(alloc, host, &root, digest, ObjKind::DirTree, u64::MAX)? {
@@ -70,11 +68,10 @@ fn read_root<H: Host>(
     host: &mut H,
     commit: &Digest,
 ) -> Result<Option<Digest>, HostEnd>
-    ensures unchanged { Unchanged (H.moments host.old) (H.moments host.new) }
+    ensures unchanged { ChangesNothing H.Host host.old host.new }
     ensures tells { (have : Have) → Stores repo (H.moments host.old) have
         → IfOk result (λ root. root ≡ root_tree (commit_at have commit.now)) }
-    ensures fault_has_cause { IsCounted (IsErrOf result HostEnd.Fault)
-        (H.moments host.old) (H.faults host.old) (H.faults host.new) }
+    ensures fault_has_cause { FailsAlone H.Host host.old host.new (IsErrOf result HostEnd.Fault) }
 {
     let root = repo_path(alloc)?;
     match get(alloc, host, &root, commit, ObjKind::Commit, u64::MAX)? {
@@ -89,11 +86,10 @@ fn tree_there<H: Host>(
     host: &mut H,
     digest: Option<Digest>,
 ) -> Result<Option<DirTree>, HostEnd>
-    ensures unchanged { Unchanged (H.moments host.old) (H.moments host.new) }
+    ensures unchanged { ChangesNothing H.Host host.old host.new }
     ensures tells { (have : Have) → Stores repo (H.moments host.old) have
         → IfOk result (λ tree. option_map tree_view tree ≡ option_and_then (tree_at have) digest) }
-    ensures fault_has_cause { IsCounted (IsErrOf result HostEnd.Fault)
-        (H.moments host.old) (H.faults host.old) (H.faults host.new) }
+    ensures fault_has_cause { FailsAlone H.Host host.old host.new (IsErrOf result HostEnd.Fault) }
 {
     match digest {
         Some(digest) => read_tree(alloc, host, &digest),
@@ -107,11 +103,10 @@ fn root_of<H: Host>(
     host: &mut H,
     commit: &Digest,
 ) -> Result<Option<DirTree>, HostEnd>
-    ensures unchanged { Unchanged (H.moments host.old) (H.moments host.new) }
+    ensures unchanged { ChangesNothing H.Host host.old host.new }
     ensures tells { (have : Have) → Stores repo (H.moments host.old) have
         → IfOk result (λ tree. option_map tree_view tree ≡ tree_look have commit.now []) }
-    ensures fault_has_cause { IsCounted (IsErrOf result HostEnd.Fault)
-        (H.moments host.old) (H.faults host.old) (H.faults host.new) }
+    ensures fault_has_cause { FailsAlone H.Host host.old host.new (IsErrOf result HostEnd.Fault) }
 {
     let root = read_root(alloc, host, commit)?;
     tree_there(alloc, host, root)
@@ -146,12 +141,11 @@ fn enter<H: Host>(
     tree: &Option<DirTree>,
     name: &str,
 ) -> Result<Option<DirTree>, HostEnd>
-    ensures unchanged { Unchanged (H.moments host.old) (H.moments host.new) }
+    ensures unchanged { ChangesNothing H.Host host.old host.new }
     ensures tells { (have : Have) → Stores repo (H.moments host.old) have
         → IfOk result (λ found. option_map tree_view found
         ≡ tree_below have name.now (option_map tree_view tree.now)) }
-    ensures fault_has_cause { IsCounted (IsErrOf result HostEnd.Fault)
-        (H.moments host.old) (H.faults host.old) (H.faults host.new) }
+    ensures fault_has_cause { FailsAlone H.Host host.old host.new (IsErrOf result HostEnd.Fault) }
 {
     let digest = digest_below(tree, name);
     tree_there(alloc, host, digest)
@@ -163,12 +157,11 @@ fn share_of<H: Host>(
     host: &mut H,
     commit: &Digest,
 ) -> Result<Option<DirTree>, HostEnd>
-    ensures unchanged { Unchanged (H.moments host.old) (H.moments host.new) }
+    ensures unchanged { ChangesNothing H.Host host.old host.new }
     ensures tells { (have : Have) → Stores repo (H.moments host.old) have
         → IfOk result (λ tree. option_map tree_view tree
         ≡ tree_look have commit.now (share in_export)) }
-    ensures fault_has_cause { IsCounted (IsErrOf result HostEnd.Fault)
-        (H.moments host.old) (H.faults host.old) (H.faults host.new) }
+    ensures fault_has_cause { FailsAlone H.Host host.old host.new (IsErrOf result HostEnd.Fault) }
 {
     let root = root_of(alloc, host, commit)?;
     let export = enter(alloc, host, &root, "export")?;
@@ -181,12 +174,11 @@ pub(crate) fn applications_of<H: Host>(
     host: &mut H,
     commit: &Digest,
 ) -> Result<Option<DirTree>, HostEnd>
-    ensures unchanged { Unchanged (H.moments host.old) (H.moments host.new) }
+    ensures unchanged { ChangesNothing H.Host host.old host.new }
     ensures tells { (have : Have) → Stores repo (H.moments host.old) have
         → IfOk result (λ tree. option_map tree_view tree
         ≡ tree_look have commit.now (applications in_export)) }
-    ensures fault_has_cause { IsCounted (IsErrOf result HostEnd.Fault)
-        (H.moments host.old) (H.faults host.old) (H.faults host.new) }
+    ensures fault_has_cause { FailsAlone H.Host host.old host.new (IsErrOf result HostEnd.Fault) }
 {
     let share = share_of(alloc, host, commit)?;
     enter(alloc, host, &share, "applications")
@@ -198,12 +190,11 @@ pub(crate) fn hicolor_of<H: Host>(
     host: &mut H,
     commit: &Digest,
 ) -> Result<Option<DirTree>, HostEnd>
-    ensures unchanged { Unchanged (H.moments host.old) (H.moments host.new) }
+    ensures unchanged { ChangesNothing H.Host host.old host.new }
     ensures tells { (have : Have) → Stores repo (H.moments host.old) have
         → IfOk result (λ tree. option_map tree_view tree
         ≡ tree_look have commit.now (hicolor in_export)) }
-    ensures fault_has_cause { IsCounted (IsErrOf result HostEnd.Fault)
-        (H.moments host.old) (H.faults host.old) (H.faults host.new) }
+    ensures fault_has_cause { FailsAlone H.Host host.old host.new (IsErrOf result HostEnd.Fault) }
 {
     let share = share_of(alloc, host, commit)?;
     let icons = enter(alloc, host, &share, "icons")?;
@@ -216,12 +207,11 @@ pub(crate) fn apps_in<H: Host>(
     host: &mut H,
     dir: &DirEntry,
 ) -> Result<Option<DirTree>, HostEnd>
-    ensures unchanged { Unchanged (H.moments host.old) (H.moments host.new) }
+    ensures unchanged { ChangesNothing H.Host host.old host.new }
     ensures tells { (have : Have) → Stores repo (H.moments host.old) have
         → IfOk result (λ tree. option_map tree_view tree ≡ tree_next have (codes "apps")
         (dir_row dir.now)) }
-    ensures fault_has_cause { IsCounted (IsErrOf result HostEnd.Fault)
-        (H.moments host.old) (H.faults host.old) (H.faults host.new) }
+    ensures fault_has_cause { FailsAlone H.Host host.old host.new (IsErrOf result HostEnd.Fault) }
 {
     let tree = read_tree(alloc, host, &dir.tree)?;
     enter(alloc, host, &tree, "apps")

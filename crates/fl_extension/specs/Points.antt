@@ -1,17 +1,17 @@
 -- Extension points of metadata: flatpak-metadata(5), the groups `[Extension NAME]`.
-use Rattle.std.specs.Prelude.{ℕ, Bool, not, ◌&&◌, List, [], ◌∷◌, false, Option, Some, None, option_map, unwrap_or, codes, if◌then◌else◌}
-use Rattle.std.specs.List.{list_all, slice_split, flat_map}
+use Rattle.std.specs.Prelude.{ℕ, Bool, not, ◌&&◌, ◌||◌, List, [], ◌∷◌, false, Option, Some, None, option_map, unwrap_or, codes, if◌then◌else◌}
+use Rattle.std.specs.List.{list_all, flat_map}
 use Rattle.std.specs.Option.{option_map_or}
 use Rattle.std.specs.Str.{bytes_eq}
 use Rattle.fp_host.specs.Paths.{is_element, cut}
-use Rattle.fp_keyfile.specs.Grammar.{is_key_byte}
+use Rattle.fp_keyfile.specs.Grammar.{is_key_byte, is_blank, ends_so}
 use Rattle.fp_keyfile.specs.KeyFile.{value_in}
 use Rattle.fp_keyfile.specs.declared.group.Group.{Group}
 use Rattle.fp_name.specs.Grammar.{is_id, is_branch}
 use Rattle.fp_name.specs.Refs.{Ref, ref_with}
 use Rattle.fp_name.specs.declared.kind.RefKind.TheVariants.{Runtime}
 use Rattle.fp_small.specs.Order.{sorted_by}
-use Rattle.fl_meta.specs.Entries.{is_semicolon}
+use Rattle.fl_meta.specs.Separators.{entries_of}
 use Rattle.fl_meta.specs.Metadata.{extension_of}
 use Rattle.fl_extension.specs.declared.point.Point.{Point}
 
@@ -19,26 +19,41 @@ use Rattle.fl_extension.specs.declared.point.Point.{Point}
 abbrev pub is_on : Group → List ℕ → Bool
 is_on g key = option_map_or (λ value. bytes_eq value (codes "true")) (value_in g key) false
 
--- The text of a path that isn't the root, without `=` and control characters: in a line
--- `/app/DIRECTORY=VALUE` the first `=` ends the directory.
+-- The text of a path that isn't the root, without `=` and control characters, and without a blank
+-- at its end: in a line `/app/DIRECTORY=VALUE` the first `=` ends the directory, and blanks before
+-- it are none of the key.
 abbrev pub is_directory : List ℕ → Bool
-is_directory text = list_all is_element (cut text) && list_all is_key_byte text
+is_directory text = list_all is_element (cut text)
+    && (list_all is_key_byte text && not (ends_so is_blank text))
 
 -- ---- candidates
 
 -- the versions that are tried: the entries of `versions`, else the value of `version`, else the
 -- ref's own branch
 abbrev pub versions_of : Group → Ref → List (List ℕ)
-versions_of g r = option_map_or (slice_split is_semicolon) (value_in g (codes "versions"))
+versions_of g r = option_map_or entries_of (value_in g (codes "versions"))
     (unwrap_or (value_in g (codes "version")) r.branch ∷ [])
+
+-- the texts that weren't seen before, each of them once, at its first place
+abbrev pub each_new : (List ℕ → Bool) → List (List ℕ) → List (List ℕ)
+each_new seen [] = []
+each_new seen (text ∷ texts) = if seen text then each_new seen texts
+    else text ∷ each_new (λ other. bytes_eq other text || seen other) texts
+
+abbrev pub each_once : List (List ℕ) → List (List ℕ)
+each_once texts = each_new (λ text. false) texts
 
 -- the ref of a version that is a branch
 abbrev pub candidate_of : List ℕ → List ℕ → List ℕ → List Ref
 candidate_of name arch version =
     if is_branch version then ref_with Runtime name arch version ∷ [] else []
 
+-- equal candidates stand once
 unfoldable pub candidates_of : Group → Ref → List ℕ → List Ref
-candidates_of g r name = flat_map (candidate_of name r.arch) (versions_of g r)
+candidates_of g r name = flat_map (candidate_of name r.arch) (each_once (versions_of g r))
+
+abbrev pub branch_of : Ref → List ℕ
+branch_of r = r.branch
 
 -- ---- points
 

@@ -1,14 +1,18 @@
 //! The refs that an extension point may have.
 
-ghost use Rattle.std.specs.Prelude.{◌≡◌, ◌++◌, true, IfOk, OnOk};
-ghost use Rattle.std.specs.List.{flat_map, slice_split};
-ghost use Rattle.fl_meta.specs.Entries.{is_semicolon};
+ghost use Rattle.std.specs.Prelude.{◌≡◌, ◌++◌, ◌||◌, true, ℕ, List, IfOk, OnOk};
+ghost use Rattle.std.specs.List.{flat_map};
+ghost use Rattle.std.specs.Str.{bytes_eq};
+ghost use Rattle.fl_meta.specs.Separators.{entries_of};
 ghost use Rattle.fp_name.specs.Grammar as grammar;
 ghost use Rattle.fl_extension.specs.Points as spec;
+ghost use Rattle.fl_extension.specs.Seen.{has_seen, new_candidates};
 
+use fl_meta::first_entry;
 use fp_keyfile::Group;
 use fp_name::{NameError, RefKind, RefName};
 use std::alloc::{AllocError, Global};
+use std::collections::BTreeSet;
 
 /// Adds the ref of a version, where the version is a branch.
 fn push_candidate(
@@ -32,7 +36,28 @@ fn push_candidate(
     }
 }
 
-/// Adds the refs of the entries of a list.
+/// Adds the ref of a version, where the version is a branch and wasn't seen before.
+fn push_new<'a>(
+    out: &mut Vec<RefName>,
+    seen: &mut BTreeSet<&'a str>,
+    name: &str,
+    arch: &str,
+    version: &'a str,
+) -> Result<(), AllocError>
+    requires name { grammar.is_id name.now ≡ true }
+    requires arch { grammar.is_arch arch.now ≡ true }
+    ensures refs { OnOk result (out.new.items ≡ out.old.items
+        ++ new_candidates name.now arch.now seen.old version.now) }
+    ensures seen { OnOk result ((text : List ℕ) → has_seen seen.new text ≡ (bytes_eq text version.now
+        || has_seen seen.old text)) }
+{
+    if seen.insert(version)? {
+        push_candidate(out, name, arch, version)?;
+    }
+    Ok(())
+}
+
+/// Adds the refs of the entries of a list, equal ones once.
 fn push_entries(
     out: &mut Vec<RefName>,
     name: &str,
@@ -42,15 +67,20 @@ fn push_entries(
     requires name { grammar.is_id name.now ≡ true }
     requires arch { grammar.is_arch arch.now ≡ true }
     ensures { OnOk result (out.new.items ≡ out.old.items ++ flat_map
-        (spec.candidate_of name.now arch.now) (slice_split is_semicolon versions.now)) }
+        (spec.candidate_of name.now arch.now) (spec.each_once (entries_of versions.now))) }
 {
-    for entry in versions.split(';') {
-        push_candidate(out, name, arch, entry)?;
+    let mut seen = BTreeSet::new(*out.allocator());
+    let mut left = Some(versions);
+    while let Some(list) = left {
+        let (entry, others) = first_entry(list);
+        push_new(out, &mut seen, name, arch, entry)?;
+        left = others;
     }
     Ok(())
 }
 
-/// The refs that the group's extension may be, in the order in which they are tried.
+/// The refs that the group's extension may be, in the order in which they are tried, each of them
+/// once.
 #[tactic(auto, unfolding(crate::specs::Points::candidates_of))]
 pub(crate) fn candidates_of(
     alloc: Global,

@@ -25,10 +25,27 @@ fn are_plain(text: &str) -> bool
     text.bytes().all(|byte| is_key_byte(byte))
 }
 
+/// Whether the byte is a space or a tab.
+fn is_blank(byte: u8) -> bool
+    ensures { result ≡ keys.is_blank byte }
+{
+    byte == b' ' || byte == b'\t'
+}
+
+/// Whether the last byte is a space or a tab.
+fn ends_in_blank(bytes: &[u8]) -> bool
+    ensures { result ≡ keys.ends_so keys.is_blank bytes.now }
+{
+    match bytes {
+        [.., last] => is_blank(*last),
+        [] => false,
+    }
+}
+
 /// Whether an extension may be mounted at the text: a path that isn't the root, without `=` and
-/// control characters.
+/// control characters, and without a space or a tab at its end.
 pub(crate) fn is_directory(text: &str) -> bool
     ensures { result ≡ spec.is_directory text.now }
 {
-    are_elements(text) && are_plain(text)
+    are_elements(text) && are_plain(text) && !ends_in_blank(text.as_bytes())
 }

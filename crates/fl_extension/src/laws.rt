@@ -1,13 +1,15 @@
 //! Laws of the words that the contracts use, for crates that build on them. Each is the contract of
 //! a function that does nothing.
 
-ghost use Rattle.std.specs.Prelude.{◌≡◌, ◌↔◌, List, true, map, Contains, IsTrue};
-ghost use Rattle.std.specs.List.{flat_map};
+ghost use Rattle.std.specs.Prelude.{◌≡◌, ◌↔◌, ◌∷◌, ◌++◌, [], ℕ, List, true, false, map, codes, Contains, IsTrue};
+ghost use Rattle.std.specs.List.{flat_map, list_all, list_any};
+ghost use Rattle.std.specs.Str.{bytes_eq};
 ghost use Rattle.fp_host.specs.Reads.{is_ascending};
-ghost use Rattle.fp_keyfile.specs.KeyFile.{is_good};
+ghost use Rattle.fp_keyfile.specs.Grammar.{is_key, is_key_byte};
+ghost use Rattle.fp_keyfile.specs.KeyFile.{are_distinct, is_good};
 ghost use Rattle.fp_keyfile.specs.declared.group.Group.{Group};
 ghost use Rattle.fp_name.specs.Refs.{Ref};
-ghost use Rattle.fl_extension.specs.Points.{name_of, point_of, points_of};
+ghost use Rattle.fl_extension.specs.Points.{branch_of, candidates_of, each_once, is_directory, name_of, point_of, points_of};
 ghost use Rattle.fl_extension.specs.declared.point.Point.{Point};
 
 /// The points of a key file are those of its groups, and ascend by their names. No other list is
@@ -21,4 +23,26 @@ pub fn points_ascend()
         is_ascending (map name_of points) ≡ true
         → ((p : Point) → Contains points p ↔ Contains (flat_map (point_of r) file) p)
         → points ≡ points_of file r }
+{}
+
+/// No two candidates of a point have one branch. Of a list of versions each stands once, at its
+/// first place.
+pub fn candidates_stand_once()
+    ensures branches { (g : Group) (r : Ref) (name : List ℕ) → are_distinct (map branch_of
+        (candidates_of g r name)) ≡ true }
+    ensures distinct { (texts : List (List ℕ)) → are_distinct (each_once texts) ≡ true }
+    ensures each { (texts : List (List ℕ)) (text : List ℕ) → list_any (bytes_eq text)
+        (each_once texts) ≡ list_any (bytes_eq text) texts }
+    ensures first { each_once (codes "2" ∷ codes "1" ∷ codes "2" ∷ codes "3" ∷ codes "1" ∷ []) ≡
+        codes "2" ∷ codes "1" ∷ codes "3" ∷ [] }
+{}
+
+/// What a launch writes of a directory, after a `/`, is a key of a key file. One that ends in a blank
+/// isn't taken.
+pub fn directories_are_keys()
+    ensures key { (front directory : List ℕ) → list_all is_key_byte front ≡ true → is_directory
+        directory ≡ true → is_key (47 ∷ (front ++ directory)) ≡ true }
+    ensures blank { is_directory (codes "share ") ≡ false }
+    ensures tab { is_directory (codes "share" ++ 9 ∷ []) ≡ false }
+    ensures inner { is_directory (codes "share/a b") ≡ true }
 {}

@@ -93,10 +93,11 @@ fn sort_by_name(points: &mut Vec<Point>)
 /// after flatpak-metadata(5).
 ///
 /// A group `Extension NAME` is a point where NAME is an ID, `directory` is a path that isn't the
-/// root, without `=` and control characters, and `subdirectories` isn't `true`. Its candidates are
-/// the runtimes NAME of the ref's architecture at the branches that `versions` lists, or else at
-/// the branch `version`, or else at the ref's own; what is no branch is left out. `versions` is cut
-/// at `;`. The point is automatic unless `no-autodownload` is `true`.
+/// root, without `=` and control characters and without a blank at its end, and `subdirectories`
+/// isn't `true`. Its candidates are the runtimes NAME of the ref's architecture at the branches that
+/// `versions` lists, or else at the branch `version`, or else at the ref's own; what is no branch is
+/// left out, and a branch that comes again counts at its first place alone. `versions` is cut as a
+/// list of permissions. The point is automatic unless `no-autodownload` is `true`.
 #[tactic(auto, unfolding(crate::specs::Points::points_of))]
 pub fn points(alloc: Global, file: &KeyFile, of: &RefName) -> Result<Items<Point>, AllocError>
     ensures { IfOk result (λ points. points ≡ spec.points_of file.now of.now) }

@@ -4,3 +4,6 @@ pub mod Found
 pub mod Standing
 pub mod Local
 pub mod Samples
+pub mod LocalPoints
+pub mod Refusing
+pub mod Reading

@@ -4,3 +4,7 @@ pub mod Users
 pub mod Described
 pub mod Standing
 pub mod Sample
+pub mod Parts
+pub mod Launching
+pub mod Local
+pub mod Refusals

@@ -1,8 +1,7 @@
 //! The file `metadata` of a commit.
 ghost use Rattle.std.specs.Prelude.{◌≡◌, None, IfOk, IsErrOf};
 ghost use Rattle.fp_base.specs.declared.object.ObjKind.TheVariants as kinds;
-ghost use Rattle.fp_host.specs.Causes.{IsCounted};
-ghost use Rattle.fp_host.specs.Frame.{Unchanged};
+ghost use Rattle.fp_host.specs.OverHost.{ChangesNothing, FailsAlone};
 ghost use Rattle.fp_small.specs.Places.{repo};
 ghost use Rattle.ost_model.specs.Look.{look_fault};
 ghost use Rattle.ost_model.specs.Objects.{Have};
@@ -30,12 +29,12 @@ fn look_there<H: Host>(
     path: &Path,
 ) -> Result<Found, WalkEnd>
     requires { places.now.url ≡ None }
-    ensures unchanged { Unchanged (H.moments host.old) (H.moments host.new) }
+    ensures unchanged { ChangesNothing H.Host host.old host.new }
     ensures tells { (have : Have) → Stores places.now.root (H.moments host.old) have
         → EndsBy (IsFound have commit.now path.now)
         (IsFirst (look_fault have commit.now path.now)) result }
-    ensures fault_has_cause { IsCounted (IsErrOf result WalkEnd.HostFault)
-        (H.moments host.old) (H.faults host.old) (H.faults host.new) }
+    ensures fault_has_cause { FailsAlone H.Host host.old host.new
+        (IsErrOf result WalkEnd.HostFault) }
     ensures remote { IsErrOf result WalkEnd.RemoteFault → ⊥ }
 {
     let mut remotes = NoRemotes;
@@ -71,11 +70,10 @@ fn find_metadata<H: Host>(
     host: &mut H,
     commit: &Digest,
 ) -> Result<Option<Digest>, HostEnd>
-    ensures unchanged { Unchanged (H.moments host.old) (H.moments host.new) }
+    ensures unchanged { ChangesNothing H.Host host.old host.new }
     ensures tells { (have : Have) → Stores repo (H.moments host.old) have
         → IfOk result (λ digest. digest ≡ spec.metadata_digest have commit.now) }
-    ensures fault_has_cause { IsCounted (IsErrOf result HostEnd.Fault)
-        (H.moments host.old) (H.faults host.old) (H.faults host.new) }
+    ensures fault_has_cause { FailsAlone H.Host host.old host.new (IsErrOf result HostEnd.Fault) }
 {
     let places = store_alone(alloc)?;
     let path = metadata_path(alloc)?;
@@ -88,11 +86,10 @@ fn read_short<H: Host>(
     host: &mut H,
     digest: &Digest,
 ) -> Result<Option<Blob>, HostEnd>
-    ensures unchanged { Unchanged (H.moments host.old) (H.moments host.new) }
+    ensures unchanged { ChangesNothing H.Host host.old host.new }
     ensures tells { (have : Have) → Stores repo (H.moments host.old) have
         → IfOk result (λ bytes. bytes ≡ spec.short_content (have digest.now kinds.File)) }
-    ensures fault_has_cause { IsCounted (IsErrOf result HostEnd.Fault)
-        (H.moments host.old) (H.faults host.old) (H.faults host.new) }
+    ensures fault_has_cause { FailsAlone H.Host host.old host.new (IsErrOf result HostEnd.Fault) }
 {
     let root = repo_path(alloc)?;
     read_within(alloc, host, &root, digest, MOST_METADATA_FILE_BYTES)
@@ -107,11 +104,10 @@ pub fn metadata_file<H: Host>(
     host: &mut H,
     commit: &Digest,
 ) -> Result<Option<Blob>, HostEnd>
-    ensures unchanged { Unchanged (H.moments host.old) (H.moments host.new) }
+    ensures unchanged { ChangesNothing H.Host host.old host.new }
     ensures tells { (have : Have) → Stores repo (H.moments host.old) have
         → IfOk result (λ file. file ≡ spec.metadata_file have commit.now) }
-    ensures fault_has_cause { IsCounted (IsErrOf result HostEnd.Fault)
-        (H.moments host.old) (H.faults host.old) (H.faults host.new) }
+    ensures fault_has_cause { FailsAlone H.Host host.old host.new (IsErrOf result HostEnd.Fault) }
 {
     match find_metadata(alloc, host, commit)? {
         Some(digest) => read_short(alloc, host, &digest),
@@ -123,11 +119,10 @@ pub fn metadata_file<H: Host>(
 /// none where there is no such file of at most 1 MiB, or where the commit or its root's dirtree has
 /// a fault. Nothing changes.
 pub fn read_metadata<H: Host>(alloc: Global, host: &mut H, commit: &Digest) -> Result<Blob, HostEnd>
-    ensures unchanged { Unchanged (H.moments host.old) (H.moments host.new) }
+    ensures unchanged { ChangesNothing H.Host host.old host.new }
     ensures tells { (have : Have) → Stores repo (H.moments host.old) have
         → IfOk result (λ bytes. bytes ≡ spec.metadata_in have commit.now) }
-    ensures fault_has_cause { IsCounted (IsErrOf result HostEnd.Fault)
-        (H.moments host.old) (H.faults host.old) (H.faults host.new) }
+    ensures fault_has_cause { FailsAlone H.Host host.old host.new (IsErrOf result HostEnd.Fault) }
 {
     match metadata_file(alloc, host, commit)? {
         Some(bytes) => Ok(bytes),

@@ -1,7 +1,6 @@
 //! What is told of the metadata of a ref.
 ghost use Rattle.std.specs.Prelude.{◌≡◌, true, IfOk, IsErrOf};
-ghost use Rattle.fp_host.specs.Causes.{IsCounted};
-ghost use Rattle.fp_host.specs.Frame.{Unchanged};
+ghost use Rattle.fp_host.specs.OverHost.{ChangesNothing, FailsAlone};
 ghost use Rattle.fp_keyfile.specs.KeyFile.{are_distinct, file_of};
 ghost use Rattle.fp_small.specs.Order.{sorted_by};
 ghost use Rattle.fp_small.specs.Places.{repo};
@@ -105,13 +104,12 @@ pub fn described<H: Host>(
     name: &RefName,
     commit: &Digest,
 ) -> Result<Result<Meta, Refusal>, HostEnd>
-    ensures unchanged { Unchanged (H.moments host.old) (H.moments host.new) }
+    ensures unchanged { ChangesNothing H.Host host.old host.new }
     ensures tells { (have : Have) → Stores repo (H.moments host.old) have
         → IfOk result (λ meta. meta ≡ spec.described have name.now commit.now) }
     // No extension is named twice.
     ensures once { IfOk result spec.NamesOnce }
-    ensures fault_has_cause { IsCounted (IsErrOf result HostEnd.Fault)
-        (H.moments host.old) (H.faults host.old) (H.faults host.new) }
+    ensures fault_has_cause { FailsAlone H.Host host.old host.new (IsErrOf result HostEnd.Fault) }
 {
     let file = metadata_file(alloc, host, commit)?;
     Ok(by_file(alloc, name, file)?)
@@ -162,11 +160,10 @@ pub fn info_in<H: Host>(
     name: &RefName,
     commit: &Digest,
 ) -> Result<Result<Info, Refusal>, HostEnd>
-    ensures unchanged { Unchanged (H.moments host.old) (H.moments host.new) }
+    ensures unchanged { ChangesNothing H.Host host.old host.new }
     ensures tells { (have : Have) → Stores repo (H.moments host.old) have
         → IfOk result (λ info. info ≡ spec.info_in have name.now commit.now) }
-    ensures fault_has_cause { IsCounted (IsErrOf result HostEnd.Fault)
-        (H.moments host.old) (H.faults host.old) (H.faults host.new) }
+    ensures fault_has_cause { FailsAlone H.Host host.old host.new (IsErrOf result HostEnd.Fault) }
 {
     let meta = described(alloc, host, name, commit)?;
     Ok(as_info(meta))

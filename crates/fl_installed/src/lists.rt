@@ -1,7 +1,6 @@
 //! What all deployed commits say.
 ghost use Rattle.std.specs.Prelude.{◌≡◌, ◌++◌, IfOk, OnOk, IsErrOf, option_to_list};
-ghost use Rattle.fp_host.specs.Causes.{IsCounted};
-ghost use Rattle.fp_host.specs.Frame.{Unchanged};
+ghost use Rattle.fp_host.specs.OverHost.{ChangesNothing, FailsAlone};
 ghost use Rattle.fp_small.specs.Places.{repo};
 ghost use Rattle.ost_model.specs.Objects.{Have};
 ghost use Rattle.ost_model.specs.Remotes.{Stores};
@@ -39,11 +38,10 @@ fn meta_at<H: Host>(
     host: &mut H,
     row: &RefRow,
 ) -> Result<Option<(RefName, Meta)>, HostEnd>
-    ensures unchanged { Unchanged (H.moments host.old) (H.moments host.new) }
+    ensures unchanged { ChangesNothing H.Host host.old host.new }
     ensures tells { (have : Have) → Stores repo (H.moments host.old) have
         → IfOk result (λ meta. meta ≡ spec.meta_at have row.now) }
-    ensures fault_has_cause { IsCounted (IsErrOf result HostEnd.Fault)
-        (H.moments host.old) (H.faults host.old) (H.faults host.new) }
+    ensures fault_has_cause { FailsAlone H.Host host.old host.new (IsErrOf result HostEnd.Fault) }
 {
     if !is_app(&row.name) {
         return Ok(None);
@@ -71,11 +69,10 @@ fn metas_of<H: Host>(
     host: &mut H,
     rows: &[RefRow],
 ) -> Result<Items<(RefName, Meta)>, HostEnd>
-    ensures unchanged { Unchanged (H.moments host.old) (H.moments host.new) }
+    ensures unchanged { ChangesNothing H.Host host.old host.new }
     ensures tells { (have : Have) → Stores repo (H.moments host.old) have
         → IfOk result (λ metas. metas ≡ spec.installed_metas have rows.now) }
-    ensures fault_has_cause { IsCounted (IsErrOf result HostEnd.Fault)
-        (H.moments host.old) (H.faults host.old) (H.faults host.new) }
+    ensures fault_has_cause { FailsAlone H.Host host.old host.new (IsErrOf result HostEnd.Fault) }
 {
     let mut metas = Items::new(alloc);
     for row in rows {
@@ -93,11 +90,10 @@ pub fn metas<H: Host>(
     host: &mut H,
     state: &State,
 ) -> Result<Items<(RefName, Meta)>, HostEnd>
-    ensures unchanged { Unchanged (H.moments host.old) (H.moments host.new) }
+    ensures unchanged { ChangesNothing H.Host host.old host.new }
     ensures tells { (have : Have) → Stores repo (H.moments host.old) have
         → IfOk result (λ metas. metas ≡ spec.installed_metas have state.now.refs) }
-    ensures fault_has_cause { IsCounted (IsErrOf result HostEnd.Fault)
-        (H.moments host.old) (H.faults host.old) (H.faults host.new) }
+    ensures fault_has_cause { FailsAlone H.Host host.old host.new (IsErrOf result HostEnd.Fault) }
 {
     metas_of(alloc, host, state.refs.as_slice())
 }
@@ -108,11 +104,10 @@ fn points_at<H: Host>(
     host: &mut H,
     row: &RefRow,
 ) -> Result<(RefName, Items<Point>), HostEnd>
-    ensures unchanged { Unchanged (H.moments host.old) (H.moments host.new) }
+    ensures unchanged { ChangesNothing H.Host host.old host.new }
     ensures tells { (have : Have) → Stores repo (H.moments host.old) have
         → IfOk result (λ points. points ≡ spec.points_at have row.now) }
-    ensures fault_has_cause { IsCounted (IsErrOf result HostEnd.Fault)
-        (H.moments host.old) (H.faults host.old) (H.faults host.new) }
+    ensures fault_has_cause { FailsAlone H.Host host.old host.new (IsErrOf result HostEnd.Fault) }
 {
     let metadata = read_metadata(alloc, host, &row.commit)?;
     let points = points_in(alloc, &row.name, &metadata)?;
@@ -125,11 +120,10 @@ fn points_of<H: Host>(
     host: &mut H,
     rows: &[RefRow],
 ) -> Result<Items<(RefName, Items<Point>)>, HostEnd>
-    ensures unchanged { Unchanged (H.moments host.old) (H.moments host.new) }
+    ensures unchanged { ChangesNothing H.Host host.old host.new }
     ensures tells { (have : Have) → Stores repo (H.moments host.old) have
         → IfOk result (λ points. points ≡ spec.installed_points have rows.now) }
-    ensures fault_has_cause { IsCounted (IsErrOf result HostEnd.Fault)
-        (H.moments host.old) (H.faults host.old) (H.faults host.new) }
+    ensures fault_has_cause { FailsAlone H.Host host.old host.new (IsErrOf result HostEnd.Fault) }
 {
     let mut points = Items::new(alloc);
     for row in rows {
@@ -145,11 +139,10 @@ pub fn points<H: Host>(
     host: &mut H,
     state: &State,
 ) -> Result<Items<(RefName, Items<Point>)>, HostEnd>
-    ensures unchanged { Unchanged (H.moments host.old) (H.moments host.new) }
+    ensures unchanged { ChangesNothing H.Host host.old host.new }
     ensures tells { (have : Have) → Stores repo (H.moments host.old) have
         → IfOk result (λ points. points ≡ spec.installed_points have state.now.refs) }
-    ensures fault_has_cause { IsCounted (IsErrOf result HostEnd.Fault)
-        (H.moments host.old) (H.faults host.old) (H.faults host.new) }
+    ensures fault_has_cause { FailsAlone H.Host host.old host.new (IsErrOf result HostEnd.Fault) }
 {
     points_of(alloc, host, state.refs.as_slice())
 }

@@ -5,3 +5,6 @@ pub mod Pushes
 pub mod Granting
 pub mod Groups
 pub mod GoodGroups
+pub mod Values
+pub mod Mounted
+pub mod Readable

@@ -1,6 +1,6 @@
 -- What files and words mention has patterns and levels for the buses, and so has what they grant.
 use Rattle.std.proofs.Common.{◌≡◌, ◌==◌, ℕ, Bool, true, false, cond, ◌&&◌, ◌||◌, not, List, [], ◌∷◌, ◌++◌, codes, Option, Some, None, refl, sym, ap, subst, ◌∙◌, arith}
-use Rattle.std.specs.List.{list_all, flat_map, slice_split}
+use Rattle.std.specs.List.{list_all, flat_map}
 use Rattle.std.specs.List.Sorted.{IsStrictlySortedBy}
 use Rattle.std.specs.Option.{option_map_or}
 use Rattle.std.specs.Str.{bytes_eq}
@@ -21,7 +21,8 @@ use Rattle.fl_meta.specs.declared.mentions.Source.TheVariants as sources
 use Rattle.fl_meta.specs.Order.{place_of, is_same}
 use Rattle.fl_meta.specs.Patterns.{is_pattern}
 use Rattle.fl_meta.specs.Names.{is_among, shared_names, socket_names, device_names, feature_names, list_with, list_of_key, list_of_unknown_key, level_of}
-use Rattle.fl_meta.specs.Entries.{is_empty, is_semicolon, is_off, without_mark, name_in, value_in as entry_value, named, mention_of, mentions_in, list_mentions}
+use Rattle.fl_meta.specs.Entries.{is_no_name, is_off, without_mark, name_in, value_in as entry_value, named, mention_of, mentions_in, entry_mentions, list_mentions}
+use Rattle.fl_meta.specs.Separators.{entries_of}
 use Rattle.fl_meta.specs.Mentions.{list_at, or_unknown, context_mentions, variable_mentions, pair_name, can_stand, odd_pair, bus_with, pair_mentions, group_mentions, file_mentions}
 use Rattle.fl_meta.proofs.Same.{same_exact, same_itself}
 use Rattle.fl_context.specs.Grants.{said, later, last_mention, or_next, value_in, IsAscending}
@@ -110,7 +111,7 @@ at_apart sources.Override key = either (list_of_key key) (key_apart key)
 named_rules : (bus list : PermList) (name : List ℕ) (value : Value) → IsBus bus → is_apart list ≡ true → list_all (is_rule bus) (named list name value) ≡ true
 named_rules bus list name value is h =
     let m = mention_of (list_with list name) name value in
-    all-if (is_rule bus) (is_empty name) [] (m ∷ []) refl (and_from (is_rule bus m) true (apart_rule bus m is (apart_with list name h)) refl)
+    all-if (is_rule bus) (is_no_name name) [] (m ∷ []) refl (and_from (is_rule bus m) true (apart_rule bus m is (apart_with list name h)) refl)
 
 entry_rules : (bus list : PermList) (entry : List ℕ) → IsBus bus → is_apart list ≡ true → list_all (is_rule bus) (mentions_in list entry) ≡ true
 unfolding mentions_in
@@ -120,7 +121,7 @@ entry_rules bus list entry is h =
 list_rules : (bus list : PermList) (value : List ℕ) → IsBus bus → is_apart list ≡ true → list_all (is_rule bus) (list_mentions list value) ≡ true
 unfolding list_mentions
 list_rules bus list value is h =
-    all-flat (is_rule bus) (λ piece. mentions_in list (trimmed_front is_blank piece)) (λ piece. entry_rules bus list (trimmed_front is_blank piece) is h) (slice_split is_semicolon value)
+    all-flat (is_rule bus) (entry_mentions list) (λ piece. entry_rules bus list (trimmed_front is_blank piece) is h) (entries_of value)
 
 context_rules : (bus : PermList) (o : Option PermList) (value : List ℕ) → IsBus bus → passes is_apart o ≡ true → list_all (is_rule bus) (context_mentions o value) ≡ true
 context_rules bus None value is h = refl

@@ -17,7 +17,7 @@ ghost use Rattle.fl_override.specs.Overrides.{AllCanWrite};
 ghost use Rattle.fp_small.specs.declared.state.State.{State as TheState};
 ghost use Rattle.fl_extension.specs.declared.point.Point.{Point as ThePoint};
 ghost use Rattle.fl_launch.specs.Extensions.{mounts_of, mount_lines};
-ghost use Rattle.fl_launch.specs.Groups.{TextIsOfGroups, GroupsReadBack};
+ghost use Rattle.fl_launch.specs.Groups.{TextIsOfGroups, GroupsReadBack, LaunchReadsBack, MountReadsBack};
 ghost use Rattle.fl_launch.specs.Policies.{AreRules, IsBus};
 
 /// What files mention on a bus are patterns with levels, and so is what can be written, both
@@ -50,6 +50,19 @@ pub fn grants_are_the_last_mentions()
 pub fn texts_are_of_groups()
     ensures text { TextIsOfGroups }
     ensures back { GroupsReadBack }
+{}
+
+/// A launch of refs, digests and values reads back, where what is mentioned can be written, as what
+/// files and options mention can: no value is read as another line.
+pub fn launches_read_back()
+    ensures { LaunchReadsBack }
+{}
+
+/// The line of a mount reads back as the directory below `/app` or `/usr`, and the ref: it is no
+/// other line.
+pub fn mounts_read_back()
+    ensures app { MountReadsBack (codes "/app/") }
+    ensures runtime { MountReadsBack (codes "/usr/") }
 {}
 
 /// The lines of the mounts ascend by their bytes, so each stands once. They are those of the points

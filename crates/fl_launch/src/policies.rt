@@ -50,7 +50,6 @@ fn add_rule(
 }
 
 /// Adds the rule of a mention, where it grants a pattern of the bus.
-
 fn add_mention(
     alloc: Global,
     policy: &mut Policy,

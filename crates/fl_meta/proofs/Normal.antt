@@ -68,7 +68,7 @@ unfolding normal
 normal-twice [] = refl
 normal-twice (b ∷ bs) = with_stays b (normal bs) (normal-twice bs)
 
-rooted-cons : (absolute : Bool) (b : ℕ) (bs : List ℕ) → rooted absolute (b ∷ bs) ≡ b ∷ bs
+pub rooted-cons : (absolute : Bool) (b : ℕ) (bs : List ℕ) → rooted absolute (b ∷ bs) ≡ b ∷ bs
 rooted-cons absolute b bs = rw (and_right absolute (eqb (length (b ∷ bs)) 0) (is_empty-cons b bs)) refl
 
 rooted-twice : (absolute : Bool) (n : List ℕ) → normal n ≡ n → place_in (rooted absolute n) ≡ rooted absolute n
@@ -141,7 +141,7 @@ HasNoEnding-place_in text = rooted_none (begins_so is_slash text) (normal text) 
 
 -- ---- an end that is taken off changes nothing
 
-ended : (P : List ℕ → Type 0) → P (codes "ro") → P (codes "rw") → P (codes "create") → (word : List ℕ) → is_ending word ≡ true → P word
+pub ended : (P : List ℕ → Type 0) → P (codes "ro") → P (codes "rw") → P (codes "create") → (word : List ℕ) → is_ending word ≡ true → P word
 ended P ro read create word h =
     elim (cases_Bool (bytes_eq word (codes "ro"))) [
       | inl e ↦ subst P (sym (bytes_eq-true word _ e)) ro
@@ -193,7 +193,7 @@ no_end-tail b bs h = record {
   dotted = λ front e. h.dotted (b ∷ front) (ap (λ l. b ∷ l) e);
 }
 
-nothing_is : (part : List ℕ) → says_nothing part ≡ true → (part ≡ []) ⊎ (part ≡ codes ".")
+pub nothing_is : (part : List ℕ) → says_nothing part ≡ true → (part ≡ []) ⊎ (part ≡ codes ".")
 nothing_is [] h = inl refl
 nothing_is (c ∷ rest) h =
     elim (cases_Bool (bytes_eq (c ∷ rest) (codes "."))) [

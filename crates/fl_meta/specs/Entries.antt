@@ -1,5 +1,5 @@
 -- The entries of a list of permissions, and what each mentions.
-use Rattle.std.specs.Prelude.{ℕ, Bool, List, [], ◌∷◌, length, drop, ◌==◌, Option, Some, None, unwrap_or, if◌then◌else◌}
+use Rattle.std.specs.Prelude.{ℕ, Bool, ◌||◌, List, [], ◌∷◌, length, drop, ◌==◌, Option, Some, None, unwrap_or, if◌then◌else◌}
 use Rattle.std.specs.List.{slice_split, flat_map}
 use Rattle.fp_keyfile.specs.Grammar.{is_blank, begins_so}
 use Rattle.fp_keyfile.specs.Lines.{trimmed_front}
@@ -10,9 +10,7 @@ use Rattle.fl_meta.specs.declared.permission.Value.TheVariants as values
 use Rattle.fl_meta.specs.declared.permission.Mention.{Mention}
 use Rattle.fl_meta.specs.Names.{list_with, access_of}
 use Rattle.fl_meta.specs.Places.{is_colon, place_in}
-
-abbrev pub is_semicolon : ℕ → Bool
-is_semicolon b = b == 59
+use Rattle.fl_meta.specs.Separators.{ends_escaped, entries_of}
 
 abbrev pub is_mark : ℕ → Bool
 is_mark b = b == 33
@@ -66,10 +64,14 @@ abbrev pub mention_of : PermList → List ℕ → Value → Mention
 mention_of list name value =
     record { permission = record { list = list; name = name }; value = value }
 
--- an entry without a name mentions nothing
+-- An entry without a name mentions nothing. Nor does one whose name ends in an odd number of
+-- backslashes: where it is written in a list, its `;` would belong to it.
+abbrev pub is_no_name : List ℕ → Bool
+is_no_name name = is_empty name || ends_escaped name
+
 abbrev pub named : PermList → List ℕ → Value → List Mention
 named list name value =
-    if is_empty name then [] else mention_of (list_with list name) name value ∷ []
+    if is_no_name name then [] else mention_of (list_with list name) name value ∷ []
 
 unfoldable pub mentions_in : PermList → List ℕ → List Mention
 mentions_in list entry = named list (name_in list (without_mark entry))
@@ -77,8 +79,9 @@ mentions_in list entry = named list (name_in list (without_mark entry))
 
 -- ---- a list
 
--- A list is cut at `;`, and spaces and tabs at the start of an entry are dropped. An empty entry
--- has no name.
+-- what an entry mentions as it stands in a list: spaces and tabs at its start are dropped
+abbrev pub entry_mentions : PermList → List ℕ → List Mention
+entry_mentions list entry = mentions_in list (trimmed_front is_blank entry)
+
 unfoldable pub list_mentions : PermList → List ℕ → List Mention
-list_mentions list value = flat_map (λ piece. mentions_in list (trimmed_front is_blank piece))
-    (slice_split is_semicolon value)
+list_mentions list value = flat_map (entry_mentions list) (entries_of value)

@@ -2,6 +2,8 @@ pub mod Names
 pub mod Order
 pub mod Patterns
 pub mod Places
+pub mod Tidy
+pub mod Separators
 pub mod Entries
 pub mod Cuts
 pub mod Mentions

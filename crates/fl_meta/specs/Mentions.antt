@@ -13,7 +13,8 @@ use Rattle.fl_meta.specs.declared.mentions.Source.{Source}
 use Rattle.fl_meta.specs.declared.mentions.Source.TheVariants as sources
 use Rattle.fl_meta.specs.Names.{list_of_key, list_of_unknown_key, level_of}
 use Rattle.fl_meta.specs.Patterns.{is_pattern}
-use Rattle.fl_meta.specs.Entries.{is_semicolon, is_off, mention_of, list_mentions}
+use Rattle.fl_meta.specs.Separators.{is_semicolon, ends_escaped}
+use Rattle.fl_meta.specs.Entries.{is_off, mention_of, list_mentions}
 
 -- ---- the group `Context`: each key is a list; an override has besides keys for what was unknown
 
@@ -37,12 +38,13 @@ variable_mentions p = mention_of lists.Environment p.key (values.Text p.value) �
 -- ---- the groups of the buses: each pair is a pattern and its level
 
 -- A pair whose pattern or level isn't known is an unknown permission, if it can stand in a list: it
--- has no `;` and doesn't begin with `!`.
+-- has no `;`, doesn't begin with `!`, and doesn't end in an odd number of backslashes.
 abbrev pub pair_name : Pair → List ℕ
 pair_name p = p.key ++ 61 ∷ p.value
 
 abbrev pub can_stand : List ℕ → Bool
-can_stand name = not (list_any is_semicolon name) && not (is_off name)
+can_stand name =
+    not (list_any is_semicolon name) && (not (is_off name) && not (ends_escaped name))
 
 abbrev pub odd_pair : PermList → List ℕ → List Mention
 odd_pair unknown name = if can_stand name then mention_of unknown name values.On ∷ [] else []

@@ -1,5 +1,5 @@
 -- Patterns of bus names: the D-Bus specification's bus names, and such names followed by `.*`.
-use Rattle.std.specs.Prelude.{ℕ, Bool, false, ◌&&◌, ◌||◌, List, [], ◌∷◌, length, nat_le, ◌-◌, take, ◌==◌, codes, nat_eq, if◌then◌else◌}
+use Rattle.std.specs.Prelude.{ℕ, Bool, ◌&&◌, ◌||◌, List, length, nat_le, ◌-◌, take, ◌==◌, codes, nat_eq, if◌then◌else◌}
 use Rattle.std.specs.List.{list_all, slice_split, ends_with}
 use Rattle.fp_name.specs.Bytes.{is_word_start, is_dashed, is_dot, begins_with}
 use Rattle.fl_meta.specs.declared.limits.TheConstants.{MOST_BUS_NAME_BYTES}

@@ -7,6 +7,7 @@ ghost use Rattle.fl_meta.specs.Names as names;
 use crate::names::{access_of, list_with};
 use crate::permission::{Layer, Mention, PermList, Value};
 use crate::places::place_in;
+use crate::separators::{ends_escaped, first_entry};
 use fp_base::Text;
 use fp_keyfile::trim_front;
 use std::alloc::{AllocError, Global};
@@ -58,6 +59,13 @@ fn without_mark(entry: &str) -> &str
     }
 }
 
+/// Whether a name is none: it is empty, or a `;` after it would be part of it.
+fn is_no_name(name: &str) -> bool
+    ensures { result ≡ entries.is_no_name name.now }
+{
+    name.is_empty() || ends_escaped(name)
+}
+
 /// Adds what an entry mentions.
 #[tactic(auto, unfolding(crate::specs::Entries::mentions_in))]
 fn push_entry(out: &mut Layer, list: PermList, entry: &str) -> Result<(), AllocError>
@@ -65,7 +73,7 @@ fn push_entry(out: &mut Layer, list: PermList, entry: &str) -> Result<(), AllocE
 {
     let text = without_mark(entry);
     let name = name_in(out.allocator(), list, text)?;
-    if name.as_str().is_empty() {
+    if is_no_name(name.as_str()) {
         return Ok(());
     }
     let value = if is_off(entry) {
@@ -87,8 +95,11 @@ fn push_entry(out: &mut Layer, list: PermList, entry: &str) -> Result<(), AllocE
 pub(crate) fn push_list(out: &mut Layer, list: PermList, value: &str) -> Result<(), AllocError>
     ensures { OnOk result (out.new ≡ out.old ++ entries.list_mentions list value.now) }
 {
-    for piece in value.split(';') {
-        push_entry(out, list, trim_front(piece))?;
+    let mut left = Some(value);
+    while let Some(text) = left {
+        let (entry, others) = first_entry(text);
+        push_entry(out, list, trim_front(entry))?;
+        left = others;
     }
     Ok(())
 }

@@ -11,6 +11,7 @@ mod names;
 mod pattern;
 mod permission;
 mod places;
+mod separators;
 
 pub use fault::MetaError;
 pub use limits::MOST_BUS_NAME_BYTES;
@@ -18,3 +19,4 @@ pub use mentions::{Source, mentions_of};
 pub use meta::{Meta, MetaKind, extension_name, meta_kind};
 pub use pattern::is_pattern;
 pub use permission::{Layer, Mention, PermList, Permission, Value};
+pub use separators::first_entry;

@@ -2,12 +2,13 @@
 
 ghost use Rattle.std.specs.Prelude.{◌≡◌, ◌++◌, IfOk, OnOk};
 ghost use Rattle.std.specs.List.{list_any};
-ghost use Rattle.fl_meta.specs.Entries.{is_semicolon};
+ghost use Rattle.fl_meta.specs.Separators.{is_semicolon};
 ghost use Rattle.fl_meta.specs.Mentions as mentions;
 
 use crate::entries::{is_off, push_list};
 use crate::pattern::is_pattern;
 use crate::permission::{Layer, Mention, PermList, Value};
+use crate::separators::ends_escaped;
 use fp_base::Text;
 use fp_keyfile::{Group, KeyFile, Pair};
 use std::alloc::{AllocError, Global};
@@ -80,7 +81,7 @@ fn has_semicolon(text: &str) -> bool
 fn can_stand(name: &str) -> bool
     ensures { result ≡ mentions.can_stand name.now }
 {
-    !has_semicolon(name) && !is_off(name)
+    !has_semicolon(name) && !is_off(name) && !ends_escaped(name)
 }
 
 /// Adds a bus pair whose pattern or level isn't known.
@@ -146,12 +147,13 @@ fn push_group(out: &mut Layer, source: Source, group: &Group) -> Result<(), Allo
 
 /// The permissions that a key file mentions, in its order, after flatpak-metadata(5).
 ///
-/// A list is cut at `;`. Spaces and tabs at the start of an entry are dropped. A leading `!` says
+/// A list is cut at each `;` that no odd number of backslashes precedes; the bytes of an entry stay
+/// as they are written. Spaces and tabs at the start of an entry are dropped. A leading `!` says
 /// that the permission is off. Of a filesystem the endings `:ro`, `:rw` and `:create` are taken
 /// off, and the last one says how it may be used; without one it may be read and written. Its name
 /// is the normal text of the place: `/opt//data/` is `/opt/data`. An entry without a name mentions
-/// nothing. A name that its list doesn't know is an unknown permission, and
-/// so is a bus pair whose pattern or level isn't known.
+/// nothing, nor does one whose name ends in an odd number of backslashes. A name that its list
+/// doesn't know is an unknown permission, and so is a bus pair whose pattern or level isn't known.
 #[tactic(auto, unfolding(crate::specs::Mentions::file_mentions))]
 pub fn mentions_of(alloc: Global, file: &KeyFile, source: Source) -> Result<Layer, AllocError>
     ensures { IfOk result (λ layer. layer ≡ mentions.file_mentions source file.now) }

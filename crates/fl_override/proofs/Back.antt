@@ -1,98 +1,77 @@
 -- What is written reads back.
 use Rattle.std.proofs.Common.{◌≡◌, ◌==◌, ℕ, Bool, true, false, cond, eqb, List, [], ◌∷◌, ◌++◌, ◌||◌, arith, filter, length, Option, Some, None, refl, sym, ap, subst, ◌∙◌, append_assoc, append-nil}
 use Rattle.std.specs.Prelude.{codes}
-use Rattle.std.specs.List.{slice_split, list_any, flat_map, AllByRecursion}
-use Rattle.std.proofs.lemmas.Bool.{false≢true, false_from_ne_true, ne_eqb, eqb-true}
+use Rattle.std.specs.List.{list_any, flat_map, AllByRecursion}
+use Rattle.std.proofs.lemmas.Bool.{false≢true, false_from_ne_true, ne_eqb, eqb-true, or_parts}
 use Rattle.std.proofs.lemmas.List.Concat.{flat_map-append}
 use Rattle.fp_keyfile.specs.declared.group.Pair.{Pair}
 use Rattle.fp_keyfile.specs.Grammar.{is_blank}
 use Rattle.fp_keyfile.specs.Lines.{trimmed_front}
-use Rattle.fp_keyfile.proofs.Texts.{BeginsIn-trimmed_front}
 use Rattle.fl_meta.specs.declared.permission.PermList.{PermList}
 use Rattle.fl_meta.specs.declared.permission.PermList.TheVariants as lists
 use Rattle.fl_meta.specs.declared.permission.Permission.{Permission}
 use Rattle.fl_meta.specs.declared.permission.Value.{Value}
-use Rattle.fl_meta.specs.declared.permission.Value.TheVariants as values
 use Rattle.fl_meta.specs.declared.permission.Mention.{Mention}
 use Rattle.fl_meta.specs.declared.mentions.Source.TheVariants as sources
 use Rattle.fl_meta.specs.Names.{key_of}
 use Rattle.fl_meta.specs.Order.{place_of, is_same}
-use Rattle.fl_meta.specs.Entries.{is_semicolon, is_mark, without_mark, is_empty, name_in, mention_of, mentions_in, list_mentions}
+use Rattle.fl_meta.specs.Entries.{without_mark, is_empty, is_no_name, name_in, mention_of, mentions_in, entry_mentions, list_mentions}
+use Rattle.fl_meta.specs.Separators.{ends_escaped, entries_of}
 use Rattle.fl_meta.specs.Mentions.{pair_mentions, group_mentions, file_mentions}
 use Rattle.fl_meta.proofs.Endings.{is_empty-cons}
+use Rattle.fl_meta.proofs.Whole.{IsWhole, entries_cut, entries_are_whole}
 use Rattle.fl_meta.proofs.Same.{place_exact, same_places}
 use Rattle.fl_context.specs.Grants.{said, later, last_mention, value_in, IsAscending}
 use Rattle.fl_context.proofs.Merging.{last_mention-append, last-one}
-use Rattle.fl_override.specs.Written.{entry_with, entry_text, closed_entry, is_in, list_text, pair_if, list_pair, context_lists, context_pairs, named_pair, named_pairs, group_if, file_with, group_of, pair_with, pair_of, CanWrite}
+use Rattle.fl_override.specs.Written.{entry_text, closed_entry, is_in, list_text, pair_if, list_pair, context_lists, context_pairs, named_pair, named_pairs, group_if, file_with, group_of, pair_with, pair_of, CanWrite}
 use Rattle.fl_override.specs.Overrides.{AllCanWrite}
-use Rattle.fl_override.proofs.Plain.{Lacks, AllByRecursion-append, split_piece, lacking_pieces}
-use Rattle.fl_override.proofs.Places.{Lacks-place_in}
+use Rattle.fl_override.proofs.Plain.{AllByRecursion-append}
+use Rattle.fl_override.proofs.Closed.{IsClosed, closed_with, trimmed_whole, mark_whole, place_whole}
 use Rattle.fl_override.proofs.Reading.{IsListed, listed_shared, listed_sockets, listed_devices, listed_features, listed_filesystems, listed_persistent, listed_unknown_shared, listed_unknown_sockets, listed_unknown_devices, listed_unknown_features, listed_unknown_session, listed_unknown_system, mentions_in-nil, closed_reads, context_reads}
 
--- ---- names have no semicolon
+-- ---- a `;` after a name ends it
 
-lacks_back : (xs ys : List ℕ) → Lacks (xs ++ ys) → Lacks ys
-lacks_back [] ys h = h
-lacks_back (x ∷ xs) ys h = lacks_back xs ys h.1
+whole_name : (list : PermList) (t : List ℕ) → IsWhole false t → IsWhole false (name_in list t)
+whole_name lists.Filesystems t h = place_whole t h
+whole_name list t h = h
 
-lacks_trimmed : (x : List ℕ) → Lacks x → Lacks (trimmed_front is_blank x)
-lacks_trimmed x h = let b = BeginsIn-trimmed_front is_blank x in lacks_back b.front (trimmed_front is_blank x) (subst Lacks b.parts h)
+abbrev NameCloses : Mention → Type 0
+NameCloses m = IsClosed m.permission.name
 
-lacks_mark : (x : List ℕ) → Lacks x → Lacks (without_mark x)
-lacks_mark [] h = h
-lacks_mark (b ∷ bs) h = by_mark (is_mark b)
-  where
-    by_mark : (m : Bool) → Lacks (cond m bs (b ∷ bs))
-    by_mark true = h.1
-    by_mark false = h
+named_closes : (none : Bool) (list : PermList) (name : List ℕ) (value : Value) → is_no_name name ≡ none → IsWhole false name → AllByRecursion NameCloses (cond none [] (mention_of list name value ∷ []))
+named_closes true list name value e h = tt
+named_closes false list name value e h = (record { whole = h; ends = (or_parts (is_empty name) (ends_escaped name) e).1 }, tt)
 
-lacks_name : (list : PermList) (t : List ℕ) → Lacks t → Lacks (name_in list t)
-lacks_name lists.Filesystems t h = Lacks-place_in t h
-lacks_name list t h = h
-
-abbrev NameLacks : Mention → Type 0
-NameLacks m = Lacks m.permission.name
-
-named_lacks : (some : Bool) (list : PermList) (name : List ℕ) (value : Value) → Lacks name → AllByRecursion NameLacks (cond some [] (mention_of list name value ∷ []))
-named_lacks true list name value h = tt
-named_lacks false list name value h = (h, tt)
-
-entry_names : (list : PermList) (x : List ℕ) → Lacks x → AllByRecursion NameLacks (mentions_in list x)
+entry_names : (list : PermList) (x : List ℕ) → IsWhole false x → AllByRecursion NameCloses (mentions_in list x)
 unfolding mentions_in
-entry_names list x h = let n = lacks_name list (without_mark x) (lacks_mark x h) in named_lacks (is_empty (name_in list (without_mark x))) _ _ _ n
+entry_names list x h = named_closes (is_no_name (name_in list (without_mark x))) _ _ _ refl (whole_name list (without_mark x) (mark_whole x h))
 
-pieces_names : (list : PermList) (pieces : List (List ℕ)) → AllByRecursion Lacks pieces → AllByRecursion NameLacks (flat_map (λ piece. mentions_in list (trimmed_front is_blank piece)) pieces)
+pieces_names : (list : PermList) (pieces : List (List ℕ)) → AllByRecursion (IsWhole false) pieces → AllByRecursion NameCloses (flat_map (entry_mentions list) pieces)
 pieces_names list [] h = tt
 pieces_names list (piece ∷ pieces) h =
-    AllByRecursion-append NameLacks (mentions_in list (trimmed_front is_blank piece)) _ (entry_names list (trimmed_front is_blank piece) (lacks_trimmed piece h.0)) (pieces_names list pieces h.1)
+    AllByRecursion-append NameCloses (entry_mentions list piece) _ (entry_names list (trimmed_front is_blank piece) (trimmed_whole piece h.0)) (pieces_names list pieces h.1)
 
-list_names : (list : PermList) (value : List ℕ) → AllByRecursion NameLacks (list_mentions list value)
+list_names : (list : PermList) (value : List ℕ) → AllByRecursion NameCloses (list_mentions list value)
 unfolding list_mentions
-list_names list value = pieces_names list (slice_split is_semicolon value) (lacking_pieces [] value tt)
-
-lacks_entry : (v : Value) (name : List ℕ) → Lacks name → Lacks (entry_with v name)
-lacks_entry values.Off name h = (refl, h)
-lacks_entry values.Ro name h = AllByRecursion-append (λ b. is_semicolon b ≡ false) name (codes ":ro") h (refl, (refl, (refl, tt)))
-lacks_entry values.Create name h = AllByRecursion-append (λ b. is_semicolon b ≡ false) name (codes ":create") h (refl, (refl, (refl, (refl, (refl, (refl, (refl, tt)))))))
-lacks_entry v name h = h
+list_names list value = pieces_names list (entries_of value) (entries_are_whole value)
 
 -- ---- a list
 
 record ReadsAlone (list : PermList) (m : Mention) : Type 0 where
-  pub lacks : Lacks (entry_text m)
-  pub reads : mentions_in list (trimmed_front is_blank (entry_text m)) ≡ m ∷ []
+  pub closed : IsClosed (entry_text m)
+  pub reads : entry_mentions list (entry_text m) ≡ m ∷ []
 
 reads_alone : (list : PermList) (m : Mention) → IsListed list → m.permission.list ≡ list → CanWrite m → ReadsAlone list m
 reads_alone list m l is h =
     let whole : list_mentions list (closed_entry m) ≡ m ∷ [] =
     sym (context_reads list (closed_entry m) l) ∙ sym (ap (pair_mentions sources.Override (codes "Context")) (l.pair m is)) ∙ sym (ap (λ g. pair_mentions sources.Override g (pair_of m)) (ap group_of is ∙ l.group)) ∙ h.reads in
-    let names : AllByRecursion NameLacks (m ∷ []) = subst (AllByRecursion NameLacks) whole (list_names list (closed_entry m)) in
-    let lacks = lacks_entry m.value m.permission.name names.0 in
-    record { lacks = lacks; reads = sym (closed_reads list (entry_text m) lacks) ∙ whole }
+    let names : AllByRecursion NameCloses (m ∷ []) = subst (AllByRecursion NameCloses) whole (list_names list (closed_entry m)) in
+    let closed = closed_with m.value m.permission.name names.0 in
+    record { closed = closed; reads = sym (closed_reads list (entry_text m) closed) ∙ whole }
 
-list_more : (list : PermList) (entry rest : List ℕ) → Lacks entry → list_mentions list (entry ++ 59 ∷ rest) ≡ mentions_in list (trimmed_front is_blank entry) ++ list_mentions list rest
+list_more : (list : PermList) (entry rest : List ℕ) → IsClosed entry → list_mentions list (entry ++ 59 ∷ rest) ≡ entry_mentions list entry ++ list_mentions list rest
 unfolding list_mentions
-list_more list entry rest h = ap (flat_map (λ piece. mentions_in list (trimmed_front is_blank piece))) (split_piece entry rest h)
+list_more list entry rest h = ap (flat_map (entry_mentions list)) (entries_cut false entry rest h.whole h.ends)
 
 list_none : (list : PermList) → list_mentions list [] ≡ []
 unfolding list_mentions
@@ -107,7 +86,7 @@ list_back list (m ∷ set) l h = by_list (is_in list m) refl (list_back list set
     by_list false e rest = rest
     by_list true e rest =
         let alone = reads_alone list m l (place_exact m.permission.list list e) h.0 in
-        ap (list_mentions list) (append_assoc (entry_text m) (59 ∷ []) (list_text list set)) ∙ list_more list (entry_text m) (list_text list set) alone.lacks
+        ap (list_mentions list) (append_assoc (entry_text m) (59 ∷ []) (list_text list set)) ∙ list_more list (entry_text m) (list_text list set) alone.closed
         ∙ ap (λ ms. ms ++ list_mentions list (list_text list set)) alone.reads ∙ ap (λ ms. m ∷ ms) rest
 
 -- ---- the group `Context`

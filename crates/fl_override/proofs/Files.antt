@@ -1,5 +1,5 @@
 -- What is written is a key file.
-use Rattle.std.proofs.Common.{◌≡◌, ◌==◌, ℕ, Bool, true, false, not, cond, eqb, List, [], ◌∷◌, ◌++◌, ◌&&◌, ◌||◌, map, filter, length, refl, sym, ap, subst, ◌∙◌, append_assoc, append-nil, arith, lit<}
+use Rattle.std.proofs.Common.{◌≡◌, ◌==◌, ℕ, Bool, true, false, not, cond, List, [], ◌∷◌, ◌++◌, ◌&&◌, ◌||◌, map, length, refl, sym, ap, subst, ◌∙◌, append_assoc, lit<}
 use Rattle.std.specs.Prelude.{codes}
 use Rattle.std.specs.declared.cmp.Ordering.TheVariants as orders
 use Rattle.std.specs.Ordering.{is_eq}
@@ -12,20 +12,18 @@ use Rattle.fp_keyfile.specs.declared.group.Group.{Group}
 use Rattle.fp_keyfile.specs.declared.group.Pair.{Pair}
 use Rattle.fp_keyfile.specs.Grammar.{is_blank, is_return, is_value_byte, is_name, is_value, is_key, begins_so, ends_so}
 use Rattle.fp_keyfile.specs.KeyFile.{keys_of, names_of, are_distinct, is_good_pair, is_good_group, is_good}
-use Rattle.fp_keyfile.proofs.Names.{bytes_eq-true}
 use Rattle.fp_keyfile.proofs.Texts.{ends_so-append, utf8_joined, utf8_before, utf8_nil}
-use Rattle.fp_keyfile.proofs.Good.{IsGoodPair, good_pair_from, IsGoodGroup, good_group_from, IsGood, good_from}
-use Rattle.fp_keyfile.proofs.Written.{IsValueText, IsValueText-from}
+use Rattle.fp_keyfile.proofs.Good.{IsGoodPair, good_pair_from, good_group_from, good_from}
+use Rattle.fp_keyfile.proofs.Written.{IsValueText-from}
 use Rattle.fl_meta.specs.declared.permission.PermList.{PermList}
 use Rattle.fl_meta.specs.declared.permission.PermList.TheVariants as lists
 use Rattle.fl_meta.specs.declared.permission.Permission.{Permission}
 use Rattle.fl_meta.specs.declared.permission.Mention.{Mention}
 use Rattle.fl_meta.specs.Names.{key_of}
 use Rattle.fl_meta.specs.Order.{place_of, permission_cmp, same_ties}
-use Rattle.fl_meta.proofs.Endings.{is_empty-cons}
 use Rattle.fl_meta.proofs.Same.{place_exact}
 use Rattle.fl_context.specs.Grants.{permission_of, IsAscending}
-use Rattle.fl_override.specs.Written.{entry_text, closed_entry, is_in, entry_in, list_text, pair_if, list_pair, context_lists, context_pairs, named_pair, named_in, named_pairs, group_if, file_with, pair_of, CanWrite}
+use Rattle.fl_override.specs.Written.{entry_text, closed_entry, is_in, list_text, list_pair, context_lists, context_pairs, named_pair, named_pairs, group_if, file_with}
 use Rattle.fl_override.specs.Overrides.{AllCanWrite}
 use Rattle.fl_override.proofs.Reading.{IsListed, utf8_ascii}
 use Rattle.fl_override.proofs.Back.{all_listed, HasNames, has_variables, has_session, has_system}

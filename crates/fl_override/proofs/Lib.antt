@@ -1,4 +1,5 @@
 pub mod Plain
+pub mod Closed
 pub mod Places
 pub mod Reading
 pub mod Back

@@ -2,11 +2,11 @@
 use Rattle.std.proofs.Common.{◌≡◌, ℕ, Bool, true, false, cond, eqb, List, [], ◌∷◌, ◌++◌, ◌⊎◌, ◌<◌, drop, inl, inr, refl, sym, ap, subst, ◌∙◌, arith, append_assoc, append-nil, lit<}
 use Rattle.std.specs.Prelude.{codes}
 use Rattle.std.proofs.lemmas.Bool.{false≢true, cases_Bool, eqb-true, and_parts}
-use Rattle.fp_keyfile.specs.Grammar.{begins_so}
+use Rattle.fp_keyfile.specs.Grammar.{begins_so, is_value_byte}
 use Rattle.fp_keyfile.proofs.Texts.{utf8_joined, utf8_nil}
-use Rattle.fl_meta.specs.Places.{is_slash, is_colon, is_dot, is_ending, says_nothing, begins_dotted, slash_with, colon_with, normal_with, normal, rooted, place_in}
-use Rattle.fl_meta.specs.Entries.{is_semicolon, is_empty}
-use Rattle.fl_override.proofs.Plain.{is_entry_byte, IsPlain, IsPlain-before, IsPlain-after, IsPlain-joined, Lacks}
+use Rattle.fl_meta.specs.Places.{is_slash, is_colon, is_dot, is_ending, says_nothing, begins_dotted, normal_with, normal, rooted, place_in}
+use Rattle.fl_meta.specs.Entries.{is_empty}
+use Rattle.fl_override.proofs.Plain.{IsPlain, IsPlain-before, IsPlain-after, IsPlain-joined}
 
 -- ---- an ending after it
 
@@ -94,7 +94,7 @@ plain_slash : (front : List ℕ) (b : ℕ) (more : List ℕ) (c : ℕ) (r : List
 plain_slash front b more c r lt e h =
     let is : c ≡ 47 = eqb-true c 47 e in
     let low : c < 128 = small c 47 e (lit< tt) in
-    IsPlain-joined front c r low (ap is_entry_byte is) (IsPlain-before front b (more ++ c ∷ r) lt h) (IsPlain-after more c r low (IsPlain-after front b (more ++ c ∷ r) lt h))
+    IsPlain-joined front c r low (ap is_value_byte is) (IsPlain-before front b (more ++ c ∷ r) lt h) (IsPlain-after more c r low (IsPlain-after front b (more ++ c ∷ r) lt h))
 
 plain_begins : (front : List ℕ) (b : ℕ) (more r : List ℕ) → b < 128 → begins_so is_slash r ≡ true → IsPlain (front ++ b ∷ (more ++ r)) → IsPlain (front ++ r)
 plain_begins front b more [] lt e h = absurd (false≢true e)
@@ -144,27 +144,3 @@ if_plain false xs ys h k = k
 
 pub IsPlain-place_in : (text : List ℕ) → IsPlain text → IsPlain (place_in text)
 IsPlain-place_in text h = if_plain _ (codes "/") (normal text) plain_root (plain_after [] text h)
-
--- ---- it has no semicolon where the text has none
-
-lacks_drop : (xs : List ℕ) → Lacks xs → Lacks (drop 1 xs)
-lacks_drop [] h = h
-lacks_drop (x ∷ xs) h = h.1
-
-if_lacks : (b : Bool) (xs ys : List ℕ) → Lacks xs → Lacks ys → Lacks (cond b xs ys)
-if_lacks true xs ys h k = h
-if_lacks false xs ys h k = k
-
-with_lacks : (b : ℕ) (r : List ℕ) → is_semicolon b ≡ false → Lacks r → Lacks (normal_with b r)
-with_lacks b r e h =
-    if_lacks (is_slash b) (slash_with r) _
-    (if_lacks (says_nothing r) [] _ tt (if_lacks (begins_so is_slash r) r _ h (if_lacks (begins_dotted r) (drop 1 r) (47 ∷ r) (lacks_drop r h) (refl, h))))
-    (if_lacks (is_colon b) (colon_with r) (b ∷ r) (if_lacks (is_ending r) [] (58 ∷ r) tt (refl, h)) (e, h))
-
-lacks_normal : (text : List ℕ) → Lacks text → Lacks (normal text)
-unfolding normal
-lacks_normal [] h = h
-lacks_normal (b ∷ bs) h = with_lacks b (normal bs) h.0 (lacks_normal bs h.1)
-
-pub Lacks-place_in : (text : List ℕ) → Lacks text → Lacks (place_in text)
-Lacks-place_in text h = if_lacks _ (codes "/") (normal text) (refl, tt) (lacks_normal text h)

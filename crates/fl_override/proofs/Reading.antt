@@ -23,18 +23,22 @@ use Rattle.fl_meta.specs.declared.permission.PermList.TheVariants as lists
 use Rattle.fl_meta.specs.declared.permission.Value.{Value}
 use Rattle.fl_meta.specs.declared.permission.Value.TheVariants as values
 use Rattle.fl_meta.specs.declared.permission.Mention.{Mention}
+use Rattle.fl_meta.specs.declared.mentions.Source.{Source}
 use Rattle.fl_meta.specs.declared.mentions.Source.TheVariants as sources
 use Rattle.fl_meta.specs.Names.{is_among, shared_names, socket_names, device_names, feature_names, list_with, key_of, list_of_key, list_of_unknown_key, word_of, level_of, access_of}
 use Rattle.fl_meta.specs.Patterns.{is_pattern}
 use Rattle.fl_meta.specs.Places.{is_colon, normal, place_in}
-use Rattle.fl_meta.specs.Entries.{is_semicolon, is_mark, is_empty, is_off, without_mark, last_word, access_remainder, access_at, name_in, value_in, mention_of, mentions_in, list_mentions}
+use Rattle.fl_meta.specs.Entries.{is_mark, is_empty, is_no_name, is_off, without_mark, last_word, access_remainder, access_at, name_in, value_in, mention_of, mentions_in, entry_mentions, list_mentions}
+use Rattle.fl_meta.specs.Separators.{is_semicolon, ends_escaped, entries_of}
 use Rattle.fl_meta.specs.Cuts.{HasNoEnding}
 use Rattle.fl_meta.specs.Mentions.{or_unknown, list_at, context_mentions, pair_name, can_stand, odd_pair, bus_with, bus_mentions, pair_mentions, group_mentions, file_mentions}
 use Rattle.fl_meta.proofs.Endings.{last_word-cut, is_empty-cons}
 use Rattle.fl_meta.proofs.Normal.{HasNoEnding-place_in, place_in-twice}
+use Rattle.fl_meta.proofs.Whole.{IsWhole, entries_cut, entries_are_whole}
 use Rattle.fl_override.specs.Written.{entry_with, entry_text, closed_entry, group_of, pair_with, pair_of, CanWrite}
 use Rattle.fl_override.specs.Overrides.{AllCanWrite}
-use Rattle.fl_override.proofs.Plain.{is_entry_byte, IsPlain, IsPlain-nil, IsPlain-joined, IsPlain-trimmed, IsPlain-without_mark, Lacks, Lacks-plain, AllByRecursion-append, split_piece, plain_pieces}
+use Rattle.fl_override.proofs.Plain.{IsPlain, IsPlain-nil, IsPlain-joined, IsPlain-trimmed, IsPlain-without_mark, AllByRecursion-append, plain_pieces}
+use Rattle.fl_override.proofs.Closed.{IsClosed, closed_with, trimmed_whole, mark_whole, place_whole, none_whole}
 use Rattle.fl_override.proofs.Places.{place_in-ended, first_of, IsPlain-place_in}
 
 -- ---- ASCII
@@ -125,32 +129,27 @@ unfolding mentions_in
 mentions_in-nil list = rw (name_in-nil list) refl
 
 -- a text that is one closed entry
-pub closed_reads : (list : PermList) (e : List ℕ) → Lacks e → list_mentions list (e ++ 59 ∷ []) ≡ mentions_in list (trimmed_front is_blank e)
+pub closed_reads : (list : PermList) (e : List ℕ) → IsClosed e → list_mentions list (e ++ 59 ∷ []) ≡ entry_mentions list e
 unfolding list_mentions
 closed_reads list e h =
-    let f : List ℕ → List Mention = λ piece. mentions_in list (trimmed_front is_blank piece) in
-    ap (flat_map f) (split_piece e [] h) ∙ ap (λ ms. f e ++ (ms ++ [])) (mentions_in-nil list) ∙ append-nil (f e)
+    let f : List ℕ → List Mention = entry_mentions list in
+    ap (flat_map f) (entries_cut false e [] h.whole h.ends) ∙ ap (λ ms. f e ++ (ms ++ [])) (mentions_in-nil list) ∙ append-nil (f e)
 
 pub record IsEntry (list : PermList) (m : Mention) : Type 0 where
   pub list_is : m.permission.list ≡ list
   pub plain : IsPlain (entry_text m)
+  pub closed : IsClosed (entry_text m)
   pub begins : begins_so is_blank (entry_text m) ≡ false
   pub reads : mentions_in list (entry_text m) ≡ m ∷ []
-
-value_bytes : (e : List ℕ) → list_all is_entry_byte e ≡ true → list_all is_value_byte e ≡ true
-value_bytes [] h = refl
-value_bytes (b ∷ bs) h =
-    let a = and_parts (is_entry_byte b) (list_all is_entry_byte bs) h in
-    and_from (is_value_byte b) (list_all is_value_byte bs) (and_parts (is_value_byte b) (not (is_semicolon b)) a.0).0 (value_bytes bs a.1)
 
 begins_closed : (e : List ℕ) → begins_so is_blank e ≡ false → begins_so is_blank (e ++ 59 ∷ []) ≡ false
 begins_closed [] h = refl
 begins_closed (b ∷ bs) h = h
 
-pub closed_value : (e : List ℕ) → list_all is_entry_byte e ≡ true → begins_so is_blank e ≡ false → is_value (e ++ 59 ∷ []) ≡ true
+pub closed_value : (e : List ℕ) → list_all is_value_byte e ≡ true → begins_so is_blank e ≡ false → is_value (e ++ 59 ∷ []) ≡ true
 closed_value e bytes begins =
     let v = e ++ 59 ∷ [] in
-    let all : list_all is_value_byte v ≡ true = list_all-append is_value_byte e (59 ∷ []) ∙ and_from (list_all is_value_byte e) true (value_bytes e bytes) refl in
+    let all : list_all is_value_byte v ≡ true = list_all-append is_value_byte e (59 ∷ []) ∙ and_from (list_all is_value_byte e) true bytes refl in
     let front : not (begins_so is_blank v) ≡ true = ap not (begins_closed e begins) in
     let back : not (ends_so is_return v) ≡ true = ap not (ends_so-append is_return e 59 []) in
     and_from (list_all is_value_byte v && not (begins_so is_blank v)) (not (ends_so is_return v)) (and_from (list_all is_value_byte v) (not (begins_so is_blank v)) all front) back
@@ -170,18 +169,24 @@ CanWrite-entry list m l h =
       value_text = ap (λ p. is_utf8 p.value) pair ∙ utf8_joined e 59 [] (lit< tt) h.plain.utf8 utf8_nil;
       reads =
           ap (λ g. pair_mentions sources.Override g (pair_of m)) (ap group_of h.list_is ∙ l.group) ∙ ap (pair_mentions sources.Override (codes "Context")) pair
-          ∙ context_reads list (closed_entry m) l ∙ closed_reads list e (Lacks-plain e h.plain.bytes) ∙ ap (mentions_in list) (trimmed_front_same is_blank e h.begins) ∙ h.reads;
+          ∙ context_reads list (closed_entry m) l ∙ closed_reads list e h.closed ∙ ap (mentions_in list) (trimmed_front_same is_blank e h.begins) ∙ h.reads;
     }
 
 -- ---- an entry that is read
 
+some_bytes : (name : List ℕ) → is_no_name name ≡ false → is_empty name ≡ false
+some_bytes name some = (or_parts (is_empty name) (ends_escaped name) some).0
+
+named_closed : (name : List ℕ) → IsWhole false name → is_no_name name ≡ false → IsClosed name
+named_closed name whole some = record { whole = whole; ends = (or_parts (is_empty name) (ends_escaped name) some).1 }
+
 -- what is off
-off_reads : (list : PermList) (name : List ℕ) → name_in list name ≡ name → list_with list name ≡ list → is_empty name ≡ false → mentions_in list (33 ∷ name) ≡ mention_of list name values.Off ∷ []
+off_reads : (list : PermList) (name : List ℕ) → name_in list name ≡ name → list_with list name ≡ list → is_no_name name ≡ false → mentions_in list (33 ∷ name) ≡ mention_of list name values.Off ∷ []
 unfolding mentions_in
 off_reads list name again itself some = rw again (rw (some, itself) refl)
 
 -- what is on
-on_reads : (list : PermList) (e name : List ℕ) (value : Value) → is_off e ≡ false → name_in list e ≡ name → value_in list e ≡ value → list_with list name ≡ list → is_empty name ≡ false → mentions_in list e ≡ mention_of list name value ∷ []
+on_reads : (list : PermList) (e name : List ℕ) (value : Value) → is_off e ≡ false → name_in list e ≡ name → value_in list e ≡ value → list_with list name ≡ list → is_no_name name ≡ false → mentions_in list e ≡ mention_of list name value ∷ []
 unfolding mentions_in
 on_reads list e name value on is_name says itself some = rw on (rw (is_name, says) (rw (some, itself) refl))
 
@@ -196,6 +201,7 @@ pub record IsOn (list : PermList) (x : List ℕ) : Type 0 where
 -- an entry as it is cut from a list
 pub record IsPiece (x : List ℕ) : Type 0 where
   pub plain : IsPlain x
+  pub whole : IsWhole false x
   pub begins : begins_so is_blank x ≡ false
 
 pub record IsRead (list : PermList) : Type 0 where
@@ -203,7 +209,8 @@ pub record IsRead (list : PermList) : Type 0 where
   pub itself : (name : List ℕ) → list_with (list_with list name) name ≡ list_with list name
   pub again : (t : List ℕ) → name_in (list_with list (name_in list t)) (name_in list t) ≡ name_in list t
   pub plain : (t : List ℕ) → IsPlain t → IsPlain (name_in list t)
-  pub on : (x : List ℕ) → IsPiece x → is_off x ≡ false → is_empty (name_in list x) ≡ false → IsOn list x
+  pub whole : (t : List ℕ) → IsWhole false t → IsWhole false (name_in list t)
+  pub on : (x : List ℕ) → IsPiece x → is_off x ≡ false → is_no_name (name_in list x) ≡ false → IsOn list x
 
 -- a list whose entries are names alone
 pub record IsNames (list : PermList) : Type 0 where
@@ -224,6 +231,7 @@ read_names list n l ls ns = record {
   itself = l.is_itself;
   again = λ t. (ns (name_in list t)).name (name_in list t);
   plain = λ t h. subst IsPlain (sym (n.name t)) h;
+  whole = λ t h. subst (IsWhole false) (sym (n.name t)) h;
   on = λ x h on some.
       let list' = list_with list (name_in list x) in
       let e : entry_with (value_in list x) (name_in list x) ≡ x = ap (λ v. entry_with v (name_in list x)) (n.value x) ∙ n.name x in
@@ -349,30 +357,32 @@ bare_access : (name : List ℕ) → HasNoEnding name → access_at name ≡ valu
 unfolding access_at
 bare_access name h = none_left _ h
 
-ended_on : (x : List ℕ) (v : Value) (word : List ℕ) → IsEnding word v → ((n : List ℕ) → entry_with v n ≡ n ++ 58 ∷ word) → access_at x ≡ v → IsPiece x → is_off x ≡ false → is_empty (place_in x) ≡ false → IsOn lists.Filesystems x
+ended_on : (x : List ℕ) (v : Value) (word : List ℕ) → IsEnding word v → ((n : List ℕ) → entry_with v n ≡ n ++ 58 ∷ word) → access_at x ≡ v → IsPiece x → is_off x ≡ false → is_no_name (place_in x) ≡ false → IsOn lists.Filesystems x
 ended_on x v word k written says h on some =
     let name = place_in x in
+    let here = some_bytes name some in
     let e : entry_with (access_at x) name ≡ name ++ 58 ∷ word = ap (λ w. entry_with w name) says ∙ written name in
     record {
       plain = subst IsPlain (sym e) (IsPlain-joined name 58 word (lit< tt) refl (IsPlain-place_in x h.plain) k.plain);
-      begins = ap (begins_so is_blank) e ∙ first_of is_blank x some h.begins (58 ∷ word);
+      begins = ap (begins_so is_blank) e ∙ first_of is_blank x here h.begins (58 ∷ word);
       reads =
           ap (mentions_in lists.Filesystems) e
-          ∙ on_reads lists.Filesystems (name ++ 58 ∷ word) name v (first_of is_mark x some on (58 ∷ word)) (place_in-ended name word k.alone some ∙ place_in-twice x) (ended_access name word v k) refl some
+          ∙ on_reads lists.Filesystems (name ++ 58 ∷ word) name v (first_of is_mark x here on (58 ∷ word)) (place_in-ended name word k.alone here ∙ place_in-twice x) (ended_access name word v k) refl some
           ∙ ap (λ w. mention_of lists.Filesystems name w ∷ []) (sym says);
     }
 
-file_on : (v : Value) → IsAccess v → (x : List ℕ) → access_at x ≡ v → IsPiece x → is_off x ≡ false → is_empty (place_in x) ≡ false → IsOn lists.Filesystems x
+file_on : (v : Value) → IsAccess v → (x : List ℕ) → access_at x ≡ v → IsPiece x → is_off x ≡ false → is_no_name (place_in x) ≡ false → IsOn lists.Filesystems x
 file_on _ may_write x says h on some =
     let name = place_in x in
+    let here = some_bytes name some in
     let e : entry_with (access_at x) name ≡ name = ap (λ v. entry_with v name) says in
     let same : name ++ [] ≡ name = append-nil name in
     record {
       plain = subst IsPlain (sym e) (IsPlain-place_in x h.plain);
-      begins = ap (begins_so is_blank) (e ∙ sym same) ∙ first_of is_blank x some h.begins [];
+      begins = ap (begins_so is_blank) (e ∙ sym same) ∙ first_of is_blank x here h.begins [];
       reads =
           ap (mentions_in lists.Filesystems) e
-          ∙ on_reads lists.Filesystems name name values.Rw (ap is_off (sym same) ∙ first_of is_mark x some on []) (place_in-twice x) (bare_access name (HasNoEnding-place_in x)) refl some
+          ∙ on_reads lists.Filesystems name name values.Rw (ap is_off (sym same) ∙ first_of is_mark x here on []) (place_in-twice x) (bare_access name (HasNoEnding-place_in x)) refl some
           ∙ ap (λ v. mention_of lists.Filesystems name v ∷ []) (sym says);
     }
 file_on _ may_read x says h on some = ended_on x values.Ro (codes "ro") ends_ro (λ n. refl) says h on some
@@ -384,24 +394,26 @@ read_filesystems = record {
   itself = λ name. refl;
   again = λ t. place_in-twice t;
   plain = λ t h. IsPlain-place_in t h;
+  whole = λ t h. place_whole t h;
   on = λ x h on some. file_on (access_at x) (access_kind x) x refl h on some;
 }
 
 -- ---- an entry, a list, a pair
 
-entry_written : (list : PermList) (x : List ℕ) (off : Bool) → is_off x ≡ off → (some : Bool) → is_empty (name_in list (without_mark x)) ≡ some → IsRead list → IsPiece x → AllCanWrite (mentions_in list x)
+entry_written : (list : PermList) (x : List ℕ) (off : Bool) → is_off x ≡ off → (some : Bool) → is_no_name (name_in list (without_mark x)) ≡ some → IsRead list → IsPiece x → AllCanWrite (mentions_in list x)
 unfolding mentions_in
 entry_written list x off o true e r h = rw e tt
 entry_written list x true o false e r h =
     let t = drop 1 x in
     let same : without_mark x ≡ t = rw o refl in
-    let some : is_empty (name_in list t) ≡ false = sym (ap (λ w. is_empty (name_in list w)) same) ∙ e in
+    let some : is_no_name (name_in list t) ≡ false = sym (ap (λ w. is_no_name (name_in list w)) same) ∙ e in
     let name = name_in list t in
     let list' = list_with list name in
     let m : Mention = mention_of list' name values.Off in
     let entry : IsEntry list' m = record {
       list_is = refl;
       plain = IsPlain-joined [] 33 name (lit< tt) refl IsPlain-nil (r.plain t (subst IsPlain same (IsPlain-without_mark x h.plain)));
+      closed = closed_with values.Off name (named_closed name (r.whole t (subst (IsWhole false) same (mark_whole x h.whole))) some);
       begins = refl;
       reads = off_reads list' name (r.again t) (r.itself name) some;
     } in
@@ -412,8 +424,9 @@ entry_written list x false o false e r h =
     let name = name_in list x in
     let list' = list_with list name in
     let m : Mention = mention_of list' name (value_in list x) in
-    let on = r.on x h o (sym (ap (λ t. is_empty (name_in list t)) same) ∙ e) in
-    let entry : IsEntry list' m = record { list_is = refl; plain = on.plain; begins = on.begins; reads = on.reads } in
+    let some : is_no_name name ≡ false = sym (ap (λ t. is_no_name (name_in list t)) same) ∙ e in
+    let on = r.on x h o some in
+    let entry : IsEntry list' m = record { list_is = refl; plain = on.plain; closed = closed_with (value_in list x) name (named_closed name (r.whole x h.whole) some); begins = on.begins; reads = on.reads } in
     let one : AllCanWrite (m ∷ []) = (CanWrite-entry list' m (r.listed name) entry, tt) in
     rw (e, o) one
 
@@ -421,17 +434,17 @@ AllCanWrite-flat_map : {X : Type 0} (f : X → List Mention) (xs : List X) → A
 AllCanWrite-flat_map f [] h = tt
 AllCanWrite-flat_map f (x ∷ xs) h = AllByRecursion-append CanWrite (f x) (flat_map f xs) h.0 (AllCanWrite-flat_map f xs h.1)
 
-pieces_written : (list : PermList) (pieces : List (List ℕ)) → IsRead list → AllByRecursion IsPlain pieces → AllByRecursion (λ piece. AllCanWrite (mentions_in list (trimmed_front is_blank piece))) pieces
-pieces_written list [] r h = tt
-pieces_written list (piece ∷ pieces) r h =
+pieces_written : (list : PermList) (pieces : List (List ℕ)) → IsRead list → AllByRecursion IsPlain pieces → AllByRecursion (IsWhole false) pieces → AllByRecursion (λ piece. AllCanWrite (entry_mentions list piece)) pieces
+pieces_written list [] r h w = tt
+pieces_written list (piece ∷ pieces) r h w =
     let x = trimmed_front is_blank piece in
-    let cut : IsPiece x = record { plain = IsPlain-trimmed piece h.0; begins = begins_so-trimmed_front is_blank piece } in
-    (entry_written list x (is_off x) refl (is_empty (name_in list (without_mark x))) refl r cut, pieces_written list pieces r h.1)
+    let cut : IsPiece x = record { plain = IsPlain-trimmed piece h.0; whole = trimmed_whole piece w.0; begins = begins_so-trimmed_front is_blank piece } in
+    (entry_written list x (is_off x) refl (is_no_name (name_in list (without_mark x))) refl r cut, pieces_written list pieces r h.1 w.1)
 
 list_written : (list : PermList) (value : List ℕ) → IsRead list → is_value value ≡ true → is_utf8 value ≡ true → AllCanWrite (list_mentions list value)
 unfolding list_mentions
 list_written list value r good utf8 =
-    AllCanWrite-flat_map (λ piece. mentions_in list (trimmed_front is_blank piece)) (slice_split is_semicolon value) (pieces_written list (slice_split is_semicolon value) r (plain_pieces value utf8 (IsValueText-from value good).bytes))
+    AllCanWrite-flat_map (entry_mentions list) (entries_of value) (pieces_written list (entries_of value) r (plain_pieces value utf8 (IsValueText-from value good).bytes) (entries_are_whole value))
 
 abbrev ReadsSome : Option PermList → Type 0
 ReadsSome None = Unit {0}
@@ -517,9 +530,9 @@ lacks_byte : (c : ℕ) (xs : List ℕ) → list_any (λ b. eqb b c) xs ≡ false
 lacks_byte c [] h = tt
 lacks_byte c (b ∷ bs) h = let a = or_parts (eqb b c) (list_any (λ x. eqb x c) bs) h in (a.0, lacks_byte c bs a.1)
 
-entry_all : (xs : List ℕ) → AllByRecursion (λ b. eqb b 10 ≡ false) xs → AllByRecursion (λ b. eqb b 0 ≡ false) xs → AllByRecursion (λ b. eqb b 59 ≡ false) xs → list_all is_entry_byte xs ≡ true
-entry_all [] h k l = refl
-entry_all (b ∷ bs) h k l = and_from (is_entry_byte b) (list_all is_entry_byte bs) (rw (h.0, k.0, l.0) refl) (entry_all bs h.1 k.1 l.1)
+value_all : (xs : List ℕ) → AllByRecursion (λ b. eqb b 10 ≡ false) xs → AllByRecursion (λ b. eqb b 0 ≡ false) xs → list_all is_value_byte xs ≡ true
+value_all [] h k = refl
+value_all (b ∷ bs) h k = and_from (is_value_byte b) (list_all is_value_byte bs) (rw (h.0, k.0) refl) (value_all bs h.1 k.1)
 
 value_lacks : (c : ℕ) → is_value_byte c ≡ false → (xs : List ℕ) → list_all is_value_byte xs ≡ true → AllByRecursion (λ b. eqb b c ≡ false) xs
 value_lacks c e xs h = lacks_byte c xs (none_is is_value_byte c e xs h)
@@ -530,18 +543,16 @@ key_lacks c e xs h = lacks_byte c xs (none_is is_key_byte c e xs h)
 lacks_joined : (c : ℕ) (xs : List ℕ) (d : ℕ) (ys : List ℕ) → eqb d c ≡ false → AllByRecursion (λ b. eqb b c ≡ false) xs → AllByRecursion (λ b. eqb b c ≡ false) ys → AllByRecursion (λ b. eqb b c ≡ false) (xs ++ d ∷ ys)
 lacks_joined c xs d ys e h k = AllByRecursion-append (λ b. eqb b c ≡ false) xs (d ∷ ys) h (e, k)
 
-name_plain : (p : Pair) → IsGoodPair p → can_stand (pair_name p) ≡ true → IsPlain (pair_name p)
-name_plain p good stands =
+name_plain : (p : Pair) → IsGoodPair p → IsPlain (pair_name p)
+name_plain p good =
     let key = IsKeyText-from p.key good.key in
     let value = IsValueText-from p.value good.value in
-    let a = and_parts (not (list_any is_semicolon (pair_name p))) (not (is_off (pair_name p))) stands in
     record {
       utf8 = utf8_joined p.key 61 p.value (lit< tt) good.key_text good.value_text;
       bytes =
-          entry_all (pair_name p)
+          value_all (pair_name p)
           (lacks_joined 10 p.key 61 p.value refl (key_lacks 10 refl p.key key.bytes) (value_lacks 10 refl p.value value.bytes))
-          (lacks_joined 0 p.key 61 p.value refl (key_lacks 0 refl p.key key.bytes) (value_lacks 0 refl p.value value.bytes))
-          (lacks_byte 59 (pair_name p) (not-true _ a.0));
+          (lacks_joined 0 p.key 61 p.value refl (key_lacks 0 refl p.key key.bytes) (value_lacks 0 refl p.value value.bytes));
     }
 
 name_begins : (p : Pair) → IsGoodPair p → begins_so is_blank (pair_name p) ≡ false
@@ -549,22 +560,26 @@ name_begins p good =
     let key = IsKeyText-from p.key good.key in
     ap (λ k. begins_so is_blank (k ++ 61 ∷ p.value)) key.whole ∙ (or_parts (eqb key.first 91 || eqb key.first 35) (is_blank key.first) key.begins).1
 
-name_some : (p : Pair) → IsGoodPair p → is_empty (pair_name p) ≡ false
-name_some p good =
+name_some : (p : Pair) → IsGoodPair p → ends_escaped (pair_name p) ≡ false → is_no_name (pair_name p) ≡ false
+name_some p good ends =
     let key = IsKeyText-from p.key good.key in
-    ap (λ k. is_empty (k ++ 61 ∷ p.value)) key.whole ∙ is_empty-cons key.first (key.rest ++ 61 ∷ p.value)
+    let bytes : is_empty (pair_name p) ≡ false = ap (λ k. is_empty (k ++ 61 ∷ p.value)) key.whole ∙ is_empty-cons key.first (key.rest ++ 61 ∷ p.value) in
+    rw (bytes, ends) refl
 
 odd_written : (unknown : PermList) (p : Pair) (stands : Bool) → can_stand (pair_name p) ≡ stands → IsListed unknown → IsNames unknown → ((name : List ℕ) → list_with unknown name ≡ unknown) → IsGoodPair p → AllCanWrite (odd_pair unknown (pair_name p))
 odd_written unknown p false e l n itself good = rw e tt
 odd_written unknown p true e l n itself good =
     let name = pair_name p in
-    let a = and_parts (not (list_any is_semicolon name)) (not (is_off name)) e in
+    let a = and_parts (not (list_any is_semicolon name)) (not (is_off name) && not (ends_escaped name)) e in
+    let b = and_parts (not (is_off name)) (not (ends_escaped name)) a.1 in
+    let ends = not-true (ends_escaped name) b.1 in
     let m : Mention = mention_of unknown name values.On in
     let entry : IsEntry unknown m = record {
       list_is = refl;
-      plain = name_plain p good e;
+      plain = name_plain p good;
+      closed = record { whole = none_whole false name (not-true _ a.0); ends = ends };
       begins = name_begins p good;
-      reads = on_reads unknown name name values.On (not-true _ a.1) (n.name name) (n.value name) (itself name) (name_some p good);
+      reads = on_reads unknown name name values.On (not-true _ b.0) (n.name name) (n.value name) (itself name) (name_some p good ends);
     } in
     let one : AllCanWrite (m ∷ []) = (CanWrite-entry unknown m l entry, tt) in
     rw e one
@@ -593,28 +608,35 @@ all_cond : (b : Bool) (xs ys : List Mention) → AllCanWrite xs → AllCanWrite 
 all_cond true xs ys h k = h
 all_cond false xs ys h k = k
 
-pair_written : (group : List ℕ) (p : Pair) → IsGoodPair p → AllCanWrite (pair_mentions sources.Override group p)
+reads_at : (source : Source) (key : List ℕ) → ReadsSome (list_at source key)
+reads_at sources.Metadata key = reads_key key
+reads_at sources.Override key = reads_or (list_of_key key) key (reads_key key)
+
+pair_written : (source : Source) (group : List ℕ) (p : Pair) → IsGoodPair p → AllCanWrite (pair_mentions source group p)
 unfolding pair_mentions
-pair_written group p good =
-    all_cond (bytes_eq group (codes "Context")) _ _ (context_written (list_at sources.Override p.key) p.value (reads_or (list_of_key p.key) p.key (reads_key p.key)) good.value good.value_text)
+pair_written source group p good =
+    all_cond (bytes_eq group (codes "Context")) _ _ (context_written (list_at source p.key) p.value (reads_at source p.key) good.value good.value_text)
     (all_cond (bytes_eq group (codes "Environment")) _ _ (variable_written p good, tt)
     (all_cond (bytes_eq group (codes "Session Bus Policy")) _ _ (session_all p good)
     (all_cond (bytes_eq group (codes "System Bus Policy")) _ [] (system_all p good) tt)))
 
-pairs_written : (group : List ℕ) (pairs : List Pair) → list_all is_good_pair pairs ≡ true → AllByRecursion (λ p. AllCanWrite (pair_mentions sources.Override group p)) pairs
-pairs_written group [] h = tt
-pairs_written group (p ∷ pairs) h =
-    let a = and_parts (is_good_pair p) (list_all is_good_pair pairs) h in (pair_written group p (good_pair_parts p a.0), pairs_written group pairs a.1)
+pairs_written : (source : Source) (group : List ℕ) (pairs : List Pair) → list_all is_good_pair pairs ≡ true → AllByRecursion (λ p. AllCanWrite (pair_mentions source group p)) pairs
+pairs_written source group [] h = tt
+pairs_written source group (p ∷ pairs) h =
+    let a = and_parts (is_good_pair p) (list_all is_good_pair pairs) h in (pair_written source group p (good_pair_parts p a.0), pairs_written source group pairs a.1)
 
-group_written : (g : Group) → is_good_group g ≡ true → AllCanWrite (group_mentions sources.Override g)
+group_written : (source : Source) (g : Group) → is_good_group g ≡ true → AllCanWrite (group_mentions source g)
 unfolding group_mentions
-group_written g h = AllCanWrite-flat_map (pair_mentions sources.Override g.name) g.pairs (pairs_written g.name g.pairs (good_group_parts g h).pairs)
+group_written source g h = AllCanWrite-flat_map (pair_mentions source g.name) g.pairs (pairs_written source g.name g.pairs (good_group_parts g h).pairs)
 
-groups_written : (file : List Group) → list_all is_good_group file ≡ true → AllByRecursion (λ g. AllCanWrite (group_mentions sources.Override g)) file
-groups_written [] h = tt
-groups_written (g ∷ file) h =
-    let a = and_parts (is_good_group g) (list_all is_good_group file) h in (group_written g a.0, groups_written file a.1)
+groups_written : (source : Source) (file : List Group) → list_all is_good_group file ≡ true → AllByRecursion (λ g. AllCanWrite (group_mentions source g)) file
+groups_written source [] h = tt
+groups_written source (g ∷ file) h =
+    let a = and_parts (is_good_group g) (list_all is_good_group file) h in (group_written source g a.0, groups_written source file a.1)
+
+pub mentions_written : (source : Source) (file : List Group) → is_good file ≡ true → AllCanWrite (file_mentions source file)
+unfolding file_mentions
+mentions_written source file h = AllCanWrite-flat_map (group_mentions source) file (groups_written source file (good_parts file h).groups)
 
 pub file_written : (file : List Group) → is_good file ≡ true → AllCanWrite (file_mentions sources.Override file)
-unfolding file_mentions
-file_written file h = AllCanWrite-flat_map (group_mentions sources.Override) file (groups_written file (good_parts file h).groups)
+file_written file h = mentions_written sources.Override file h

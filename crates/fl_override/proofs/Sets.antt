@@ -1,14 +1,12 @@
 -- What is true of all mentions is true of the last ones.
-use Rattle.std.proofs.Common.{◌≡◌, Bool, true, false, cond, List, [], ◌∷◌, ◌++◌, map, Option, Some, None, refl, sym, ap, subst, ◌∙◌}
-use Rattle.std.specs.List.{AllByRecursion}
+use Rattle.std.proofs.Common.{◌≡◌, Bool, true, false, cond, List, [], ◌∷◌, Option, Some, None, refl, sym, subst, ◌∙◌}
 use Rattle.std.specs.List.Sorted.{IsStrictlySortedBy}
-use Rattle.std.proofs.lemmas.Bool.{false≢true}
 use Rattle.fl_meta.specs.declared.permission.Permission.{Permission}
 use Rattle.fl_meta.specs.declared.permission.Value.{Value}
 use Rattle.fl_meta.specs.declared.permission.Mention.{Mention}
-use Rattle.fl_meta.specs.Order.{is_same, permission_cmp}
+use Rattle.fl_meta.specs.Order.{is_same}
 use Rattle.fl_meta.proofs.Same.{same_exact, same_itself}
-use Rattle.fl_context.specs.Grants.{said, later, last_mention, or_next, value_in, permission_of, IsAscending}
+use Rattle.fl_context.specs.Grants.{said, later, last_mention, or_next, value_in, IsAscending}
 use Rattle.fl_context.proofs.Merging.{none_above}
 use Rattle.fl_override.specs.Written.{CanWrite}
 use Rattle.fl_override.specs.Overrides.{AllCanWrite}

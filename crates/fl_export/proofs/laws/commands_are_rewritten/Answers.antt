@@ -1,4 +1,4 @@
-use Rattle.fl_export.proofs.Samples.{rewrites_path, rewrites_field, rewrites_quote, rewrites_dollar, rewrites_backslash, rewrites_empty, rewrites_language, rewrites_foreign, rewrites_no_key_file}
+use Rattle.fl_export.proofs.Samples.{rewrites_path, rewrites_field, rewrites_quote, rewrites_dollar, rewrites_backslash, rewrites_empty, rewrites_no_key_file}
 use Rattle.fl_export.proofs.laws.commands_are_rewritten.Goals as goal
 
 pub returns-clause-path : goal.returns-clause-path
@@ -18,12 +18,6 @@ returns-clause-backslash c = rewrites_backslash
 
 pub returns-clause-empty : goal.returns-clause-empty
 returns-clause-empty c = rewrites_empty
-
-pub returns-clause-language : goal.returns-clause-language
-returns-clause-language c = rewrites_language
-
-pub returns-clause-foreign : goal.returns-clause-foreign
-returns-clause-foreign c = rewrites_foreign
 
 pub returns-clause-no_key_file : goal.returns-clause-no_key_file
 returns-clause-no_key_file c = rewrites_no_key_file

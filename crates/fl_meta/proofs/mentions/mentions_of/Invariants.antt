@@ -1,4 +1,4 @@
-use Rattle.std.proofs.Common.{◌≡◌, ◌++◌, take}
+use Rattle.std.proofs.Common.{◌≡◌, take}
 use Rattle.std.specs.List.{flat_map}
 use Rattle.fl_meta.specs.Mentions.{group_mentions}
 use Rattle.fl_meta.proofs.mentions.mentions_of.Given as goal

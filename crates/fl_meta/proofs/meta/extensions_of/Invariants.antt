@@ -1,4 +1,4 @@
-use Rattle.std.proofs.Common.{◌≡◌, ◌++◌, take}
+use Rattle.std.proofs.Common.{◌≡◌, take}
 use Rattle.std.specs.List.{flat_map}
 use Rattle.fl_meta.specs.Metadata.{extension_of}
 use Rattle.fl_meta.proofs.meta.extensions_of.Given as goal

@@ -1,4 +1,4 @@
-use Rattle.std.proofs.Common.{cond, false, length, take, ◌-◌, sym, ap, ◌∙◌}
+use Rattle.std.proofs.Common.{cond, false, length, take, ◌-◌, ap, ◌∙◌}
 use Rattle.std.specs.Prelude.{codes}
 use Rattle.std.proofs.lemmas.Str.Pattern.{ends_text}
 use Rattle.fl_meta.specs.Patterns.{are_bus_elements, is_bus_name, is_pattern}

@@ -1,0 +1,39 @@
+-- The launch of an installed application, with the options of a user.
+use Rattle.std.specs.Prelude.{ℕ, List, Result, Ok, Err}
+use Rattle.fp_name.specs.Refs.{Ref}
+use Rattle.fp_small.specs.declared.refusal.Refusal.{Refusal}
+use Rattle.fp_small.specs.declared.state.State.{State}
+use Rattle.fl_meta.specs.declared.permission.Mention.{Mention}
+use Rattle.fl_options.specs.Options.{layer_of, last_command}
+use Rattle.ost_model.specs.Objects.{Have}
+use Rattle.fl_launch.specs.Launch.{launch_text}
+use Rattle.fl_launch.specs.Layers.{all_mentions, granted_by}
+use Rattle.fl_launch.specs.declared.launching.LaunchText.{LaunchText}
+use Rattle.fl_installed.specs.declared.parts.LaunchParts.{LaunchParts}
+use Rattle.fl_installed.specs.Parts.{parts_in}
+
+-- what the five layers grant: the last mention of each permission decides
+abbrev pub grants_with : State → Ref → List (List ℕ) → LaunchParts → List Mention
+grants_with state name options parts =
+    granted_by (all_mentions state name.id parts.app.meta parts.runtime.meta (layer_of options))
+
+abbrev pub text_with : State → Ref → List (List ℕ) → LaunchParts → List Mention → List ℕ
+text_with state name options parts grants = launch_text state name parts.app.meta parts.app.points
+    parts.runtime.points (last_command options) grants
+
+unfoldable pub launch_of : State → Ref → List (List ℕ) → LaunchParts → LaunchText
+launch_of state name options parts =
+    record {
+      text = text_with state name options parts (grants_with state name options parts);
+      grants = grants_with state name options parts;
+    }
+
+abbrev pub with_parts : State → Ref → List (List ℕ) → Result LaunchParts Refusal
+    → Result LaunchText Refusal
+with_parts state name options (Ok parts) = Ok (launch_of state name options parts)
+with_parts state name options (Err refusal) = Err refusal
+
+-- The launch, or the first refusal: the application isn't installed, or its metadata doesn't read;
+-- its runtime isn't there, or that one's metadata doesn't read.
+unfoldable pub launch_in : Have → State → Ref → List (List ℕ) → Result LaunchText Refusal
+launch_in have state name options = with_parts state name options (parts_in have state name)

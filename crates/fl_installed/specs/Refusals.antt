@@ -1,0 +1,19 @@
+-- What speaks against a launch.
+use Rattle.std.specs.Prelude.{◌≡◌, ℕ, List, Err}
+use Rattle.fp_name.specs.Refs.{Ref}
+use Rattle.fp_small.specs.declared.refusal.Refusal.{Refusal}
+use Rattle.fp_small.specs.declared.refusal.Refusal.TheVariants.{NotInstalled, RuntimeMissing, BadMetadata}
+use Rattle.fp_small.specs.declared.state.State.{State}
+use Rattle.ost_model.specs.Objects.{Have}
+use Rattle.fl_installed.specs.Launching.{launch_in}
+
+abbrev pub MayRefuse : Refusal → Type 0
+MayRefuse (NotInstalled name) = Unit {0}
+MayRefuse (RuntimeMissing name) = Unit {0}
+MayRefuse (BadMetadata name line rule) = Unit {0}
+MayRefuse refusal = ⊥
+
+-- a launch has no other refusals
+abbrev pub LaunchRefuses : Type 0
+LaunchRefuses = (have : Have) (state : State) (name : Ref) (options : List (List ℕ))
+    (refusal : Refusal) → launch_in have state name options ≡ Err refusal → MayRefuse refusal

@@ -1,0 +1,61 @@
+//! Where the entries of a list end.
+
+ghost use Rattle.std.specs.Prelude.{◌≡◌, ◌∷◌, ◌<◌, [], length, MatchOption, IfSome};
+ghost use Rattle.std.specs.Option.{option_copied};
+ghost use Rattle.fl_meta.specs.Separators as separators;
+
+/// Whether an odd number of backslashes stands right before the byte after this one.
+fn escapes(escaped: bool, byte: u8) -> bool
+    ensures { result ≡ separators.escapes escaped byte }
+{
+    byte == b'\\' && !escaped
+}
+
+/// Whether a byte ends an entry.
+fn separates(escaped: bool, byte: u8) -> bool
+    ensures { result ≡ separators.separates escaped byte }
+{
+    byte == b';' && !escaped
+}
+
+/// Whether an odd number of backslashes stands at the end of a text, so that no `;` after it would
+/// end an entry.
+pub(crate) fn ends_escaped(text: &str) -> bool
+    ensures { result ≡ separators.ends_escaped text.now }
+{
+    let mut escaped = false;
+    for byte in text.as_bytes() {
+        escaped = escapes(escaped, *byte);
+    }
+    escaped
+}
+
+/// The place of the `;` that ends the first entry of a list, where one does.
+fn entry_end(list: &[u8]) -> Option<usize>
+    ensures { MatchOption result (separators.entries_of list.now ≡ list.now ∷ [])
+        (separators.EndsAt list.now) }
+{
+    let mut end = 0;
+    let mut escaped = false;
+    while end < list.len() {
+        if separates(escaped, list[end]) {
+            return Some(end);
+        }
+        escaped = escapes(escaped, list[end]);
+        end += 1;
+    }
+    None
+}
+
+/// The first entry of a list, and what stands after the `;` that ends it, where one does: a `;`
+/// that an odd number of backslashes precedes belongs to its entry.
+pub fn first_entry(list: &str) -> (&str, Option<&str>)
+    ensures entries { separators.entries_of list.now ≡ result.0.now
+        ∷ separators.other_entries (option_copied result.1) }
+    ensures shorter { IfSome result.1 (λ rest. length rest.now < length list.now) }
+{
+    match entry_end(list.as_bytes()) {
+        Some(end) => (&list[..end], Some(&list[end + 1..])),
+        None => (list, None),
+    }
+}

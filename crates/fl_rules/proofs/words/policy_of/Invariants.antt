@@ -1,6 +1,0 @@
-use Rattle.std.proofs.Common.{◌≡◌, take}
-use Rattle.fl_rules.specs.Rules.{policy_of}
-use Rattle.fl_rules.proofs.words.policy_of.Given as goal
-
-abbrev pub invariant-loop-word : goal.invariant-loop-word
-invariant-loop-word l = l.policy ≡ policy_of (take l.word-index l.words)

@@ -1,4 +1,0 @@
-pub mod Parts
-pub mod Launching
-pub mod Local
-pub mod Refusals
