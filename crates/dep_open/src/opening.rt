@@ -1,8 +1,7 @@
 //! Opening an installation.
 ghost use Rattle.std.specs.Prelude.{◌≡◌, IfOk, IsErrOf};
-ghost use Rattle.fp_host.specs.Causes.{IsCounted};
-ghost use Rattle.fp_host.specs.Frame.{AtEnd, Frame, NoPath, NoName};
-ghost use Rattle.fp_host.specs.Moments.{Always};
+ghost use Rattle.fp_host.specs.OverHost.{AtEachMoment, AtReturn, FailsAlone};
+ghost use Rattle.fp_host.specs.Frame.{Frame, NoPath, NoName};
 ghost use Rattle.fp_host.specs.Outcome.{Nothing};
 ghost use Rattle.dep_states.specs.After.{IsGood};
 ghost use Rattle.dep_open.specs.Open.{Opened as HasOpened, StaysUnread};
@@ -18,10 +17,9 @@ use std::alloc::Global;
 pub fn open<H: Host>(alloc: Global, host: &mut H) -> Result<Opened, OpenEnd>
     ensures frame { Frame Nothing NoName NoPath (H.moments host.old) (H.moments host.new) }
     ensures good { IfOk result IsGood }
-    ensures tells { AtEnd (HasOpened result) (H.moments host.old) (H.moments host.new) }
-    ensures unread { Always StaysUnread (H.moments host.old) (H.moments host.new) }
-    ensures fault_has_cause { IsCounted (IsErrOf result OpenEnd.Fault)
-        (H.moments host.old) (H.faults host.old) (H.faults host.new) }
+    ensures tells { AtReturn H.Host host.old host.new (HasOpened result) }
+    ensures unread { AtEachMoment H.Host host.old host.new StaysUnread }
+    ensures fault_has_cause { FailsAlone H.Host host.old host.new (IsErrOf result OpenEnd.Fault) }
 {
     let state = read_state(alloc, host)?;
     host.sync()?;

@@ -1,7 +1,6 @@
 //! The overrides.
 ghost use Rattle.std.specs.Prelude.{◌≡◌, true, IfOk, OnOk, IsErrOf};
-ghost use Rattle.fp_host.specs.Causes.{IsCounted};
-ghost use Rattle.fp_host.specs.Frame.{AtEnd, Unchanged};
+ghost use Rattle.fp_host.specs.OverHost.{AtReturn, ChangesNothing, FailsAlone};
 ghost use Rattle.fp_host.specs.Outcome.{shows};
 ghost use Rattle.fp_host.specs.Paths.{is_element};
 ghost use Rattle.std.specs.List.{list_all};
@@ -25,12 +24,11 @@ pub(crate) fn read_overrides<H: Host>(
     alloc: Global,
     host: &mut H,
 ) -> Result<Part<Items<OverrideRow>>, HostEnd>
-    ensures unchanged { Unchanged (H.moments host.old) (H.moments host.new) }
+    ensures unchanged { ChangesNothing H.Host host.old host.new }
     ensures good { IfOk result (λ part. AreGoodLayers part.found) }
-    ensures tells { IfOk result (λ part. AtEnd (λ u w. AreOverrides (shows u) part)
-        (H.moments host.old) (H.moments host.new)) }
-    ensures fault_has_cause { IsCounted (IsErrOf result HostEnd.Fault)
-        (H.moments host.old) (H.faults host.old) (H.faults host.new) }
+    ensures tells { IfOk result (λ part. AtReturn H.Host host.old host.new
+        (λ u w. AreOverrides (shows u) part)) }
+    ensures fault_has_cause { FailsAlone H.Host host.old host.new (IsErrOf result HostEnd.Fault) }
 {
     let folder = overrides_path(alloc)?;
     let names = names_in(alloc, host, &folder)?;
@@ -46,12 +44,12 @@ fn overrides_among<H: Host>(
 ) -> Result<Part<Items<OverrideRow>>, HostEnd>
     requires folder { folder.now ≡ overrides_folder }
     requires elements { list_all is_element names.now ≡ true }
-    ensures unchanged { Unchanged (H.moments host.old) (H.moments host.new) }
+    ensures unchanged { ChangesNothing H.Host host.old host.new }
     ensures good { IfOk result (λ part. AreGoodLayers part.found) }
-    ensures tells { IfOk result (λ part. AtEnd (λ u w. ListsIn overrides_folder u names.now
-        → AreOverrides (shows u) part) (H.moments host.old) (H.moments host.new)) }
-    ensures fault_has_cause { IsCounted (IsErrOf result HostEnd.Fault)
-        (H.moments host.old) (H.faults host.old) (H.faults host.new) }
+    ensures tells { IfOk result (λ part. AtReturn H.Host host.old host.new
+        (λ u w. ListsIn overrides_folder u names.now
+        → AreOverrides (shows u) part)) }
+    ensures fault_has_cause { FailsAlone H.Host host.old host.new (IsErrOf result HostEnd.Fault) }
 {
     let mut rows = BTreeMap::new(alloc);
     let mut damaged = None;
@@ -75,12 +73,12 @@ fn add_override<H: Host>(
 ) -> Result<(), HostEnd>
     requires folder { folder.now ≡ overrides_folder }
     requires element { is_element name.now ≡ true }
-    ensures unchanged { Unchanged (H.moments host.old) (H.moments host.new) }
+    ensures unchanged { ChangesNothing H.Host host.old host.new }
     ensures good { OnOk result (KeepsGoodLayers rows.old.entries rows.new.entries) }
-    ensures tells { OnOk result (AtEnd (λ u w. AddsOverride (shows u) name.now rows.old.entries
-        damaged.old rows.new.entries damaged.new) (H.moments host.old) (H.moments host.new)) }
-    ensures fault_has_cause { IsCounted (IsErrOf result HostEnd.Fault)
-        (H.moments host.old) (H.faults host.old) (H.faults host.new) }
+    ensures tells { OnOk result (AtReturn H.Host host.old host.new
+        (λ u w. AddsOverride (shows u) name.now rows.old.entries
+        damaged.old rows.new.entries damaged.new)) }
+    ensures fault_has_cause { FailsAlone H.Host host.old host.new (IsErrOf result HostEnd.Fault) }
 {
     if !is_override(name) {
         return Ok(());

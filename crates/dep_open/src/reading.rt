@@ -1,7 +1,6 @@
 //! What an installation shows.
 ghost use Rattle.std.specs.Prelude.{◌≡◌, IfOk, IsErrOf};
-ghost use Rattle.fp_host.specs.Causes.{IsCounted};
-ghost use Rattle.fp_host.specs.Frame.{AtEnd, Unchanged};
+ghost use Rattle.fp_host.specs.OverHost.{AtReturn, ChangesNothing, FailsAlone};
 ghost use Rattle.dep_states.specs.After.{IsGood};
 ghost use Rattle.dep_open.specs.Open.{Reads, IsJoined};
 
@@ -19,11 +18,10 @@ use std::alloc::Global;
 /// Reads the state that the present view shows, and changes nothing. `Damaged` comes exactly where
 /// it shows none, with the first path by its bytes that doesn't read.
 pub fn read_state<H: Host>(alloc: Global, host: &mut H) -> Result<State, OpenEnd>
-    ensures unchanged { Unchanged (H.moments host.old) (H.moments host.new) }
+    ensures unchanged { ChangesNothing H.Host host.old host.new }
     ensures good { IfOk result IsGood }
-    ensures tells { AtEnd (λ u w. Reads u result) (H.moments host.old) (H.moments host.new) }
-    ensures fault_has_cause { IsCounted (IsErrOf result OpenEnd.Fault)
-        (H.moments host.old) (H.faults host.old) (H.faults host.new) }
+    ensures tells { AtReturn H.Host host.old host.new (λ u w. Reads u result) }
+    ensures fault_has_cause { FailsAlone H.Host host.old host.new (IsErrOf result OpenEnd.Fault) }
 {
     let settings = read_settings(alloc, host)?;
     let refs = read_refs(alloc, host)?;

@@ -1,7 +1,6 @@
 //! The refs that are deployed.
 ghost use Rattle.std.specs.Prelude.{◌≡◌, true, IfOk, OnOk, IsErrOf};
-ghost use Rattle.fp_host.specs.Causes.{IsCounted};
-ghost use Rattle.fp_host.specs.Frame.{AtEnd, Unchanged};
+ghost use Rattle.fp_host.specs.OverHost.{AtReturn, ChangesNothing, FailsAlone};
 ghost use Rattle.fp_host.specs.Outcome.{shows};
 ghost use Rattle.fp_name.specs.Hex.{hex};
 ghost use Rattle.fp_name.specs.Refs.{is_ref};
@@ -25,12 +24,11 @@ pub(crate) fn read_refs<H: Host>(
     alloc: Global,
     host: &mut H,
 ) -> Result<Part<Items<RefRow>>, HostEnd>
-    ensures unchanged { Unchanged (H.moments host.old) (H.moments host.new) }
+    ensures unchanged { ChangesNothing H.Host host.old host.new }
     ensures good { IfOk result (λ part. AreGoodRows part.found) }
-    ensures tells { IfOk result (λ part. AtEnd (λ u w. AreRefs (shows u) part)
-        (H.moments host.old) (H.moments host.new)) }
-    ensures fault_has_cause { IsCounted (IsErrOf result HostEnd.Fault)
-        (H.moments host.old) (H.faults host.old) (H.faults host.new) }
+    ensures tells { IfOk result (λ part. AtReturn H.Host host.old host.new
+        (λ u w. AreRefs (shows u) part)) }
+    ensures fault_has_cause { FailsAlone H.Host host.old host.new (IsErrOf result HostEnd.Fault) }
 {
     let paths = branch_paths(alloc, host)?;
     refs_among(alloc, host, &paths)
@@ -42,12 +40,12 @@ fn refs_among<H: Host>(
     host: &mut H,
     paths: &[Path],
 ) -> Result<Part<Items<RefRow>>, HostEnd>
-    ensures unchanged { Unchanged (H.moments host.old) (H.moments host.new) }
+    ensures unchanged { ChangesNothing H.Host host.old host.new }
     ensures good { IfOk result (λ part. AreGoodRows part.found) }
-    ensures tells { IfOk result (λ part. AtEnd (λ u w. AreBranches u paths.now
-        → AreRefs (shows u) part) (H.moments host.old) (H.moments host.new)) }
-    ensures fault_has_cause { IsCounted (IsErrOf result HostEnd.Fault)
-        (H.moments host.old) (H.faults host.old) (H.faults host.new) }
+    ensures tells { IfOk result (λ part. AtReturn H.Host host.old host.new
+        (λ u w. AreBranches u paths.now
+        → AreRefs (shows u) part)) }
+    ensures fault_has_cause { FailsAlone H.Host host.old host.new (IsErrOf result HostEnd.Fault) }
 {
     let mut rows = BTreeMap::new(alloc);
     let mut damaged = None;
@@ -68,12 +66,12 @@ fn add_ref<H: Host>(
     rows: &mut BTreeMap<String, RefRow>,
     damaged: &mut Option<Path>,
 ) -> Result<(), HostEnd>
-    ensures unchanged { Unchanged (H.moments host.old) (H.moments host.new) }
+    ensures unchanged { ChangesNothing H.Host host.old host.new }
     ensures good { OnOk result (KeepsGoodRows rows.old.entries rows.new.entries) }
-    ensures tells { OnOk result (AtEnd (λ u w. AddsRef (shows u) path.now rows.old.entries
-        damaged.old rows.new.entries damaged.new) (H.moments host.old) (H.moments host.new)) }
-    ensures fault_has_cause { IsCounted (IsErrOf result HostEnd.Fault)
-        (H.moments host.old) (H.faults host.old) (H.faults host.new) }
+    ensures tells { OnOk result (AtReturn H.Host host.old host.new
+        (λ u w. AddsRef (shows u) path.now rows.old.entries
+        damaged.old rows.new.entries damaged.new)) }
+    ensures fault_has_cause { FailsAlone H.Host host.old host.new (IsErrOf result HostEnd.Fault) }
 {
     let Some(name) = ref_at(alloc, path)? else {
         return Ok(());
@@ -95,12 +93,12 @@ fn read_active<H: Host>(
     requires folder { folder.now ≡ branch_dir name }
     requires link { link.now ≡ active name }
     requires good { is_ref name ≡ true }
-    ensures unchanged { Unchanged (H.moments host.old) (H.moments host.new) }
+    ensures unchanged { ChangesNothing H.Host host.old host.new }
     ensures good { IfOk result (λ seen. IsRowOf name (seen_in seen)) }
-    ensures tells { IfOk result (λ seen. AtEnd (λ u w. seen_in seen ≡ by_active (shows u) name
-        (shows u (active name))) (H.moments host.old) (H.moments host.new)) }
-    ensures fault_has_cause { IsCounted (IsErrOf result HostEnd.Fault)
-        (H.moments host.old) (H.faults host.old) (H.faults host.new) }
+    ensures tells { IfOk result (λ seen. AtReturn H.Host host.old host.new
+        (λ u w. seen_in seen ≡ by_active (shows u) name
+        (shows u (active name)))) }
+    ensures fault_has_cause { FailsAlone H.Host host.old host.new (IsErrOf result HostEnd.Fault) }
 {
     match read_text(alloc, host, link)? {
         Seen::Away => Ok(Seen::Away),
@@ -111,11 +109,10 @@ fn read_active<H: Host>(
 
 /// The text of the link at this path.
 fn read_text<H: Host>(alloc: Global, host: &mut H, path: &Path) -> Result<Seen<Text>, HostEnd>
-    ensures unchanged { Unchanged (H.moments host.old) (H.moments host.new) }
-    ensures tells { IfOk result (λ seen. AtEnd (λ u w. seen_in seen ≡ text_seen (shows u path.now))
-        (H.moments host.old) (H.moments host.new)) }
-    ensures fault_has_cause { IsCounted (IsErrOf result HostEnd.Fault)
-        (H.moments host.old) (H.faults host.old) (H.faults host.new) }
+    ensures unchanged { ChangesNothing H.Host host.old host.new }
+    ensures tells { IfOk result (λ seen. AtReturn H.Host host.old host.new
+        (λ u w. seen_in seen ≡ text_seen (shows u path.now))) }
+    ensures fault_has_cause { FailsAlone H.Host host.old host.new (IsErrOf result HostEnd.Fault) }
 {
     match host.stat(path)? {
         Stat::Absent => Ok(Seen::Away),
@@ -134,12 +131,12 @@ fn read_commit<H: Host>(
 ) -> Result<Seen<RefRow>, HostEnd>
     requires folder { folder.now ≡ branch_dir name }
     requires good { is_ref name ≡ true }
-    ensures unchanged { Unchanged (H.moments host.old) (H.moments host.new) }
+    ensures unchanged { ChangesNothing H.Host host.old host.new }
     ensures good { IfOk result (λ seen. IsRowOf name (seen_in seen)) }
-    ensures tells { IfOk result (λ seen. AtEnd (λ u w. seen_in seen ≡ deploy_at name text.now
-        (shows u (deploy (text_dir name text.now)))) (H.moments host.old) (H.moments host.new)) }
-    ensures fault_has_cause { IsCounted (IsErrOf result HostEnd.Fault)
-        (H.moments host.old) (H.faults host.old) (H.faults host.new) }
+    ensures tells { IfOk result (λ seen. AtReturn H.Host host.old host.new
+        (λ u w. seen_in seen ≡ deploy_at name text.now
+        (shows u (deploy (text_dir name text.now))))) }
+    ensures fault_has_cause { FailsAlone H.Host host.old host.new (IsErrOf result HostEnd.Fault) }
 {
     let Ok(commit) = Digest::parse(text.as_str().as_bytes()) else {
         return Ok(Seen::Bad);

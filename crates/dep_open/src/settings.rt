@@ -1,7 +1,6 @@
 //! The settings of an installation, as its files say.
 ghost use Rattle.std.specs.Prelude.{◌≡◌, [], Some, None, IfOk, IsErrOf};
-ghost use Rattle.fp_host.specs.Causes.{IsCounted};
-ghost use Rattle.fp_host.specs.Frame.{AtEnd, Unchanged};
+ghost use Rattle.fp_host.specs.OverHost.{AtReturn, ChangesNothing, FailsAlone};
 ghost use Rattle.fp_host.specs.Outcome.{shows};
 ghost use Rattle.fp_small.specs.Config.{config_of};
 ghost use Rattle.fp_small.specs.Old.{remotes_of, pins_of};
@@ -23,12 +22,11 @@ use std::alloc::{AllocError, Global};
 
 /// Reads the settings that the present view shows, and changes nothing.
 pub(crate) fn read_settings<H: Host>(alloc: Global, host: &mut H) -> Result<Part<Setup>, HostEnd>
-    ensures unchanged { Unchanged (H.moments host.old) (H.moments host.new) }
+    ensures unchanged { ChangesNothing H.Host host.old host.new }
     ensures good { IfOk result IsGoodSetup }
-    ensures tells { IfOk result (λ part. AtEnd (λ u w. SetsUp (shows u) part)
-        (H.moments host.old) (H.moments host.new)) }
-    ensures fault_has_cause { IsCounted (IsErrOf result HostEnd.Fault)
-        (H.moments host.old) (H.faults host.old) (H.faults host.new) }
+    ensures tells { IfOk result (λ part. AtReturn H.Host host.old host.new
+        (λ u w. SetsUp (shows u) part)) }
+    ensures fault_has_cause { FailsAlone H.Host host.old host.new (IsErrOf result HostEnd.Fault) }
 {
     let path = config_path(alloc)?;
     let loaded = load(alloc, host, &path, MOST_CONFIG_BYTES)?;
@@ -40,12 +38,11 @@ pub(crate) fn read_settings<H: Host>(alloc: Global, host: &mut H) -> Result<Part
 
 /// Reads the settings where there is no `config`, and changes nothing.
 fn load_old<H: Host>(alloc: Global, host: &mut H) -> Result<Part<Setup>, HostEnd>
-    ensures unchanged { Unchanged (H.moments host.old) (H.moments host.new) }
+    ensures unchanged { ChangesNothing H.Host host.old host.new }
     ensures good { IfOk result IsGoodSetup }
-    ensures tells { IfOk result (λ part. AtEnd (λ u w. SetsUpOld (shows u) part)
-        (H.moments host.old) (H.moments host.new)) }
-    ensures fault_has_cause { IsCounted (IsErrOf result HostEnd.Fault)
-        (H.moments host.old) (H.faults host.old) (H.faults host.new) }
+    ensures tells { IfOk result (λ part. AtReturn H.Host host.old host.new
+        (λ u w. SetsUpOld (shows u) part)) }
+    ensures fault_has_cause { FailsAlone H.Host host.old host.new (IsErrOf result HostEnd.Fault) }
 {
     let pins_path = pins_path(alloc)?;
     let remotes_path = remotes_path(alloc)?;

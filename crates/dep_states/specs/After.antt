@@ -15,11 +15,12 @@ use Rattle.fp_small.specs.declared.state.RefRow.{RefRow}
 use Rattle.fp_small.specs.declared.state.Previous.{Previous}
 use Rattle.fp_small.specs.declared.state.OverrideRow.{OverrideRow}
 use Rattle.fp_small.specs.declared.state.Layout.{Layout}
-use Rattle.fp_small.specs.declared.state.Layout.TheVariants.{One, Two}
+use Rattle.fp_small.specs.declared.state.Layout.TheVariants.{Two}
 use Rattle.fp_small.specs.declared.op.Op.{Op}
 use Rattle.fp_small.specs.declared.op.Op.TheVariants.{Install, Update, Uninstall, AddPin, DropPin, AddRemote, ModifyRemote, DropRemote, SetOverride, DropOverride, Migrate, Rollback}
 use Rattle.fp_name.specs.Grammar.{is_override}
 use Rattle.dep_states.specs.Deploy.{goes_back_to}
+use Rattle.dep_states.specs.Effects.{effect_of, layout_before, WritesConfig}
 use Rattle.dep_states.specs.Shown.{at_name, ref_key, override_key, settings_of}
 
 -- an operation, and the timestamp of the commit that an Install or an Update brings (0 with each
@@ -117,23 +118,11 @@ after_all s (done ∷ more) = after_all (state_after s done) more
 
 -- an installation of layout 1 is migrated before anything else is done with it
 abbrev pub layout_for : Op → Layout
-layout_for Migrate = One
-layout_for op = Two
+layout_for op = layout_before (effect_of op)
 
 -- an operation on what stands in `config`: the pins, the remotes and the layout
 abbrev pub IsOnConfig : Op → Type 0
-IsOnConfig (AddPin pin) = Unit {0}
-IsOnConfig (DropPin pin) = Unit {0}
-IsOnConfig (AddRemote row) = Unit {0}
-IsOnConfig (ModifyRemote row) = Unit {0}
-IsOnConfig (DropRemote name) = Unit {0}
-IsOnConfig Migrate = Unit {0}
-IsOnConfig (Install name remote commit) = ⊥
-IsOnConfig (Update name remote commit) = ⊥
-IsOnConfig (Uninstall name) = ⊥
-IsOnConfig (SetOverride row) = ⊥
-IsOnConfig (DropOverride name) = ⊥
-IsOnConfig (Rollback name commit) = ⊥
+IsOnConfig op = WritesConfig (effect_of op)
 
 -- a row of this ref that is so
 abbrev pub HasRow : State → Ref → (RefRow → Type 0) → Type 0

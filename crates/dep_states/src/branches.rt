@@ -1,7 +1,6 @@
 //! The branch directories of an installation, and the refs to which they belong.
 ghost use Rattle.std.specs.Prelude.{IfOk, IsErrOf};
-ghost use Rattle.fp_host.specs.Causes.{IsCounted};
-ghost use Rattle.fp_host.specs.Frame.{AtEnd, Unchanged};
+ghost use Rattle.fp_host.specs.OverHost.{AtReturn, ChangesNothing, FailsAlone};
 ghost use Rattle.dep_states.specs.Branches.{AreBranches, IsRefAt};
 
 use crate::paths::{apps_path, runtimes_path};
@@ -15,11 +14,10 @@ const BRANCH_DEPTH: usize = 3;
 
 /// The paths at which branch directories may stand.
 pub fn branch_paths<H: Host>(alloc: Global, host: &mut H) -> Result<Vec<Path>, HostEnd>
-    ensures unchanged { Unchanged (H.moments host.old) (H.moments host.new) }
-    ensures tells { IfOk result (λ paths. AtEnd (λ u w. AreBranches u paths.items)
-        (H.moments host.old) (H.moments host.new)) }
-    ensures fault_has_cause { IsCounted (IsErrOf result HostEnd.Fault)
-        (H.moments host.old) (H.faults host.old) (H.faults host.new) }
+    ensures unchanged { ChangesNothing H.Host host.old host.new }
+    ensures tells { IfOk result (λ paths. AtReturn H.Host host.old host.new
+        (λ u w. AreBranches u paths.items)) }
+    ensures fault_has_cause { FailsAlone H.Host host.old host.new (IsErrOf result HostEnd.Fault) }
 {
     let apps = apps_path(alloc)?;
     let runtimes = runtimes_path(alloc)?;

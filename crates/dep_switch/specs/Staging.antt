@@ -19,6 +19,7 @@ use Rattle.dep_switch.specs.Rows.{with_row, IsAt}
 use Rattle.dep_switch.specs.Writing.{data_of, new_link, Prepares}
 use Rattle.dep_switch.specs.declared.staged.Staged.{Staged}
 use Rattle.dep_switch.specs.declared.staged.Preparation.{Preparation}
+use Rattle.dep_switch.specs.declared.staged.Parts.{Parts}
 
 -- the record of a row, beside its commit's tree
 abbrev pub row_deploy : RefRow → Elements
@@ -64,6 +65,16 @@ pub record LeadsTo (s : State) (row : RefRow) (staged : Staged) : Type 0 where
   pub from : staged.from ≡ new_link
   pub to : staged.to ≡ active row.name
   pub state : staged.state ≡ with_row s row
+
+-- what a switch to the row is made of, apart from the state
+pub record ArePartsOf (row : RefRow) (parts : Parts) : Type 0 where
+  pub deploy : parts.deploy ≡ row_deploy row
+  pub says : deploy_of parts.bytes ≡ Some (data_of row)
+  pub short : length parts.bytes ≤ small_most
+  pub text : parts.text ≡ hex row.commit
+  pub from : parts.from ≡ new_link
+  pub to : parts.to ≡ active row.name
+  pub digits : is_digest row.commit ≡ true
 
 -- what it takes to stage it
 pub record IsPreparation (s : State) (row : RefRow) (made : Preparation) : Type 0 where

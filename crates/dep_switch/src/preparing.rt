@@ -1,9 +1,7 @@
 //! What is made before a switch.
 ghost use Rattle.std.specs.Prelude.{◌≡◌, ◌≤◌, true, false, Some, length, IfOk, OnOk, IsErrOf};
+ghost use Rattle.fp_host.specs.OverHost.{AtEachMoment, AtReturn, FailsOnly};
 ghost use Rattle.fp_host.specs.Paths.{is_link_text};
-ghost use Rattle.fp_host.specs.Causes.{IsCaused};
-ghost use Rattle.fp_host.specs.Frame.{AtEnd};
-ghost use Rattle.fp_host.specs.Moments.{Always};
 ghost use Rattle.fp_name.specs.Refs.{is_ref};
 ghost use Rattle.dep_states.specs.Deploy.{deploy_of, goes_back_to};
 ghost use Rattle.dep_states.specs.Shown.{small_most};
@@ -51,11 +49,11 @@ pub(crate) fn with_row(state: State, row: RefRow) -> Result<State, AllocError>
 /// Writes a new file with the permission bits 0644, in the place of one that is there. Nothing is
 /// synced.
 pub(crate) fn write_new<H: Host>(host: &mut H, path: &Path, bytes: &[u8]) -> Result<(), HostEnd>
-    ensures any_moment { Always (WritesFile path.now) (H.moments host.old) (H.moments host.new) }
-    ensures on_success { OnOk result (AtEnd (λ u w. HasFile path.now bytes.now w)
-        (H.moments host.old) (H.moments host.new)) }
-    ensures fault_has_cause { IsCaused (IsErrOf result HostEnd.Fault) (H.moments host.old)
-        (CanWrite path.now) (H.faults host.old) (H.faults host.new) }
+    ensures any_moment { AtEachMoment H.Host host.old host.new (WritesFile path.now) }
+    ensures on_success { OnOk result (AtReturn H.Host host.old host.new
+        (λ u w. HasFile path.now bytes.now w)) }
+    ensures fault_has_cause { FailsOnly H.Host host.old host.new
+        (CanWrite path.now) (IsErrOf result HostEnd.Fault) }
     ensures needs_no_memory { IsErrOf result HostEnd.NoMemory → ⊥ }
 {
     take_away(host, path)?;
@@ -75,15 +73,13 @@ pub(crate) fn prepare<H: Host>(
 ) -> Result<(), HostEnd>
     requires place { link.now ≡ new_link }
     requires text { is_link_text text.now ≡ true }
-    ensures any_moment { Always (Prepares deploy.now text.now)
-        (H.moments host.old) (H.moments host.new) }
-    ensures on_success { OnOk result (AtEnd
-        (λ u w. WasPrepared deploy.now text.now bytes.now w)
-        (H.moments host.old) (H.moments host.new)) }
-    ensures fault_has_cause { IsCaused (IsErrOf result HostEnd.Fault) (H.moments host.old)
-        (CanPrepare deploy.now) (H.faults host.old) (H.faults host.new) }
-    ensures starved_unchanged { IsErrOf result HostEnd.NoMemory → AtEnd (λ u w. w ≡ u)
-        (H.moments host.old) (H.moments host.new) }
+    ensures any_moment { AtEachMoment H.Host host.old host.new (Prepares deploy.now text.now) }
+    ensures on_success { OnOk result (AtReturn H.Host host.old host.new
+        (λ u w. WasPrepared deploy.now text.now bytes.now w)) }
+    ensures fault_has_cause { FailsOnly H.Host host.old host.new
+        (CanPrepare deploy.now) (IsErrOf result HostEnd.Fault) }
+    ensures starved_unchanged { IsErrOf result HostEnd.NoMemory → AtReturn H.Host host.old host.new
+        (λ u w. w ≡ u) }
 {
     make_above(alloc, host, link)?;
     write_new(host, deploy, bytes)?;

@@ -1,8 +1,6 @@
 //! A ref that goes.
 ghost use Rattle.std.specs.Prelude.{◌≡◌, ◌≢◌, None, IfOk, OnOk, IsErr, IsErrOf};
-ghost use Rattle.fp_host.specs.Causes.{IsCaused};
-ghost use Rattle.fp_host.specs.Frame.{AtEnd};
-ghost use Rattle.fp_host.specs.Moments.{Always};
+ghost use Rattle.fp_host.specs.OverHost.{AtEachMoment, AtReturn, FailsOnly};
 ghost use Rattle.dep_states.specs.After.{row_at};
 ghost use Rattle.dep_switch.specs.Rows.{without_row};
 ghost use Rattle.dep_switch.specs.Retiring.{IsPlanOf, CanRetire, Retires, WasRetired};
@@ -79,12 +77,11 @@ impl RetirePlan {
     pub fn retire<H: Host>(self, host: &mut H, opened: Opened) -> Result<Switched, Faulted>
         ensures state { IfOk result (λ s. s ≡ without_row opened self.name) }
         // A stop at any moment leaves the state with the ref or the one without it.
-        ensures any_moment { Always (Retires opened self) (H.moments host.old)
-            (H.moments host.new) }
-        ensures on_success { OnOk result (AtEnd (WasRetired opened self)
-            (H.moments host.old) (H.moments host.new)) }
-        ensures fault_has_cause { IsCaused (IsErr result) (H.moments host.old)
-            (CanRetire opened self) (H.faults host.old) (H.faults host.new) }
+        ensures any_moment { AtEachMoment H.Host host.old host.new (Retires opened self) }
+        ensures on_success { OnOk result (AtReturn H.Host host.old host.new
+            (WasRetired opened self)) }
+        ensures fault_has_cause { FailsOnly H.Host host.old host.new
+            (CanRetire opened self) (IsErr result) }
     {
         host.unlink(&self.link)?;
         host.sync()?;

@@ -1,10 +1,8 @@
 //! A switch that is staged.
 ghost use Rattle.std.specs.Prelude.{◌≡◌, false, IfOk, OnOk, IsErr, IsErrOf};
-ghost use Rattle.fp_host.specs.Causes.{IsCaused};
-ghost use Rattle.fp_host.specs.Frame.{AtEnd};
-ghost use Rattle.fp_host.specs.Moments.{Always};
+ghost use Rattle.fp_host.specs.OverHost.{AtEachMoment, AtReturn, FailsOnly};
 ghost use Rattle.dep_states.specs.Deploy.{goes_back_to};
-ghost use Rattle.dep_switch.specs.Staging.{IsPreparation, CanStage, Readies, WasStaged, LeadsTo, CanSwitch, Switches, WasSwitched};
+ghost use Rattle.dep_switch.specs.Staging.{ArePartsOf, IsPreparation, CanStage, Readies, WasStaged, LeadsTo, CanSwitch, Switches, WasSwitched};
 
 use crate::paths::{active_path, commit_text, deploy_path, new_link_path};
 use crate::preparing::{deploy_bytes, prepare, with_row};
@@ -37,22 +35,56 @@ struct Preparation {
     staged: Staged,
 }
 
+/// What a switch to a row is made of, apart from the state after it.
+#[derive(Drop)]
+struct Parts {
+    /// Where the row's `deploy` stands.
+    deploy: Path,
+    /// Its bytes.
+    bytes: Blob,
+    /// The text of the link to the row's commit.
+    text: Text,
+    /// Where the link is made.
+    from: Path,
+    /// Where it comes to.
+    to: Path,
+}
+
+/// What a switch to the row is made of.
+fn parts_of(alloc: Global, row: &RefRow) -> Result<Parts, AllocError>
+    requires moves { goes_back_to row.now.commit row.now.previous ≡ false }
+    ensures { IfOk result (ArePartsOf row.now) }
+{
+    let deploy = deploy_path(alloc, &row.name, &row.commit)?;
+    let bytes = deploy_bytes(alloc, row)?;
+    let text = commit_text(alloc, &row.commit)?;
+    let from = new_link_path(alloc)?;
+    let to = active_path(alloc, &row.name)?;
+    Ok(Parts {
+        deploy,
+        bytes,
+        text,
+        from,
+        to,
+    })
+}
+
 /// All that a switch to the row takes.
 fn plan(alloc: Global, opened: Opened, row: RefRow) -> Result<Preparation, AllocError>
     requires moves { goes_back_to row.commit row.previous ≡ false }
     ensures { IfOk result (IsPreparation opened row) }
 {
-    let deploy = deploy_path(alloc, &row.name, &row.commit)?;
-    let bytes = deploy_bytes(alloc, &row)?;
-    let text = commit_text(alloc, &row.commit)?;
-    let from = new_link_path(alloc)?;
-    let to = active_path(alloc, &row.name)?;
+    let parts = parts_of(alloc, &row)?;
     let state = with_row(opened.take(), row)?;
     Ok(Preparation {
-        deploy,
-        bytes,
-        text,
-        staged: Staged { from, to, state },
+        deploy: parts.deploy,
+        bytes: parts.bytes,
+        text: parts.text,
+        staged: Staged {
+            from: parts.from,
+            to: parts.to,
+            state,
+        },
     })
 }
 
@@ -69,14 +101,14 @@ impl Staged {
         requires moves { goes_back_to row.commit row.previous ≡ false }
         ensures leads { IfOk result (LeadsTo opened row) }
         // A stop at any moment leaves the state of before.
-        ensures any_moment { Always (Readies opened row) (H.moments host.old)
-            (H.moments host.new) }
-        ensures on_success { OnOk result (AtEnd (WasStaged opened row)
-            (H.moments host.old) (H.moments host.new)) }
-        ensures fault_has_cause { IsCaused (IsErrOf result HostEnd.Fault) (H.moments host.old)
-            (CanStage opened row) (H.faults host.old) (H.faults host.new) }
-        ensures starved_unchanged { IsErrOf result HostEnd.NoMemory → AtEnd (λ u w. w ≡ u)
-            (H.moments host.old) (H.moments host.new) }
+        ensures any_moment { AtEachMoment H.Host host.old host.new (Readies opened row) }
+        ensures on_success { OnOk result (AtReturn H.Host host.old host.new
+            (WasStaged opened row)) }
+        ensures fault_has_cause { FailsOnly H.Host host.old host.new
+            (CanStage opened row) (IsErrOf result HostEnd.Fault) }
+        ensures starved_unchanged { IsErrOf result HostEnd.NoMemory
+            → AtReturn H.Host host.old host.new
+            (λ u w. w ≡ u) }
     {
         let made = plan(alloc, opened, row)?;
         let bytes = made.bytes.as_slice();
@@ -89,11 +121,10 @@ impl Staged {
     pub fn switch<H: Host>(self, host: &mut H) -> Result<Switched, Faulted>
         ensures state { IfOk result (λ s. s ≡ self.state) }
         // A stop at any moment leaves the state of before or the one after.
-        ensures any_moment { Always (Switches self) (H.moments host.old) (H.moments host.new) }
-        ensures on_success { OnOk result (AtEnd (WasSwitched self)
-            (H.moments host.old) (H.moments host.new)) }
-        ensures fault_has_cause { IsCaused (IsErr result) (H.moments host.old)
-            (CanSwitch self) (H.faults host.old) (H.faults host.new) }
+        ensures any_moment { AtEachMoment H.Host host.old host.new (Switches self) }
+        ensures on_success { OnOk result (AtReturn H.Host host.old host.new (WasSwitched self)) }
+        ensures fault_has_cause { FailsOnly H.Host host.old host.new
+            (CanSwitch self) (IsErr result) }
     {
         host.rename(&self.from, &self.to)?;
         host.sync()?;

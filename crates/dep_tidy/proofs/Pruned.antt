@@ -30,7 +30,9 @@ use Rattle.ost_model.specs.Stores.{IsStore}
 use Rattle.ost_model.specs.Used.{IsUsed}
 use Rattle.ost_model.proofs.Places.{or_none, faultless, order_same}
 use Rattle.ost_model.proofs.Stores.{objects_are_named}
-use Rattle.ost_prune.specs.Prune.{IsUnused, IsUnusedName, PrunesAt, Prunes, WasPruned, CanPrune}
+use Rattle.ost_prune.specs.Prune.{IsUnused, IsUnusedName, PrunesAt, Prunes, WasPruned}
+use Rattle.ost_prune.specs.Texts.{AreWhole, UnlessFaulty}
+use Rattle.ost_store.specs.Names.{CanList}
 use Rattle.ost_store.proofs.Lists.{in_none, in_cases, in_first, in_rest}
 use Rattle.dep_states.specs.Shown.{there, seen_of, ref_seen, row_seen, ref_key, Shows}
 use Rattle.dep_states.specs.Sound.{IsKeptBy, Keeps, Opens, Spares}
@@ -215,13 +217,15 @@ module _ {s : State} {v : View} (opens : Opens s v) where
           | inr given ↦ absurd (given.0.unused.unused (apart_in (shows v) (now_left v) used.name used.commit used.place used.kept used.inside given.0.object.0 given.0.object.1 given.0.unused.digits (path ∙ given.0.name)))
         ])
 
-  pub can_prune : IsTree v → CanPrune repo keep v
-  can_prune tree = record {
+  pub are_whole : IsTree v → AreWhole repo keep v
+  are_whole tree = record {
     whole = λ commit has.
         let row = from_kept commit s.refs has in
         ((sound_now tree opens).commits row.0.name commit (row_keeps (opens.shown (shows v) (now_left v)) row.0 commit row.1 row.2)).whole;
-    short = record { short = λ q above. (can_empty tree opens _).short q above };
   }
+
+  pub can_list : IsTree v → CanList repo v
+  can_list tree = record { short = λ q above. (can_empty tree opens _).short q above }
 
 -- ---- used, in another view of the same state
 
@@ -332,7 +336,7 @@ module _ {s : State} {v : View} (opens : Opens s v) where
       let shown : shows v p ≢ gone = (λ none. some (same_shows tree next (files_kept pruned.keeps) p name ∙ none)) in
       elim (used_cases (store repo (shows v)) (kept_of s.refs) d kind) [
         | inl used ↦ used_on opens after (used_stays opens steady pruned) d kind (from_list d kind used)
-        | inr none ↦ absurd (left (done.was.gone (d, kind) (record { digits = digits; there = object_there (shows v) (sound_store (shows v) (sound_now tree opens)) d kind digits shown; unused = none })))
+        | inr none ↦ absurd (left ((done.was (are_whole opens tree)).1.gone (d, kind) (record { digits = digits; there = object_there (shows v) (sound_store (shows v) (sound_now tree opens)) d kind digits shown; unused = none })))
       ]
 
 -- ---- over the moments, of the installation's store
@@ -343,8 +347,16 @@ prunes_start told = stays told (λ u. record { keeps = keeps_same refl }) (λ u 
 pub prunes_of : {root : Elements} {keep kept : List (List ℕ)} {a b : Option Moments} → root ≡ repo → keep ≡ kept → Goes a b (Prunes root keep) (Prunes root keep) → Goes a b (Prunes repo kept) (Prunes repo kept)
 prunes_of {root = root} {kept = kept} {a = a} {b = b} at same goes = subst (λ r. Goes a b (Prunes r kept) (Prunes r kept)) at (subst (λ k. Goes a b (Prunes root k) (Prunes root k)) same goes)
 
-pub pruned_of : {root : Elements} {keep kept : List (List ℕ)} {number : ℕ} {a b : Option Moments} → root ≡ repo → keep ≡ kept → AtEnd (WasPruned root keep number) a b → AtEnd (IsPruned kept) a b
-pruned_of {root = root} {kept = kept} {number = number} at same done = ends_to done (λ u w was. record { number = number; was = subst (λ r. WasPruned r kept number u w) at (subst (λ k. WasPruned root k number u w) same was) })
+-- this many, or none where a commit has a fault
+abbrev Took : Elements → List (List ℕ) → Option ℕ → View → View → Type 0
+Took root keep pruned u w = UnlessFaulty root keep u (λ number. WasPruned root keep number u w) pruned
 
-pub can_prune_of : {root : Elements} {keep kept : List (List ℕ)} {v : View} → root ≡ repo → keep ≡ kept → CanPrune repo kept v → CanPrune root keep v
-can_prune_of {keep = keep} {v = v} at same can = subst (λ r. CanPrune r keep v) (sym at) (subst (λ k. CanPrune repo k v) (sym same) can)
+is_pruned : (keep : List (List ℕ)) (pruned : Option ℕ) (u w : View) → Took repo keep pruned u w → IsPruned keep u w
+is_pruned commits None u w faulty = record { was = λ whole. absurd (faulty whole) }
+is_pruned commits (Some number) u w was = record { was = λ whole. (number, was) }
+
+pub pruned_of : {root : Elements} {keep kept : List (List ℕ)} (pruned : Option ℕ) {a b : Option Moments} → root ≡ repo → keep ≡ kept → AtEnd (Took root keep pruned) a b → AtEnd (IsPruned kept) a b
+pruned_of {root = root} {kept = kept} pruned at same done = ends_to done (λ u w took. is_pruned kept pruned u w (subst (λ r. Took r kept pruned u w) at (subst (λ k. Took root k pruned u w) same took)))
+
+pub can_list_of : {root : Elements} {v : View} → root ≡ repo → CanList repo v → CanList root v
+can_list_of {v = v} at can = subst (λ r. CanList r v) (sym at) can

@@ -3,8 +3,8 @@ use Rattle.std.specs.Prelude.{ℕ, List}
 use Rattle.fp_host.specs.View.{View}
 use Rattle.fp_small.specs.Places.{repo}
 use Rattle.ost_prune.specs.Prune.{WasPruned}
+use Rattle.ost_prune.specs.Texts.{AreWhole}
 
--- what no commit to keep used is gone
+-- Where the orders of the commits to keep have no fault, what none of them used is gone.
 pub record IsPruned (keep : List (List ℕ)) (u w : View) : Type 0 where
-  pub number : ℕ
-  pub was : WasPruned repo keep number u w
+  pub was : AreWhole repo keep u → (number : ℕ) × WasPruned repo keep number u w

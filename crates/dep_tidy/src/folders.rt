@@ -1,7 +1,7 @@
 //! The folders of commits.
 ghost use Rattle.std.specs.Prelude.{◌≡◌, ◌∷◌, [], true, OnOk, IsErrOf};
-ghost use Rattle.fp_host.specs.Causes.{IsCaused};
-ghost use Rattle.fp_host.specs.Frame.{Frame, AtEnd, NoPath};
+ghost use Rattle.fp_host.specs.OverHost.{AtReturn, FailsOnly};
+ghost use Rattle.fp_host.specs.Frame.{Frame, NoPath};
 ghost use Rattle.fp_name.specs.Refs.{is_ref};
 ghost use Rattle.dep_states.specs.Names.{branch_dir};
 ghost use Rattle.dep_states.specs.Sound.{Opens};
@@ -29,10 +29,10 @@ fn clear_name<H: Host>(
     requires good { is_ref name.now ≡ true }
     ensures frame { Frame (UnkeptGone state.now) (UnkeptAbsent state.now) NoPath
         (H.moments host.old) (H.moments host.new) }
-    ensures on_success { OnOk result (AtEnd (λ u w. HasNoneOf state.now name.now (text.now ∷ []) w)
-        (H.moments host.old) (H.moments host.new)) }
-    ensures fault_has_cause { IsCaused (IsErrOf result HostEnd.Fault) (H.moments host.old)
-        (Opens state.now) (H.faults host.old) (H.faults host.new) }
+    ensures on_success { OnOk result (AtReturn H.Host host.old host.new
+        (λ u w. HasNoneOf state.now name.now (text.now ∷ []) w)) }
+    ensures fault_has_cause { FailsOnly H.Host host.old host.new
+        (Opens state.now) (IsErrOf result HostEnd.Fault) }
 {
     let Ok(commit) = Digest::parse(text.as_str().as_bytes()) else {
         return Ok(());
@@ -57,10 +57,10 @@ fn clear_ref<H: Host>(
     requires good { is_ref name.now ≡ true }
     ensures frame { Frame (UnkeptGone state.now) (UnkeptAbsent state.now) NoPath
         (H.moments host.old) (H.moments host.new) }
-    ensures on_success { OnOk result (AtEnd (λ u w. HasNoneIn state.now (folder.now ∷ []) w)
-        (H.moments host.old) (H.moments host.new)) }
-    ensures fault_has_cause { IsCaused (IsErrOf result HostEnd.Fault) (H.moments host.old)
-        (Opens state.now) (H.faults host.old) (H.faults host.new) }
+    ensures on_success { OnOk result (AtReturn H.Host host.old host.new
+        (λ u w. HasNoneIn state.now (folder.now ∷ []) w)) }
+    ensures fault_has_cause { FailsOnly H.Host host.old host.new
+        (Opens state.now) (IsErrOf result HostEnd.Fault) }
 {
     let names = names_in(alloc, host, folder)?;
     for text in names.as_slice() {
@@ -78,10 +78,10 @@ fn clear_branch<H: Host>(
 ) -> Result<(), HostEnd>
     ensures frame { Frame (UnkeptGone state.now) (UnkeptAbsent state.now) NoPath
         (H.moments host.old) (H.moments host.new) }
-    ensures on_success { OnOk result (AtEnd (λ u w. HasNoneIn state.now (path.now ∷ []) w)
-        (H.moments host.old) (H.moments host.new)) }
-    ensures fault_has_cause { IsCaused (IsErrOf result HostEnd.Fault) (H.moments host.old)
-        (Opens state.now) (H.faults host.old) (H.faults host.new) }
+    ensures on_success { OnOk result (AtReturn H.Host host.old host.new
+        (λ u w. HasNoneIn state.now (path.now ∷ []) w)) }
+    ensures fault_has_cause { FailsOnly H.Host host.old host.new
+        (Opens state.now) (IsErrOf result HostEnd.Fault) }
 {
     match ref_at(alloc, path)? {
         None => Ok(()),
@@ -98,10 +98,10 @@ pub(crate) fn clear_folders<H: Host>(
 ) -> Result<(), HostEnd>
     ensures frame { Frame (UnkeptGone state.now) (UnkeptAbsent state.now) NoPath
         (H.moments host.old) (H.moments host.new) }
-    ensures on_success { OnOk result (AtEnd (λ u w. HasNoUnkept state.now w)
-        (H.moments host.old) (H.moments host.new)) }
-    ensures fault_has_cause { IsCaused (IsErrOf result HostEnd.Fault) (H.moments host.old)
-        (Opens state.now) (H.faults host.old) (H.faults host.new) }
+    ensures on_success { OnOk result (AtReturn H.Host host.old host.new
+        (λ u w. HasNoUnkept state.now w)) }
+    ensures fault_has_cause { FailsOnly H.Host host.old host.new
+        (Opens state.now) (IsErrOf result HostEnd.Fault) }
 {
     let paths = branch_paths(alloc, host)?;
     for path in paths.as_slice() {

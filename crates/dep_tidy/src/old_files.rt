@@ -1,8 +1,6 @@
 //! The files of layout 1.
 ghost use Rattle.std.specs.Prelude.{OnOk, IsErrOf};
-ghost use Rattle.fp_host.specs.Causes.{IsCaused};
-ghost use Rattle.fp_host.specs.Frame.{AtEnd};
-ghost use Rattle.fp_host.specs.Moments.{Always};
+ghost use Rattle.fp_host.specs.OverHost.{AtEachMoment, AtReturn, FailsOnly};
 ghost use Rattle.dep_tidy.specs.Steps.{TakesOld, HasNoOld, CanTakeOld};
 
 use dep_states::{config_path, pins_path, remotes_path};
@@ -12,11 +10,10 @@ use std::alloc::Global;
 
 /// Where `config` is there, takes the files of layout 1 away.
 pub(crate) fn take_old_files<H: Host>(alloc: Global, host: &mut H) -> Result<(), HostEnd>
-    ensures any_moment { Always TakesOld (H.moments host.old) (H.moments host.new) }
-    ensures on_success { OnOk result (AtEnd (λ u w. HasNoOld w)
-        (H.moments host.old) (H.moments host.new)) }
-    ensures fault_has_cause { IsCaused (IsErrOf result HostEnd.Fault) (H.moments host.old)
-        CanTakeOld (H.faults host.old) (H.faults host.new) }
+    ensures any_moment { AtEachMoment H.Host host.old host.new TakesOld }
+    ensures on_success { OnOk result (AtReturn H.Host host.old host.new (λ u w. HasNoOld w)) }
+    ensures fault_has_cause { FailsOnly H.Host host.old host.new
+        CanTakeOld (IsErrOf result HostEnd.Fault) }
 {
     let config = config_path(alloc)?;
     let remotes = remotes_path(alloc)?;

@@ -1,8 +1,7 @@
 //! The files of refs.
 ghost use Rattle.std.specs.Prelude.{◌≡◌, ◌↔◌, ◌∷◌, [], true, IsTrue, OnOk, IfOk, IsErrOf};
-ghost use Rattle.fp_host.specs.Causes.{IsCaused};
-ghost use Rattle.fp_host.specs.Frame.{Frame, AtEnd, NoPath};
-ghost use Rattle.fp_host.specs.Moments.{Always};
+ghost use Rattle.fp_host.specs.OverHost.{AtEachMoment, AtReturn, FailsOnly};
+ghost use Rattle.fp_host.specs.Frame.{Frame, NoPath};
 ghost use Rattle.fp_small.specs.Places.{repo};
 ghost use Rattle.ost_refs.specs.Changes.{CanWrite};
 ghost use Rattle.ost_refs.specs.declared.place.RefFile.TheVariants.{Digest as DigestOf};
@@ -39,10 +38,10 @@ fn drop_other<H: Host>(
     requires root { root.now ≡ repo }
     ensures frame { Frame (OtherGone state.now) (OtherAbsent state.now) NoPath
         (H.moments host.old) (H.moments host.new) }
-    ensures on_success { OnOk result (AtEnd (λ u w. HasNoneAt state.now (place.now ∷ []) w)
-        (H.moments host.old) (H.moments host.new)) }
-    ensures fault_has_cause { IsCaused (IsErrOf result HostEnd.Fault) (H.moments host.old)
-        (Opens state.now) (H.faults host.old) (H.faults host.new) }
+    ensures on_success { OnOk result (AtReturn H.Host host.old host.new
+        (λ u w. HasNoneAt state.now (place.now ∷ []) w)) }
+    ensures fault_has_cause { FailsOnly H.Host host.old host.new
+        (Opens state.now) (IsErrOf result HostEnd.Fault) }
 {
     if is_wanted(state, place) {
         return Ok(());
@@ -60,10 +59,10 @@ pub(crate) fn drop_others<H: Host>(
     requires root { root.now ≡ repo }
     ensures frame { Frame (OtherGone state.now) (OtherAbsent state.now) NoPath
         (H.moments host.old) (H.moments host.new) }
-    ensures on_success { OnOk result (AtEnd (λ u w. HasNoOther state.now w)
-        (H.moments host.old) (H.moments host.new)) }
-    ensures fault_has_cause { IsCaused (IsErrOf result HostEnd.Fault) (H.moments host.old)
-        (Opens state.now) (H.faults host.old) (H.faults host.new) }
+    ensures on_success { OnOk result (AtReturn H.Host host.old host.new
+        (λ u w. HasNoOther state.now w)) }
+    ensures fault_has_cause { FailsOnly H.Host host.old host.new
+        (Opens state.now) (IsErrOf result HostEnd.Fault) }
 {
     let places = list_refs(alloc, host, root)?;
     for place in places.as_slice() {
@@ -97,13 +96,10 @@ fn write_file<H: Host>(
     row: &RefRow,
 ) -> Result<(), HostEnd>
     requires root { root.now ≡ repo }
-    ensures any_moment { Always (Writes (row.now ∷ []))
-        (H.moments host.old) (H.moments host.new) }
-    ensures on_success { OnOk result (AtEnd (WroteFile row.now)
-        (H.moments host.old) (H.moments host.new)) }
-    ensures fault_has_cause { IsCaused (IsErrOf result HostEnd.Fault) (H.moments host.old)
-        (CanWrite repo (Remote row.now.origin row.now.name)) (H.faults host.old)
-        (H.faults host.new) }
+    ensures any_moment { AtEachMoment H.Host host.old host.new (Writes (row.now ∷ [])) }
+    ensures on_success { OnOk result (AtReturn H.Host host.old host.new (WroteFile row.now)) }
+    ensures fault_has_cause { FailsOnly H.Host host.old host.new
+        (CanWrite repo (Remote row.now.origin row.now.name)) (IsErrOf result HostEnd.Fault) }
 {
     let place = place_of(row)?;
     let file = read_ref(alloc, host, root, &place)?;
@@ -121,12 +117,10 @@ pub(crate) fn write_files<H: Host>(
     state: &State,
 ) -> Result<(), HostEnd>
     requires root { root.now ≡ repo }
-    ensures any_moment { Always (Writes state.now.refs)
-        (H.moments host.old) (H.moments host.new) }
-    ensures on_success { OnOk result (AtEnd (WroteFiles state.now)
-        (H.moments host.old) (H.moments host.new)) }
-    ensures fault_has_cause { IsCaused (IsErrOf result HostEnd.Fault) (H.moments host.old)
-        (Opens state.now) (H.faults host.old) (H.faults host.new) }
+    ensures any_moment { AtEachMoment H.Host host.old host.new (Writes state.now.refs) }
+    ensures on_success { OnOk result (AtReturn H.Host host.old host.new (WroteFiles state.now)) }
+    ensures fault_has_cause { FailsOnly H.Host host.old host.new
+        (Opens state.now) (IsErrOf result HostEnd.Fault) }
 {
     for row in state.refs.as_slice() {
         write_file(alloc, host, root, row)?;

@@ -1,8 +1,7 @@
 //! An opened installation that is settled.
 ghost use Rattle.std.specs.Prelude.{◌≡◌, IfOk, OnOk, IsErrOf};
-ghost use Rattle.fp_host.specs.Causes.{IsCaused};
-ghost use Rattle.fp_host.specs.Frame.{Frame, AtEnd, NoPath};
-ghost use Rattle.fp_host.specs.Moments.{Always};
+ghost use Rattle.fp_host.specs.OverHost.{AtEachMoment, AtReturn, FailsOnly};
+ghost use Rattle.fp_host.specs.Frame.{Frame, NoPath};
 ghost use Rattle.fp_host.specs.Outcome.{shows};
 ghost use Rattle.fp_small.specs.Places.{repo, tmp};
 ghost use Rattle.fp_small.specs.Clear.{GoneBelow, AbsentBelow};
@@ -29,11 +28,10 @@ use std::alloc::Global;
 /// leaves the state.
 pub fn tidy<H: Host>(alloc: Global, host: &mut H, opened: Opened) -> Result<Opened, HostEnd>
     ensures state { IfOk result (λ o. o ≡ opened) }
-    ensures any_moment { Always (Tidies opened) (H.moments host.old) (H.moments host.new) }
-    ensures on_success { OnOk result (AtEnd (WasTidied opened)
-        (H.moments host.old) (H.moments host.new)) }
-    ensures fault_has_cause { IsCaused (IsErrOf result HostEnd.Fault) (H.moments host.old)
-        (Opens opened) (H.faults host.old) (H.faults host.new) }
+    ensures any_moment { AtEachMoment H.Host host.old host.new (Tidies opened) }
+    ensures on_success { OnOk result (AtReturn H.Host host.old host.new (WasTidied opened)) }
+    ensures fault_has_cause { FailsOnly H.Host host.old host.new
+        (Opens opened) (IsErrOf result HostEnd.Fault) }
 {
     host.sync()?;
     settle(alloc, host, opened.state())?;
@@ -46,11 +44,11 @@ pub fn tidy_work<H: Host>(alloc: Global, host: &mut H, opened: Opened) -> Result
     ensures state { IfOk result (λ o. o ≡ opened) }
     ensures frame { Frame (GoneBelow tmp) (AbsentBelow tmp) NoPath
         (H.moments host.old) (H.moments host.new) }
-    ensures any_moment { Always (Tidies opened) (H.moments host.old) (H.moments host.new) }
-    ensures on_success { OnOk result (AtEnd (λ u w. SettledButWork (shows u) → Settled (shows w))
-        (H.moments host.old) (H.moments host.new)) }
-    ensures fault_has_cause { IsCaused (IsErrOf result HostEnd.Fault) (H.moments host.old)
-        (Opens opened) (H.faults host.old) (H.faults host.new) }
+    ensures any_moment { AtEachMoment H.Host host.old host.new (Tidies opened) }
+    ensures on_success { OnOk result (AtReturn H.Host host.old host.new
+        (λ u w. SettledButWork (shows u) → Settled (shows w))) }
+    ensures fault_has_cause { FailsOnly H.Host host.old host.new
+        (Opens opened) (IsErrOf result HostEnd.Fault) }
 {
     empty_work(alloc, host)?;
     Ok(opened)
@@ -58,12 +56,12 @@ pub fn tidy_work<H: Host>(alloc: Global, host: &mut H, opened: Opened) -> Result
 
 /// All that is done after the first sync, and the last one.
 fn settle<H: Host>(alloc: Global, host: &mut H, state: &State) -> Result<(), HostEnd>
-    ensures any_moment { Always (λ u w. IsSteady u → Tidies state.now u w)
-        (H.moments host.old) (H.moments host.new) }
-    ensures on_success { OnOk result (AtEnd (λ u w. IsSteady u → WasTidied state.now u w)
-        (H.moments host.old) (H.moments host.new)) }
-    ensures fault_has_cause { IsCaused (IsErrOf result HostEnd.Fault) (H.moments host.old)
-        (IsReady state.now) (H.faults host.old) (H.faults host.new) }
+    ensures any_moment { AtEachMoment H.Host host.old host.new
+        (λ u w. IsSteady u → Tidies state.now u w) }
+    ensures on_success { OnOk result (AtReturn H.Host host.old host.new
+        (λ u w. IsSteady u → WasTidied state.now u w)) }
+    ensures fault_has_cause { FailsOnly H.Host host.old host.new
+        (IsReady state.now) (IsErrOf result HostEnd.Fault) }
 {
     let repo = repo_path(alloc)?;
     clear_left(alloc, host, state)?;
@@ -74,14 +72,13 @@ fn settle<H: Host>(alloc: Global, host: &mut H, state: &State) -> Result<(), Hos
 
 /// Takes away what was left: work, folders of commits, and files of layout 1.
 fn clear_left<H: Host>(alloc: Global, host: &mut H, state: &State) -> Result<(), HostEnd>
-    ensures any_moment { Always (λ u w. IsSteady u → Steadily state.now u w)
-        (H.moments host.old) (H.moments host.new) }
-    ensures on_success { OnOk result (AtEnd (λ u w. IsCleared state.now w)
-        (H.moments host.old) (H.moments host.new)) }
-    ensures lasts { OnOk result (AtEnd Lasts
-        (H.moments host.old) (H.moments host.new)) }
-    ensures fault_has_cause { IsCaused (IsErrOf result HostEnd.Fault) (H.moments host.old)
-        (IsReady state.now) (H.faults host.old) (H.faults host.new) }
+    ensures any_moment { AtEachMoment H.Host host.old host.new
+        (λ u w. IsSteady u → Steadily state.now u w) }
+    ensures on_success { OnOk result (AtReturn H.Host host.old host.new
+        (λ u w. IsCleared state.now w)) }
+    ensures lasts { OnOk result (AtReturn H.Host host.old host.new Lasts) }
+    ensures fault_has_cause { FailsOnly H.Host host.old host.new
+        (IsReady state.now) (IsErrOf result HostEnd.Fault) }
 {
     empty_work(alloc, host)?;
     clear_folders(alloc, host, state)?;
@@ -96,14 +93,14 @@ fn settle_refs<H: Host>(
     state: &State,
 ) -> Result<(), HostEnd>
     requires root { root.now ≡ repo }
-    ensures any_moment { Always (λ u w. IsSteady u → Steadily state.now u w)
-        (H.moments host.old) (H.moments host.new) }
-    ensures on_success { OnOk result (AtEnd (λ u w. IsCleared state.now u → Opens state.now u
-        → HasRefs state.now w) (H.moments host.old) (H.moments host.new)) }
-    ensures lasts { OnOk result (AtEnd Lasts
-        (H.moments host.old) (H.moments host.new)) }
-    ensures fault_has_cause { IsCaused (IsErrOf result HostEnd.Fault) (H.moments host.old)
-        (IsReady state.now) (H.faults host.old) (H.faults host.new) }
+    ensures any_moment { AtEachMoment H.Host host.old host.new
+        (λ u w. IsSteady u → Steadily state.now u w) }
+    ensures on_success { OnOk result (AtReturn H.Host host.old host.new
+        (λ u w. IsCleared state.now u → Opens state.now u
+        → HasRefs state.now w)) }
+    ensures lasts { OnOk result (AtReturn H.Host host.old host.new Lasts) }
+    ensures fault_has_cause { FailsOnly H.Host host.old host.new
+        (IsReady state.now) (IsErrOf result HostEnd.Fault) }
 {
     drop_others(alloc, host, root, state)?;
     write_files(alloc, host, root, state)

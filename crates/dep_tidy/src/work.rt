@@ -1,7 +1,7 @@
 //! Work that was left.
 ghost use Rattle.std.specs.Prelude.{OnOk, IsErrOf};
-ghost use Rattle.fp_host.specs.Causes.{IsCaused};
-ghost use Rattle.fp_host.specs.Frame.{Frame, AtEnd, NoPath};
+ghost use Rattle.fp_host.specs.OverHost.{AtReturn, FailsOnly};
+ghost use Rattle.fp_host.specs.Frame.{Frame, NoPath};
 ghost use Rattle.fp_small.specs.Places.{tmp};
 ghost use Rattle.fp_small.specs.Clear.{GoneBelow, AbsentBelow, IsEmptied, CanEmpty};
 
@@ -13,10 +13,9 @@ use std::alloc::Global;
 pub(crate) fn empty_work<H: Host>(alloc: Global, host: &mut H) -> Result<(), HostEnd>
     ensures frame { Frame (GoneBelow tmp) (AbsentBelow tmp) NoPath
         (H.moments host.old) (H.moments host.new) }
-    ensures on_success { OnOk result (AtEnd (λ u w. IsEmptied tmp w)
-        (H.moments host.old) (H.moments host.new)) }
-    ensures fault_has_cause { IsCaused (IsErrOf result HostEnd.Fault) (H.moments host.old)
-        (CanEmpty tmp) (H.faults host.old) (H.faults host.new) }
+    ensures on_success { OnOk result (AtReturn H.Host host.old host.new (λ u w. IsEmptied tmp w)) }
+    ensures fault_has_cause { FailsOnly H.Host host.old host.new
+        (CanEmpty tmp) (IsErrOf result HostEnd.Fault) }
 {
     let work = tmp_path(alloc)?;
     clear_below(alloc, host, &work)

@@ -1,18 +1,13 @@
 -- An operation that brings a commit.
-use Rattle.std.proofs.Common.{◌≡◌, ◌≢◌, inl, inr, ℕ, List, [], ◌∷◌, Bool, true, false, Option, Some, None, Result, Ok, Err, refl, sym, ◌∙◌, ap, subst}
-use Rattle.std.specs.Prelude.{IsErrOf, if◌then◌else◌, option_map, IfOk}
+use Rattle.std.proofs.Common.{◌≡◌, ◌≢◌, inl, inr, ℕ, List, [], ◌∷◌, Bool, true, false, Option, Some, None, Result, Err, refl, sym, ◌∙◌, ap, subst}
+use Rattle.std.specs.Prelude.{IsErrOf, if◌then◌else◌, option_map}
 use Rattle.std.specs.Str.{bytes_eq}
-use Rattle.std.proofs.lemmas.Bool.{cases_Bool, both_ways}
+use Rattle.std.proofs.lemmas.Bool.{cases_Bool, both_ways, false≢true}
 use Rattle.std.proofs.lemmas.Slice.Eq.{bytes_eq-Decides}
-use Rattle.fp_host.specs.Causes.{IsCaused}
-use Rattle.fp_host.specs.Frame.{AtEnd}
-use Rattle.fp_host.specs.Moments.{Moments, Always}
+use Rattle.fp_host.specs.Moments.{Moments}
 use Rattle.fp_host.specs.Paths.{Elements, Slot}
 use Rattle.fp_host.specs.Remote.{Holdings}
 use Rattle.fp_host.specs.View.{View}
-use Rattle.fp_host.proofs.Ending.{ends_to}
-use Rattle.fp_host.proofs.Framed.{IsTold}
-use Rattle.fp_host.proofs.Goes.{begins}
 use Rattle.fp_name.specs.Refs.{Ref, ref_text}
 use Rattle.fp_small.specs.Config.{name_of}
 use Rattle.fp_small.specs.Order.{inserted, removed, replaced, has_name}
@@ -25,27 +20,25 @@ use Rattle.fp_small.specs.declared.state.State.{State}
 use Rattle.fp_small.specs.Places.{repo}
 use Rattle.ost_model.specs.Objects.{Have}
 use Rattle.ost_model.specs.Remotes.{Supplies}
-use Rattle.ost_head.specs.Heads.{unless_refused}
-use Rattle.ost_head.specs.Ends.{RefusesBy}
-use Rattle.ost_head.specs.declared.ends.PullEnd.{PullEnd}
-use Rattle.ost_head.specs.declared.ends.PullEnd.TheVariants as pulls
-use Rattle.dep_states.specs.After.{after_op, row_at, with_refs, updated, state_after, HasRow, IsOnConfig}
+use Rattle.ost_walk.specs.PullEnds.{RefusesBy}
+use Rattle.ost_walk.specs.declared.pull_end.PullEnd.{PullEnd}
+use Rattle.ost_walk.specs.declared.pull_end.PullEnd.TheVariants as pulls
+use Rattle.dep_states.specs.After.{May, after_op, row_at, with_refs, updated, state_after, HasRow, IsOnConfig}
 use Rattle.dep_states.specs.Shown.{at_name, ref_key}
-use Rattle.dep_states.specs.Sound.{Opens}
-use Rattle.dep_states.specs.Switch.{OpensEither}
 use Rattle.dep_states.proofs.Rows.{or_cases}
 use Rattle.dep_states.proofs.Single.{some_is}
 use Rattle.dep_switch.specs.Rows.{IsAt, with_row}
-use Rattle.op_bring.specs.Bringing.{AreTold, BringsName, WasBrought, WasGivenUp}
-use Rattle.op_bring.specs.Bringing as bring
-use Rattle.op_bring.specs.Brought.{row_brought, left_at, brought_refusal, commit_time, state_brought, brought, supply_at, HasObjects}
+use Rattle.op_change.specs.Attempts.{IsToBring}
+use Rattle.op_change.specs.Bringing.{BringsName}
+use Rattle.op_change.specs.Brought.{row_brought, left_at, brought_refusal, commit_time, state_brought, HasObjects}
 use Rattle.ost_store.specs.Created.{Creates}
 use Rattle.ost_store.proofs.Creating.{creates_to}
 use Rattle.ost_pull.specs.Pulls.{IsLacked}
-use Rattle.op_change.specs.Applied.{Brings, MayChange, url_in, url_for, done_with, op_refusal, Applies, WasApplied, IsStarved, AppliesWith, HasObjectsFor, IsBroughtFor, have_for}
-use Rattle.op_change.specs.Ends.{EndsAs, of_pull}
+use Rattle.op_change.specs.Applied.{Brings, MayChange, url_in, url_for, done_with, op_refusal, AppliesWith, HasObjectsFor, IsBroughtFor}
+use Rattle.op_change.specs.Ends.{of_pull}
 use Rattle.op_change.specs.declared.ending.ApplyEnd.{ApplyEnd}
 use Rattle.op_change.specs.declared.ending.ApplyEnd.TheVariants as ends
+use Rattle.op_change.proofs.Joined.{allowed}
 
 -- ---- rows by name
 
@@ -107,7 +100,7 @@ pub is_install : (s : State) (name : Ref) (origin commit : List ℕ) (row : Remo
 is_install s name origin commit row none from = record {
   url = ap (λ (o : Option RemoteRow). option_map url_in o) from;
   brings = tt;
-  off = λ on. on;
+  off = λ on. false≢true on;
   refusal = λ have. refl;
   state = λ have. installed s name origin row.name commit (commit_time have commit) none (row_named name_of s.remotes origin row from);
   made = λ time. installed s name origin row.name commit time none (row_named name_of s.remotes origin row from);
@@ -120,7 +113,7 @@ pub is_update : (s : State) (name : Ref) (origin commit : List ℕ) (row : Remot
 is_update s name origin commit row ref there from = record {
   url = ap (λ (o : Option RemoteRow). option_map url_in o) from;
   brings = tt;
-  off = λ on. on;
+  off = λ on. false≢true on;
   refusal = λ have. refl;
   state = λ have. updated_to s name origin row.name commit (commit_time have commit) ref there (row_named name_of s.remotes origin row from);
   made = λ time. updated_to s name origin row.name commit time ref there (row_named name_of s.remotes origin row from);
@@ -132,65 +125,18 @@ is_update s name origin commit row ref there from = record {
 pub bringing_as : {s : State} {name : Ref} {commit : List ℕ} {row : RemoteRow} (op x : Op) → op ≡ x → IsBringing s x name commit row → IsBringing s op name commit row
 bringing_as {s = s} {name = name} {commit = commit} {row = row} op x is b = subst (λ (o : Op). IsBringing s o name commit row) (sym is) b
 
--- ---- so it is applied
+pub is_bringing : (s : State) (op : Op) (name : Ref) (origin commit : List ℕ) (row : RemoteRow) → May s op → IsToBring op name origin commit → at_name name_of s.remotes origin ≡ Some row → IsBringing s op name commit row
+is_bringing s op name origin commit row may (inl is) from =
+    let allows = allowed s op (Install name origin commit) is may in
+    bringing_as op (Install name origin commit) is (is_install s name origin commit row allows.1 from)
+is_bringing s op name origin commit row may (inr is) from =
+    let allows = allowed s op (Update name origin commit) is may in
+    bringing_as op (Update name origin commit) is (is_update s name origin commit row allows.0.0 allows.0.1 from)
 
-module _ {s : State} {op : Op} {name : Ref} {commit : List ℕ} {row : RemoteRow} (b : IsBringing s op name commit row) where
-  state_as : (held : Holdings) (u : View) → state_brought (supply_at held (Some row.url) u) s name row.name commit ≡ state_after s (done_with (supply_at held (url_for s op) u) op)
-  state_as held u = ap (λ (url : Option (List ℕ)). state_brought (supply_at held url u) s name row.name commit) (sym b.url) ∙ b.state (supply_at held (url_for s op) u)
-
-  refusal_as : (held : Holdings) (u : View) (r : Refusal) → op_refusal (have_for s op held u) op ≡ Some r → brought_refusal (supply_at held (Some row.url) u) name commit ≡ Some r
-  refusal_as held u r is = ap (λ (url : Option (List ℕ)). brought_refusal (supply_at held url u) name commit) (sym b.url) ∙ sym (b.refusal (have_for s op held u)) ∙ is
-
-  pub made_as : (r : Result State ApplyEnd) → IfOk r (λ o. (time : ℕ) × (o ≡ with_row s (row_brought s name row.name commit time))) → IfOk r (λ o. (time : ℕ) × (o ≡ after_op s time op))
-  made_as (Ok o) made = (made.0, made.1 ∙ b.made made.0)
-  made_as (Err e) made = tt
-
-  applies : {holds : Option Holdings} {u w : View} → bring.Brings s row name commit holds u w → Applies s op holds u w
-  applies {u = u} {w = w} brings = record {
-    either = λ held is opens. subst (λ (t : State). OpensEither s t w) (state_as held u) (brings.either held (is b.brings) opens);
-    refused = λ held is r refused opens. brings.refused held (is b.brings) r (refusal_as held u r refused) opens;
-    changes = λ opens. let changes = brings.changes (opens b.brings) in
-        record { names = λ q. elim (changes.names q) [ inl same ↦ inl same | inr put ↦ inr (b.may u q _ put) ]; files = changes.files; links = changes.links; printed = changes.printed };
-  }
-
-  pub goes_applied : {holds : Option Holdings} {a c : Option Moments} → IsTold a → Always (bring.Brings s row name commit holds) a c → Always (Applies s op holds) a c
-  goes_applied told goes = begins told goes (λ u w t r. applies r) (λ u w t r e. applies e)
-
-  pub end_applied : {holds : Option Holdings} {a c : Option Moments} → AtEnd (WasBrought s row name commit holds) a c → AtEnd (WasApplied s op holds) a c
-  end_applied done = ends_to done (λ u w d. record {
-    opens = λ held is opens. subst (λ (t : State). Opens t w) (state_as held u) (d.opens held (is b.brings) opens);
-    objects = λ held is opens. b.objects (supply_at held (url_for s op) u) u w (subst (λ (url : Option (List ℕ)). HasObjects (supply_at held url u) commit u w) (sym b.url) (d.objects held (is b.brings) (opens b.brings)));
-    shares = λ held is opens. d.shares held (is b.brings) (opens b.brings);
-    creates = λ held is opens. b.created (supply_at held (url_for s op) u) u w (subst (λ (url : Option (List ℕ)). Creates repo (IsLacked repo (supply_at held url u) commit u) u w) (sym b.url) (d.creates held (is b.brings) (opens b.brings)));
-    settled = d.settled;
-    settings = λ on. absurd (b.off on);
-  })
-
-  pub end_starved : {holds : Option Holdings} {a c : Option Moments} → AtEnd (WasGivenUp s holds) a c → AtEnd (IsStarved s op holds) a c
-  end_starved given = ends_to given (λ u w d. record { opens = λ told opens. d.opens (told b.brings) opens; settings = λ on. absurd (b.off on) })
-
-  pub end_faulted : {F : Type 0} {holds : Option Holdings} {a : Option Moments} {C : View → Type 0} {before now : ℕ} → IsCaused (AreTold holds × F) a C before now → IsCaused ((Brings op → AreTold holds) × F) a C before now
-  end_faulted cause = record { later = cause.later; fault = λ f. cause.fault (f.0 b.brings, f.1) }
-
-  answer_ok : (have : Have) (t : State) (o : Option Refusal) → op_refusal have op ≡ o → unless_refused o (Ok (state_brought have s name row.name commit)) ≡ Ok t → (op_refusal have op ≡ None) × (t ≡ state_after s (done_with have op))
-  answer_ok have t None at is = (at, let same : state_brought have s name row.name commit ≡ t = cc is in sym same ∙ b.state have)
-  answer_ok have t (Some r) at is = absurd (cc is)
-
-  answer_err : (have : Have) (r : Refusal) (o : Option Refusal) → op_refusal have op ≡ o → unless_refused o (Ok (state_brought have s name row.name commit)) ≡ Err r → op_refusal have op ≡ Some r
-  answer_err have r None at is = absurd (cc is)
-  answer_err have r (Some x) at is = at ∙ ap (λ (y : Refusal). Some y) (let same : x ≡ r = cc is in same)
-
-  pub answers : (have : Have) (r : Result State ApplyEnd) → EndsAs (brought have s name row.name commit) r → AppliesWith have s op r
-  answers have (Ok t) is = answer_ok have t (brought_refusal have name commit) (b.refusal have) is
-  answers have (Err (ends.Refused r)) is = answer_err have r (brought_refusal have name commit) (b.refusal have) is
-  answers have (Err ends.Fault) is = tt
-  answers have (Err ends.RemoteFault) is = tt
-  answers have (Err ends.NoMemory) is = tt
+-- ---- how a commit that is brought ends
 
 pub none_some : {A : Type 0} {a : A} → ◌≡◌ {A = Option A} None (Some a) → ⊥
 none_some is = cc is
-
--- ---- how a commit that is brought ends
 
 refused_of : (end : PullEnd) (r : Refusal) → of_pull end ≡ ends.Refused r → end ≡ pulls.Refused r
 refused_of (pulls.Refused x) r is = ap (λ (y : Refusal). pulls.Refused y) (let same : x ≡ r = cc is in same)
@@ -210,36 +156,24 @@ fault_of pulls.HostFault is = refl
 fault_of pulls.RemoteFault is = absurd (cc is)
 fault_of pulls.NoMemory is = absurd (cc is)
 
-starved_of : (end : PullEnd) → of_pull end ≡ ends.NoMemory → end ≡ pulls.NoMemory
-starved_of (pulls.Refused x) is = absurd (cc is)
-starved_of pulls.HostFault is = absurd (cc is)
-starved_of pulls.RemoteFault is = absurd (cc is)
-starved_of pulls.NoMemory is = refl
-
 same_end : {A : Type 0} (x y : ApplyEnd) → ◌≡◌ {A = Result A ApplyEnd} (Err x) (Err y) → x ≡ y
 same_end x y is = cc is
 
-module _ {A : Type 0} (end : PullEnd) (result : ApplyEnd) (from : result ≡ of_pull end) where
-  pub pull_refused : (r : Refusal) → IsErrOf {T = A} (Err result) (ends.Refused r) → IsErrOf {T = A} (Err end) (pulls.Refused r)
-  pull_refused r is = ap (λ (e : PullEnd). Err e) (refused_of end r (sym from ∙ same_end {A = A} result (ends.Refused r) is))
+module _ {A B : Type 0} (end : PullEnd) where
+  pub pull_refused : (r : Refusal) → IsErrOf {T = A} (Err (of_pull end)) (ends.Refused r) → IsErrOf {T = B} (Err end) (pulls.Refused r)
+  pull_refused r is = ap (λ (e : PullEnd). Err e) (refused_of end r (same_end {A = A} (of_pull end) (ends.Refused r) is))
 
-  pub pull_remote : IsErrOf {T = A} (Err result) ends.RemoteFault → IsErrOf {T = A} (Err end) pulls.RemoteFault
-  pull_remote is = ap (λ (e : PullEnd). Err e) (remote_of end (sym from ∙ same_end {A = A} result ends.RemoteFault is))
+  pub pull_remote : IsErrOf {T = A} (Err (of_pull end)) ends.RemoteFault → IsErrOf {T = B} (Err end) pulls.RemoteFault
+  pull_remote is = ap (λ (e : PullEnd). Err e) (remote_of end (same_end {A = A} (of_pull end) ends.RemoteFault is))
 
-  pub pull_fault : IsErrOf {T = A} (Err result) ends.Fault → IsErrOf {T = A} (Err end) pulls.HostFault
-  pull_fault is = ap (λ (e : PullEnd). Err e) (fault_of end (sym from ∙ same_end {A = A} result ends.Fault is))
+  pub pull_fault : IsErrOf {T = A} (Err (of_pull end)) ends.Fault → IsErrOf {T = B} (Err end) pulls.HostFault
+  pull_fault is = ap (λ (e : PullEnd). Err e) (fault_of end (same_end {A = A} (of_pull end) ends.Fault is))
 
-  pub pull_starved : IsErrOf {T = A} (Err result) ends.NoMemory → IsErrOf {T = A} (Err end) pulls.NoMemory
-  pull_starved is = ap (λ (e : PullEnd). Err e) (starved_of end (sym from ∙ same_end {A = A} result ends.NoMemory is))
-
-ends_of : {A : Type 0} (answer : Result A Refusal) (end : PullEnd) → RefusesBy (λ r. answer ≡ Err r) end → EndsAs answer (Err (of_pull end))
-ends_of answer (pulls.Refused r) is = is
-ends_of answer pulls.HostFault is = tt
-ends_of answer pulls.RemoteFault is = tt
-ends_of answer pulls.NoMemory is = tt
-
-pub ends_as : {A : Type 0} (answer : Result A Refusal) (end : PullEnd) (result : ApplyEnd) → result ≡ of_pull end → RefusesBy (λ r. answer ≡ Err r) end → EndsAs answer (Err result)
-ends_as answer end result from is = subst (λ (e : ApplyEnd). EndsAs answer (Err e)) (sym from) (ends_of answer end is)
+pub refuses_with : (have : Have) (s : State) (op : Op) (end : PullEnd) → RefusesBy (λ r. op_refusal have op ≡ Some r) end → AppliesWith have s op (Err (of_pull end))
+refuses_with have s op (pulls.Refused r) is = is
+refuses_with have s op pulls.HostFault is = tt
+refuses_with have s op pulls.RemoteFault is = tt
+refuses_with have s op pulls.NoMemory is = tt
 
 -- ---- where it may be done
 

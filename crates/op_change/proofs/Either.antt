@@ -2,7 +2,7 @@
 use Rattle.std.proofs.Common.{◌≡◌, ◌⊎◌, ◌≤◌, inl, inr, ℕ, List, [], ◌∷◌, length, Option, Some, None, Contains, refl, sym, ◌∙◌, ap, subst, arith, if◌then◌else◌, codes}
 use Rattle.std.specs.Prelude.{map}
 use Rattle.std.specs.List.{AllByRecursion}
-use Rattle.std.proofs.lemmas.Bool.{le-leb}
+use Rattle.std.proofs.lemmas.Bool.{le-leb, false≢true}
 use Rattle.std.proofs.lemmas.List.Elements.{Contains-push_cases}
 use Rattle.fp_host.specs.Paths.{Elements, Slot, absent, dir, file, link, IsAbove}
 use Rattle.fp_host.specs.View.{View, Inode, IsTree}
@@ -45,8 +45,8 @@ use Rattle.fp_small.proofs.Pinning.{added, dropped}
 use Rattle.fp_small.proofs.Remoting as remotes
 use Rattle.fp_small.proofs.Sharing.{shares_made}
 use Rattle.dep_states.specs.Lasting.IsLasting.{the_settings}
-use Rattle.op_deploy.specs.Applied.{Does}
-use Rattle.op_deploy.proofs.Objects.{same_objects}
+use Rattle.op_change.specs.Deploys.{Does}
+use Rattle.op_change.proofs.Objects.{same_objects}
 use Rattle.ost_store.proofs.Creating.{creates_frame}
 use Rattle.dep_states.proofs.Elsewhere.{off_settings, off_work}
 use Rattle.op_change.specs.Applied.{SettingsDone}
@@ -328,12 +328,12 @@ next_after s (AddRemote row) may on good = record { settings = remotes.added (se
 next_after s (ModifyRemote row) may on good = record { settings = remotes.modified (settings_of s) row good.settings may.allows.0 may.allows.1; layout = may.layout; refs = refl; overrides = refl }
 next_after s (DropRemote name) may on good = record { settings = remotes.dropped (settings_of s) name good.settings; layout = may.layout; refs = refl; overrides = refl }
 next_after s Migrate may on good = record { settings = good.settings; layout = refl; refs = refl; overrides = refl }
-next_after s (Install name remote commit) may on good = absurd on
-next_after s (Update name remote commit) may on good = absurd on
-next_after s (Uninstall name) may on good = absurd on
-next_after s (SetOverride row) may on good = absurd on
-next_after s (DropOverride name) may on good = absurd on
-next_after s (Rollback name commit) may on good = absurd on
+next_after s (Install name remote commit) may on good = absurd (false≢true on)
+next_after s (Update name remote commit) may on good = absurd (false≢true on)
+next_after s (Uninstall name) may on good = absurd (false≢true on)
+next_after s (SetOverride row) may on good = absurd (false≢true on)
+next_after s (DropOverride name) may on good = absurd (false≢true on)
+next_after s (Rollback name commit) may on good = absurd (false≢true on)
 
 -- ---- what the parts of the call tell of it
 

@@ -1,5 +1,6 @@
 -- One operation of several, by what it is.
-use Rattle.std.proofs.Common.{◌≡◌, inl, inr, Option, Result, Ok, Err, IfOk, sym, subst}
+use Rattle.std.proofs.Common.{◌≡◌, inl, inr, true, Option, Result, Ok, Err, IfOk, sym, subst}
+use Rattle.std.proofs.lemmas.Bool.{false≢true}
 use Rattle.fp_host.specs.Paths.{Elements, Slot}
 use Rattle.fp_host.specs.View.{View}
 use Rattle.fp_host.specs.Frame.{AtEnd}
@@ -10,29 +11,30 @@ use Rattle.fp_host.proofs.Framed.{IsTold}
 use Rattle.fp_host.proofs.Goes.{begins}
 use Rattle.fp_small.specs.Replace.{ReplacesName}
 use Rattle.fp_small.specs.declared.op.Op.{Op}
-use Rattle.fp_small.specs.declared.op.Op.TheVariants.{Install, Update, Uninstall, AddPin, DropPin, AddRemote, ModifyRemote, DropRemote, SetOverride, DropOverride, Migrate, Rollback}
 use Rattle.fp_small.specs.declared.state.State.{State}
 use Rattle.dep_states.specs.After.{state_after, plain, IsOnConfig, IsGood, Allows, May}
+use Rattle.dep_states.specs.Effects.{Effect, Write, effect_of, is_of_config, WritesConfig, brings, writes, moves, leaves, sets, migrates, layers, bares}
 use Rattle.dep_states.specs.Names.{config}
 use Rattle.dep_states.specs.Sound.{Opens}
-use Rattle.op_deploy.specs.Applied.{Does, WasDone}
-use Rattle.op_change.specs.Applied.{MayChange, SettingsDone}
+use Rattle.op_change.specs.Deploys.{Does, WasDone}
+use Rattle.op_change.specs.Applied.{MayChange, MayWrite, ChangesName, SettingsDone}
 use Rattle.op_change.specs.Plainly.{DoesPlainly, WasDonePlainly, IsStarvedPlainly}
 
--- the settings' operations change the names that a writing of `config` changes
+-- what writes `config` changes the names that a writing of it changes
+write_on_config : (write : Write) → is_of_config write ≡ true → (u : View) (q : Elements) (e : Slot) → ReplacesName config u q e → MayWrite write u q e
+write_on_config sets on u q e put = put
+write_on_config migrates on u q e put = put
+write_on_config (moves name commit) on u q e put = absurd (false≢true on)
+write_on_config (leaves name) on u q e put = absurd (false≢true on)
+write_on_config (layers row) on u q e put = absurd (false≢true on)
+write_on_config (bares name) on u q e put = absurd (false≢true on)
+
+effect_on_config : (s : State) (effect : Effect) → WritesConfig effect → (u : View) (q : Elements) (e : Slot) → ReplacesName config u q e → ChangesName s effect u q e
+effect_on_config s (brings name remote commit) on u q e put = absurd (false≢true on)
+effect_on_config s (writes write) on u q e put = write_on_config write on u q e put
+
 pub on_config : (s : State) (op : Op) → IsOnConfig op → (u : View) (q : Elements) (e : Slot) → ReplacesName config u q e → MayChange s op u q e
-on_config s (AddPin pin) on u q e put = put
-on_config s (DropPin pin) on u q e put = put
-on_config s (AddRemote row) on u q e put = put
-on_config s (ModifyRemote row) on u q e put = put
-on_config s (DropRemote name) on u q e put = put
-on_config s Migrate on u q e put = put
-on_config s (Install name remote commit) on u q e put = absurd on
-on_config s (Update name remote commit) on u q e put = absurd on
-on_config s (Uninstall name) on u q e put = absurd on
-on_config s (SetOverride row) on u q e put = absurd on
-on_config s (DropOverride name) on u q e put = absurd on
-on_config s (Rollback name commit) on u q e put = absurd on
+on_config s op on u q e put = effect_on_config s (effect_of op) on u q e put
 
 module _ (s : State) (op : Op) where
   pub does_applies : {W : View → Elements → Slot → Type 0} → ((u : View) (q : Elements) (e : Slot) → W u q e → MayChange s op u q e) → {u w : View} → Does s (state_after s (plain op)) W u w → DoesPlainly s op u w

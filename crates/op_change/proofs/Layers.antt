@@ -54,8 +54,8 @@ use Rattle.dep_states.proofs.Small.{shows_layer, sound_layer}
 use Rattle.dep_states.proofs.Sparing.{fixed_in_repo, word_apart}
 use Rattle.dep_states.proofs.Switching.{none_in_tmp, word_no_repo, permits_gone}
 use Rattle.dep_switch.proofs.Spots.{now_left, folder_free, file_free}
-use Rattle.op_deploy.specs.Applied.{Does, WasDone}
-use Rattle.op_deploy.proofs.Objects.{same_objects}
+use Rattle.op_change.specs.Deploys.{Does, WasDone}
+use Rattle.op_change.proofs.Objects.{same_objects}
 use Rattle.ost_store.proofs.Creating.{creates_frame}
 use Rattle.dep_states.proofs.Elsewhere.{off_override, off_work}
 use Rattle.op_change.specs.Overriding.{AbsentAtPath}

@@ -15,54 +15,36 @@ use Rattle.fp_small.specs.declared.refusal.Refusal.{Refusal}
 use Rattle.fp_small.specs.declared.state.RemoteRow.{RemoteRow}
 use Rattle.fp_small.specs.declared.state.State.{State}
 use Rattle.fp_small.specs.declared.op.Op.{Op}
-use Rattle.fp_small.specs.declared.op.Op.TheVariants.{Install, Update, Uninstall, AddPin, DropPin, AddRemote, ModifyRemote, DropRemote, SetOverride, DropOverride, Migrate, Rollback}
 use Rattle.fp_base.specs.declared.object.ObjKind.{ObjKind}
 use Rattle.fp_small.specs.Places.{repo}
 use Rattle.ost_model.specs.Objects.{Have}
 use Rattle.ost_pull.specs.Pulls.{IsLacked}
 use Rattle.ost_store.specs.Created.{Creates}
 use Rattle.dep_states.specs.After.{Done, state_after, plain, IsOnConfig}
+use Rattle.dep_states.specs.Effects.{Effect, Write, effect_of, BringsCommit, brings, writes, moves, leaves, sets, migrates, layers, bares}
 use Rattle.dep_states.specs.Lasting.{IsLasting}
 use Rattle.dep_states.specs.Links.{Links}
 use Rattle.dep_states.specs.Names.{config, override_path, active}
 use Rattle.dep_states.specs.Shown.{at_name, settings_of, small_most}
 use Rattle.dep_states.specs.Sound.{Opens, HasConfig}
 use Rattle.dep_states.specs.Switch.{OpensEither}
-use Rattle.op_deploy.specs.Applied.{DeploysName, SameObjects, WasDone}
-use Rattle.op_bring.specs.Brought.{brought_refusal, commit_time, supply_at, HasObjects}
-use Rattle.op_bring.specs.Bringing.{BringsName, AreTold}
+use Rattle.op_change.specs.Deploys.{DeploysName, SameObjects, WasDone}
+use Rattle.op_change.specs.Brought.{brought_refusal, commit_time, supply_at, HasObjects}
+use Rattle.op_change.specs.Bringing.{BringsName, AreTold}
 use Rattle.op_change.specs.declared.ending.ApplyEnd.{ApplyEnd}
 use Rattle.op_change.specs.declared.ending.ApplyEnd.TheVariants as ends
 
 -- an operation that brings a commit
 abbrev pub Brings : Op → Type 0
-Brings (Install name origin commit) = Unit {0}
-Brings (Update name origin commit) = Unit {0}
-Brings (Uninstall name) = ⊥
-Brings (AddPin pin) = ⊥
-Brings (DropPin pin) = ⊥
-Brings (AddRemote row) = ⊥
-Brings (ModifyRemote row) = ⊥
-Brings (DropRemote name) = ⊥
-Brings (SetOverride row) = ⊥
-Brings (DropOverride name) = ⊥
-Brings Migrate = ⊥
-Brings (Rollback name commit) = ⊥
+Brings op = BringsCommit (effect_of op)
 
 -- an override that is set has a file that is short enough to be read
+abbrev pub FitsFile : Effect → Type 0
+FitsFile (writes (layers row)) = length (text_of row.file) ≤ small_most
+FitsFile _ = Unit {0}
+
 abbrev pub IsShort : Op → Type 0
-IsShort (SetOverride row) = length (text_of row.file) ≤ small_most
-IsShort (Install name origin commit) = Unit {0}
-IsShort (Update name origin commit) = Unit {0}
-IsShort (Uninstall name) = Unit {0}
-IsShort (AddPin pin) = Unit {0}
-IsShort (DropPin pin) = Unit {0}
-IsShort (AddRemote row) = Unit {0}
-IsShort (ModifyRemote row) = Unit {0}
-IsShort (DropRemote name) = Unit {0}
-IsShort (DropOverride name) = Unit {0}
-IsShort Migrate = Unit {0}
-IsShort (Rollback name commit) = Unit {0}
+IsShort op = FitsFile (effect_of op)
 
 -- ---- what an operation brings
 
@@ -73,29 +55,34 @@ url_in row = row.url
 abbrev pub url_of : State → List ℕ → Option (List ℕ)
 url_of s origin = option_map url_in (at_name name_of s.remotes origin)
 
--- the URL of the remote that an operation brings a commit from
+-- the URL of the remote that a commit is brought from
+abbrev pub url_by : State → Effect → Option (List ℕ)
+url_by s (brings name remote commit) = url_of s remote
+url_by s (writes write) = None
+
 abbrev pub url_for : State → Op → Option (List ℕ)
-url_for s (Install name origin commit) = url_of s origin
-url_for s (Update name origin commit) = url_of s origin
-url_for s op = None
+url_for s op = url_by s (effect_of op)
 
 -- the objects of the store, and beside them those of that remote
 abbrev pub have_for : State → Op → Holdings → View → Have
 have_for s op held v = supply_at held (url_for s op) v
 
+-- the timestamp of the commit that is brought, 0 where none is
+abbrev pub time_by : Have → Effect → ℕ
+time_by have (brings name remote commit) = commit_time have commit
+time_by have (writes write) = 0
+
 -- the operation, with the timestamp of the commit that it brings
 abbrev pub done_with : Have → Op → Done
-done_with have (Install name origin commit) =
-    record { op = Install name origin commit; timestamp = commit_time have commit }
-done_with have (Update name origin commit) =
-    record { op = Update name origin commit; timestamp = commit_time have commit }
-done_with have op = plain op
+done_with have op = record { op = op; timestamp = time_by have (effect_of op) }
 
--- what an operation is refused for
+-- what an effect is refused for
+abbrev pub refusal_by : Have → Effect → Option Refusal
+refusal_by have (brings name remote commit) = brought_refusal have name commit
+refusal_by have (writes write) = None
+
 abbrev pub op_refusal : Have → Op → Option Refusal
-op_refusal have (Install name origin commit) = brought_refusal have name commit
-op_refusal have (Update name origin commit) = brought_refusal have name commit
-op_refusal have op = None
+op_refusal have op = refusal_by have (effect_of op)
 
 -- What was answered is the state after, or what the operation is refused for. Nothing is said of
 -- faults and of running out of memory.
@@ -116,20 +103,22 @@ AppliesPlainly s op (Err ends.NoMemory) = ⊤
 
 -- ---- what changes
 
+-- the names that a write may change, and to what
+abbrev pub MayWrite : Write → View → Elements → Slot → Type 0
+MayWrite (moves name commit) u q e = DeploysName name commit q e
+MayWrite (leaves name) u q e = AbsentAt (active name) q e
+MayWrite sets u q e = ReplacesName config u q e
+MayWrite migrates u q e = ReplacesName config u q e
+MayWrite (layers row) u q e = ReplacesName (override_path row.name) u q e
+MayWrite (bares name) u q e = AbsentAt (override_path name) q e
+
+abbrev pub ChangesName : State → Effect → View → Elements → Slot → Type 0
+ChangesName s (brings name remote commit) u q e = BringsName s name commit q e
+ChangesName s (writes write) u q e = MayWrite write u q e
+
 -- the names that an operation may change, and to what
 abbrev pub MayChange : State → Op → View → Elements → Slot → Type 0
-MayChange s (Install name origin commit) u q e = BringsName s name commit q e
-MayChange s (Update name origin commit) u q e = BringsName s name commit q e
-MayChange s (Uninstall name) u q e = AbsentAt (active name) q e
-MayChange s (AddPin pin) u q e = ReplacesName config u q e
-MayChange s (DropPin pin) u q e = ReplacesName config u q e
-MayChange s (AddRemote row) u q e = ReplacesName config u q e
-MayChange s (ModifyRemote row) u q e = ReplacesName config u q e
-MayChange s (DropRemote name) u q e = ReplacesName config u q e
-MayChange s (SetOverride row) u q e = ReplacesName (override_path row.name) u q e
-MayChange s (DropOverride name) u q e = AbsentAt (override_path name) q e
-MayChange s Migrate u q e = ReplacesName config u q e
-MayChange s (Rollback name commit) u q e = DeploysName name commit q e
+MayChange s op u q e = ChangesName s (effect_of op) u q e
 
 -- No name changes but these, each file that was there keeps its mode and its bytes, one that comes
 -- to a commit's folder is a record or was put below the store's objects, and nothing is printed.
@@ -166,25 +155,20 @@ pub record SettingsDone (s t : State) (u w : View) : Type 0 where
   pub settings : HasSettings t u w
 
 -- the objects of the commit that is brought, beside those that stood; else the same objects
-abbrev pub HasObjectsFor : Have → Op → View → View → Type 0
-HasObjectsFor have (Install name origin commit) u w = HasObjects have commit u w
-HasObjectsFor have (Update name origin commit) u w = HasObjects have commit u w
-HasObjectsFor have op u w = SameObjects u w
+abbrev pub HasObjectsBy : Have → Effect → View → View → Type 0
+HasObjectsBy have (brings name remote commit) u w = HasObjects have commit u w
+HasObjectsBy have (writes write) u w = SameObjects u w
 
--- the object is one of the commit that the operation brings, and the store lacked it
+abbrev pub HasObjectsFor : Have → Op → View → View → Type 0
+HasObjectsFor have op u w = HasObjectsBy have (effect_of op) u w
+
+-- the object is one of the commit that is brought, and the store lacked it
+abbrev pub IsLackedBy : Have → Effect → View → List ℕ × ObjKind → Type 0
+IsLackedBy have (brings name remote commit) u o = IsLacked repo have commit u o
+IsLackedBy have (writes write) u o = ⊥
+
 abbrev pub IsBroughtFor : Have → Op → View → List ℕ × ObjKind → Type 0
-IsBroughtFor have (Install name origin commit) u o = IsLacked repo have commit u o
-IsBroughtFor have (Update name origin commit) u o = IsLacked repo have commit u o
-IsBroughtFor have (Uninstall name) u o = ⊥
-IsBroughtFor have (AddPin pin) u o = ⊥
-IsBroughtFor have (DropPin pin) u o = ⊥
-IsBroughtFor have (AddRemote row) u o = ⊥
-IsBroughtFor have (ModifyRemote row) u o = ⊥
-IsBroughtFor have (DropRemote name) u o = ⊥
-IsBroughtFor have (SetOverride row) u o = ⊥
-IsBroughtFor have (DropOverride name) u o = ⊥
-IsBroughtFor have Migrate u o = ⊥
-IsBroughtFor have (Rollback name commit) u o = ⊥
+IsBroughtFor have op u o = IsLackedBy have (effect_of op) u o
 
 -- The state after, its objects, and what stands. Each new file that has bytes came to a lasting
 -- name, and just the objects were made that were brought and that the store lacked.

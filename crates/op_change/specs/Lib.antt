@@ -2,3 +2,17 @@ pub mod Applied
 pub mod Ends
 pub mod Overriding
 pub mod Plainly
+pub mod Deploys
+pub mod Readying
+pub mod LayingOut
+pub mod Headed
+pub mod Places
+pub mod Rooms
+pub mod Furnishing
+pub mod BringEnds
+pub mod Brought
+pub mod Bringing
+pub mod Fetching
+pub mod Coming
+pub mod Obtaining
+pub mod Attempts

@@ -10,7 +10,7 @@ use Rattle.fp_small.specs.declared.op.Op.{Op}
 use Rattle.dep_states.specs.After.{state_after, plain, IsOnConfig}
 use Rattle.dep_states.specs.Lasting.{IsLasting}
 use Rattle.dep_states.specs.Sound.{Opens}
-use Rattle.op_deploy.specs.Applied.{Does, SameObjects}
+use Rattle.op_change.specs.Deploys.{Does, SameObjects}
 use Rattle.op_change.specs.Applied.{MayChange, HasSettings}
 
 abbrev pub DoesPlainly : State → Op → View → View → Type 0

@@ -1,19 +1,11 @@
 //! One operation on an installation.
-ghost use Rattle.std.specs.Prelude.{ℕ, ◌≡◌, IfOk, OnOk, IsErrOf};
-ghost use Rattle.fp_host.specs.Causes.{IsCaused};
-ghost use Rattle.fp_host.specs.Frame.{AtEnd};
-ghost use Rattle.fp_host.specs.Moments.{Always};
-ghost use Rattle.fp_small.specs.Places.{repo};
-ghost use Rattle.fp_small.specs.declared.refusal.Refusal.{Refusal};
-ghost use Rattle.ost_model.specs.Objects.{Have};
-ghost use Rattle.ost_model.specs.Remotes.{Supplies};
-ghost use Rattle.ost_walk.specs.Ends.{IsRemotes};
-ghost use Rattle.dep_states.specs.Sound.{Opens};
+ghost use Rattle.std.specs.Prelude.{ℕ, ◌≡◌, IfOk};
+ghost use Rattle.ost_walk.specs.Ends.{outside};
 ghost use Rattle.dep_states.specs.After.{May, IsGood, after_op};
-ghost use Rattle.op_bring.specs.Bringing.{WasLeft};
-ghost use Rattle.op_change.specs.Applied.{Brings, IsShort, url_for, AppliesWith, AppliesPlainly, Applies, WasApplied, IsStarved, HostFaulted};
+ghost use Rattle.op_change.specs.Applied.{IsShort};
+ghost use Rattle.op_change.specs.Attempts.{Attempts};
 
-use crate::bringing::bring_from;
+use crate::bring;
 use crate::ending::ApplyEnd;
 use crate::plainly::apply_plainly;
 use dep_states::Opened;
@@ -40,42 +32,25 @@ pub fn apply<H: Host, R: Remotes>(
     requires may { May opened op.now }
     requires good { IsGood opened }
     requires short { IsShort op.now }
-    ensures same { R.holds remotes.new ≡ R.holds remotes.old }
-    ensures answers { (have : Have)
-        → Supplies repo (url_for opened op.now) (H.moments host.old) (R.holds remotes.old) have
-        → AppliesWith have opened op.now result }
-    ensures plain { (Brings op.now → ⊥) → AppliesPlainly opened op.now result }
     ensures made { IfOk result (λ o. (timestamp : ℕ) × (o ≡ after_op opened timestamp op.now)) }
-    ensures asks_none { (Brings op.now → ⊥) → R.faults remotes.new ≡ R.faults remotes.old }
     ensures good { IfOk result IsGood }
-    // A stop at any moment leaves the one state or the other.
-    ensures any_moment { Always (Applies opened op.now (R.holds remotes.old))
-        (H.moments host.old) (H.moments host.new) }
-    ensures on_success { OnOk result (AtEnd (WasApplied opened op.now (R.holds remotes.old))
-        (H.moments host.old) (H.moments host.new)) }
-    ensures refused_unchanged { (r : Refusal) → IsErrOf result (ApplyEnd.Refused r)
-        → AtEnd (WasLeft opened (R.holds remotes.old)) (H.moments host.old) (H.moments host.new) }
-    ensures remote_fault_unchanged { IsErrOf result ApplyEnd.RemoteFault
-        → AtEnd (WasLeft opened (R.holds remotes.old)) (H.moments host.old) (H.moments host.new) }
-    ensures starved { IsErrOf result ApplyEnd.NoMemory
-        → AtEnd (IsStarved opened op.now (R.holds remotes.old))
-        (H.moments host.old) (H.moments host.new) }
-    ensures fault_has_cause { IsCaused (HostFaulted op.now (R.holds remotes.old) result)
-        (H.moments host.old) (Opens opened) (H.faults host.old) (H.faults host.new) }
-    ensures remote_fault_has_cause { IsRemotes (IsErrOf result ApplyEnd.RemoteFault)
-        (R.faults remotes.old) (R.faults remotes.new) }
+    ensures attempts { Attempts opened op.now result
+        (outside (H.moments host.old) (H.faults host.old) (R.holds remotes.old)
+        (R.faults remotes.old))
+        (outside (H.moments host.new) (H.faults host.new) (R.holds remotes.new)
+        (R.faults remotes.new)) }
 {
     match op {
         Op::Install {
             name,
             remote,
             commit,
-        } => bring_from(rt, alloc, host, remotes, opened, remote, name, commit),
+        } => bring(rt, alloc, host, remotes, opened, remote, name, commit),
         Op::Update {
             name,
             remote,
             commit,
-        } => bring_from(rt, alloc, host, remotes, opened, remote, name, commit),
+        } => bring(rt, alloc, host, remotes, opened, remote, name, commit),
         Op::Uninstall { .. }
         | Op::AddPin(_)
         | Op::DropPin(_)

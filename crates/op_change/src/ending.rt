@@ -1,7 +1,7 @@
 //! How an operation ends.
 use fp_host::HostEnd;
 use fp_small::Refusal;
-use ost_head::PullEnd;
+use ost_walk::PullEnd;
 use std::alloc::AllocError;
 
 /// How an operation ends where it isn't done.

@@ -1,10 +1,7 @@
 //! Overrides, set and dropped.
-ghost use Rattle.std.specs.Prelude.{◌≡◌, ◌≤◌, ◌∷◌, true, length, IfOk, OnOk, IsErrOf};
-ghost use Rattle.fp_host.specs.Causes.{IsCaused};
-ghost use Rattle.fp_host.specs.Frame.{AtEnd};
-ghost use Rattle.fp_host.specs.Moments.{Always};
+ghost use Rattle.std.specs.Prelude.{◌≡◌, ◌≤◌, true, length, IfOk, OnOk, IsErrOf};
+ghost use Rattle.fp_host.specs.OverHost.{AtEachMoment, AtReturn, FailsOnly};
 ghost use Rattle.fp_keyfile.specs.KeyFile.{text_of, is_good};
-ghost use Rattle.fp_small.specs.Clear.{AbsentAt};
 ghost use Rattle.fp_small.specs.Replace.{Replaces, ReplacesName, WasReplaced, CanReplace};
 ghost use Rattle.fp_small.specs.declared.op.Op.TheVariants.{SetOverride, DropOverride};
 ghost use Rattle.dep_states.specs.After.{state_after, plain};
@@ -12,7 +9,7 @@ ghost use Rattle.dep_states.specs.Names.{override_path};
 ghost use Rattle.fp_name.specs.Grammar.{is_override};
 ghost use Rattle.dep_states.specs.Shown.{small_most};
 ghost use Rattle.dep_states.specs.Sound.{Opens};
-ghost use Rattle.op_deploy.specs.Applied.{Does, WasDone};
+ghost use Rattle.op_change.specs.Deploys.{Does, WasDone};
 ghost use Rattle.op_change.specs.Overriding.{with_layer, without_layer, AbsentAtPath};
 
 use dep_states::Opened;
@@ -74,14 +71,15 @@ fn without_override(state: State, name: &Text) -> State
 /// Writes the file of an override anew.
 fn write_layer<H: Host>(alloc: Global, host: &mut H, row: &OverrideRow) -> Result<(), HostEnd>
     requires { is_override row.now.name ≡ true }
-    ensures any_moment { Always (Replaces (override_path row.now.name) (text_of row.now.file))
-        (H.moments host.old) (H.moments host.new) }
-    ensures on_success { OnOk result (AtEnd (WasReplaced (override_path row.now.name)
-        (text_of row.now.file)) (H.moments host.old) (H.moments host.new)) }
-    ensures fault_has_cause { IsCaused (IsErrOf result HostEnd.Fault) (H.moments host.old)
-        (CanReplace (override_path row.now.name)) (H.faults host.old) (H.faults host.new) }
-    ensures starved_unchanged { IsErrOf result HostEnd.NoMemory → AtEnd (λ u w. w ≡ u)
-        (H.moments host.old) (H.moments host.new) }
+    ensures any_moment { AtEachMoment H.Host host.old host.new
+        (Replaces (override_path row.now.name) (text_of row.now.file)) }
+    ensures on_success { OnOk result (AtReturn H.Host host.old host.new
+        (WasReplaced (override_path row.now.name)
+        (text_of row.now.file))) }
+    ensures fault_has_cause { FailsOnly H.Host host.old host.new
+        (CanReplace (override_path row.now.name)) (IsErrOf result HostEnd.Fault) }
+    ensures starved_unchanged { IsErrOf result HostEnd.NoMemory → AtReturn H.Host host.old host.new
+        (λ u w. w ≡ u) }
 {
     let path = path_of(alloc, &row.name)?;
     let text = row.file.write()?;
@@ -99,15 +97,15 @@ pub(crate) fn set_override<H: Host>(
     requires file { is_good row.now.file ≡ true }
     requires short { length (text_of row.now.file) ≤ small_most }
     ensures state { IfOk result (λ o. o ≡ state_after opened (plain (SetOverride row.now))) }
-    ensures any_moment { Always (Does opened (state_after opened (plain (SetOverride row.now)))
-        (ReplacesName (override_path row.now.name))) (H.moments host.old) (H.moments host.new) }
-    ensures on_success { OnOk result (AtEnd (WasDone opened
-        (state_after opened (plain (SetOverride row.now))))
-        (H.moments host.old) (H.moments host.new)) }
-    ensures fault_has_cause { IsCaused (IsErrOf result HostEnd.Fault) (H.moments host.old)
-        (Opens opened) (H.faults host.old) (H.faults host.new) }
-    ensures starved_unchanged { IsErrOf result HostEnd.NoMemory → AtEnd (λ u w. w ≡ u)
-        (H.moments host.old) (H.moments host.new) }
+    ensures any_moment { AtEachMoment H.Host host.old host.new
+        (Does opened (state_after opened (plain (SetOverride row.now)))
+        (ReplacesName (override_path row.now.name))) }
+    ensures on_success { OnOk result (AtReturn H.Host host.old host.new (WasDone opened
+        (state_after opened (plain (SetOverride row.now))))) }
+    ensures fault_has_cause { FailsOnly H.Host host.old host.new
+        (Opens opened) (IsErrOf result HostEnd.Fault) }
+    ensures starved_unchanged { IsErrOf result HostEnd.NoMemory → AtReturn H.Host host.old host.new
+        (λ u w. w ≡ u) }
 {
     let state = with_override(opened.take(), copy_of(row)?)?;
     write_layer(alloc, host, row)?;
@@ -123,15 +121,15 @@ pub(crate) fn drop_override<H: Host>(
 ) -> Result<Opened, HostEnd>
     requires { is_override name.now ≡ true }
     ensures state { IfOk result (λ o. o ≡ state_after opened (plain (DropOverride name.now))) }
-    ensures any_moment { Always (Does opened (state_after opened (plain (DropOverride name.now)))
-        (AbsentAtPath (override_path name.now))) (H.moments host.old) (H.moments host.new) }
-    ensures on_success { OnOk result (AtEnd (WasDone opened
-        (state_after opened (plain (DropOverride name.now))))
-        (H.moments host.old) (H.moments host.new)) }
-    ensures fault_has_cause { IsCaused (IsErrOf result HostEnd.Fault) (H.moments host.old)
-        (Opens opened) (H.faults host.old) (H.faults host.new) }
-    ensures starved_unchanged { IsErrOf result HostEnd.NoMemory → AtEnd (λ u w. w ≡ u)
-        (H.moments host.old) (H.moments host.new) }
+    ensures any_moment { AtEachMoment H.Host host.old host.new
+        (Does opened (state_after opened (plain (DropOverride name.now)))
+        (AbsentAtPath (override_path name.now))) }
+    ensures on_success { OnOk result (AtReturn H.Host host.old host.new (WasDone opened
+        (state_after opened (plain (DropOverride name.now))))) }
+    ensures fault_has_cause { FailsOnly H.Host host.old host.new
+        (Opens opened) (IsErrOf result HostEnd.Fault) }
+    ensures starved_unchanged { IsErrOf result HostEnd.NoMemory → AtReturn H.Host host.old host.new
+        (λ u w. w ≡ u) }
 {
     let path = path_of(alloc, name)?;
     take_away(host, &path)?;

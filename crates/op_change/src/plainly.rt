@@ -1,8 +1,6 @@
 //! One operation that brings no commit.
 ghost use Rattle.std.specs.Prelude.{◌≡◌, IfOk, OnOk, IsErrOf};
-ghost use Rattle.fp_host.specs.Causes.{IsCaused};
-ghost use Rattle.fp_host.specs.Frame.{AtEnd};
-ghost use Rattle.fp_host.specs.Moments.{Always};
+ghost use Rattle.fp_host.specs.OverHost.{AtEachMoment, AtReturn, FailsOnly};
 ghost use Rattle.dep_states.specs.Sound.{Opens};
 ghost use Rattle.dep_states.specs.After.{state_after, plain, May, IsGood};
 ghost use Rattle.op_change.specs.Applied.{Brings, IsShort};
@@ -10,10 +8,10 @@ ghost use Rattle.op_change.specs.Plainly.{DoesPlainly, WasDonePlainly, IsStarved
 
 use crate::overriding::{drop_override, set_override};
 use crate::settings::change_settings;
+use crate::{roll_back, uninstall};
 use dep_states::Opened;
 use fp_host::{Host, HostEnd};
 use fp_small::Op;
-use op_deploy::{roll_back, uninstall};
 use std::alloc::Global;
 
 /// Does one operation that brings no commit: every stop leaves the state of before or the one
@@ -31,14 +29,13 @@ pub(crate) fn apply_plainly<H: Host>(
     ensures state { IfOk result (λ o. o ≡ state_after opened (plain op.now)) }
     ensures good { IfOk result IsGood }
     // A stop at any moment leaves the one state or the other.
-    ensures any_moment { Always (DoesPlainly opened op.now)
-        (H.moments host.old) (H.moments host.new) }
-    ensures on_success { OnOk result (AtEnd (WasDonePlainly opened op.now)
-        (H.moments host.old) (H.moments host.new)) }
-    ensures fault_has_cause { IsCaused (IsErrOf result HostEnd.Fault) (H.moments host.old)
-        (Opens opened) (H.faults host.old) (H.faults host.new) }
-    ensures starved { IsErrOf result HostEnd.NoMemory → AtEnd (IsStarvedPlainly opened op.now)
-        (H.moments host.old) (H.moments host.new) }
+    ensures any_moment { AtEachMoment H.Host host.old host.new (DoesPlainly opened op.now) }
+    ensures on_success { OnOk result (AtReturn H.Host host.old host.new
+        (WasDonePlainly opened op.now)) }
+    ensures fault_has_cause { FailsOnly H.Host host.old host.new
+        (Opens opened) (IsErrOf result HostEnd.Fault) }
+    ensures starved { IsErrOf result HostEnd.NoMemory → AtReturn H.Host host.old host.new
+        (IsStarvedPlainly opened op.now) }
 {
     match op {
         Op::Uninstall { name } => uninstall(alloc, host, opened, name),

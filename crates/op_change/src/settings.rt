@@ -1,15 +1,13 @@
 //! One operation on the settings.
 ghost use Rattle.std.specs.Prelude.{◌≡◌, IfOk, OnOk, IsErrOf};
-ghost use Rattle.fp_host.specs.Causes.{IsCaused};
-ghost use Rattle.fp_host.specs.Frame.{AtEnd};
-ghost use Rattle.fp_host.specs.Moments.{Always};
+ghost use Rattle.fp_host.specs.OverHost.{AtEachMoment, AtReturn, FailsOnly};
 ghost use Rattle.fp_small.specs.Config.{config_text, IsSettings};
 ghost use Rattle.fp_small.specs.Replace.{Replaces, ReplacesName, WasReplaced, CanReplace};
 ghost use Rattle.dep_states.specs.Names.{config};
 ghost use Rattle.dep_states.specs.Shown.{settings_of};
 ghost use Rattle.dep_states.specs.Sound.{Opens};
 ghost use Rattle.dep_states.specs.After.{state_after, plain, May, IsOnConfig, IsGood};
-ghost use Rattle.op_deploy.specs.Applied.{Does};
+ghost use Rattle.op_change.specs.Deploys.{Does};
 ghost use Rattle.op_change.specs.Applied.{SettingsDone};
 
 use dep_states::Opened;
@@ -36,14 +34,15 @@ pub(crate) fn change_settings<H: Host>(
     ensures state { IfOk result (λ o. o ≡ state_after opened (plain op.now)) }
     ensures good { IfOk result IsGood }
     // A stop at any moment leaves the one state or the other.
-    ensures any_moment { Always (Does opened (state_after opened (plain op.now))
-        (ReplacesName config)) (H.moments host.old) (H.moments host.new) }
-    ensures on_success { OnOk result (AtEnd (SettingsDone opened
-        (state_after opened (plain op.now))) (H.moments host.old) (H.moments host.new)) }
-    ensures fault_has_cause { IsCaused (IsErrOf result HostEnd.Fault) (H.moments host.old)
-        (Opens opened) (H.faults host.old) (H.faults host.new) }
-    ensures starved_unchanged { IsErrOf result HostEnd.NoMemory → AtEnd (λ u w. w ≡ u)
-        (H.moments host.old) (H.moments host.new) }
+    ensures any_moment { AtEachMoment H.Host host.old host.new
+        (Does opened (state_after opened (plain op.now))
+        (ReplacesName config)) }
+    ensures on_success { OnOk result (AtReturn H.Host host.old host.new (SettingsDone opened
+        (state_after opened (plain op.now)))) }
+    ensures fault_has_cause { FailsOnly H.Host host.old host.new
+        (Opens opened) (IsErrOf result HostEnd.Fault) }
+    ensures starved_unchanged { IsErrOf result HostEnd.NoMemory → AtReturn H.Host host.old host.new
+        (λ u w. w ≡ u) }
 {
     let state = changed(opened.take(), op)?;
     write_state(alloc, host, &state)?;
@@ -87,14 +86,14 @@ fn changed(state: State, op: &Op) -> Result<State, AllocError>
 /// Writes `config` anew.
 fn write_state<H: Host>(alloc: Global, host: &mut H, state: &State) -> Result<(), HostEnd>
     requires { IsSettings (settings_of state.now) }
-    ensures any_moment { Always (Replaces config (config_text (settings_of state.now)))
-        (H.moments host.old) (H.moments host.new) }
-    ensures on_success { OnOk result (AtEnd (WasReplaced config
-        (config_text (settings_of state.now))) (H.moments host.old) (H.moments host.new)) }
-    ensures fault_has_cause { IsCaused (IsErrOf result HostEnd.Fault) (H.moments host.old)
-        (CanReplace config) (H.faults host.old) (H.faults host.new) }
-    ensures starved_unchanged { IsErrOf result HostEnd.NoMemory → AtEnd (λ u w. w ≡ u)
-        (H.moments host.old) (H.moments host.new) }
+    ensures any_moment { AtEachMoment H.Host host.old host.new
+        (Replaces config (config_text (settings_of state.now))) }
+    ensures on_success { OnOk result (AtReturn H.Host host.old host.new (WasReplaced config
+        (config_text (settings_of state.now)))) }
+    ensures fault_has_cause { FailsOnly H.Host host.old host.new
+        (CanReplace config) (IsErrOf result HostEnd.Fault) }
+    ensures starved_unchanged { IsErrOf result HostEnd.NoMemory → AtReturn H.Host host.old host.new
+        (λ u w. w ≡ u) }
 {
     let path = Path::root(alloc).child("config")?;
     let text = write_config(alloc, state.remotes.as_slice(), state.pins.as_slice())?;

@@ -5,13 +5,12 @@ use Rattle.fp_host.proofs.Cause.{same_fault, clash_step}
 use Rattle.fp_host.proofs.Goes.{stays}
 use Rattle.fp_host.proofs.Ending.{ends_on, ends_both, ends_goes, ends_in_tree, ends_call, call_caused, fault_caused}
 use Rattle.fp_small.specs.Places.{repo}
-use Rattle.ost_prune.specs.Prune.{CanPrune}
+use Rattle.ost_store.specs.Names.{CanList}
 use Rattle.dep_states.specs.Sound.{Opens}
 use Rattle.dep_states.specs.Settled.{Settled}
-use Rattle.dep_tidy.specs.Kept.{kept_of}
 use Rattle.dep_tidy.specs.Steps.{IsReady, IsSteady, HasRefs}
 use Rattle.dep_tidy.proofs.Joined.{tidies_same, tidying, going_on, pruning_on, ended_goes, was_tidied, ready_on, ready_more, Going}
-use Rattle.dep_tidy.proofs.Pruned.{can_prune}
+use Rattle.dep_tidy.proofs.Pruned.{can_list}
 use Rattle.dep_tidy.proofs.Ended.{all_settled}
 use Rattle.dep_tidy.proofs.Lasted.{lasts_on, lasts_frame}
 use Rattle.dep_tidy.specs.Lasts.{Lasts}
@@ -46,9 +45,9 @@ returns-in_err-prune_unused-clause-fault_has_cause g c =
     let t = g.met.H.Host.is_tree in
     let s = c.args.state.now in
     let next = going_on {s = s} (t c.args.host.now) (t c.clear_left.new.host) c.clear_left.ensures.any_moment c.settle_refs.ensures.any_moment (λ u w tree k. k) (λ u w tree k. k) in
-    fault_caused {Q = λ u v. IsTree v × Going s u v} (IsReady s) (CanPrune repo (kept_of s.refs)) _ _ _ _ _ (t c.args.host.now) (omega (arith, c.clear_left.ensures.fault_has_cause.later, c.settle_refs.ensures.fault_has_cause.later))
+    fault_caused {Q = λ u v. IsTree v × Going s u v} (IsReady s) (CanList repo) _ _ _ _ _ (t c.args.host.now) (omega (arith, c.clear_left.ensures.fault_has_cause.later, c.settle_refs.ensures.fault_has_cause.later))
     (ends_in_tree (t c.settle_refs.new.host) (ends_goes (t c.args.host.now) next) (λ u v tree q. (tree, q))) c.prune_unused.ensures.fault_has_cause
-    (same_fault _ _ _ c.in_err-prune_unused.was c.from_residual-in_err-prune_unused.ensures.1) (λ u v tree q ready. can_prune (ready_on q.1 ready) q.0)
+    (same_fault _ _ _ c.in_err-prune_unused.was c.from_residual-in_err-prune_unused.ensures.1) (λ u v tree q ready. can_list (ready_on q.1 ready) q.0)
 
 pub returns-in_err-sync-clause-any_moment : goal.returns-in_err-sync-clause-any_moment
 returns-in_err-sync-clause-any_moment g c =

@@ -1,4 +1,5 @@
-use Rattle.std.proofs.Common.{inl, inr, sym, subst}
+use Rattle.std.proofs.Common.{inl, inr, refl, sym, subst}
+use Rattle.std.proofs.lemmas.Bool.{false≢true}
 use Rattle.std.proofs.lemmas.Result.{on_ok_weaker}
 use Rattle.fp_small.specs.declared.op.Op.TheVariants.{Uninstall, SetOverride, DropOverride, Rollback}
 use Rattle.dep_states.specs.After.{state_after, plain, IsOnConfig}
@@ -18,7 +19,7 @@ returns-in-Uninstall-clause-any_moment g c =
 
 pub returns-in-Uninstall-clause-on_success : goal.returns-in-Uninstall-clause-on_success
 returns-in-Uninstall-clause-on_success g c =
-    on_ok_weaker c.uninstall.result (λ done. done_as c.args.opened c.args.op.now (Uninstall c.in-Uninstall.name) c.in-Uninstall.is (λ on. on) done) c.uninstall.ensures.on_success
+    on_ok_weaker c.uninstall.result (λ done. done_as c.args.opened c.args.op.now (Uninstall c.in-Uninstall.name) c.in-Uninstall.is (λ on. false≢true on) done) c.uninstall.ensures.on_success
 
 pub returns-in-Rollback-clause-good : goal.returns-in-Rollback-clause-good
 returns-in-Rollback-clause-good g c =
@@ -31,7 +32,7 @@ returns-in-Rollback-clause-any_moment g c =
 
 pub returns-in-Rollback-clause-on_success : goal.returns-in-Rollback-clause-on_success
 returns-in-Rollback-clause-on_success g c =
-    on_ok_weaker c.roll_back.result (λ done. done_as c.args.opened c.args.op.now (Rollback c.in-Rollback.name c.in-Rollback.commit) c.in-Rollback.is (λ on. on) done) c.roll_back.ensures.on_success
+    on_ok_weaker c.roll_back.result (λ done. done_as c.args.opened c.args.op.now (Rollback c.in-Rollback.name c.in-Rollback.commit) c.in-Rollback.is (λ on. false≢true on) done) c.roll_back.ensures.on_success
 
 -- ---- overrides
 
@@ -47,7 +48,7 @@ returns-in-SetOverride-clause-any_moment g c =
 
 pub returns-in-SetOverride-clause-on_success : goal.returns-in-SetOverride-clause-on_success
 returns-in-SetOverride-clause-on_success g c =
-    on_ok_weaker c.set_override.result (λ done. done_as c.args.opened c.args.op.now (SetOverride c.in-SetOverride.row) c.in-SetOverride.is (λ on. on) done) c.set_override.ensures.on_success
+    on_ok_weaker c.set_override.result (λ done. done_as c.args.opened c.args.op.now (SetOverride c.in-SetOverride.row) c.in-SetOverride.is (λ on. false≢true on) done) c.set_override.ensures.on_success
 
 pub returns-in-DropOverride-clause-good : goal.returns-in-DropOverride-clause-good
 returns-in-DropOverride-clause-good g c =
@@ -59,21 +60,21 @@ returns-in-DropOverride-clause-any_moment g c =
 
 pub returns-in-DropOverride-clause-on_success : goal.returns-in-DropOverride-clause-on_success
 returns-in-DropOverride-clause-on_success g c =
-    on_ok_weaker c.drop_override.result (λ done. done_as c.args.opened c.args.op.now (DropOverride c.in-DropOverride.name) c.in-DropOverride.is (λ on. on) done) c.drop_override.ensures.on_success
+    on_ok_weaker c.drop_override.result (λ done. done_as c.args.opened c.args.op.now (DropOverride c.in-DropOverride.name) c.in-DropOverride.is (λ on. false≢true on) done) c.drop_override.ensures.on_success
 
 -- ---- settings
 
 pub returns-in-AddPin-clause-any_moment : goal.returns-in-AddPin-clause-any_moment
 returns-in-AddPin-clause-any_moment g c =
     let on : IsOnConfig c.args.op.now = elim c.in-AddPin.is [
-      | inl x ↦ subst IsOnConfig (sym x.1) tt
+      | inl x ↦ subst IsOnConfig (sym x.1) refl
       | inr o ↦ elim o [
-        | inl x ↦ subst IsOnConfig (sym x.1) tt
+        | inl x ↦ subst IsOnConfig (sym x.1) refl
         | inr o ↦ elim o [
-          | inl x ↦ subst IsOnConfig (sym x.1) tt
+          | inl x ↦ subst IsOnConfig (sym x.1) refl
           | inr o ↦ elim o [
-            | inl x ↦ subst IsOnConfig (sym x.1) tt
-            | inr o ↦ elim o [ inl x ↦ subst IsOnConfig (sym x.1) tt | inr e ↦ subst IsOnConfig (sym e) tt ]
+            | inl x ↦ subst IsOnConfig (sym x.1) refl
+            | inr o ↦ elim o [ inl x ↦ subst IsOnConfig (sym x.1) refl | inr e ↦ subst IsOnConfig (sym e) refl ]
           ]
         ]
       ]

@@ -1,0 +1,53 @@
+//! A commit that is fetched beside the state.
+ghost use Rattle.std.specs.Prelude.{◌≡◌, false};
+ghost use Rattle.ost_walk.specs.Ends.{outside};
+ghost use Rattle.dep_states.specs.Frames.{KeptIn};
+ghost use Rattle.op_change.specs.Fetching.{Retrieves};
+ghost use Rattle.op_change.specs.Places.{ArePlaces};
+
+use crate::furnishing::furnish;
+use crate::places::Places;
+use crate::rooms::make_room;
+use dep_states::Opened;
+use fp_host::{Host, Remotes};
+use fp_name::{Digest, RefName};
+use ost_pull::pull;
+use ost_walk::PullEnd;
+use std::alloc::Global;
+use std::thread::Threads;
+
+/// Pulls the commit into the store, and lays it out in its folder where the state doesn't keep it.
+/// What stands in `repo/tmp` and in that folder goes before. The state isn't changed.
+pub(crate) fn fetch<H: Host, R: Remotes>(
+    rt: &(impl Threads + Sync),
+    alloc: Global,
+    host: &mut H,
+    remotes: &mut R,
+    opened: &Opened,
+    places: &Places,
+    url: &str,
+    name: &RefName,
+    commit: &Digest,
+    kept: bool,
+) -> Result<(), PullEnd>
+    requires places { ArePlaces name.now commit.now places.now }
+    requires unkept { kept ≡ false → KeptIn opened.now name.now commit.now → ⊥ }
+    ensures { Retrieves opened.now name.now commit.now kept url.now result
+        (outside (H.moments host.old) (H.faults host.old) (R.holds remotes.old)
+        (R.faults remotes.old))
+        (outside (H.moments host.new) (H.faults host.new) (R.holds remotes.new)
+        (R.faults remotes.new)) }
+{
+    make_room(alloc, host, &places.tmp, &places.folder, kept)?;
+    pull(
+        rt,
+        alloc,
+        host,
+        remotes,
+        &places.repo,
+        url,
+        commit,
+        &places.work,
+    )?;
+    furnish(alloc, host, name, commit, &places.folder, kept)
+}

@@ -1,0 +1,71 @@
+//! An install, or an update.
+ghost use Rattle.std.specs.Prelude.{ℕ, ◌≡◌, Some, true, IfOk, IsErrOf};
+ghost use Rattle.fp_host.specs.OverHost.{AtReturn};
+ghost use Rattle.fp_small.specs.Config.{name_of};
+ghost use Rattle.fp_small.specs.Order.{has_name};
+ghost use Rattle.fp_small.specs.declared.op.Op.{Op};
+ghost use Rattle.fp_small.specs.declared.refusal.Refusal.{Refusal};
+ghost use Rattle.ost_walk.specs.Ends.{outside};
+ghost use Rattle.dep_states.specs.After.{May, IsGood, after_op};
+ghost use Rattle.dep_states.specs.Shown.{at_name};
+ghost use Rattle.dep_switch.specs.Rows.{IsAt};
+ghost use Rattle.op_change.specs.Attempts.{Attempts, IsToBring};
+ghost use Rattle.op_change.specs.Bringing.{LeavesNames};
+
+use crate::deploy_row;
+use crate::ending::ApplyEnd;
+use crate::obtaining::obtain;
+use dep_states::Opened;
+use dep_switch::find_remote;
+use fp_host::{Host, Remotes};
+use fp_name::{Digest, RefName, RemoteName};
+use fp_small::{RemoteRow, State};
+use std::alloc::Global;
+use std::thread::Threads;
+
+/// The row of the remote of this name, which is there.
+fn remote_of<'a>(state: &'a State, name: &RemoteName) -> &'a RemoteRow
+    requires { has_name name_of state.now.remotes name.now ≡ true }
+    ensures { at_name name_of state.now.remotes name.now ≡ Some result.now }
+{
+    match find_remote(state.remotes.as_slice(), name) {
+        Some(row) => row,
+        None => unreachable!(),
+    }
+}
+
+/// Brings a commit of the ref from the remote of this name, and deploys it. Its head is read first,
+/// and its time plays no part. What stands in `repo/tmp`, and in the folder of the commit where the
+/// ref doesn't keep it, goes then. Once all objects of the commit are stored, the store is made
+/// ready, and the commit is laid out, recorded and linked, synced, and switched to. It is for a
+/// remote that the state has, and for a commit at which the ref isn't.
+pub fn bring<H: Host, R: Remotes>(
+    rt: &(impl Threads + Sync),
+    alloc: Global,
+    host: &mut H,
+    remotes: &mut R,
+    opened: Opened,
+    origin: &RemoteName,
+    name: &RefName,
+    commit: &Digest,
+) -> Result<Opened, ApplyEnd>
+    requires there { has_name name_of opened.remotes origin.now ≡ true }
+    requires moves { IsAt opened name.now commit.now → ⊥ }
+    requires good { IsGood opened }
+    ensures made { (op : Op) → May opened op → IsToBring op name.now origin.now commit.now
+        → IfOk result (λ o. (timestamp : ℕ) × (o ≡ after_op opened timestamp op)) }
+    ensures good { IfOk result IsGood }
+    ensures attempts { (op : Op) → May opened op → IsToBring op name.now origin.now commit.now
+        → Attempts opened op result
+        (outside (H.moments host.old) (H.faults host.old) (R.holds remotes.old)
+        (R.faults remotes.old))
+        (outside (H.moments host.new) (H.faults host.new) (R.holds remotes.new)
+        (R.faults remotes.new)) }
+    ensures refused_names { (r : Refusal) → IsErrOf result (ApplyEnd.Refused r)
+        → AtReturn H.Host host.old host.new
+        (LeavesNames opened name.now commit.now (R.holds remotes.old)) }
+{
+    let remote = remote_of(opened.state(), origin);
+    let row = obtain(rt, alloc, host, remotes, &opened, remote, name, commit)?;
+    Ok(deploy_row(alloc, host, opened, row)?)
+}

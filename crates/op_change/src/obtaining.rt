@@ -1,0 +1,52 @@
+//! A commit that is obtained of a remote.
+ghost use Rattle.std.specs.Prelude.{IfOk};
+ghost use Rattle.ost_walk.specs.Ends.{outside};
+ghost use Rattle.dep_switch.specs.Rows.{IsAt};
+ghost use Rattle.op_change.specs.Coming.{IsRowFor};
+ghost use Rattle.op_change.specs.Obtaining.{Obtains};
+
+use crate::coming::Coming;
+use crate::fetching::fetch;
+use dep_states::Opened;
+use fp_host::{Host, Remotes};
+use fp_name::{Digest, RefName};
+use fp_small::{RefRow, RemoteRow};
+use ost_walk::PullEnd;
+use std::alloc::Global;
+use std::thread::Threads;
+
+/// Reads the head of the commit, pulls it and lays it out, beside the state: all that can be
+/// refused. The row with which its ref is to be deployed.
+pub(crate) fn obtain<H: Host, R: Remotes>(
+    rt: &(impl Threads + Sync),
+    alloc: Global,
+    host: &mut H,
+    remotes: &mut R,
+    opened: &Opened,
+    remote: &RemoteRow,
+    name: &RefName,
+    commit: &Digest,
+) -> Result<RefRow, PullEnd>
+    requires { IsAt opened.now name.now commit.now → ⊥ }
+    ensures row { IfOk result (IsRowFor opened.now remote.now.name name.now commit.now) }
+    ensures obtains { Obtains opened.now remote.now name.now commit.now result
+        (outside (H.moments host.old) (H.faults host.old) (R.holds remotes.old)
+        (R.faults remotes.old))
+        (outside (H.moments host.new) (H.faults host.new) (R.holds remotes.new)
+        (R.faults remotes.new)) }
+{
+    let coming = Coming::of(alloc, host, remotes, opened.state(), remote, name, commit)?;
+    fetch(
+        rt,
+        alloc,
+        host,
+        remotes,
+        opened,
+        &coming.places,
+        remote.url.as_str(),
+        name,
+        commit,
+        coming.kept,
+    )?;
+    Ok(coming.row)
+}

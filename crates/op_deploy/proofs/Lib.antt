@@ -1,4 +1,0 @@
-pub mod Objects
-pub mod Deployed
-pub mod Backing
-pub mod Leaving
