@@ -1,5 +1,6 @@
 -- Which names the parts of a run change.
 use Rattle.std.proofs.Common.{◌≡◌, ◌≤◌, inl, inr, ℕ, List, [], ◌∷◌, length, get_or, false, Contains, refl, sym, ◌∙◌, ap, subst, arith}
+use Rattle.std.proofs.lemmas.Bool.{false≢true}
 use Rattle.fp_host.specs.Paths.{Elements, Slot, IsAbove}
 use Rattle.fp_host.specs.View.{View}
 use Rattle.fp_host.specs.Outcome.{shows}
@@ -16,7 +17,7 @@ use Rattle.fp_small.proofs.Keeping.{files_stay, files_on}
 use Rattle.fp_small.proofs.Sharing.{shares_none, shares_refl, shares_on}
 use Rattle.fp_small.specs.declared.state.State.{State}
 use Rattle.fp_small.specs.declared.op.Op.{Op}
-use Rattle.fp_small.specs.declared.op.Op.TheVariants.{Install, Update, Uninstall, AddPin, DropPin, AddRemote, ModifyRemote, DropRemote, SetOverride, DropOverride, Migrate, Rollback}
+use Rattle.dep_states.specs.Effects.{Effect, Write, effect_of, is_of_config, writes_config, brings, writes, moves, leaves, sets, migrates, layers, bares}
 use Rattle.fp_name.specs.Kinds.{kind_word}
 use Rattle.ost_store.proofs.Lists.{in_none, in_cases}
 use Rattle.dep_states.specs.Names.{config, commit_dir, override_path}
@@ -26,9 +27,9 @@ use Rattle.dep_states.proofs.Linked.{links_still, links_on}
 use Rattle.dep_switch.specs.Writing.{new_deploy, new_folder, the_link, new_link}
 use Rattle.dep_tidy.specs.Tidy.{MayTidy, Tidies}
 use Rattle.dep_tidy.proofs.Left.{config_left}
-use Rattle.op_deploy.specs.Applied.{DeploysName, work_goes, before_switch, at_active as link_at}
-use Rattle.op_bring.specs.Bringing.{IsFolderFor, above_commit, above_object, above_head, for_work, BringsName, some_work, in_folder, a_record, at_active, an_object, a_config, a_folder}
-use Rattle.op_change.specs.Applied.{MayChange, ChangesBy}
+use Rattle.op_change.specs.Deploys.{DeploysName, work_goes, before_switch, at_active as link_at}
+use Rattle.op_change.specs.Bringing.{IsFolderFor, above_commit, above_object, above_head, for_work, BringsName, some_work, in_folder, a_record, at_active, an_object, a_config, a_folder}
+use Rattle.op_change.specs.Applied.{MayChange, MayWrite, ChangesName, ChangesBy}
 use Rattle.fl_change.specs.Answer.{sets_config}
 use Rattle.fl_change.specs.Changes.{MayHold, operated, tidied, Changes, OnlyTidied, IsStill, IsUntouched, HasText}
 
@@ -223,20 +224,21 @@ no_override name u e (inr (inl made)) = elim (in_cases (get_or (folders_of (over
 ]
 no_override name u e (inr (inr work)) = omega (arith, ap length work.is)
 
--- an operation that doesn't set it leaves it
+-- what doesn't write it leaves it
+no_write : (write : Write) (u : View) (e : Slot) → is_of_config write ≡ false → MayWrite write u config e → ⊥
+no_write (moves name commit) u e not put = no_deploy name commit e put
+no_write (leaves name) u e not put = omega (arith, ap length put.0)
+no_write (layers row) u e not put = no_override row.name u e put
+no_write (bares name) u e not put = omega (arith, ap length put.0)
+no_write sets u e not put = absurd (false≢true (sym not))
+no_write migrates u e not put = absurd (false≢true (sym not))
+
+no_effect : (s : State) (effect : Effect) (u : View) (e : Slot) → writes_config effect ≡ false → ChangesName s effect u config e → ⊥
+no_effect s (brings name origin commit) u e not put = no_bring s name commit e put
+no_effect s (writes write) u e not put = no_write write u e not put
+
 no_config : (s : State) (op : Op) (u : View) (e : Slot) → sets_config op ≡ false → MayChange s op u config e → ⊥
-no_config s (Install name origin commit) u e not put = no_bring s name commit e put
-no_config s (Update name origin commit) u e not put = no_bring s name commit e put
-no_config s (Uninstall name) u e not put = omega (arith, ap length put.0)
-no_config s (SetOverride row) u e not put = no_override row.name u e put
-no_config s (DropOverride name) u e not put = omega (arith, ap length put.0)
-no_config s (Rollback name commit) u e not put = no_deploy name commit e put
-no_config s (AddPin pin) u e not put = absurd (cc not)
-no_config s (DropPin pin) u e not put = absurd (cc not)
-no_config s (AddRemote row) u e not put = absurd (cc not)
-no_config s (ModifyRemote row) u e not put = absurd (cc not)
-no_config s (DropRemote name) u e not put = absurd (cc not)
-no_config s Migrate u e not put = absurd (cc not)
+no_config s op u e not put = no_effect s (effect_of op) u e not put
 
 pub config_kept : (s : State) (op : Op) {u w : View} → sets_config op ≡ false → ChangesBy s op u w → w.names config ≡ u.names config
 config_kept s op {u = u} {w = w} not changes = elim (changes.names config) [ inl same ↦ same | inr put ↦ absurd (no_config s op u (w.names config) not put) ]

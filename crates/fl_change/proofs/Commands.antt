@@ -25,8 +25,9 @@ use Rattle.dep_states.specs.Shown.{at_name, ref_key, override_key}
 use Rattle.std.specs.List.{AllByRecursion}
 use Rattle.fp_small.specs.declared.state.Previous.{Previous}
 use Rattle.dep_states.specs.After.{row_at, Allows, May, IsGoodLayer, HasPrevious}
+use Rattle.dep_states.specs.Effects.{Effect, effect_of, layout_before, BringsCommit, brings, writes}
 use Rattle.fl_plan.specs.Allowed.{IsComing}
-use Rattle.op_change.specs.Applied.{Brings, IsShort}
+use Rattle.op_change.specs.Applied.{Brings, IsShort, FitsFile}
 use Rattle.fl_words.specs.declared.command.Change.{Change}
 use Rattle.fl_change.specs.Turns.{OpsOf, OpsOfAny}
 use Rattle.fl_change.specs.World.{World}
@@ -179,46 +180,21 @@ any_at op (c ∷ cs) (suc i) change rest is may = inr (any_at op cs i change res
 -- ---- operations of a plan
 
 pub comes : (op : Op) → IsComing op → Brings op
-comes (Install name origin commit) coming = tt
-comes (Update name origin commit) coming = tt
-comes (Uninstall name) coming = absurd coming
-comes (AddPin pin) coming = absurd coming
-comes (DropPin pin) coming = absurd coming
-comes (AddRemote row) coming = absurd coming
-comes (ModifyRemote row) coming = absurd coming
-comes (DropRemote name) coming = absurd coming
-comes (SetOverride row) coming = absurd coming
-comes (DropOverride name) coming = absurd coming
-comes Migrate coming = absurd coming
-comes (Rollback name commit) coming = absurd coming
+comes op coming = coming
+
+short_by : (e : Effect) → BringsCommit e → FitsFile e
+short_by (brings name origin commit) coming = tt
+short_by (writes write) coming = absurd coming
 
 pub comes_short : (op : Op) → IsComing op → IsShort op
-comes_short (Install name origin commit) coming = tt
-comes_short (Update name origin commit) coming = tt
-comes_short (Uninstall name) coming = absurd coming
-comes_short (AddPin pin) coming = absurd coming
-comes_short (DropPin pin) coming = absurd coming
-comes_short (AddRemote row) coming = absurd coming
-comes_short (ModifyRemote row) coming = absurd coming
-comes_short (DropRemote name) coming = absurd coming
-comes_short (SetOverride row) coming = absurd coming
-comes_short (DropOverride name) coming = absurd coming
-comes_short Migrate coming = absurd coming
-comes_short (Rollback name commit) coming = absurd coming
+comes_short op coming = short_by (effect_of op) coming
+
+layout_by : (e : Effect) → BringsCommit e → layout_before e ≡ Two
+layout_by (brings name origin commit) coming = refl
+layout_by (writes write) coming = absurd coming
 
 pub may_come : (s : State) (op : Op) → s.layout ≡ Two → IsComing op → Allows s op → May s op
-may_come s (Install name origin commit) two coming allows = record { layout = two; allows = allows }
-may_come s (Update name origin commit) two coming allows = record { layout = two; allows = allows }
-may_come s (Uninstall name) two coming allows = absurd coming
-may_come s (AddPin pin) two coming allows = absurd coming
-may_come s (DropPin pin) two coming allows = absurd coming
-may_come s (AddRemote row) two coming allows = absurd coming
-may_come s (ModifyRemote row) two coming allows = absurd coming
-may_come s (DropRemote name) two coming allows = absurd coming
-may_come s (SetOverride row) two coming allows = absurd coming
-may_come s (DropOverride name) two coming allows = absurd coming
-may_come s Migrate two coming allows = absurd coming
-may_come s (Rollback name commit) two coming allows = absurd coming
+may_come s op two coming allows = record { layout = two ∙ sym (layout_by (effect_of op) coming); allows = allows }
 
 -- ---- a remote that is found has its name
 

@@ -23,10 +23,12 @@ use Rattle.ost_model.specs.Objects.{Have}
 use Rattle.ost_model.specs.Remotes.{Supplies}
 use Rattle.ost_walk.specs.Ends.{IsRemotes, Outside}
 use Rattle.dep_states.specs.After.{May, plain, state_after}
+use Rattle.dep_states.specs.Effects.{Effect, effect_of, BringsCommit, brings, writes}
 use Rattle.dep_states.specs.Sound.{Opens}
 use Rattle.dep_tidy.specs.Tidy.{Tidies}
-use Rattle.op_bring.specs.Bringing.{AreTold, WasLeft}
-use Rattle.op_change.specs.Applied.{Brings, url_for, have_for, AppliesWith, AppliesPlainly, Applies, WasApplied, IsStarved, HostFaulted}
+use Rattle.op_change.specs.Bringing.{AreTold, WasLeft}
+use Rattle.op_change.specs.Applied.{Brings, have_for, AppliesWith, Applies, WasApplied}
+use Rattle.op_change.specs.Attempts.{Attempts}
 use Rattle.op_change.specs.declared.ending.ApplyEnd.{ApplyEnd}
 use Rattle.op_change.specs.declared.ending.ApplyEnd.TheVariants as applies
 use Rattle.fl_lines.specs.Lines.{op_text}
@@ -45,33 +47,13 @@ use Rattle.fl_change.proofs.Working.{goes_to, goes_first, IsFirst, works_as, wor
 
 -- ---- what an operation promises
 
-pub record Clauses (op : Op) (s : State) (result : Result State ApplyEnd) (u v : Outside) : Type 0 where
-  pub same : v.holdings ≡ u.holdings
-  pub answers : (have : Have) → Supplies repo (url_for s op) u.told u.holdings have → AppliesWith have s op result
-  pub plain : (Brings op → ⊥) → AppliesPlainly s op result
-  pub moments : Always (Applies s op u.holdings) u.told v.told
-  pub success : OnOk result (AtEnd (WasApplied s op u.holdings) u.told v.told)
-  pub refused : (r : Refusal) → IsErrOf result (applies.Refused r) → AtEnd (WasLeft s u.holdings) u.told v.told
-  pub remote_fault : IsErrOf result applies.RemoteFault → AtEnd (WasLeft s u.holdings) u.told v.told
-  pub starved : IsErrOf result applies.NoMemory → AtEnd (IsStarved s op u.holdings) u.told v.told
-  pub host : IsCaused (HostFaulted op u.holdings result) u.told (Opens s) u.host_faults v.host_faults
-  pub remote : IsRemotes (IsErrOf result applies.RemoteFault) u.remote_faults v.remote_faults
-  pub unasked : (Brings op → ⊥) → v.remote_faults ≡ u.remote_faults
-
 -- a commit is brought, or none
+by_effect : (e : Effect) → BringsCommit e ⊎ (BringsCommit e → ⊥)
+by_effect (brings name origin commit) = inl tt
+by_effect (writes write) = inr (λ b. b)
+
 brings_or_not : (op : Op) → Brings op ⊎ (Brings op → ⊥)
-brings_or_not (Install name origin commit) = inl tt
-brings_or_not (Update name origin commit) = inl tt
-brings_or_not (Uninstall name) = inr (λ b. b)
-brings_or_not (AddPin pin) = inr (λ b. b)
-brings_or_not (DropPin pin) = inr (λ b. b)
-brings_or_not (AddRemote row) = inr (λ b. b)
-brings_or_not (ModifyRemote row) = inr (λ b. b)
-brings_or_not (DropRemote name) = inr (λ b. b)
-brings_or_not (SetOverride row) = inr (λ b. b)
-brings_or_not (DropOverride name) = inr (λ b. b)
-brings_or_not Migrate = inr (λ b. b)
-brings_or_not (Rollback name commit) = inr (λ b. b)
+brings_or_not op = by_effect (effect_of op)
 
 -- the end of the operation is that of the work
 remote_end : (e : ApplyEnd) → end_of_apply e ≡ RemoteFault → e ≡ applies.RemoteFault
@@ -88,7 +70,7 @@ host_end applies.NoMemory is = absurd (cc is)
 
 module _ (op : Op) (s : State) (u v : Outside) where
   -- what is answered over the objects that there are
-  answers_at : {result : Result State ApplyEnd} → Clauses op s result u v → (held : Holdings) → u.holdings ≡ Some held → (x : View) → IsFirst u.told x → AppliesWith (have_for s op held x) s op result
+  answers_at : {result : Result State ApplyEnd} → Attempts s op result u v → (held : Holdings) → u.holdings ≡ Some held → (x : View) → IsFirst u.told x → AppliesWith (have_for s op held x) s op result
   answers_at clauses held told x first = clauses.answers (have_for s op held x) (record {
     moments = first.0;
     held = held;
@@ -103,10 +85,10 @@ module _ (op : Op) (s : State) (u v : Outside) where
   changes_at : (x y : View) → Applies s op u.holdings x y → ChangesFrom (Just op) s x y
   changes_at x y step ready = applied_changes s op x y refl (step.changes (λ b. ready (op, refl, b)))
 
-  opens_of : (t : State) → Clauses op s (Ok t) u v → (AsksBy (Just op) → AreTold u.holdings) → (x y : View) → IsFirst u.told x → WasApplied s op u.holdings x y → OpensBy s (Ok t) x y
+  opens_of : (t : State) → Attempts s op (Ok t) u v → (AsksBy (Just op) → AreTold u.holdings) → (x y : View) → IsFirst u.told x → WasApplied s op u.holdings x y → OpensBy s (Ok t) x y
   opens_of t clauses known x y first was opens = elim (brings_or_not op) [
-    | inl brings ↦
-        let told = known (op, refl, brings) in
+    | inl b ↦
+        let told = known (op, refl, b) in
         let a = answers_at clauses told.0 told.1 x first in
         subst (λ (z : State). Opens z y) (sym a.1) (was.opens told.0 (λ b. told.1) opens)
     | inr none ↦
@@ -123,7 +105,7 @@ module _ (op : Op) (s : State) (u v : Outside) where
   tree_at : IsTold u.told → (x : View) → IsFirst u.told x → IsTree x
   tree_at told x first = subst IsTree first.2 (told first.0 first.1)
 
-  pub works_applied : (t : State) → May s op → IsTold u.told → IsTold v.told → Clauses op s (Ok t) u v → Works (Just op) s (PerformsOver (Rests s) u.holdings (op_over op) s) (IsApplied t) (Ok t) u v
+  pub works_applied : (t : State) → May s op → IsTold u.told → IsTold v.told → Attempts s op (Ok t) u v → Works (Just op) s (PerformsOver (Rests s) u.holdings (op_over op) s) (IsApplied t) (Ok t) u v
   works_applied t may told_u told_v clauses = record {
     goes = goes_to in_trees (λ x y r. performs_at x y r.0)
         (λ x y q held told rests. applied u.holdings held told op s t may (tree_at told_u x q.0.1) q.1 rests q.0.0.0 q.0.0.1 (answers_at clauses held told x q.0.1));
@@ -142,10 +124,10 @@ module _ (op : Op) (s : State) (u v : Outside) where
   -- ---- it isn't
 
   -- where no commit is brought it is none of the remotes
-  plain_end : Clauses op s (Err applies.RemoteFault) u v → (Brings op → ⊥) → ⊥
+  plain_end : Attempts s op (Err applies.RemoteFault) u v → (Brings op → ⊥) → ⊥
   plain_end clauses none = clauses.plain none
 
-  not_applied : (Q : View → View → Type 0) (e : ApplyEnd) → Clauses op s (Err e) u v → Goes u.told v.told (PerformsOver (Rests s) u.holdings (op_over op) s) Q → Works (Just op) s (PerformsOver (Rests s) u.holdings (op_over op) s) Q (Err (end_of_apply e)) u v
+  not_applied : (Q : View → View → Type 0) (e : ApplyEnd) → Attempts s op (Err e) u v → Goes u.told v.told (PerformsOver (Rests s) u.holdings (op_over op) s) Q → Works (Just op) s (PerformsOver (Rests s) u.holdings (op_over op) s) Q (Err (end_of_apply e)) u v
   not_applied Q e clauses goes = record {
     goes = goes;
     opens = λ known. record { goes = goes_to clauses.moments (λ x y r. tt) (λ x y r. tt) };
@@ -156,10 +138,10 @@ module _ (op : Op) (s : State) (u v : Outside) where
       fault = λ is m told opens. clauses.host.fault ((λ b. is.0 (op, refl, b)), ap (λ (x : ApplyEnd). Err x) (host_end e (cc is.1))) m told opens;
     };
     remote = record { later = clauses.remote.later; rose = λ is. clauses.remote.rose (ap (λ (x : ApplyEnd). Err x) (remote_end e (cc is))) };
-    unasked = λ none. (clauses.unasked (λ b. none (op, refl, b)), λ is. plain_end (subst (λ (x : ApplyEnd). Clauses op s (Err x) u v) (remote_end e (cc is)) clauses) (λ b. none (op, refl, b)));
+    unasked = λ none. (clauses.unasked (λ b. none (op, refl, b)), λ is. plain_end (subst (λ (x : ApplyEnd). Attempts s op (Err x) u v) (remote_end e (cc is)) clauses) (λ b. none (op, refl, b)));
   }
 
-  pub works_not_applied : (e : ApplyEnd) → Clauses op s (Err e) u v → Works (Just op) s (PerformsOver (Rests s) u.holdings (op_over op) s) (DoneOver u.holdings op s (Err (end_of_apply e))) (Err (end_of_apply e)) u v
+  pub works_not_applied : (e : ApplyEnd) → Attempts s op (Err e) u v → Works (Just op) s (PerformsOver (Rests s) u.holdings (op_over op) s) (DoneOver u.holdings op s (Err (end_of_apply e))) (Err (end_of_apply e)) u v
   works_not_applied (applies.Refused r) clauses = not_applied (DoneOver u.holdings op s (Err (Refused r))) (applies.Refused r) clauses
       (goes_to (goes_first (goes_known clauses.moments (clauses.refused r refl))) (λ x y p. performs_at x y p.0)
       (λ x y q. record { done = λ held told rests. apply_refused u.holdings held told op s rests r (answers_at clauses held told x q.1) q.0.0 q.0.1 }))
@@ -233,12 +215,12 @@ module _ (op : Op) (s t : State) (u v w : Outside) where
   while_said : (x y z : View) → IsApplied op s u v t x y → Says (op_text op) y z → PerformsOver (Rests s) u.holdings (op_over op) s x z
   while_said x y z q n = record { performs = λ held told rests. saying held op s t x (q held told rests) n }
 
-  pub works_done : (piece : List ℕ) → May s op → IsTold u.told → IsTold v.told → piece ≡ op_text op → Clauses op s (Ok t) u v → Saying piece (Ok tt) v w → Works (Just op) s (PerformsOver (Rests s) u.holdings (op_over op) s) (DoneOver u.holdings op s (Ok t)) (Ok t) u w
+  pub works_done : (piece : List ℕ) → May s op → IsTold u.told → IsTold v.told → piece ≡ op_text op → Attempts s op (Ok t) u v → Saying piece (Ok tt) v w → Works (Just op) s (PerformsOver (Rests s) u.holdings (op_over op) s) (DoneOver u.holdings op s (Ok t)) (Ok t) u w
   works_done piece may told_u told same clauses call = works_on told (works_applied op s u v t may told_u told clauses) (works_said (op_text op) t piece same call)
       (λ x y z p q n. while_said x y z q n)
       (λ x y z p q n l. record { done = λ held known rests. said held op s t x (q held known rests) l })
 
-  pub works_silent : (piece : List ℕ) (e : HostError) → May s op → IsTold u.told → IsTold v.told → piece ≡ op_text op → Clauses op s (Ok t) u v → Saying piece (Err e) v w → Works (Just op) s (PerformsOver (Rests s) u.holdings (op_over op) s) (DoneOver u.holdings op s (Err (end_of_host (end_of e)))) (Err (end_of_host (end_of e))) u w
+  pub works_silent : (piece : List ℕ) (e : HostError) → May s op → IsTold u.told → IsTold v.told → piece ≡ op_text op → Attempts s op (Ok t) u v → Saying piece (Err e) v w → Works (Just op) s (PerformsOver (Rests s) u.holdings (op_over op) s) (DoneOver u.holdings op s (Err (end_of_host (end_of e)))) (Err (end_of_host (end_of e))) u w
   works_silent piece e may told_u told same clauses call = works_on told (works_applied op s u v t may told_u told clauses) (works_not_said (op_text op) t piece e same call)
       (λ x y z p q n. while_said x y z q n)
       (λ x y z p q n l. subst (λ (r : RunEnd). DoneOver u.holdings op s (Err r) x z) (sym l) (record { done = λ held known rests. tt }))

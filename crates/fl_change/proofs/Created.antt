@@ -9,7 +9,6 @@ use Rattle.fp_small.specs.Places.{repo}
 use Rattle.fp_small.proofs.Keeping.{files_stay, files_on}
 use Rattle.fp_small.specs.declared.state.State.{State}
 use Rattle.fp_small.specs.declared.op.Op.{Op}
-use Rattle.fp_small.specs.declared.op.Op.TheVariants.{Install, Update, Uninstall, AddPin, DropPin, AddRemote, ModifyRemote, DropRemote, SetOverride, DropOverride, Migrate, Rollback}
 use Rattle.ost_model.specs.Objects.{Have}
 use Rattle.ost_model.specs.Order.{In, order}
 use Rattle.ost_model.specs.Stores.{objects_folder}
@@ -17,12 +16,14 @@ use Rattle.ost_store.specs.Created.{Creates, NoObject}
 use Rattle.ost_store.proofs.Creating.{creates_none, creates_refl, creates_on, creates_off}
 use Rattle.ost_walk.specs.Steps.{place_name}
 use Rattle.dep_states.specs.After.{Done}
-use Rattle.op_change.specs.Applied.{have_for, IsBroughtFor}
-use Rattle.fl_change.specs.World.{World, world_at, world_after, worlds_after}
+use Rattle.dep_states.specs.Effects.{Effect, effect_of, brings, writes}
+use Rattle.op_change.specs.Brought.{supply_at}
+use Rattle.op_change.specs.Applied.{have_for, url_of, url_by, IsBroughtFor, IsLackedBy}
+use Rattle.fl_change.specs.World.{World, world_at, world_after, worlds_after, supplied, supplied_by}
 use Rattle.fl_change.specs.Changes.{IsUntouched}
-use Rattle.fl_change.specs.Created.{LacksFor, CreatesInTurn}
+use Rattle.fl_change.specs.Created.{LacksFor, LacksBy, CreatesInTurn}
 use Rattle.fl_change.specs.Performs.{Rests}
-use Rattle.fl_change.proofs.Brought.{by_store}
+use Rattle.fl_change.proofs.Brought.{by_url}
 use Rattle.fl_change.proofs.Stored.{settled_store}
 
 -- where nothing changes but what is printed
@@ -38,66 +39,37 @@ no_ops_created {u = u} {w = w} held x ops none made =
 -- ---- one operation
 
 -- what the store lacks the world lacks
+lacks_by : (held : Holdings) (e : Effect) (s : State) {v : View} → Rests s v → (o : List ℕ × ObjKind) → IsLackedBy (supply_at held (url_by s e) v) e v o → LacksBy (supplied_by held (world_at s v) e) (world_at s v).have e o
+lacks_by held (brings name origin commit) s rests o is = record {
+  digits = is.digits;
+  ordered = subst (λ (h : Have). In (map place_name (order h commit)) o) (sym (by_url held (url_of s origin) s rests)) is.ordered;
+  lacked = subst (λ (h : Have). h o.0 o.1 ≡ None) (sym (settled_store s rests)) is.lacked;
+}
+lacks_by held (writes write) s rests o is = is
+
 pub lacks_is : (held : Holdings) (op : Op) (s : State) {v : View} → Rests s v → (o : List ℕ × ObjKind) → IsBroughtFor (have_for s op held v) op v o → LacksFor held (world_at s v) op o
-lacks_is held (Install name origin commit) s rests o is = record {
-  digits = is.digits;
-  ordered = subst (λ (h : Have). In (map place_name (order h commit)) o) (sym (by_store held (Install name origin commit) s rests)) is.ordered;
-  lacked = subst (λ (h : Have). h o.0 o.1 ≡ None) (sym (settled_store s rests)) is.lacked;
-}
-lacks_is held (Update name origin commit) s rests o is = record {
-  digits = is.digits;
-  ordered = subst (λ (h : Have). In (map place_name (order h commit)) o) (sym (by_store held (Update name origin commit) s rests)) is.ordered;
-  lacked = subst (λ (h : Have). h o.0 o.1 ≡ None) (sym (settled_store s rests)) is.lacked;
-}
-lacks_is held (Uninstall name) s rests o is = is
-lacks_is held (AddPin pin) s rests o is = is
-lacks_is held (DropPin pin) s rests o is = is
-lacks_is held (AddRemote row) s rests o is = is
-lacks_is held (ModifyRemote row) s rests o is = is
-lacks_is held (DropRemote name) s rests o is = is
-lacks_is held (SetOverride row) s rests o is = is
-lacks_is held (DropOverride name) s rests o is = is
-lacks_is held Migrate s rests o is = is
-lacks_is held (Rollback name commit) s rests o is = is
+lacks_is held op s rests o is = lacks_by held (effect_of op) s rests o is
 
 -- and the other way
+lacked_by : (held : Holdings) (e : Effect) (s : State) {v : View} → Rests s v → (o : List ℕ × ObjKind) → LacksBy (supplied_by held (world_at s v) e) (world_at s v).have e o → IsLackedBy (supply_at held (url_by s e) v) e v o
+lacked_by held (brings name origin commit) s rests o is = record {
+  digits = is.digits;
+  ordered = subst (λ (h : Have). In (map place_name (order h commit)) o) (by_url held (url_of s origin) s rests) is.ordered;
+  lacked = subst (λ (h : Have). h o.0 o.1 ≡ None) (settled_store s rests) is.lacked;
+}
+lacked_by held (writes write) s rests o is = is
+
 pub brought_is : (held : Holdings) (op : Op) (s : State) {v : View} → Rests s v → (o : List ℕ × ObjKind) → LacksFor held (world_at s v) op o → IsBroughtFor (have_for s op held v) op v o
-brought_is held (Install name origin commit) s rests o is = record {
-  digits = is.digits;
-  ordered = subst (λ (h : Have). In (map place_name (order h commit)) o) (by_store held (Install name origin commit) s rests) is.ordered;
-  lacked = subst (λ (h : Have). h o.0 o.1 ≡ None) (settled_store s rests) is.lacked;
-}
-brought_is held (Update name origin commit) s rests o is = record {
-  digits = is.digits;
-  ordered = subst (λ (h : Have). In (map place_name (order h commit)) o) (by_store held (Update name origin commit) s rests) is.ordered;
-  lacked = subst (λ (h : Have). h o.0 o.1 ≡ None) (settled_store s rests) is.lacked;
-}
-brought_is held (Uninstall name) s rests o is = is
-brought_is held (AddPin pin) s rests o is = is
-brought_is held (DropPin pin) s rests o is = is
-brought_is held (AddRemote row) s rests o is = is
-brought_is held (ModifyRemote row) s rests o is = is
-brought_is held (DropRemote name) s rests o is = is
-brought_is held (SetOverride row) s rests o is = is
-brought_is held (DropOverride name) s rests o is = is
-brought_is held Migrate s rests o is = is
-brought_is held (Rollback name commit) s rests o is = is
+brought_is held op s rests o is = lacked_by held (effect_of op) s rests o is
 
 -- what is had isn't lacked
+had_by : (from own : Have) (e : Effect) (o : List ℕ × ObjKind) → (own o.0 o.1 ≡ None → ⊥) → LacksBy from own e o → ⊥
+had_by from own (brings name origin commit) o had is = had is.lacked
+had_by from own (writes write) o had is = is
+
 pub had_not : (held : Holdings) (x : World) (op : Op) (o : List ℕ × ObjKind)
     → (x.have o.0 o.1 ≡ None → ⊥) → LacksFor held x op o → ⊥
-had_not held x (Install name origin commit) o had is = had is.lacked
-had_not held x (Update name origin commit) o had is = had is.lacked
-had_not held x (Uninstall name) o had is = is
-had_not held x (AddPin pin) o had is = is
-had_not held x (DropPin pin) o had is = is
-had_not held x (AddRemote row) o had is = is
-had_not held x (ModifyRemote row) o had is = is
-had_not held x (DropRemote name) o had is = is
-had_not held x (SetOverride row) o had is = is
-had_not held x (DropOverride name) o had is = is
-had_not held x Migrate o had is = is
-had_not held x (Rollback name commit) o had is = is
+had_not held x op o had is = had_by (supplied held x op) x.have (effect_of op) o had is
 
 -- it is the only one
 pub one_created : (held : Holdings) (x : World) (op : Op) (d : Done) {u w : View} → d.op ≡ op

@@ -1,5 +1,6 @@
 -- One operation on an opened installation, and its line.
 use Rattle.std.proofs.Common.{◌≡◌, inl, inr, ℕ, List, [], ◌∷◌, ◌++◌, Bool, true, false, ◌||◌, Option, Some, None, Ok, Err, refl, sym, ◌∙◌, ap, subst}
+use Rattle.std.proofs.lemmas.Bool.{false≢true}
 use Rattle.std.proofs.lemmas.List.{append-nil}
 use Rattle.fp_host.specs.Paths.{Slot, absent, dir, file, link, under}
 use Rattle.fp_host.specs.Remote.{Holdings}
@@ -14,7 +15,6 @@ use Rattle.fp_small.proofs.Keeping.{files_stay, files_on}
 use Rattle.fp_small.proofs.Sharing.{shares_refl, shares_on}
 use Rattle.fp_small.specs.declared.state.State.{State}
 use Rattle.fp_small.specs.declared.op.Op.{Op}
-use Rattle.fp_small.specs.declared.op.Op.TheVariants.{Install, Update, Uninstall, AddPin, DropPin, AddRemote, ModifyRemote, DropRemote, SetOverride, DropOverride, Migrate, Rollback}
 use Rattle.fp_small.specs.declared.refusal.Refusal.{Refusal}
 use Rattle.ost_model.specs.Objects.{Have}
 use Rattle.ost_store.specs.Created.{Creates}
@@ -25,10 +25,11 @@ use Rattle.dep_states.specs.Shown.{settings_of}
 use Rattle.dep_states.specs.Settled.{Settled}
 use Rattle.dep_states.specs.Sound.{Opens}
 use Rattle.dep_states.specs.After.{Done, May, plain, state_after, IsOnConfig}
+use Rattle.dep_states.specs.Effects.{Effect, effect_of, writes_config, BringsCommit, brings, writes}
 use Rattle.dep_states.specs.Switch.{OpensEither}
 use Rattle.dep_tidy.specs.Tidy.{Tidies, SettledButWork}
-use Rattle.op_bring.specs.Bringing.{AreTold, WasLeft}
-use Rattle.op_change.specs.Applied.{Brings, have_for, op_refusal, done_with, AppliesWith, Applies, WasApplied}
+use Rattle.op_change.specs.Bringing.{AreTold, WasLeft}
+use Rattle.op_change.specs.Applied.{Brings, have_for, op_refusal, refusal_by, done_with, AppliesWith, Applies, WasApplied}
 use Rattle.fl_lines.specs.Lines.{op_text}
 use Rattle.fl_change.specs.World.{World, world_at, world_after, worlds_after, supplied}
 use Rattle.fl_change.specs.Answer.{Answer, Piece, lines_of, pieces_text, ops_in, ops_of, done_answer, refusal_answer, unless, sets_config, set_config, keeps_commits}
@@ -108,19 +109,12 @@ made_some : (done : Done) → ops_of (done_answer done) ≡ [] → ⊥
 made_some done none = let some : done ∷ [] ≡ [] = none in cc some
 
 -- what is refused for the commit that it brings leaves `config`
+keeps_by : (h : Have) (e : Effect) (r : Refusal) → refusal_by h e ≡ Some r → writes_config e ≡ false
+keeps_by h (brings name origin commit) r is = refl
+keeps_by h (writes write) r is = absurd (cc is)
+
 refused_keeps : (h : Have) (op : Op) (r : Refusal) → op_refusal h op ≡ Some r → sets_config op ≡ false
-refused_keeps h (Install name origin commit) r is = refl
-refused_keeps h (Update name origin commit) r is = refl
-refused_keeps h (Uninstall name) r is = absurd (cc is)
-refused_keeps h (AddPin pin) r is = absurd (cc is)
-refused_keeps h (DropPin pin) r is = absurd (cc is)
-refused_keeps h (AddRemote row) r is = absurd (cc is)
-refused_keeps h (ModifyRemote row) r is = absurd (cc is)
-refused_keeps h (DropRemote name) r is = absurd (cc is)
-refused_keeps h (SetOverride row) r is = absurd (cc is)
-refused_keeps h (DropOverride name) r is = absurd (cc is)
-refused_keeps h Migrate r is = absurd (cc is)
-refused_keeps h (Rollback name commit) r is = absurd (cc is)
+refused_keeps h op r is = keeps_by h (effect_of op) r is
 
 -- ---- while it is applied
 
@@ -234,21 +228,14 @@ pub record Applied (held : Holdings) (op : Op) (s t : State) (v w : View) : Type
 -- one that sets `config` is one on it, and brings nothing
 record OnConfig (op : Op) : Type 0 where
   is : IsOnConfig op
-  brings : Brings op → ⊥
+  off : Brings op → ⊥
+
+brings_not : (e : Effect) → writes_config e ≡ true → BringsCommit e → ⊥
+brings_not (brings name origin commit) sets b = absurd (false≢true sets)
+brings_not (writes write) sets b = b
 
 on_config : (op : Op) → sets_config op ≡ true → OnConfig op
-on_config (AddPin pin) sets = record { is = tt; brings = λ b. b }
-on_config (DropPin pin) sets = record { is = tt; brings = λ b. b }
-on_config (AddRemote row) sets = record { is = tt; brings = λ b. b }
-on_config (ModifyRemote row) sets = record { is = tt; brings = λ b. b }
-on_config (DropRemote name) sets = record { is = tt; brings = λ b. b }
-on_config Migrate sets = record { is = tt; brings = λ b. b }
-on_config (Install name origin commit) sets = absurd (cc sets)
-on_config (Update name origin commit) sets = absurd (cc sets)
-on_config (Uninstall name) sets = absurd (cc sets)
-on_config (SetOverride row) sets = absurd (cc sets)
-on_config (DropOverride name) sets = absurd (cc sets)
-on_config (Rollback name commit) sets = absurd (cc sets)
+on_config op sets = record { is = sets; off = brings_not (effect_of op) sets }
 
 pub applied : (holds : Option Holdings) (held : Holdings) → holds ≡ Some held → (op : Op) (s t : State) {v w : View} → May s op → IsTree v → IsTree w → Rests s v → Applies s op holds v w → WasApplied s op holds v w → AppliesWith (have_for s op held v) s op (Ok t) → Applied held op s t v w
 applied holds held told op s t {v = v} {w = w} may tree next rests applies was answers =
@@ -266,7 +253,7 @@ applied holds held told op s t {v = v} {w = w} may tree next rests applies was a
       };
       text = λ sets.
           let on = on_config op sets in
-          let plain_is : t ≡ state_after s (plain op) = answers.1 ∙ ap (state_after s) (plainly (have_for s op held v) op on.brings).done in
+          let plain_is : t ≡ state_after s (plain op) = answers.1 ∙ ap (state_after s) (plainly (have_for s op held v) op on.off).done in
           subst (λ (x : State). HasText x w) (sym plain_is) (written (was.settings on.is).text);
       config = λ not. config_kept s op not changes;
       rest = small_rest s op may tree next rests changes;

@@ -21,7 +21,7 @@ use Rattle.ost_head.specs.declared.head.Head.{Head}
 use Rattle.dep_states.specs.Samples.{hub}
 use Rattle.dep_states.specs.Deployed.{platform, commit, metadata_bytes}
 use Rattle.op_change.specs.Applied.{done_with, op_refusal}
-use Rattle.op_bring.specs.Brought.{commit_time}
+use Rattle.op_change.specs.Brought.{commit_time}
 use Rattle.fl_installed.specs.Files.{metadata_file, metadata_digest}
 use Rattle.fl_installed.specs.Metadata.{runtime_named, points_in}
 use Rattle.fl_installed.specs.Users.{first_user}

@@ -12,6 +12,7 @@ use Rattle.ost_model.specs.Order.{In}
 use Rattle.ost_model.proofs.Places.{in_left, in_right}
 use Rattle.dep_states.specs.Shown.{at_name, ref_key}
 use Rattle.dep_states.specs.After.{row_at, after_op, updated, rolled_back, back, moved, exchanged}
+use Rattle.dep_states.specs.Effects.{Effect, effect_of, brings, writes}
 use Rattle.dep_tidy.specs.Kept.{previous_commits, kept_by, kept_of}
 use Rattle.fl_change.specs.World.{kept_commits}
 
@@ -62,11 +63,10 @@ in_row c (y ∷ ys) text row is has = row_by c y ys row (at_name ref_key ys text
 
 -- ---- operations
 
--- the commit that the operation brings
-abbrev pub IsBroughtBy : Op → List ℕ → Type 0
-IsBroughtBy (Install name origin commit) c = commit ≡ c
-IsBroughtBy (Update name origin commit) c = commit ≡ c
-IsBroughtBy _ c = ⊥
+-- the commit that is brought
+abbrev pub BringsThis : Effect → List ℕ → Type 0
+BringsThis (brings name origin commit) c = commit ≡ c
+BringsThis (writes write) c = ⊥
 
 module _ (s : State) (c : List ℕ) where
   after_update : (name : Ref) (origin commit : List ℕ) (timestamp : ℕ) (o : Option RefRow) → row_at s name ≡ o → In (kept_of (updated s name origin commit timestamp o).refs) c → In (kept_of s.refs) c ⊎ (commit ≡ c)
@@ -94,7 +94,7 @@ module _ (s : State) (c : List ℕ) where
   after_back name (Some row) is has = back_by name row is row.previous refl has
 
   -- a commit that is kept afterwards was kept before, or is brought
-  pub kept_after : (op : Op) (timestamp : ℕ) → In (kept_commits (after_op s timestamp op)) c → In (kept_commits s) c ⊎ IsBroughtBy op c
+  pub kept_after : (op : Op) (timestamp : ℕ) → In (kept_commits (after_op s timestamp op)) c → In (kept_commits s) c ⊎ BringsThis (effect_of op) c
   kept_after (Install name origin commit) timestamp has =
       elim (in_inserted c s.refs (record { name = name; origin = origin; commit = commit; timestamp = timestamp; previous = None }) has) [
         | inl new ↦ elim new [ inl it ↦ inr it | inr none ↦ absurd none ]

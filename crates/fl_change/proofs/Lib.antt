@@ -25,3 +25,7 @@ pub mod Commands
 pub mod Trying
 pub mod Passed
 pub mod Installed
+pub mod Rows
+pub mod Steps
+pub mod IdleTargets
+pub mod Updates

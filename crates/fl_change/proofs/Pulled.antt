@@ -17,7 +17,7 @@ use Rattle.fl_meta.specs.Metadata.{meta_of, meta_kind}
 use Rattle.fp_small.specs.declared.refusal.Refusal.{Refusal}
 use Rattle.fp_small.specs.declared.refusal.Refusal.TheVariants as refusals
 use Rattle.fp_small.specs.declared.op.Op.{Op}
-use Rattle.fp_small.specs.declared.op.Op.TheVariants.{Install, Update, Uninstall, AddPin, DropPin, AddRemote, ModifyRemote, DropRemote, SetOverride, DropOverride, Migrate, Rollback}
+use Rattle.dep_states.specs.Effects.{Effect, effect_of, brings, writes}
 use Rattle.ost_model.specs.Fields.{CommitView, TreeView}
 use Rattle.ost_model.specs.Binding.{binding_in}
 use Rattle.ost_model.specs.Look.{Found, nothing, directory, file_at, entry_in}
@@ -25,10 +25,10 @@ use Rattle.ost_model.specs.Objects.{Have, Fault, too_many, too_deep, missing, to
 use Rattle.ost_model.specs.Order.{Place, commit_at, tree_at, first_fault}
 use Rattle.ost_head.specs.declared.head.Head.{Head}
 use Rattle.ost_head.specs.Heads.{lists, binding_refused, age_refused, commit_refused, is_nothing, root_refused, no_metadata, meta_refused, lines_refused, metadata_refused, unless_refused, content_in, with_content, metadata_at, head_in, with_tree, with_commit, head_of}
-use Rattle.ost_head.specs.Refusals.{refusal_of, object_refused}
+use Rattle.ost_walk.specs.Refusals.{refusal_of, object_refused}
 use Rattle.ost_pull.specs.Pulls.{first_refusal}
-use Rattle.op_bring.specs.Brought.{refusal_in, brought_refusal}
-use Rattle.op_change.specs.Applied.{op_refusal}
+use Rattle.op_change.specs.Brought.{refusal_in, brought_refusal}
+use Rattle.op_change.specs.Applied.{op_refusal, refusal_by}
 use Rattle.fl_change.specs.Answer.{IsUnpulled}
 
 -- each refusal is one of these
@@ -148,19 +148,12 @@ module _ (P : Refusal → Type 0) where
   pub of_brought : OfHead P None → (have : Have) (name : Ref) (commit : List ℕ) → AllOf P (brought_refusal have name commit)
   of_brought h have name commit = of_either (refusal_in (head_of have name commit None)) (first_refusal have commit) (of_result (head_of have name commit None) (of_head None h have name commit)) (of_first h.object (first_fault have commit))
 
+  of_effect : OfHead P None → (have : Have) (e : Effect) → AllOf P (refusal_by have e)
+  of_effect h have (brings name origin commit) = of_brought h have name commit
+  of_effect h have (writes write) = none_of
+
   pub of_op : OfHead P None → (have : Have) (op : Op) → AllOf P (op_refusal have op)
-  of_op h have (Install name origin commit) = of_brought h have name commit
-  of_op h have (Update name origin commit) = of_brought h have name commit
-  of_op h have (Uninstall name) = none_of
-  of_op h have (AddPin pin) = none_of
-  of_op h have (DropPin pin) = none_of
-  of_op h have (AddRemote row) = none_of
-  of_op h have (ModifyRemote row) = none_of
-  of_op h have (DropRemote name) = none_of
-  of_op h have (SetOverride row) = none_of
-  of_op h have (DropOverride name) = none_of
-  of_op h have Migrate = none_of
-  of_op h have (Rollback name commit) = none_of
+  of_op h have op = of_effect h have (effect_of op)
 
 -- ---- it is pulled before it is refused
 

@@ -1,5 +1,6 @@
 -- What an operation that changes no commit leaves: all is settled but for work.
 use Rattle.std.proofs.Common.{◌≡◌, ◌≢◌, ◌⊎◌, inl, inr, ℕ, List, [], ◌∷◌, Bool, true, false, Option, Some, None, Result, Ok, Err, OnOk, Contains, if◌then◌else◌, refl, sym, ◌∙◌, ap, subst}
+use Rattle.std.proofs.lemmas.Bool.{false≢true}
 use Rattle.fp_host.specs.Paths.{Elements, Slot, file}
 use Rattle.fp_host.specs.View.{View, IsTree}
 use Rattle.fp_host.specs.Frame.{AtEnd, Frame, NoPath}
@@ -14,19 +15,19 @@ use Rattle.fp_small.specs.declared.state.State.{State}
 use Rattle.fp_small.specs.declared.state.Layout.TheVariants.{One, Two}
 use Rattle.fp_small.specs.declared.state.RemoteRow.{RemoteRow}
 use Rattle.fp_small.specs.declared.op.Op.{Op}
-use Rattle.fp_small.specs.declared.op.Op.TheVariants.{Install, Update, Uninstall, AddPin, DropPin, AddRemote, ModifyRemote, DropRemote, SetOverride, DropOverride, Migrate, Rollback}
 use Rattle.fp_small.proofs.Sharing.{shares_empty}
 use Rattle.ost_store.proofs.Creating.{creates_frame}
 use Rattle.ost_store.proofs.Lists.{in_cases, in_one}
 use Rattle.dep_states.specs.Names.{config, remotes_conf, pins_file, overrides_folder, override_path}
 use Rattle.dep_states.specs.After.{May}
+use Rattle.dep_states.specs.Effects.{Effect, Write, effect_of, is_small, keeps_refs, layout_before, brings, writes, moves, leaves, sets, migrates, layers, bares}
 use Rattle.dep_states.specs.declared.setup.Setup.{Setup}
 use Rattle.dep_states.specs.Shown.{Seen, away, bad, there, read_of, read_file, small_most, Shows, settings_at, remotes_at, pins_at, layout_one, setup_of}
 use Rattle.dep_states.specs.Settled.{Settled}
 use Rattle.dep_tidy.specs.Tidy.{SettledButWork, IsSmallPlace, is_config, is_layer, is_repo, is_work}
 use Rattle.dep_tidy.proofs.Small.{small_changes, work_apart}
 use Rattle.dep_tidy.proofs.Views.{same_shows}
-use Rattle.op_change.specs.Applied.{MayChange, ChangesBy}
+use Rattle.op_change.specs.Applied.{MayChange, MayWrite, ChangesName, ChangesBy}
 use Rattle.fl_change.specs.Answer.{keeps_commits}
 use Rattle.fl_change.specs.Performs.{Rests, WasTidiedAfter}
 use Rattle.fl_change.proofs.Same.{now_left}
@@ -96,33 +97,35 @@ on_config put = replaces_small config (is_config refl) config_folders put
 a_layer : (name : List ℕ) → IsSmallPlace (override_path name)
 a_layer name = is_layer (inr (inl refl))
 
+small_write : (write : Write) (u : View) (q : Elements) (e : Slot) → is_small write ≡ true → MayWrite write u q e → IsSmallPlace q
+small_write sets u q e keeps put = on_config put
+small_write (layers row) u q e keeps put = replaces_small (override_path row.name) (a_layer row.name) (layer_folders row.name) put
+small_write (bares name) u q e keeps put = subst IsSmallPlace (sym put.0) (a_layer name)
+small_write migrates u q e keeps put = absurd (false≢true keeps)
+small_write (moves name commit) u q e keeps put = absurd (false≢true keeps)
+small_write (leaves name) u q e keeps put = absurd (false≢true keeps)
+
+small_effect : (s : State) (effect : Effect) (u : View) (q : Elements) (e : Slot) → keeps_refs effect ≡ true → ChangesName s effect u q e → IsSmallPlace q
+small_effect s (brings name origin commit) u q e keeps put = absurd (false≢true keeps)
+small_effect s (writes write) u q e keeps put = small_write write u q e keeps put
+
 small_by : (s : State) (op : Op) (u : View) (q : Elements) (e : Slot) → keeps_commits op ≡ true → MayChange s op u q e → IsSmallPlace q
-small_by s (AddPin pin) u q e keeps put = on_config put
-small_by s (DropPin pin) u q e keeps put = on_config put
-small_by s (AddRemote row) u q e keeps put = on_config put
-small_by s (ModifyRemote row) u q e keeps put = on_config put
-small_by s (DropRemote name) u q e keeps put = on_config put
-small_by s (SetOverride row) u q e keeps put = replaces_small (override_path row.name) (a_layer row.name) (layer_folders row.name) put
-small_by s (DropOverride name) u q e keeps put = subst IsSmallPlace (sym put.0) (a_layer name)
-small_by s Migrate u q e keeps put = absurd (cc keeps)
-small_by s (Install name origin commit) u q e keeps put = absurd (cc keeps)
-small_by s (Update name origin commit) u q e keeps put = absurd (cc keeps)
-small_by s (Uninstall name) u q e keeps put = absurd (cc keeps)
-small_by s (Rollback name commit) u q e keeps put = absurd (cc keeps)
+small_by s op u q e keeps put = small_effect s (effect_of op) u q e keeps put
+
+two_write : (write : Write) → is_small write ≡ true → layout_before (writes write) ≡ Two
+two_write sets keeps = refl
+two_write (layers row) keeps = refl
+two_write (bares name) keeps = refl
+two_write migrates keeps = absurd (false≢true keeps)
+two_write (moves name commit) keeps = refl
+two_write (leaves name) keeps = refl
+
+two_effect : (e : Effect) → keeps_refs e ≡ true → layout_before e ≡ Two
+two_effect (brings name origin commit) keeps = refl
+two_effect (writes write) keeps = two_write write keeps
 
 layout_two : (s : State) (op : Op) → keeps_commits op ≡ true → May s op → s.layout ≡ Two
-layout_two s (AddPin pin) keeps may = may.layout
-layout_two s (DropPin pin) keeps may = may.layout
-layout_two s (AddRemote row) keeps may = may.layout
-layout_two s (ModifyRemote row) keeps may = may.layout
-layout_two s (DropRemote name) keeps may = may.layout
-layout_two s (SetOverride row) keeps may = may.layout
-layout_two s (DropOverride name) keeps may = may.layout
-layout_two s Migrate keeps may = absurd (cc keeps)
-layout_two s (Install name origin commit) keeps may = absurd (cc keeps)
-layout_two s (Update name origin commit) keeps may = absurd (cc keeps)
-layout_two s (Uninstall name) keeps may = absurd (cc keeps)
-layout_two s (Rollback name commit) keeps may = absurd (cc keeps)
+layout_two s op keeps may = may.layout ∙ two_effect (effect_of op) keeps
 
 -- ---- what it leaves
 

@@ -20,9 +20,9 @@ use Rattle.fp_small.specs.declared.refusal.Refusal.{Refusal}
 use Rattle.ost_model.specs.Objects.{Have, store}
 use Rattle.ost_model.specs.Remotes.{Stores}
 use Rattle.ost_walk.specs.Ends.{Outside}
-use Rattle.ost_head.specs.declared.ends.PullEnd.{PullEnd}
-use Rattle.ost_head.specs.declared.ends.PullEnd.TheVariants as pulls
-use Rattle.ost_head.specs.Ends.{Looks}
+use Rattle.ost_walk.specs.declared.pull_end.PullEnd.{PullEnd}
+use Rattle.ost_walk.specs.declared.pull_end.PullEnd.TheVariants as pulls
+use Rattle.ost_walk.specs.PullEnds.{Looks}
 use Rattle.op_change.specs.Applied.{Brings}
 use Rattle.fl_plan.specs.Answers.{Plans}
 use Rattle.fl_plan.specs.Plans.{plan_of}

@@ -12,7 +12,7 @@ use Rattle.fp_small.specs.declared.state.State.{State}
 use Rattle.fp_small.specs.declared.op.Op.{Op}
 use Rattle.ost_walk.specs.Ends.{Outside}
 use Rattle.dep_states.specs.Sound.{Opens}
-use Rattle.op_bring.specs.Bringing.{AreTold}
+use Rattle.op_change.specs.Bringing.{AreTold}
 use Rattle.fl_change.specs.Performs.{AsksBy, OpensBy, ChangesFrom, Works}
 use Rattle.fl_change.specs.declared.end.RunEnd.{RunEnd}
 use Rattle.fl_change.specs.declared.end.RunEnd.TheVariants.{Fault, RemoteFault}

@@ -4,12 +4,12 @@ use Rattle.fp_host.specs.Remote.{Holdings}
 use Rattle.fp_small.specs.declared.op.Op.{Op}
 use Rattle.fp_small.specs.declared.refusal.Refusal.{Refusal}
 use Rattle.dep_states.specs.After.{Done, plain}
+use Rattle.dep_states.specs.Effects.{effect_of, writes_config, keeps_refs}
 use Rattle.fl_change.specs.World.{World, worlds_after}
 use Rattle.fl_lines.specs.Lines.{op_text, refusal_text}
 use Rattle.std.specs.List.{list_any}
-use Rattle.std.specs.Prelude.{◌≡◌, Bool, true, false}
+use Rattle.std.specs.Prelude.{◌≡◌, Bool}
 use Rattle.fp_base.specs.declared.what.What.TheVariants as whats
-use Rattle.fp_small.specs.declared.op.Op.TheVariants.{Install, Update, Uninstall, AddPin, DropPin, AddRemote, ModifyRemote, DropRemote, SetOverride, DropOverride, Migrate, Rollback}
 use Rattle.fp_small.specs.declared.refusal.Refusal.TheVariants as refusals
 
 -- what is printed at once, with the operation that it acknowledges, if it does
@@ -45,33 +45,11 @@ ops_of a = ops_in a.pieces
 
 -- an operation on what stands in `config`
 abbrev pub sets_config : Op → Bool
-sets_config (AddPin pin) = true
-sets_config (DropPin pin) = true
-sets_config (AddRemote row) = true
-sets_config (ModifyRemote row) = true
-sets_config (DropRemote name) = true
-sets_config Migrate = true
-sets_config (Install name origin commit) = false
-sets_config (Update name origin commit) = false
-sets_config (Uninstall name) = false
-sets_config (SetOverride row) = false
-sets_config (DropOverride name) = false
-sets_config (Rollback name commit) = false
+sets_config op = writes_config (effect_of op)
 
 -- an operation that changes no commit, in layout 2: on pins, remotes or an override
 abbrev pub keeps_commits : Op → Bool
-keeps_commits (AddPin pin) = true
-keeps_commits (DropPin pin) = true
-keeps_commits (AddRemote row) = true
-keeps_commits (ModifyRemote row) = true
-keeps_commits (DropRemote name) = true
-keeps_commits (SetOverride row) = true
-keeps_commits (DropOverride name) = true
-keeps_commits Migrate = false
-keeps_commits (Install name origin commit) = false
-keeps_commits (Update name origin commit) = false
-keeps_commits (Uninstall name) = false
-keeps_commits (Rollback name commit) = false
+keeps_commits op = keeps_refs (effect_of op)
 
 -- one of these is such
 abbrev pub set_config : List Done → Bool

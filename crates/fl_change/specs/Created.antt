@@ -7,12 +7,12 @@ use Rattle.fp_base.specs.declared.object.ObjKind.{ObjKind}
 use Rattle.fp_small.specs.Files.{KeepsFiles}
 use Rattle.fp_small.specs.Places.{repo}
 use Rattle.fp_small.specs.declared.op.Op.{Op}
-use Rattle.fp_small.specs.declared.op.Op.TheVariants.{Install, Update, Uninstall, AddPin, DropPin, AddRemote, ModifyRemote, DropRemote, SetOverride, DropOverride, Migrate, Rollback}
 use Rattle.ost_model.specs.Objects.{Have}
 use Rattle.ost_model.specs.Order.{In, order}
 use Rattle.ost_store.specs.Created.{Creates, NoObject}
 use Rattle.ost_walk.specs.Steps.{place_name}
 use Rattle.dep_states.specs.After.{Done}
+use Rattle.dep_states.specs.Effects.{Effect, effect_of, brings, writes}
 use Rattle.fl_change.specs.World.{World, supplied, world_after}
 
 -- of the order of a commit, by what is supplied, the object is one that isn't had
@@ -21,23 +21,15 @@ pub record Lacks (supply own : Have) (commit : List ℕ) (o : List ℕ × ObjKin
   pub ordered : In (map place_name (order supply commit)) o
   pub lacked : own o.0 o.1 ≡ None
 
+-- What brings a commit lacks the objects of it that are supplied and not had.
+abbrev pub LacksBy : Have → Have → Effect → List ℕ × ObjKind → Type 0
+LacksBy from own (brings name remote commit) o = Lacks from own commit o
+LacksBy from own (writes write) o = ⊥
+
 -- An install or an update lacks the objects of its commit that the world hasn't. No other operation
 -- lacks one.
 abbrev pub LacksFor : Holdings → World → Op → List ℕ × ObjKind → Type 0
-LacksFor held x (Install name origin commit) o =
-    Lacks (supplied held x (Install name origin commit)) x.have commit o
-LacksFor held x (Update name origin commit) o =
-    Lacks (supplied held x (Update name origin commit)) x.have commit o
-LacksFor held x (Uninstall name) o = ⊥
-LacksFor held x (AddPin pin) o = ⊥
-LacksFor held x (DropPin pin) o = ⊥
-LacksFor held x (AddRemote row) o = ⊥
-LacksFor held x (ModifyRemote row) o = ⊥
-LacksFor held x (DropRemote name) o = ⊥
-LacksFor held x (SetOverride row) o = ⊥
-LacksFor held x (DropOverride name) o = ⊥
-LacksFor held x Migrate o = ⊥
-LacksFor held x (Rollback name commit) o = ⊥
+LacksFor held x op o = LacksBy (supplied held x op) x.have (effect_of op) o
 
 -- From u to w these operations make objects one after another: each just those that it lacks over
 -- the world that those before it leave, and where none is left no object is made.

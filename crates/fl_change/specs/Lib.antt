@@ -10,3 +10,4 @@ pub mod Performs
 pub mod Ends
 pub mod Says
 pub mod Sample
+pub mod Current

@@ -21,7 +21,7 @@ use Rattle.dep_states.specs.Sound.{Sound, Opens}
 use Rattle.dep_states.specs.After.{Done, state_after, after_all}
 use Rattle.dep_states.specs.Settled.{Settled}
 use Rattle.dep_tidy.specs.Tidy.{SettledButWork}
-use Rattle.op_bring.specs.Bringing.{AreTold}
+use Rattle.op_change.specs.Bringing.{AreTold}
 use Rattle.op_change.specs.Applied.{Brings, op_refusal, done_with}
 use Rattle.fl_lines.specs.Lines.{op_text}
 use Rattle.fl_change.specs.World.{World, world_at, used_of, supplied, world_after, worlds_after}

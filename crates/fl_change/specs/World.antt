@@ -11,13 +11,13 @@ use Rattle.fp_base.specs.declared.object.ObjKind.TheVariants as kinds
 use Rattle.fp_small.specs.Places.{repo}
 use Rattle.fp_small.specs.declared.state.State.{State}
 use Rattle.fp_small.specs.declared.op.Op.{Op}
-use Rattle.fp_small.specs.declared.op.Op.TheVariants.{Install, Update}
 use Rattle.ost_model.specs.Objects.{Have, store, supply}
 use Rattle.ost_model.specs.Order.{Place, order}
 use Rattle.ost_model.specs.Remotes.{remote}
 use Rattle.dep_states.specs.After.{Done, state_after}
 use Rattle.dep_tidy.specs.Kept.{kept_of}
-use Rattle.op_change.specs.Applied.{url_for}
+use Rattle.dep_states.specs.Effects.{Effect, effect_of, brings, writes}
+use Rattle.op_change.specs.Applied.{url_of}
 
 -- ---- the objects that commits use
 
@@ -57,14 +57,14 @@ world_at s v = world_in s (shows v)
 
 -- ---- what operations make of a world
 
--- an operation that brings a commit begins with the objects of its remote beside those that are
--- there
+-- what brings a commit begins with the objects of its remote beside those that are there
+abbrev pub supplied_by : Holdings → World → Effect → Have
+supplied_by held x (brings name origin commit) =
+    supply x.have (remote held (url_of x.state origin))
+supplied_by held x (writes write) = x.have
+
 abbrev pub supplied : Holdings → World → Op → Have
-supplied held x (Install name origin commit) =
-    supply x.have (remote held (url_for x.state (Install name origin commit)))
-supplied held x (Update name origin commit) =
-    supply x.have (remote held (url_for x.state (Update name origin commit)))
-supplied held x _ = x.have
+supplied held x op = supplied_by held x (effect_of op)
 
 abbrev pub world_after : Holdings → World → Done → World
 world_after held x done = world (state_after x.state done) (supplied held x done.op)

@@ -5,7 +5,7 @@ use dep_open::OpenEnd;
 use fp_host::{HostEnd, HostError};
 use fp_small::Refusal;
 use op_change::ApplyEnd;
-use ost_head::PullEnd;
+use ost_walk::PullEnd;
 use std::alloc::AllocError;
 
 /// How work on an installation ends where it isn't done.

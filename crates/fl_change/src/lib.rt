@@ -6,9 +6,6 @@ mod end;
 mod finding;
 mod going_back;
 mod installing;
-pub mod laws;
-pub mod laws_of_overrides;
-pub mod laws_of_refs;
 mod operation;
 mod overriding;
 mod removing;
@@ -17,3 +14,8 @@ mod updating;
 
 pub use change::change_all;
 pub use end::RunEnd;
+
+pub mod laws;
+pub mod laws_of_overrides;
+pub mod laws_of_refs;
+pub mod laws_of_updates;

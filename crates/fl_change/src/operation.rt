@@ -1,8 +1,6 @@
 //! One operation, its line, and the tidying after it.
 ghost use Rattle.std.specs.Prelude.{◌≡◌, ◌⊎◌, ℕ, IfOk, IsErrOf, OnOk};
-ghost use Rattle.fp_host.specs.Causes.{IsCaused};
-ghost use Rattle.fp_host.specs.Frame.{AtEnd};
-ghost use Rattle.fp_host.specs.Moments.{Always};
+ghost use Rattle.fp_host.specs.OverHost.{AtEachMoment, AtReturn, FailsOnly};
 ghost use Rattle.fp_small.specs.declared.state.Layout.TheVariants.{Two};
 ghost use Rattle.ost_walk.specs.Ends.{outside};
 ghost use Rattle.dep_states.specs.After.{May, IsGood, after_op};
@@ -96,11 +94,11 @@ fn tidy_after<H: Host>(
     op: &Op,
 ) -> Result<Opened, HostEnd>
     ensures state { IfOk result (λ o. o ≡ done) }
-    ensures any_moment { Always (Tidies done) (H.moments host.old) (H.moments host.new) }
-    ensures on_success { OnOk result (AtEnd (WasTidiedAfter op.now done)
-        (H.moments host.old) (H.moments host.new)) }
-    ensures fault_has_cause { IsCaused (IsErrOf result HostEnd.Fault) (H.moments host.old)
-        (Opens done) (H.faults host.old) (H.faults host.new) }
+    ensures any_moment { AtEachMoment H.Host host.old host.new (Tidies done) }
+    ensures on_success { OnOk result (AtReturn H.Host host.old host.new
+        (WasTidiedAfter op.now done)) }
+    ensures fault_has_cause { FailsOnly H.Host host.old host.new
+        (Opens done) (IsErrOf result HostEnd.Fault) }
 {
     if keeps_commits(op) {
         tidy_work(alloc, host, done)

@@ -20,7 +20,7 @@ use fl_plan::{ops, targets};
 use fp_host::{Host, Remotes};
 use fp_name::RefName;
 use fp_small::{Refusal, RemoteRow};
-use ost_head::PullEnd;
+use ost_walk::PullEnd;
 use std::alloc::Global;
 use std::thread::Threads;
 

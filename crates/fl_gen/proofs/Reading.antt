@@ -1,8 +1,9 @@
 -- Objects that are what their digests name, read back from where they stand.
-use Rattle.std.proofs.Common.{◌≡◌, ◌==◌, ℕ, List, Bool, true, false, Some, None, refl, arith}
+use Rattle.std.proofs.Common.{◌≡◌, ℕ, List, Bool, true, false, Some, None, refl, arith}
 use Rattle.std.specs.Option.{option_or}
 use Rattle.std.specs.Prelude.{leb, bit_and}
-use Rattle.std.proofs.lemmas.Bool.{and_parts, cond-true, eqb-true, le-leb}
+use Rattle.std.proofs.lemmas.Bool.{cond-true, le-leb}
+use Rattle.std.proofs.lemmas.Bool.Decides.{nat_tests}
 use Rattle.std.proofs.lemmas.Nat.{and_le_r}
 use Rattle.fp_base.specs.declared.object.ObjKind.{ObjKind}
 use Rattle.fp_base.specs.declared.object.ObjKind.TheVariants as kinds
@@ -49,7 +50,7 @@ permitted d kind mode bytes named =
 
 low_bits : (mode : ℕ) → is_permission mode ≡ true → leb mode 4095 ≡ true
 low_bits mode permission =
-    let same : bit_and mode 0x1FD ≡ mode = eqb-true (bit_and mode 0x1FD) mode (and_parts (bit_and mode 0x1FD == mode) (bit_and mode 0x100 == 0x100) permission).0 in
+    let same : bit_and mode 0x1FD ≡ mode = grind (arith, nat_tests) in
     let low = and_le_r mode 0x1FD in
     le-leb mode 4095 (omega arith)
 

@@ -5,7 +5,8 @@ ghost use Rattle.fp_name.specs.Refs.{Ref, ref_text};
 ghost use Rattle.ost_model.specs.Order.{In};
 ghost use Rattle.fl_words.specs.declared.command.Change.{Change};
 ghost use Rattle.fl_words.specs.declared.command.Change.TheVariants as changes;
-ghost use Rattle.fl_gen.specs.declared.limits.TheConstants.{RUNTIMES};
+ghost use Rattle.fl_gen.specs.declared.filling.TheConstants.{SUBJECT};
+ghost use Rattle.fl_gen.specs.declared.limits.TheConstants.{RUNTIMES, LIBRARIES, OWN_FILES, SHARED_FILES, CHANGED_FILES, FILE_BYTES, BYTE_END};
 ghost use Rattle.fl_gen.specs.Made.{app_metadata, app_ref, app_rows, app_ware, made_bytes, runtime_metadata, runtime_ref, runtime_rows, runtime_ware, start_at};
 ghost use Rattle.fl_gen.specs.Generator.{IsGenerated, first_url, second_url};
 ghost use Rattle.fl_gen.specs.Offered.{Offers};
@@ -60,4 +61,16 @@ pub fn what_is_made_of_small_numbers()
     ensures changed { take 4 (made_bytes (start_at 280 3 2 7)) ≡ 52 ∷ 53 ∷ 54 ∷ 55 ∷ [] }
     // The file `files/f8` is the same in each version.
     ensures kept { start_at 280 3 2 8 ≡ 304 }
+{}
+
+/// How much is made, as numbers, and the subject of each commit.
+pub fn limits_as_numbers()
+    ensures runtimes { RUNTIMES ≡ 4 }
+    ensures libraries { LIBRARIES ≡ 32 }
+    ensures own { OWN_FILES ≡ 64 }
+    ensures shared { SHARED_FILES ≡ 16 }
+    ensures changed { CHANGED_FILES ≡ 8 }
+    ensures bytes { FILE_BYTES ≡ 4096 }
+    ensures end { BYTE_END ≡ 251 }
+    ensures subject { SUBJECT.now ≡ codes "gen" }
 {}

@@ -1,3 +1,4 @@
 pub mod Escapes
 pub mod Rows
 pub mod Unescaped
+pub mod Explained

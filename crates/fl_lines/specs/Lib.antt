@@ -1,2 +1,3 @@
 pub mod PrintedWords
 pub mod Lines
+pub mod Advice

@@ -2,11 +2,19 @@
 //! law.
 ghost use Rattle.std.specs.Prelude.{◌≡◌, ℕ, List, true, not};
 ghost use Rattle.std.specs.List.{list_all};
-ghost use Rattle.fl_lines.specs.Lines.{escaped};
+ghost use Rattle.std.specs.Option.{is_some};
+ghost use Rattle.fl_lines.specs.Lines.{escaped, refusal_text};
+ghost use Rattle.fl_lines.specs.Advice.{advice_of};
 ghost use Rattle.fp_base.specs.Parts.{is_control};
+ghost use Rattle.fp_small.specs.declared.refusal.Refusal.{Refusal};
 
 /// What is printed of a text has no control byte, and tells the text: no two are printed alike.
 pub fn escapes_tell_texts()
     ensures printable { (text : List ℕ) → list_all (λ b. not (is_control b)) (escaped text) ≡ true }
     ensures apart { (a b : List ℕ) → escaped a ≡ escaped b → a ≡ b }
+{}
+
+/// Each line of a refusal has a sentence that says what it means.
+pub fn refusals_are_explained()
+    ensures { (refusal : Refusal) → is_some (advice_of (refusal_text refusal)) ≡ true }
 {}

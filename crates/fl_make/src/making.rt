@@ -1,9 +1,7 @@
 //! A remote that is made.
 ghost use Rattle.std.specs.Prelude.{◌≡◌, ℕ, None, IfOk, IfErr, OnOk, IsErrOf};
 ghost use Rattle.std.specs.List.{list_all};
-ghost use Rattle.fp_host.specs.Causes.{IsCaused};
-ghost use Rattle.fp_host.specs.Frame.{AtEnd, Unchanged};
-ghost use Rattle.fp_host.specs.Moments.{Always};
+ghost use Rattle.fp_host.specs.OverHost.{AtEachMoment, AtReturn, ChangesNothing, FailsOnly};
 ghost use Rattle.ost_model.specs.Order.{first_fault};
 ghost use Rattle.ost_commit.specs.Objects.{have_of};
 ghost use Rattle.ost_export.specs.Staging.{AreWhole};
@@ -36,15 +34,15 @@ pub fn make_remote<H: Host>(
     name: &RefName,
     bytes: &[u8],
 ) -> Result<Text, MakeEnd>
-    ensures any_moment { Always (Makes remote.now name.now bytes.now)
-        (H.moments host.old) (H.moments host.new) }
-    ensures on_success { IfOk result (λ line. AtEnd (WasMade remote.now name.now bytes.now line)
-        (H.moments host.old) (H.moments host.new)) }
+    ensures any_moment { AtEachMoment H.Host host.old host.new
+        (Makes remote.now name.now bytes.now) }
+    ensures on_success { IfOk result (λ line. AtReturn H.Host host.old host.new
+        (WasMade remote.now name.now bytes.now line)) }
     ensures refused { IfErr result (IsMakeFault bytes.now) }
-    ensures refused_unchanged { (line : ℕ) → IsErrOf result (BadRecord line) → Unchanged
-        (H.moments host.old) (H.moments host.new) }
-    ensures fault_has_cause { IsCaused (IsErrOf result MakeEnd.Fault) (H.moments host.old)
-        (CanMake remote.now name.now) (H.faults host.old) (H.faults host.new) }
+    ensures refused_unchanged { (line : ℕ) → IsErrOf result (BadRecord line)
+        → ChangesNothing H.Host host.old host.new }
+    ensures fault_has_cause { FailsOnly H.Host host.old host.new
+        (CanMake remote.now name.now) (IsErrOf result MakeEnd.Fault) }
 {
     let built = commit_description(rt, alloc, bytes, name)?;
     let line = made_line(alloc, &built.commit)?;
@@ -62,16 +60,15 @@ fn offer<H: Host>(
 ) -> Result<(), HostEnd>
     requires whole { AreWhole built.now.objects }
     requires clean { first_fault (have_of built.now.objects) built.now.commit ≡ None }
-    ensures any_moment { Always
+    ensures any_moment { AtEachMoment H.Host host.old host.new
         (ExportsSynced (have_of built.now.objects) (remote_store remote.now) name.now
-        built.now.commit)
-        (H.moments host.old) (H.moments host.new) }
+        built.now.commit) }
     ensures on_success { OnOk result
-        (AtEnd (WasExported (have_of built.now.objects) (remote_store remote.now) name.now
-        built.now.commit)
-        (H.moments host.old) (H.moments host.new)) }
-    ensures fault_has_cause { IsCaused (IsErrOf result HostEnd.Fault) (H.moments host.old)
-        (CanExport (remote_store remote.now) name.now) (H.faults host.old) (H.faults host.new) }
+        (AtReturn H.Host host.old host.new
+        (WasExported (have_of built.now.objects) (remote_store remote.now) name.now
+        built.now.commit)) }
+    ensures fault_has_cause { FailsOnly H.Host host.old host.new
+        (CanExport (remote_store remote.now) name.now) (IsErrOf result HostEnd.Fault) }
 {
     if !are_keepable(built.objects.as_slice()) {
         return Err(HostEnd::NoMemory);

@@ -7,9 +7,9 @@ use Rattle.fp_small.specs.declared.state.State.{State}
 use Rattle.ost_model.specs.Objects.{Have}
 use Rattle.ost_model.specs.Remotes.{Supplies}
 use Rattle.ost_walk.specs.Ends.{Outside}
-use Rattle.ost_head.specs.declared.ends.PullEnd.{PullEnd}
+use Rattle.ost_walk.specs.declared.pull_end.PullEnd.{PullEnd}
 use Rattle.ost_head.specs.declared.head.Head.{Head}
-use Rattle.ost_head.specs.Ends.{Answers, Looks}
+use Rattle.ost_walk.specs.PullEnds.{Answers, Looks}
 use Rattle.ost_head.specs.Heads.{head_of}
 use Rattle.fl_plan.specs.Answers.{Plans}
 use Rattle.fl_plan.specs.Offers.{have_at, chosen_with, chosen}

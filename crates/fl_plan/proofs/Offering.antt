@@ -8,9 +8,9 @@ use Rattle.fp_small.specs.declared.refusal.Refusal.{Refusal}
 use Rattle.fp_small.specs.declared.state.RemoteRow.{RemoteRow}
 use Rattle.fp_host.proofs.Cause.{Rose-later}
 use Rattle.fp_host.specs.Moments.{Rose}
-use Rattle.ost_head.specs.declared.ends.PullEnd.{PullEnd}
-use Rattle.ost_head.specs.declared.ends.PullEnd.TheVariants as ends
-use Rattle.ost_head.specs.Ends.{NoFault, RefusesBy, Tells}
+use Rattle.ost_walk.specs.declared.pull_end.PullEnd.{PullEnd}
+use Rattle.ost_walk.specs.declared.pull_end.PullEnd.TheVariants as ends
+use Rattle.ost_walk.specs.PullEnds.{NoFault, RefusesBy, Tells}
 use Rattle.ost_head.specs.Offers.{offered}
 use Rattle.fl_plan.specs.Answers.{Asks}
 use Rattle.fl_plan.specs.Offers.{first_of, is_in_turn, offer_of, offer_if, offer_with, unless_declined, declined}

@@ -10,9 +10,9 @@ use Rattle.fp_small.specs.declared.state.RemoteRow.{RemoteRow}
 use Rattle.ost_model.specs.Objects.{Have}
 use Rattle.ost_model.specs.Remotes.{Stores}
 use Rattle.ost_walk.specs.Ends.{Outside}
-use Rattle.ost_head.specs.declared.ends.PullEnd.{PullEnd}
-use Rattle.ost_head.specs.declared.ends.PullEnd.TheVariants as ends
-use Rattle.ost_head.specs.Ends.{Looks}
+use Rattle.ost_walk.specs.declared.pull_end.PullEnd.{PullEnd}
+use Rattle.ost_walk.specs.declared.pull_end.PullEnd.TheVariants as ends
+use Rattle.ost_walk.specs.PullEnds.{Looks}
 use Rattle.fl_extension.specs.declared.point.Point.{Point}
 use Rattle.fl_plan.specs.Answers.{and_then, Plans}
 use Rattle.fl_plan.specs.Extensions.{extension_at, with_points}

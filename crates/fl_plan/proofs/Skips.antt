@@ -24,7 +24,7 @@ use Rattle.ost_model.specs.Objects.{Have, Fault, too_many, too_deep, missing, to
 use Rattle.ost_model.specs.Order.{commit_at, tree_at}
 use Rattle.ost_model.specs.Look.{Found, nothing, directory, file_at, entry_in}
 use Rattle.ost_model.specs.Binding.{binding_in}
-use Rattle.ost_head.specs.Refusals.{refusal_of, object_refused}
+use Rattle.ost_walk.specs.Refusals.{refusal_of, object_refused}
 use Rattle.ost_head.specs.Heads.{lists, binding_refused, age_refused, commit_refused, is_nothing, root_refused, meta_refused, lines_refused, metadata_refused, unless_refused, content_in, with_content, metadata_at, head_in, with_tree, with_commit, head_of}
 use Rattle.ost_head.specs.Offers.{offered}
 use Rattle.fl_plan.specs.Answers.{and_then, mapped}

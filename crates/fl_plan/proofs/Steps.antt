@@ -12,9 +12,9 @@ use Rattle.fp_small.specs.declared.refusal.Refusal.{Refusal}
 use Rattle.ost_model.specs.Objects.{Have, store, supply}
 use Rattle.ost_model.specs.Remotes.{Stores, Supplies, remote}
 use Rattle.ost_walk.specs.Ends.{Outside, outside}
-use Rattle.ost_head.specs.declared.ends.PullEnd.{PullEnd}
-use Rattle.ost_head.specs.declared.ends.PullEnd.TheVariants as ends
-use Rattle.ost_head.specs.Ends.{Answers, Looks, NoFault, RefusesBy, Tells}
+use Rattle.ost_walk.specs.declared.pull_end.PullEnd.{PullEnd}
+use Rattle.ost_walk.specs.declared.pull_end.PullEnd.TheVariants as ends
+use Rattle.ost_walk.specs.PullEnds.{Answers, Looks, NoFault, RefusesBy, Tells}
 use Rattle.fl_plan.specs.Answers.{and_then, mapped, Asks, Plans}
 
 -- ---- looking

@@ -6,10 +6,10 @@ use Rattle.fp_name.specs.Refs.{Ref, is_ref}
 use Rattle.fp_small.specs.Config.{name_of}
 use Rattle.fp_small.specs.Order.{has_name}
 use Rattle.fp_small.specs.declared.op.Op.{Op}
-use Rattle.fp_small.specs.declared.op.Op.TheVariants.{Install, Update}
 use Rattle.fp_small.specs.declared.state.State.{State}
 use Rattle.fp_small.specs.declared.state.RemoteRow.{RemoteRow}
 use Rattle.dep_states.specs.After.{Allows, after_op}
+use Rattle.dep_states.specs.Effects.{effect_of, BringsCommit}
 use Rattle.fl_plan.specs.Extensions.{is_coming}
 use Rattle.fl_extension.specs.Found.{row_of}
 use Rattle.fl_plan.specs.Plans.{is_at}
@@ -63,6 +63,4 @@ pub record IsPlan (state : State) (plan : List Offer) : Type 0 where
 
 -- an operation that brings a commit
 abbrev pub IsComing : Op → Type 0
-IsComing (Install name remote commit) = Unit {0}
-IsComing (Update name remote commit) = Unit {0}
-IsComing _ = ⊥
+IsComing op = BringsCommit (effect_of op)

@@ -6,9 +6,9 @@ use Rattle.fp_small.specs.declared.refusal.Refusal.{Refusal}
 use Rattle.ost_model.specs.Objects.{Have}
 use Rattle.ost_model.specs.Remotes.{Stores}
 use Rattle.ost_walk.specs.Ends.{IsRemotes, Outside}
-use Rattle.ost_head.specs.declared.ends.PullEnd.{PullEnd}
-use Rattle.ost_head.specs.declared.ends.PullEnd.TheVariants as ends
-use Rattle.ost_head.specs.Ends.{Answers, Looks, Tells}
+use Rattle.ost_walk.specs.declared.pull_end.PullEnd.{PullEnd}
+use Rattle.ost_walk.specs.declared.pull_end.PullEnd.TheVariants as ends
+use Rattle.ost_walk.specs.PullEnds.{Answers, Looks, Tells}
 
 -- steps in turn, up to the first that is refused
 abbrev pub and_then : {A B : Type 0} → Result A Refusal → (A → Result B Refusal) → Result B Refusal

@@ -1,6 +1,6 @@
 //! Which remote offers a ref, and which refs a remote offers.
 ghost use Rattle.std.specs.Prelude.{◌≡◌, filter, Some, IfOk, IfSome};
-ghost use Rattle.ost_head.specs.Ends.{NoFault, Tells};
+ghost use Rattle.ost_walk.specs.PullEnds.{NoFault, Tells};
 ghost use Rattle.fl_plan.specs.Allowed.{IsTaken, IsOneOf, IsOfferOf};
 ghost use Rattle.fl_plan.specs.Answers.{Asks};
 ghost use Rattle.fl_plan.specs.Offers as spec;
@@ -9,7 +9,8 @@ use crate::offer::Offer;
 use fp_host::Remotes;
 use fp_name::{Digest, RefName, RemoteName};
 use fp_small::{RemoteRow, State};
-use ost_head::{PullEnd, offer};
+use ost_head::offer;
+use ost_walk::PullEnd;
 use std::alloc::Global;
 
 /// A refusal is no offer; a fault ends the question.

@@ -6,7 +6,8 @@ ghost use Rattle.fl_plan.specs.Offers.{chosen};
 
 use crate::offer::{Chosen, Offer};
 use fp_host::{Host, Remotes};
-use ost_head::{PullEnd, read_head};
+use ost_head::read_head;
+use ost_walk::PullEnd;
 use std::alloc::Global;
 
 /// The offer of what isn't deployed, with its head checked.

@@ -16,7 +16,7 @@ use fp_base::Items;
 use fp_host::{Host, Remotes};
 use fp_name::RefName;
 use fp_small::{RemoteRow, State};
-use ost_head::PullEnd;
+use ost_walk::PullEnd;
 use std::alloc::{AllocError, Global};
 
 /// Whether the ref is among what is to come.

@@ -6,7 +6,7 @@ ghost use Rattle.fp_name.specs.Refs.{ref_text};
 ghost use Rattle.fp_small.specs.Config.{name_of};
 ghost use Rattle.fp_small.specs.Order.{has_name};
 ghost use Rattle.ost_walk.specs.Ends.{outside};
-ghost use Rattle.ost_head.specs.Ends.{Answers, NoFault};
+ghost use Rattle.ost_walk.specs.PullEnds.{Answers, NoFault};
 ghost use Rattle.fl_plan.specs.Allowed.{AreAllowed, IsComing, IsOfferOf, IsPlan, MayCome};
 ghost use Rattle.fl_plan.specs.Answers.{Plans};
 ghost use Rattle.fl_plan.specs.Offers.{chosen_with, offer_with};
@@ -23,7 +23,8 @@ use fp_base::{Items, What};
 use fp_host::{Host, Remotes};
 use fp_name::{RefName, RemoteName};
 use fp_small::{MOST_REFS, Op, Refusal, RemoteRow, State};
-use ost_head::{PullEnd, offer, read_head};
+use ost_head::{offer, read_head};
+use ost_walk::PullEnd;
 use std::alloc::{AllocError, Global};
 
 /// The operation that brings what is offered: a ref that is deployed moves, another comes.

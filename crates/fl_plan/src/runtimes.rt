@@ -14,7 +14,7 @@ use fl_extension::has_ref;
 use fp_host::{Host, Remotes};
 use fp_name::{RefName, RemoteName};
 use fp_small::{Op, Refusal, State};
-use ost_head::PullEnd;
+use ost_walk::PullEnd;
 use std::alloc::{AllocError, Global};
 
 /// The refusal of a runtime that is neither installed nor offered.

@@ -26,8 +26,8 @@ use Rattle.dep_tidy.specs.Kept.{kept_by, kept_of}
 use Rattle.fl_installed.specs.Files.{unless_faulty, metadata_digest, short_content, metadata_file}
 use Rattle.fl_installed.specs.Described.{by_file, described, as_info, info_in}
 use Rattle.fl_extension.specs.Found.{row_of}
-use Rattle.fl_sandbox.specs.Launching.{launch_in}
-use Rattle.fl_sandbox.proofs.Local.{launch_is_local}
+use Rattle.fl_installed.specs.Launching.{launch_in}
+use Rattle.fl_installed.proofs.LocalPoints.{launch_is_local}
 use Rattle.dep_switch.proofs.Named.{at_name-find}
 use Rattle.fl_words.specs.declared.command.Listing.{Listing}
 use Rattle.fl_words.specs.declared.command.Listing.TheVariants as listings

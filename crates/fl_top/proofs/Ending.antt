@@ -35,8 +35,8 @@ use Rattle.ost_description.specs.Descriptions.{described}
 use Rattle.bus_proxy.specs.Arrivals.{End, end_of}
 use Rattle.fl_filter.specs.Filtered.{broken}
 use Rattle.fl_launch.specs.declared.launching.LaunchText.{LaunchText}
-use Rattle.fl_sandbox.specs.Refusals.{MayRefuse}
-use Rattle.fl_sandbox.proofs.Refusing.{launch_refuses}
+use Rattle.fl_installed.specs.Refusals.{MayRefuse}
+use Rattle.fl_installed.proofs.Refusing.{launch_refuses}
 use Rattle.fl_change.specs.World.{World, world_at}
 use Rattle.fl_change.specs.Answer.{Answer, Piece, lines_of, last_of, pieces_text, ops_in, ops_of, text_answer, refusal_answer}
 use Rattle.fl_export.specs.Exported.{exported}
@@ -68,7 +68,7 @@ use Rattle.fl_change.proofs.Changing.{untouched_both, text_on, keeps_files, none
 use Rattle.fl_change.proofs.Created.{none_created, created_on}
 use Rattle.fl_top.proofs.Altering.{rest_none, rest_on}
 use Rattle.fl_change.proofs.Turning.{joined-append}
-use Rattle.fl_exercise.specs.Exercising.{exercising}
+use Rattle.fl_top.specs.Exercising.{exercising}
 use Rattle.fl_top.proofs.Refusing.{changing_later, exercising_later, known_later, launch_later}
 
 -- ---- pieces

@@ -20,7 +20,7 @@ use Rattle.dep_open.specs.Open.{Reads}
 use Rattle.dep_open.specs.declared.open_end.OpenEnd.{OpenEnd}
 use Rattle.dep_open.specs.declared.open_end.OpenEnd.TheVariants as open_end
 use Rattle.fl_launch.specs.declared.launching.LaunchText.{LaunchText}
-use Rattle.fl_sandbox.specs.Launching.{launch_in}
+use Rattle.fl_installed.specs.Launching.{launch_in}
 use Rattle.fl_change.specs.World.{world_in}
 use Rattle.fl_change.specs.Ends.{end_of_host, end_of_open}
 use Rattle.fl_change.specs.declared.end.RunEnd.{RunEnd}

@@ -43,13 +43,14 @@ use Rattle.fl_top.specs.Ends.{end_of_run, end_of_input, end_of_batch}
 use Rattle.fl_change.specs.Performs.{AsksBy}
 use Rattle.fl_change.proofs.Changing.{not_touched, keeps_files, still_not, still_on, still_untouched}
 use Rattle.fl_top.specs.Exports.{Alters, StaysAtRest}
-use Rattle.fl_top.specs.Remotes.{MakesFor, MadeBy, MadeFor}
+use Rattle.fl_top.specs.Kinds.{Work, work_of, is_altering, is_looking, altering, looking, checking, making}
+use Rattle.fl_top.specs.Remotes.{MakesFor, MadeBy, MadeAs, MadeFor}
 use Rattle.fl_top.proofs.Altering.{alter_on, alter_to, alter_not, alter_untouched}
 use Rattle.fl_top.proofs.Asked.{asks_to}
 use Rattle.fl_top.proofs.Over.{IsConstant, over_same, counts_same, counts_constant}
 use Rattle.fl_top.proofs.Starting.{begun, stood, unchanged, refused_at_once, IsLate, over_late}
 use Rattle.fl_gen.specs.Exercise.{exercise_changes}
-use Rattle.fl_exercise.specs.Exercising.{exercising}
+use Rattle.fl_top.specs.Exercising.{exercising}
 use Rattle.fl_top.proofs.Refusing.{changing_late, exercising_late}
 use Rattle.fl_top.proofs.Ending.{refusing, untouched_on, ran_done, ran_fault, ran_input, ran_halted, ran_refused, command_plain, not_answered}
 
@@ -77,35 +78,32 @@ pub not_changes : (command k : Command) → command ≡ k → changes_state k �
 not_changes command k is keeps change = let both : true ≡ false = sym change ∙ (ap changes_state is ∙ keeps) in cc both
 
 -- one that may change it looks at it, and makes no remote
+looks_by : (work : Work) → is_altering work ≡ true → is_looking work ≡ false
+looks_by altering is = refl
+looks_by looking is = absurd (cc is)
+looks_by checking is = absurd (cc is)
+looks_by (making remote name) is = absurd (cc is)
+
 looks_not : (command : Command) → changes_state command ≡ true → only_looks command ≡ false
-looks_not (Changing change) is = refl
-looks_not (Listed listing) is = absurd (cc is)
-looks_not (Showing thing) is = absurd (cc is)
-looks_not (Filtering source) is = absurd (cc is)
-looks_not Batch is = refl
-looks_not Fsck is = absurd (cc is)
-looks_not (Exporting remote name) is = absurd (cc is)
-looks_not (Exercising apps) is = refl
+looks_not command is = looks_by (work_of command) is
+
+made_by : (work : Work) (left : Option (List ℕ)) (u w : View) → is_altering work ≡ true → MadeAs work left u w
+made_by altering left u w is = tt
+made_by looking left u w is = tt
+made_by checking left u w is = tt
+made_by (making remote name) left u w is = absurd (cc is)
 
 made_none : (command : Command) (left : Option (List ℕ)) (u w : View) → changes_state command ≡ true → MadeBy command left u w
-made_none (Changing change) left u w is = tt
-made_none (Listed listing) left u w is = tt
-made_none (Showing thing) left u w is = tt
-made_none (Filtering source) left u w is = tt
-made_none Batch left u w is = tt
-made_none Fsck left u w is = tt
-made_none (Exporting remote name) left u w is = absurd (cc is)
-made_none (Exercising apps) left u w is = tt
+made_none command left u w is = made_by (work_of command) left u w is
+
+look_by : (work : Work) (left : Option (List ℕ)) (u w : View) → is_looking work ≡ true → MadeAs work left u w
+look_by altering left u w is = tt
+look_by looking left u w is = tt
+look_by checking left u w is = tt
+look_by (making remote name) left u w is = absurd (cc is)
 
 pub look_made : (command : Command) (left : Option (List ℕ)) (u w : View) → only_looks command ≡ true → MadeBy command left u w
-look_made (Changing change) left u w is = tt
-look_made (Listed listing) left u w is = tt
-look_made (Showing thing) left u w is = tt
-look_made (Filtering source) left u w is = tt
-look_made Batch left u w is = tt
-look_made Fsck left u w is = tt
-look_made (Exporting remote name) left u w is = absurd (cc is)
-look_made (Exercising apps) left u w is = tt
+look_made command left u w is = look_by (work_of command) left u w is
 
 -- where it was done, by an end
 pub made_where : (r : Result (Unit {0}) CommandEnd) (command : Command) (left : Option (List ℕ)) (u w : View) → MadeBy command left u w → MadeWhere r command left u w

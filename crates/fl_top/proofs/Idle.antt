@@ -21,7 +21,7 @@ use Rattle.fl_change.specs.Changes.{IsStill}
 use Rattle.fl_change.specs.Turns.{changing}
 use Rattle.fl_change.specs.World.{World, world_in}
 use Rattle.fl_change.proofs.Same.{now_left}
-use Rattle.fl_idle.proofs.Updates.{second_is_idle}
+use Rattle.fl_change.proofs.Updates.{second_is_idle}
 use Rattle.fl_top.specs.Answer.{Given, answer, answer_to, shown_answer, IsOver}
 use Rattle.fl_top.specs.Exports.{IsInStep}
 use Rattle.fl_top.specs.Runs.{Answers, Ran, Told, IsGiven, IsGivenTo, IsChange, RunsBy, RanBy}

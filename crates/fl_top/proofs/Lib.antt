@@ -20,3 +20,6 @@ mod Checked
 mod Making
 pub mod Exercises
 mod Idle
+pub mod Lines
+pub mod Followed
+mod Whole

@@ -28,7 +28,7 @@ use Rattle.fp_small.specs.declared.refusal.Refusal.TheVariants as refusals
 use Rattle.ost_model.specs.Objects.{Have, Fault, too_many, too_deep, missing, too_long, refused_mode, corrupt, malformed}
 use Rattle.ost_head.specs.Heads.{head_of}
 use Rattle.ost_head.specs.Offers.{offered, after_mode, commit_said, wrong_mode, ref_at}
-use Rattle.ost_head.specs.Refusals.{refusal_of}
+use Rattle.ost_walk.specs.Refusals.{refusal_of}
 use Rattle.ost_refs.specs.declared.place.RefFile.{RefFile}
 use Rattle.ost_refs.specs.declared.place.RefFile.TheVariants as files
 use Rattle.dep_states.specs.After.{row_at}
@@ -57,14 +57,14 @@ use Rattle.fl_change.specs.Answer.{Answer, Piece, ops_of, done_answer, op_answer
 use Rattle.fl_change.specs.Settings.{add_pin_refusal, drop_pin_refusal, add_remote_refusal, remote_refusal, first_from, in_use_refusal, drop_remote_refusal}
 use Rattle.fl_change.specs.Overrides.{changed_row, long_refusal}
 use Rattle.fl_change.specs.Refs.{op_over, ops_over, planned, if_remote, from_remote, installed_refusal, install_over, update_over, skipped, is_no_offer, unless_skipped, updated_from, target_over, used_refusal, uninstall_over, unused_in, drop_over, missing_refusal, back_to, previous_commit, previous_in, going_back, reset_over}
-use Rattle.fl_exercise.specs.Exercising.{end_answer, exercising}
+use Rattle.fl_top.specs.Exercising.{end_answer, exercising}
 use Rattle.fl_gen.specs.Exercise.{exercise_changes}
 use Rattle.fl_change.specs.Turns.{change_over, in_turn, by_layout, migrating, changing}
 use Rattle.fl_change.proofs.Pulled.{AllOf, OfHead, of_head, of_op}
 use Rattle.fl_launch.specs.declared.launching.LaunchText.{LaunchText}
-use Rattle.fl_sandbox.specs.Launching.{launch_in}
-use Rattle.fl_sandbox.specs.Refusals.{MayRefuse}
-use Rattle.fl_sandbox.proofs.Refusing.{launch_refuses}
+use Rattle.fl_installed.specs.Launching.{launch_in}
+use Rattle.fl_installed.specs.Refusals.{MayRefuse}
+use Rattle.fl_installed.proofs.Refusing.{launch_refuses}
 use Rattle.fl_top.specs.Answer.{IsAtOnce, told_of, known_of, launched_of}
 use Rattle.fl_top.specs.Status.{status_of}
 

@@ -33,11 +33,11 @@ use Rattle.fl_words.specs.declared.command.PolicySource.TheVariants as sources
 use Rattle.bus_stream.specs.declared.recording.Recording.{Recording}
 use Rattle.bus_stream.specs.Recordings.{recording_of}
 use Rattle.bus_policy.specs.declared.policy.PolicyRule.{PolicyRule}
-use Rattle.fl_rules.specs.Rules.{policy_of}
+use Rattle.fl_options.specs.Rules.{policy_of}
 use Rattle.fl_filter.specs.Filtered.{Filtered, filtered}
 use Rattle.fl_launch.specs.Policies.{session_rules, system_rules}
 use Rattle.fl_launch.specs.declared.launching.LaunchText.{LaunchText}
-use Rattle.fl_sandbox.specs.Launching.{launch_in}
+use Rattle.fl_installed.specs.Launching.{launch_in}
 use Rattle.fl_export.specs.Exported.{exported}
 use Rattle.fl_words.specs.Forms.{command_of, bad_index}
 use Rattle.fl_words.specs.Batch.{batch_of}
@@ -58,7 +58,7 @@ use Rattle.ost_model.specs.Readers.{commit_read, tree_read, meta_read}
 use Rattle.fp_base.specs.Objects.{kind_text}
 use Rattle.fl_top.specs.Objects.{head, commit_lines, tree_lines, meta_lines, normal_line}
 use Rattle.fl_change.specs.Turns.{changing}
-use Rattle.fl_exercise.specs.Exercising.{exercising}
+use Rattle.fl_top.specs.Exercising.{exercising}
 use Rattle.fl_change.specs.Answer.{Answer, Piece, refusal_answer, text_answer}
 
 -- What a run is given beside the installation's state: its input, what the remotes hold, what is

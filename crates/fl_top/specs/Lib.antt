@@ -2,6 +2,7 @@ pub mod Fsck
 pub mod Exports
 pub mod ExportSample
 pub mod Answer
+pub mod Kinds
 pub mod Status
 pub mod Asked
 pub mod Runs
@@ -13,3 +14,6 @@ pub mod Objects
 pub mod Telling
 pub mod Remotes
 pub mod Exercises
+pub mod Exercising
+pub mod Sample
+pub mod Whole

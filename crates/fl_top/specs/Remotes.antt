@@ -11,19 +11,16 @@ use Rattle.ost_description.specs.Commits.{IsDescribed}
 use Rattle.ost_export.specs.Exports.{AreFit, IsOffered}
 use Rattle.fl_lines.specs.Lines.{made_text}
 use Rattle.fl_words.specs.declared.command.Command.{Command}
-use Rattle.fl_words.specs.declared.command.Command.TheVariants.{Change as Changing, List as Listed, Show as Showing, Filter as Filtering, Batch, Fsck, Export as Exporting, Exercise as Exercising}
 use Rattle.fl_make.specs.Making.{remote_store, MayMake, CanMake}
+use Rattle.fl_top.specs.Kinds.{Work, work_of, making}
 
 -- what names may come to hold where a remote is made
+abbrev pub MakesAs : Work → Elements → Slot → Type 0
+MakesAs (making remote name) q e = MayMake remote name q e
+MakesAs _ q e = ⊥
+
 abbrev pub MakesBy : Command → Elements → Slot → Type 0
-MakesBy (Changing change) q e = ⊥
-MakesBy (Listed listing) q e = ⊥
-MakesBy (Showing thing) q e = ⊥
-MakesBy (Filtering source) q e = ⊥
-MakesBy Batch q e = ⊥
-MakesBy Fsck q e = ⊥
-MakesBy (Exporting remote name) q e = MayMake remote name q e
-MakesBy (Exercising apps) q e = ⊥
+MakesBy command q e = MakesAs (work_of command) q e
 
 abbrev pub MakesFor : Option Command → Elements → Slot → Type 0
 MakesFor None q e = ⊥
@@ -42,17 +39,14 @@ pub record LeavesRemote (remote : List ℕ) (r : Ref) (bytes : List ℕ) (u w : 
   pub remotes_there : CanMake remote r u → u.names (remotes (remote_store remote)) ≡ absent
       → w.names (remotes (remote_store remote)) ≡ dir
 
--- so it is for a command that makes one of all that is left of the input
-abbrev pub MadeBy : Command → Option (List ℕ) → View → View → Type 0
-MadeBy (Changing change) left u w = Unit {0}
-MadeBy (Listed listing) left u w = Unit {0}
-MadeBy (Showing thing) left u w = Unit {0}
-MadeBy (Filtering source) left u w = Unit {0}
-MadeBy Batch left u w = Unit {0}
-MadeBy Fsck left u w = Unit {0}
-MadeBy (Exercising apps) left u w = Unit {0}
-MadeBy (Exporting remote name) left u w =
+-- so it is where one is made of all that is left of the input
+abbrev pub MadeAs : Work → Option (List ℕ) → View → View → Type 0
+MadeAs (making remote name) left u w =
     (bytes : List ℕ) → left ≡ Some bytes → LeavesRemote remote name bytes u w
+MadeAs _ left u w = Unit {0}
+
+abbrev pub MadeBy : Command → Option (List ℕ) → View → View → Type 0
+MadeBy command left u w = MadeAs (work_of command) left u w
 
 abbrev pub MadeFor : Option Command → Option (List ℕ) → View → View → Type 0
 MadeFor None left u w = Unit {0}

@@ -15,12 +15,12 @@ use Rattle.dep_states.specs.After.{Done, after_all}
 use Rattle.dep_open.specs.Open.{NotShown}
 use Rattle.dep_states.specs.Settled.{Settled}
 use Rattle.fl_words.specs.declared.command.Command.{Command}
-use Rattle.fl_words.specs.declared.command.Command.TheVariants.{Change as Changing, List as Listed, Show as Showing, Filter as Filtering, Batch, Fsck, Export as Exporting, Exercise as Exercising}
 use Rattle.fl_words.specs.Forms.{command_of}
 use Rattle.fl_change.specs.World.{World, world_at}
 use Rattle.fl_change.specs.Answer.{Answer, Piece, lines_of, pieces_text, ops_in, ops_of, set_config, IsUnpulled, IsIdle}
 use Rattle.fl_top.specs.Answer.{Given, answer, IsOver, IsAtOnce}
 use Rattle.fl_top.specs.Input.{IsDrained}
+use Rattle.fl_top.specs.Kinds.{Work, work_of, making}
 use Rattle.fl_change.specs.Changes.{IsUntouched, HasText}
 use Rattle.fl_change.specs.Created.{CreatesInTurn}
 use Rattle.fl_top.specs.Fsck.{Finds, IsListable}
@@ -28,7 +28,7 @@ use Rattle.fl_top.specs.Exports.{Alters, OnlyRests, StaysAtRest}
 use Rattle.fl_top.specs.Status.{status_at, IsAnswered, only_looks, changes_state, makes_remote, reads_input, checks_store}
 use Rattle.fl_change.specs.Performs.{Printed, AsksBy}
 use Rattle.fp_small.specs.declared.op.Op.{Op}
-use Rattle.op_bring.specs.Bringing.{AreTold}
+use Rattle.op_change.specs.Bringing.{AreTold}
 use Rattle.fl_top.specs.Asked.{OpsFor}
 use Rattle.fp_name.specs.Refs.{Ref}
 use Rattle.ost_commit.specs.declared.built.Built.{Built}
@@ -145,16 +145,13 @@ IsFoundAt moments report = (m : Moments) → moments ≡ Some m → Finds (shows
 pub record IsCommitOf (name : Ref) (bytes digest : List ℕ) : Type 0 where
   pub each : (built : Built) → IsDescribed bytes name built → built.commit ≡ digest
 
-abbrev pub IsMadeOf : Command → Option (List ℕ) → List ℕ → Type 0
-IsMadeOf (Changing change) left digest = Unit {0}
-IsMadeOf (Listed listing) left digest = Unit {0}
-IsMadeOf (Showing thing) left digest = Unit {0}
-IsMadeOf (Filtering source) left digest = Unit {0}
-IsMadeOf Batch left digest = Unit {0}
-IsMadeOf Fsck left digest = Unit {0}
-IsMadeOf (Exercising apps) left digest = Unit {0}
-IsMadeOf (Exporting remote name) left digest =
+abbrev pub IsMadeAs : Work → Option (List ℕ) → List ℕ → Type 0
+IsMadeAs (making remote name) left digest =
     (bytes : List ℕ) → left ≡ Some bytes → IsCommitOf name bytes digest
+IsMadeAs _ left digest = Unit {0}
+
+abbrev pub IsMadeOf : Command → Option (List ℕ) → List ℕ → Type 0
+IsMadeOf command left digest = IsMadeAs (work_of command) left digest
 
 -- The command is given this: as its input all that is left, where it reads the input; what the
 -- remotes hold, where it may change the state; what is found in the store, where it looks at that;
@@ -185,16 +182,13 @@ abbrev pub Serves : Option Command → View → Type 0
 Serves command v = KeepsState command ⊎ IsReady v
 
 -- where a remote may be made, for a command that makes one
+abbrev pub IsFreeAs : Work → View → Type 0
+IsFreeAs (making remote name) v = CanMake remote name v
+IsFreeAs _ v = Unit {0}
+
 abbrev pub IsFreeFor : Option Command → View → Type 0
 IsFreeFor None v = Unit {0}
-IsFreeFor (Some (Changing change)) v = Unit {0}
-IsFreeFor (Some (Listed listing)) v = Unit {0}
-IsFreeFor (Some (Showing thing)) v = Unit {0}
-IsFreeFor (Some (Filtering source)) v = Unit {0}
-IsFreeFor (Some Batch) v = Unit {0}
-IsFreeFor (Some Fsck) v = Unit {0}
-IsFreeFor (Some (Exporting remote name)) v = CanMake remote name v
-IsFreeFor (Some (Exercising apps)) v = Unit {0}
+IsFreeFor (Some command) v = IsFreeAs (work_of command) v
 
 -- So a fault of a command has a cause. One that looks at each object of the store needs besides
 -- that no path there is too long, and one that makes a remote that nothing is in its way.

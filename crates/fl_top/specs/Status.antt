@@ -1,10 +1,10 @@
 -- How a run ends.
-use Rattle.std.specs.Prelude.{◌≡◌, ◌≤◌, ◌⊎◌, ℕ, Bool, true, false, Option, Some, None}
+use Rattle.std.specs.Prelude.{◌≡◌, ◌≤◌, ◌⊎◌, ℕ, Bool, true, Option, Some, None}
 use Rattle.fp_small.specs.declared.refusal.Refusal.{Refusal}
 use Rattle.fp_small.specs.declared.refusal.Refusal.TheVariants.{BadWords}
 use Rattle.fl_words.specs.declared.command.Command.{Command}
-use Rattle.fl_words.specs.declared.command.Command.TheVariants.{Change as Changing, List as Listed, Show as Showing, Filter as Filtering, Batch, Fsck, Export as Exporting, Exercise as Exercising}
 use Rattle.fl_change.specs.Answer.{Answer}
+use Rattle.fl_top.specs.Kinds.{kind_of, work_of, is_altering, is_looking, is_checking, is_making}
 
 -- 0 done, 1 refused, 2 no command, 3 a fault of the host, 4 a fault of the remotes, 5 a fault of
 -- the input, 6 out of memory
@@ -17,58 +17,22 @@ IsAnswered n = (n ≡ 0) ⊎ ((n ≡ 1) ⊎ (n ≡ 2))
 
 -- it prints what is there, or what it is given, and changes nothing
 abbrev pub only_looks : Command → Bool
-only_looks (Changing change) = false
-only_looks (Listed listing) = true
-only_looks (Showing thing) = true
-only_looks (Filtering source) = true
-only_looks Batch = false
-only_looks Fsck = true
-only_looks (Exporting remote name) = false
-only_looks (Exercising apps) = false
+only_looks command = is_looking (work_of command)
 
--- it may change the installation's state, and what it does may depend on what remotes hold: those
--- of the run, or those that are made for an exercise
+-- it may change the installation's state
 abbrev pub changes_state : Command → Bool
-changes_state (Changing change) = true
-changes_state (Listed listing) = false
-changes_state (Showing thing) = false
-changes_state (Filtering source) = false
-changes_state Batch = true
-changes_state Fsck = false
-changes_state (Exporting remote name) = false
-changes_state (Exercising apps) = true
+changes_state command = is_altering (work_of command)
 
 -- it makes a remote
 abbrev pub makes_remote : Command → Bool
-makes_remote (Changing change) = false
-makes_remote (Listed listing) = false
-makes_remote (Showing thing) = false
-makes_remote (Filtering source) = false
-makes_remote Batch = false
-makes_remote Fsck = false
-makes_remote (Exporting remote name) = true
-makes_remote (Exercising apps) = false
+makes_remote command = is_making (work_of command)
 
 abbrev pub reads_input : Command → Bool
-reads_input (Changing change) = false
-reads_input (Listed listing) = false
-reads_input (Showing thing) = true
-reads_input (Filtering source) = true
-reads_input Batch = true
-reads_input Fsck = false
-reads_input (Exporting remote name) = true
-reads_input (Exercising apps) = false
+reads_input command = (kind_of command).reads_input
 
 -- it looks at each object of the store
 abbrev pub checks_store : Command → Bool
-checks_store (Changing change) = false
-checks_store (Listed listing) = false
-checks_store (Showing thing) = false
-checks_store (Filtering source) = false
-checks_store Batch = false
-checks_store Fsck = true
-checks_store (Exporting remote name) = false
-checks_store (Exercising apps) = false
+checks_store command = is_checking (work_of command)
 
 -- 2 for words that are no command, 1 for every other refusal
 abbrev pub status_of : Refusal → ℕ

@@ -1,7 +1,6 @@
 //! What is found in the installation's store.
 ghost use Rattle.std.specs.Prelude.{◌≡◌, ◌++◌, ◌≤◌, length, count_by, flat_map, IfOk, OnOk, IsErrOf, string_bytes};
-ghost use Rattle.fp_host.specs.Causes.{IsCaused};
-ghost use Rattle.fp_host.specs.Frame.{AtEnd, Unchanged};
+ghost use Rattle.fp_host.specs.OverHost.{AtReturn, ChangesNothing, FailsOnly};
 ghost use Rattle.fp_host.specs.Moments.{Goes};
 ghost use Rattle.fp_host.specs.Outcome.{shows};
 ghost use Rattle.fp_small.specs.Places.{repo};
@@ -29,8 +28,8 @@ pub(crate) fn check<T: Threads + Sync, H: Host, G: Gate + Sync>(
 ) -> Result<(), RunEnd>
     ensures any_moment { Goes (H.moments host.old) (H.moments host.new) ChecksOver
         (CheckedOver result) }
-    ensures fault_has_cause { IsCaused (IsErrOf result RunEnd.Fault) (H.moments host.old)
-        IsListable (H.faults host.old) (H.faults host.new) }
+    ensures fault_has_cause { FailsOnly H.Host host.old host.new
+        IsListable (IsErrOf result RunEnd.Fault) }
     ensures no_remote_fault { IsErrOf result RunEnd.RemoteFault → ⊥ }
 {
     let state = read_state(alloc, host)?;
@@ -46,11 +45,11 @@ fn checked_text<T: Threads + Sync, H: Host, G: Gate + Sync>(
     host: &mut H,
     gate: &G,
 ) -> Result<Text, HostEnd>
-    ensures unchanged { Unchanged (H.moments host.old) (H.moments host.new) }
-    ensures tells { IfOk result (λ text. AtEnd (λ u w. IsReportText (shows u) text)
-        (H.moments host.old) (H.moments host.new)) }
-    ensures fault_has_cause { IsCaused (IsErrOf result HostEnd.Fault) (H.moments host.old)
-        (CanList repo) (H.faults host.old) (H.faults host.new) }
+    ensures unchanged { ChangesNothing H.Host host.old host.new }
+    ensures tells { IfOk result (λ text. AtReturn H.Host host.old host.new
+        (λ u w. IsReportText (shows u) text)) }
+    ensures fault_has_cause { FailsOnly H.Host host.old host.new
+        (CanList repo) (IsErrOf result HostEnd.Fault) }
 {
     let root = repo_path(alloc)?;
     let report = check_store(rt, alloc, host, &root, gate)?;

@@ -1,14 +1,13 @@
 //! An exercise: the changes of made remotes.
 ghost use Rattle.std.specs.Prelude.{◌≡◌, ◌≤◌, false, Option, Some, IfOk, IfErr, OnOk, IsErrOf};
-ghost use Rattle.fp_host.specs.Causes.{IsCaused};
-ghost use Rattle.fp_host.specs.Frame.{AtEnd};
+ghost use Rattle.fp_host.specs.OverHost.{AtReturn, FailsOnly};
 ghost use Rattle.fp_host.specs.Moments.{Goes};
 ghost use Rattle.fp_host.specs.Remote.{Holdings};
 ghost use Rattle.dep_states.specs.Sound.{IsSound};
 ghost use Rattle.fl_words.specs.declared.command.Command.TheVariants.{Exercise as Exercising};
 ghost use Rattle.fl_gen.specs.Exercise.{exercise_changes};
 ghost use Rattle.fl_change.specs.Turns.{MayDo};
-ghost use Rattle.fl_exercise.specs.Exercising.{exercising};
+ghost use Rattle.fl_top.specs.Exercising.{exercising};
 ghost use Rattle.fl_top.specs.Asked.{AreToldFor, AsksRemotes};
 ghost use Rattle.fl_top.specs.Exercises.{is_exercise, IsExercised};
 ghost use Rattle.fl_top.specs.Exports.{IsInStep};
@@ -16,10 +15,10 @@ ghost use Rattle.fl_top.specs.Runs.{IsReady, HasCauses};
 ghost use Rattle.fl_top.specs.RunsOver.{RunsOver, EndedOver};
 ghost use Rattle.fl_top.specs.Status.{IsOfCommand};
 
+use crate::make_exercise;
 use crate::running::run_command;
 use dep_open::open;
 use fl_change::RunEnd;
-use fl_exercise::make_exercise;
 use fl_export::refresh;
 use fl_gen::GenRemotes;
 use fl_words::{AppCount, Command};
@@ -58,10 +57,10 @@ pub(crate) fn run_exercise<T: Threads + Sync, H: Host, I: Source, G: Gate + Sync
     ensures status { IsOfCommand (Exercising apps) result }
     ensures runs { IsExercised apps (I.left input.old) result (H.moments host.old)
         (H.moments host.new) }
-    ensures fault_has_cause { IsCaused (result ≡ 3) (H.moments host.old)
-        (HasCauses (Some (Exercising apps))) (H.faults host.old) (H.faults host.new) }
+    ensures fault_has_cause { FailsOnly H.Host host.old host.new
+        (HasCauses (Some (Exercising apps))) (result ≡ 3) }
     ensures exports { (holds : Option Holdings) → result ≡ 0
-        → AtEnd (λ u w. IsSound u → IsInStep holds w) (H.moments host.old) (H.moments host.new) }
+        → AtReturn H.Host host.old host.new (λ u w. IsSound u → IsInStep holds w) }
     ensures no_remote_fault { result ≡ 4 → ⊥ }
     ensures left { I.left input.new ≡ I.left input.old }
     ensures later { I.faults input.old ≤ I.faults input.new }
@@ -90,12 +89,10 @@ pub(crate) fn exercise<T: Threads + Sync, H: Host, R: Remotes>(
         (EndedOver (R.holds remotes.old) (exercising apps.now) result) }
     ensures exports { OnOk result
         (AreToldFor (MayDo (exercise_changes apps.now)) (R.holds remotes.old)
-        → AtEnd (λ u w. IsSound u → IsInStep (R.holds remotes.old) w)
-        (H.moments host.old) (H.moments host.new)) }
-    ensures fault_has_cause { IsCaused
-        (AreToldFor (MayDo (exercise_changes apps.now)) (R.holds remotes.old)
-        × IsErrOf result RunEnd.Fault) (H.moments host.old) IsReady
-        (H.faults host.old) (H.faults host.new) }
+        → AtReturn H.Host host.old host.new (λ u w. IsSound u → IsInStep (R.holds remotes.old) w)) }
+    ensures fault_has_cause { FailsOnly H.Host host.old host.new
+        IsReady (AreToldFor (MayDo (exercise_changes apps.now)) (R.holds remotes.old)
+        × IsErrOf result RunEnd.Fault) }
     ensures remotes { AsksRemotes (MayDo (exercise_changes apps.now))
         (IsErrOf result RunEnd.RemoteFault)
         (R.holds remotes.old) (R.holds remotes.new) (R.faults remotes.old) (R.faults remotes.new) }

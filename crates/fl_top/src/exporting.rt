@@ -1,7 +1,6 @@
 //! A remote that is made of the input.
 ghost use Rattle.std.specs.Prelude.{◌≤◌, Option, IsErrOf};
-ghost use Rattle.fp_host.specs.Causes.{IsCaused};
-ghost use Rattle.fp_host.specs.Frame.{Unchanged};
+ghost use Rattle.fp_host.specs.OverHost.{ChangesNothing, FailsOnly};
 ghost use Rattle.fp_host.specs.Moments.{Goes, Rose};
 ghost use Rattle.fp_host.specs.Remote.{Holdings};
 ghost use Rattle.fl_words.specs.declared.command.Command.TheVariants.{Export as Exporting};
@@ -33,12 +32,11 @@ pub(crate) fn export<T: Threads + Sync, H: Host, I: Source>(
         (told_start (I.left input.old) holds (H.moments host.old)))
         (EndedOn (Exporting remote.now name.now)
         (told_start (I.left input.old) holds (H.moments host.old)) result) }
-    ensures fault_has_cause { IsCaused (IsErrOf result CommandEnd.Fault) (H.moments host.old)
-        (CanMake remote.now name.now) (H.faults host.old) (H.faults host.new) }
+    ensures fault_has_cause { FailsOnly H.Host host.old host.new
+        (CanMake remote.now name.now) (IsErrOf result CommandEnd.Fault) }
     ensures no_remote_fault { IsErrOf result CommandEnd.RemoteFault → ⊥ }
     ensures input { IsErrOf result CommandEnd.InputFault → Rose
-        (I.faults input.old) (I.faults input.new) × Unchanged
-        (H.moments host.old) (H.moments host.new) }
+        (I.faults input.old) (I.faults input.new) × ChangesNothing H.Host host.old host.new }
     ensures taken { TakenBy result (I.left input.old) (I.left input.new) }
     ensures later { I.faults input.old ≤ I.faults input.new }
 {

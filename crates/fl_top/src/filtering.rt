@@ -1,7 +1,7 @@
 //! What `filter` forwards of its input.
 ghost use Rattle.std.specs.Prelude.{◌≡◌, IfOk, IsErrOf, IsTrue};
 ghost use Rattle.std.specs.Option.{ForSome};
-ghost use Rattle.fp_host.specs.Causes.{IsCounted};
+ghost use Rattle.fp_host.specs.OverHost.{FailsAlone};
 ghost use Rattle.fp_host.specs.Frame.{Observes};
 ghost use Rattle.fp_host.specs.Moments.{Goes};
 ghost use Rattle.fp_host.specs.Outcome.{shows};
@@ -18,9 +18,9 @@ use bus_stream::{RecordError, Recording};
 use dep_open::read_state;
 use fl_change::RunEnd;
 use fl_filter::{FilterEnd, filter_recording, recording_of};
+use fl_installed::launch_in;
 use fl_launch::{LaunchText, policy_of as launch_policy, policy_of_system};
-use fl_rules::policy_of;
-use fl_sandbox::launch_in;
+use fl_options::policy_of;
 use fl_words::PolicySource;
 use fp_host::Host;
 use fp_name::RefName;
@@ -37,8 +37,7 @@ pub(crate) fn filter_bytes<H: Host>(
     ensures any_moment { Goes (H.moments host.old) (H.moments host.new)
         (LooksBy (λ shown. filter_by source.now shown bytes.now))
         (LookedBy (λ shown. filter_by source.now shown bytes.now) result) }
-    ensures fault_has_cause { IsCounted (IsErrOf result RunEnd.Fault)
-        (H.moments host.old) (H.faults host.old) (H.faults host.new) }
+    ensures fault_has_cause { FailsAlone H.Host host.old host.new (IsErrOf result RunEnd.Fault) }
     ensures no_remote_fault { IsErrOf result RunEnd.RemoteFault → ⊥ }
 {
     let recording = read(alloc, bytes)?;
@@ -67,8 +66,7 @@ fn find_policy<H: Host>(
 ) -> Result<Policy, RunEnd>
     ensures finds { Observes (λ v. Finds (rules_over source.now) result (shows v))
         (H.moments host.old) (H.moments host.new) }
-    ensures fault_has_cause { IsCounted (IsErrOf result RunEnd.Fault)
-        (H.moments host.old) (H.faults host.old) (H.faults host.new) }
+    ensures fault_has_cause { FailsAlone H.Host host.old host.new (IsErrOf result RunEnd.Fault) }
     ensures no_remote_fault { IsErrOf result RunEnd.RemoteFault → ⊥ }
 {
     match source {
@@ -82,8 +80,7 @@ fn find_policy<H: Host>(
 fn session_policy<H: Host>(alloc: Global, host: &mut H, name: &RefName) -> Result<Policy, RunEnd>
     ensures finds { Observes (λ v. Finds (rules_over (sources.Session name.now)) result (shows v))
         (H.moments host.old) (H.moments host.new) }
-    ensures fault_has_cause { IsCounted (IsErrOf result RunEnd.Fault)
-        (H.moments host.old) (H.faults host.old) (H.faults host.new) }
+    ensures fault_has_cause { FailsAlone H.Host host.old host.new (IsErrOf result RunEnd.Fault) }
     ensures no_remote_fault { IsErrOf result RunEnd.RemoteFault → ⊥ }
 {
     let launch = find_launch(alloc, host, name)?;
@@ -95,8 +92,7 @@ fn session_policy<H: Host>(alloc: Global, host: &mut H, name: &RefName) -> Resul
 fn system_policy<H: Host>(alloc: Global, host: &mut H, name: &RefName) -> Result<Policy, RunEnd>
     ensures finds { Observes (λ v. Finds (rules_over (sources.System name.now)) result (shows v))
         (H.moments host.old) (H.moments host.new) }
-    ensures fault_has_cause { IsCounted (IsErrOf result RunEnd.Fault)
-        (H.moments host.old) (H.faults host.old) (H.faults host.new) }
+    ensures fault_has_cause { FailsAlone H.Host host.old host.new (IsErrOf result RunEnd.Fault) }
     ensures no_remote_fault { IsErrOf result RunEnd.RemoteFault → ⊥ }
 {
     let launch = find_launch(alloc, host, name)?;
@@ -107,8 +103,7 @@ fn system_policy<H: Host>(alloc: Global, host: &mut H, name: &RefName) -> Result
 fn find_launch<H: Host>(alloc: Global, host: &mut H, name: &RefName) -> Result<LaunchText, RunEnd>
     ensures finds { Observes (λ v. Finds (launch_over name.now) result (shows v))
         (H.moments host.old) (H.moments host.new) }
-    ensures fault_has_cause { IsCounted (IsErrOf result RunEnd.Fault)
-        (H.moments host.old) (H.faults host.old) (H.faults host.new) }
+    ensures fault_has_cause { FailsAlone H.Host host.old host.new (IsErrOf result RunEnd.Fault) }
     ensures no_remote_fault { IsErrOf result RunEnd.RemoteFault → ⊥ }
 {
     let state = read_state(alloc, host)?;
@@ -129,8 +124,7 @@ fn forward<H: Host>(
     ensures any_moment { Goes (H.moments host.old) (H.moments host.new)
         (Tells (forwarding (filtered policy recording.now)))
         (EndsAnyway (forwarding (filtered policy recording.now)) result) }
-    ensures fault_has_cause { IsCounted (IsErrOf result RunEnd.Fault)
-        (H.moments host.old) (H.faults host.old) (H.faults host.new) }
+    ensures fault_has_cause { FailsAlone H.Host host.old host.new (IsErrOf result RunEnd.Fault) }
     ensures no_remote_fault { IsErrOf result RunEnd.RemoteFault → ⊥ }
 {
     match filter_recording(alloc, host, policy, recording) {

@@ -16,6 +16,7 @@ ghost use Rattle.fl_export.specs.Placed.{ExportsAre};
 ghost use Rattle.fl_export.specs.Sample as sample;
 ghost use Rattle.fl_change.specs.Answer.{text_answer, ops_of};
 ghost use Rattle.fl_change.specs.Changes.{IsStill};
+ghost use Rattle.fl_top.specs.declared.input.TheConstants.{MOST_INPUT};
 ghost use Rattle.fl_top.specs.Answer.{answer, listing_answer, Given, IsOver};
 ghost use Rattle.fl_top.specs.Exports.{IsInStep};
 ghost use Rattle.fl_top.specs.ExportSample.{desktop_text, placed_disk, stale_disk, listed_text};
@@ -85,4 +86,9 @@ pub fn exports_are_listed()
       state = sample.state (sample.row sample.stable ∷ []);
       have = sample.have;
     }) ≡ text_answer listed_text }
+{}
+
+/// The most bytes of an input, as a number: 64 MiB.
+pub fn limits_as_numbers()
+    ensures { MOST_INPUT ≡ 67108864 }
 {}

@@ -7,9 +7,15 @@ mod exercising;
 mod exporting;
 mod filtering;
 mod input;
-pub mod laws;
 mod listing;
 mod running;
 mod showing;
+mod trials;
+mod undisturbed;
 
 pub use running::{run, run_gated};
+pub use trials::make_exercise;
+pub use undisturbed::run_undisturbed;
+
+pub mod laws;
+pub mod laws_of_exercises;

@@ -1,7 +1,6 @@
 //! What is listed of an installation.
 ghost use Rattle.std.specs.Prelude.{◌≡◌, ◌++◌, Option, Some, IfOk, OnOk, IsErrOf, string_bytes};
-ghost use Rattle.fp_host.specs.Causes.{IsCounted};
-ghost use Rattle.fp_host.specs.Frame.{Unchanged};
+ghost use Rattle.fp_host.specs.OverHost.{ChangesNothing, FailsAlone};
 ghost use Rattle.fp_host.specs.Moments.{Goes};
 ghost use Rattle.fp_small.specs.Places.{repo};
 ghost use Rattle.ost_model.specs.Objects.{Have};
@@ -9,7 +8,7 @@ ghost use Rattle.ost_model.specs.Remotes.{Stores};
 ghost use Rattle.dep_states.specs.After.{row_at};
 ghost use Rattle.fl_export.specs.Exported.{exported};
 ghost use Rattle.fl_installed.specs.Described.{info_in as info_of};
-ghost use Rattle.fl_sandbox.specs.Launching.{launch_in as launch_over};
+ghost use Rattle.fl_installed.specs.Launching.{launch_in as launch_over};
 ghost use Rattle.fl_top.specs.Answer.{listing_answer, known_of, told_of, launched_of, override_text as text_of_override};
 ghost use Rattle.fl_top.specs.Ends.{PrintsOf};
 ghost use Rattle.fl_top.specs.Exports.{exports_text as text_of_exports, row_line as line_of_row};
@@ -19,10 +18,9 @@ use dep_open::read_state;
 use dep_switch::{find_override, find_ref};
 use fl_change::RunEnd;
 use fl_export::{ExportRow, wanted};
-use fl_installed::{Info, info_in};
+use fl_installed::{Info, info_in, launch_in};
 use fl_launch::LaunchText;
 use fl_lines::{export_line, info_text, pins_text, refs_text, remotes_text};
-use fl_sandbox::launch_in;
 use fl_words::Listing;
 use fp_base::Text;
 use fp_host::{Host, HostEnd};
@@ -34,8 +32,7 @@ use std::alloc::{AllocError, Global};
 pub(crate) fn list<H: Host>(alloc: Global, host: &mut H, listing: Listing) -> Result<(), RunEnd>
     ensures any_moment { Goes (H.moments host.old) (H.moments host.new)
         (LooksOver (listing_answer listing)) (LookedOver (listing_answer listing) result) }
-    ensures fault_has_cause { IsCounted (IsErrOf result RunEnd.Fault)
-        (H.moments host.old) (H.faults host.old) (H.faults host.new) }
+    ensures fault_has_cause { FailsAlone H.Host host.old host.new (IsErrOf result RunEnd.Fault) }
     ensures no_remote_fault { IsErrOf result RunEnd.RemoteFault → ⊥ }
 {
     let state = read_state(alloc, host)?;
@@ -51,11 +48,10 @@ fn listed_text<H: Host>(
     listing: Listing,
     state: &State,
 ) -> Result<Text, RunEnd>
-    ensures unchanged { Unchanged (H.moments host.old) (H.moments host.new) }
+    ensures unchanged { ChangesNothing H.Host host.old host.new }
     ensures tells { (have : Have) → Stores repo (H.moments host.old) have
         → PrintsOf (listing_answer listing (record { state = state.now; have = have })) result }
-    ensures fault_has_cause { IsCounted (IsErrOf result RunEnd.Fault)
-        (H.moments host.old) (H.faults host.old) (H.faults host.new) }
+    ensures fault_has_cause { FailsAlone H.Host host.old host.new (IsErrOf result RunEnd.Fault) }
     ensures no_remote_fault { IsErrOf result RunEnd.RemoteFault → ⊥ }
 {
     match listing {
@@ -73,11 +69,10 @@ fn listed_text<H: Host>(
 
 /// The exported files, a line each.
 fn exports_text<H: Host>(alloc: Global, host: &mut H, state: &State) -> Result<Text, HostEnd>
-    ensures unchanged { Unchanged (H.moments host.old) (H.moments host.new) }
+    ensures unchanged { ChangesNothing H.Host host.old host.new }
     ensures tells { (have : Have) → Stores repo (H.moments host.old) have
         → IfOk result (λ t. t ≡ text_of_exports (exported have state.now)) }
-    ensures fault_has_cause { IsCounted (IsErrOf result HostEnd.Fault)
-        (H.moments host.old) (H.faults host.old) (H.faults host.new) }
+    ensures fault_has_cause { FailsAlone H.Host host.old host.new (IsErrOf result HostEnd.Fault) }
 {
     let rows = wanted(alloc, host, state)?;
     Ok(rows_text(alloc, rows.as_slice())?)
@@ -109,11 +104,10 @@ fn known_text<H: Host>(
     state: &State,
     name: &RefName,
 ) -> Result<Text, RunEnd>
-    ensures unchanged { Unchanged (H.moments host.old) (H.moments host.new) }
+    ensures unchanged { ChangesNothing H.Host host.old host.new }
     ensures tells { (have : Have) → Stores repo (H.moments host.old) have
         → PrintsOf (known_of name.now (record { state = state.now; have = have })) result }
-    ensures fault_has_cause { IsCounted (IsErrOf result RunEnd.Fault)
-        (H.moments host.old) (H.faults host.old) (H.faults host.new) }
+    ensures fault_has_cause { FailsAlone H.Host host.old host.new (IsErrOf result RunEnd.Fault) }
     ensures no_remote_fault { IsErrOf result RunEnd.RemoteFault → ⊥ }
 {
     match find_ref(state.refs.as_slice(), name) {
@@ -129,11 +123,10 @@ fn row_text<H: Host>(
     name: &RefName,
     row: &RefRow,
 ) -> Result<Text, RunEnd>
-    ensures unchanged { Unchanged (H.moments host.old) (H.moments host.new) }
+    ensures unchanged { ChangesNothing H.Host host.old host.new }
     ensures tells { (have : Have) → Stores repo (H.moments host.old) have
         → PrintsOf (told_of row.now (info_of have name.now row.now.commit)) result }
-    ensures fault_has_cause { IsCounted (IsErrOf result RunEnd.Fault)
-        (H.moments host.old) (H.faults host.old) (H.faults host.new) }
+    ensures fault_has_cause { FailsAlone H.Host host.old host.new (IsErrOf result RunEnd.Fault) }
     ensures no_remote_fault { IsErrOf result RunEnd.RemoteFault → ⊥ }
 {
     let info = info_in(alloc, host, name, &row.commit)?;
@@ -164,11 +157,10 @@ fn launch_text<H: Host>(
     name: &RefName,
     options: &[Text],
 ) -> Result<Text, RunEnd>
-    ensures unchanged { Unchanged (H.moments host.old) (H.moments host.new) }
+    ensures unchanged { ChangesNothing H.Host host.old host.new }
     ensures tells { (have : Have) → Stores repo (H.moments host.old) have
         → PrintsOf (launched_of (launch_over have state.now name.now options.now)) result }
-    ensures fault_has_cause { IsCounted (IsErrOf result RunEnd.Fault)
-        (H.moments host.old) (H.faults host.old) (H.faults host.new) }
+    ensures fault_has_cause { FailsAlone H.Host host.old host.new (IsErrOf result RunEnd.Fault) }
     ensures no_remote_fault { IsErrOf result RunEnd.RemoteFault → ⊥ }
 {
     let launch = launch_in(alloc, host, state, name, options)?;

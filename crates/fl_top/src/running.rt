@@ -1,7 +1,6 @@
 //! The run of a command.
 ghost use Rattle.std.specs.Prelude.{◌≡◌, ◌≢◌, ◌≤◌, ◌⊎◌, true, false, Option, Some, map, string_bytes, IfOk, OnOk, IsErrOf};
-ghost use Rattle.fp_host.specs.Causes.{IsCaused, IsCounted};
-ghost use Rattle.fp_host.specs.Frame.{AtEnd, Unchanged};
+ghost use Rattle.fp_host.specs.OverHost.{AtReturn, ChangesNothing, FailsAlone, FailsOnly};
 ghost use Rattle.fp_host.specs.Moments.{Goes, Rose};
 ghost use Rattle.fp_host.specs.Remote.{Holdings};
 ghost use Rattle.fp_small.specs.declared.refusal.Refusal.TheVariants.{BadWords};
@@ -61,22 +60,21 @@ pub fn run<H: Host, R: Remotes, I: Source>(
     ensures runs { IsRun (map string_bytes words.now) (I.left input.old)
         (R.holds remotes.old) result
         (H.moments host.old) (H.moments host.new) }
-    ensures fault_has_cause { IsCaused
-        (AreToldFor (AsksFor (command_of (map string_bytes words.now)) (I.left input.old))
-        (R.holds remotes.old) × (result ≡ 3)) (H.moments host.old)
-        (HasCauses (command_of (map string_bytes words.now))) (H.faults host.old)
-        (H.faults host.new) }
+    ensures fault_has_cause { FailsOnly H.Host host.old host.new
+        (HasCauses (command_of (map string_bytes words.now))) (AreToldFor (AsksFor (command_of (map string_bytes words.now)) (I.left input.old))
+        (R.holds remotes.old) × (result ≡ 3)) }
     // Where a command that looks at each object of the store gave its whole answer, the store has a
     // report, or no state is shown (so that this isn't said of nothing).
-    ensures found { Checks (command_of (map string_bytes words.now)) → IsAnswered result → AtEnd
-        (λ u w. HasReport (shows u)) (H.moments host.old) (H.moments host.new) }
+    ensures found { Checks (command_of (map string_bytes words.now)) → IsAnswered result
+        → AtReturn H.Host host.old host.new
+        (λ u w. HasReport (shows u)) }
     // Where a command that changes something was done, every stop leaves as the files and links at
     // or below `exports` exactly those that the applications of its state export; and all is
     // settled, where the remotes tell what they hold.
     ensures exports { IsChange (command_of (map string_bytes words.now)) → result ≡ 0
         → AreToldFor (AsksFor (command_of (map string_bytes words.now)) (I.left input.old))
-        (R.holds remotes.old) → AtEnd (λ u w. IsSound u → IsInStep (R.holds remotes.old) w)
-        (H.moments host.old) (H.moments host.new) }
+        (R.holds remotes.old) → AtReturn H.Host host.old host.new
+        (λ u w. IsSound u → IsInStep (R.holds remotes.old) w) }
     // The remotes stay as they are. For an exercise, and where the command brings no commit, they
     // aren't asked, and the status isn't 4; else it comes only where their count rose.
     ensures remotes { AsksRemotes
@@ -84,8 +82,8 @@ pub fn run<H: Host, R: Remotes, I: Source>(
         (result ≡ 4) (R.holds remotes.old) (R.holds remotes.new)
         (R.faults remotes.old) (R.faults remotes.new) }
     // The input is read before anything is done.
-    ensures input { result ≡ 5 → Rose (I.faults input.old) (I.faults input.new) × Unchanged
-        (H.moments host.old) (H.moments host.new) }
+    ensures input { result ≡ 5
+        → Rose (I.faults input.old) (I.faults input.new) × ChangesNothing H.Host host.old host.new }
     ensures taken { WasTaken (command_of (map string_bytes words.now)) result (I.left input.old)
         (I.left input.new) }
     ensures later { I.faults input.old ≤ I.faults input.new }
@@ -109,23 +107,22 @@ pub fn run_gated<H: Host, R: Remotes, I: Source, G: Gate + Sync>(
     ensures runs { IsRun (map string_bytes words.now) (I.left input.old)
         (R.holds remotes.old) result
         (H.moments host.old) (H.moments host.new) }
-    ensures fault_has_cause { IsCaused
-        (AreToldFor (AsksFor (command_of (map string_bytes words.now)) (I.left input.old))
-        (R.holds remotes.old) × (result ≡ 3)) (H.moments host.old)
-        (HasCauses (command_of (map string_bytes words.now))) (H.faults host.old)
-        (H.faults host.new) }
-    ensures found { Checks (command_of (map string_bytes words.now)) → IsAnswered result → AtEnd
-        (λ u w. HasReport (shows u)) (H.moments host.old) (H.moments host.new) }
+    ensures fault_has_cause { FailsOnly H.Host host.old host.new
+        (HasCauses (command_of (map string_bytes words.now))) (AreToldFor (AsksFor (command_of (map string_bytes words.now)) (I.left input.old))
+        (R.holds remotes.old) × (result ≡ 3)) }
+    ensures found { Checks (command_of (map string_bytes words.now)) → IsAnswered result
+        → AtReturn H.Host host.old host.new
+        (λ u w. HasReport (shows u)) }
     ensures exports { IsChange (command_of (map string_bytes words.now)) → result ≡ 0
         → AreToldFor (AsksFor (command_of (map string_bytes words.now)) (I.left input.old))
-        (R.holds remotes.old) → AtEnd (λ u w. IsSound u → IsInStep (R.holds remotes.old) w)
-        (H.moments host.old) (H.moments host.new) }
+        (R.holds remotes.old) → AtReturn H.Host host.old host.new
+        (λ u w. IsSound u → IsInStep (R.holds remotes.old) w) }
     ensures remotes { AsksRemotes
         (AsksFor (command_of (map string_bytes words.now)) (I.left input.old))
         (result ≡ 4) (R.holds remotes.old) (R.holds remotes.new)
         (R.faults remotes.old) (R.faults remotes.new) }
-    ensures input { result ≡ 5 → Rose (I.faults input.old) (I.faults input.new) × Unchanged
-        (H.moments host.old) (H.moments host.new) }
+    ensures input { result ≡ 5
+        → Rose (I.faults input.old) (I.faults input.new) × ChangesNothing H.Host host.old host.new }
     ensures taken { WasTaken (command_of (map string_bytes words.now)) result (I.left input.old)
         (I.left input.new) }
     ensures later { I.faults input.old ≤ I.faults input.new }
@@ -155,19 +152,18 @@ pub(crate) fn run_command<T: Threads + Sync, H: Host, R: Remotes, I: Source, G: 
         (RunsOn command (told_start (I.left input.old) (R.holds remotes.old) (H.moments host.old)))
         (RanOn command (told_start (I.left input.old) (R.holds remotes.old) (H.moments host.old))
         result) }
-    ensures fault_has_cause { IsCaused (AreToldFor (OpsBy command (I.left input.old))
-        (R.holds remotes.old) × (result ≡ 3)) (H.moments host.old) (HasCauses (Some command))
-        (H.faults host.old) (H.faults host.new) }
-    ensures found { Checks (Some command) → IsAnswered result → AtEnd (λ u w. HasReport (shows u))
-        (H.moments host.old) (H.moments host.new) }
+    ensures fault_has_cause { FailsOnly H.Host host.old host.new
+        (HasCauses (Some command)) (AreToldFor (OpsBy command (I.left input.old))
+        (R.holds remotes.old) × (result ≡ 3)) }
+    ensures found { Checks (Some command) → IsAnswered result → AtReturn H.Host host.old host.new
+        (λ u w. HasReport (shows u)) }
     ensures exports { IsChange (Some command) → result ≡ 0 → AreToldFor
-        (OpsBy command (I.left input.old)) (R.holds remotes.old) → AtEnd
-        (λ u w. IsSound u → IsInStep (R.holds remotes.old) w)
-        (H.moments host.old) (H.moments host.new) }
+        (OpsBy command (I.left input.old)) (R.holds remotes.old) → AtReturn H.Host host.old host.new
+        (λ u w. IsSound u → IsInStep (R.holds remotes.old) w) }
     ensures remotes { AsksRemotes (OpsBy command (I.left input.old)) (result ≡ 4)
         (R.holds remotes.old) (R.holds remotes.new) (R.faults remotes.old) (R.faults remotes.new) }
-    ensures input { result ≡ 5 → Rose (I.faults input.old) (I.faults input.new) × Unchanged
-        (H.moments host.old) (H.moments host.new) }
+    ensures input { result ≡ 5
+        → Rose (I.faults input.old) (I.faults input.new) × ChangesNothing H.Host host.old host.new }
     ensures taken { WasTaken (Some command) result (I.left input.old) (I.left input.new) }
     ensures later { I.faults input.old ≤ I.faults input.new }
 {
@@ -195,22 +191,20 @@ fn perform<T: Threads + Sync, H: Host, R: Remotes, I: Source, G: Gate + Sync>(
         (RunsOn command (told_start (I.left input.old) (R.holds remotes.old) (H.moments host.old)))
         (EndedOn command (told_start (I.left input.old) (R.holds remotes.old) (H.moments host.old))
         result) }
-    ensures fault_has_cause { IsCaused (AreToldFor (OpsBy command (I.left input.old))
-        (R.holds remotes.old) × IsErrOf result CommandEnd.Fault) (H.moments host.old)
-        (HasCauses (Some command)) (H.faults host.old) (H.faults host.new) }
-    ensures found { Checks (Some command) → IsClosedBy result → AtEnd (λ u w. HasReport (shows u))
-        (H.moments host.old) (H.moments host.new) }
+    ensures fault_has_cause { FailsOnly H.Host host.old host.new
+        (HasCauses (Some command)) (AreToldFor (OpsBy command (I.left input.old))
+        (R.holds remotes.old) × IsErrOf result CommandEnd.Fault) }
+    ensures found { Checks (Some command) → IsClosedBy result → AtReturn H.Host host.old host.new
+        (λ u w. HasReport (shows u)) }
     ensures exports { IsChange (Some command) → OnOk result (AreToldFor
-        (OpsBy command (I.left input.old)) (R.holds remotes.old) → AtEnd
-        (λ u w. IsSound u → IsInStep (R.holds remotes.old) w)
-        (H.moments host.old) (H.moments host.new)) }
+        (OpsBy command (I.left input.old)) (R.holds remotes.old) → AtReturn H.Host host.old host.new
+        (λ u w. IsSound u → IsInStep (R.holds remotes.old) w)) }
     ensures remotes { AsksRemotes (OpsBy command (I.left input.old))
         (IsErrOf result CommandEnd.RemoteFault) (R.holds remotes.old) (R.holds remotes.new)
         (R.faults remotes.old) (R.faults remotes.new) }
     ensures changes { IsErrOf result CommandEnd.RemoteFault → changes_state command ≡ true }
     ensures input { IsErrOf result CommandEnd.InputFault → (reads_input command ≡ true) × Rose
-        (I.faults input.old) (I.faults input.new) × Unchanged
-        (H.moments host.old) (H.moments host.new) }
+        (I.faults input.old) (I.faults input.new) × ChangesNothing H.Host host.old host.new }
     ensures taken { Takes command result (I.left input.old) (I.left input.new) }
     ensures later { I.faults input.old ≤ I.faults input.new }
 {
@@ -237,12 +231,11 @@ fn show<H: Host, I: Source>(
         (RunsOn (Showing thing.now) (told_start (I.left input.old) holds (H.moments host.old)))
         (EndedOn (Showing thing.now) (told_start (I.left input.old) holds (H.moments host.old))
         result) }
-    ensures fault_has_cause { IsCounted (IsErrOf result CommandEnd.Fault)
-        (H.moments host.old) (H.faults host.old) (H.faults host.new) }
+    ensures fault_has_cause { FailsAlone H.Host host.old host.new
+        (IsErrOf result CommandEnd.Fault) }
     ensures no_remote_fault { IsErrOf result CommandEnd.RemoteFault → ⊥ }
     ensures input { IsErrOf result CommandEnd.InputFault → Rose
-        (I.faults input.old) (I.faults input.new) × Unchanged
-        (H.moments host.old) (H.moments host.new) }
+        (I.faults input.old) (I.faults input.new) × ChangesNothing H.Host host.old host.new }
     ensures taken { TakenBy result (I.left input.old) (I.left input.new) }
     ensures later { I.faults input.old ≤ I.faults input.new }
 {
@@ -262,12 +255,11 @@ fn filter<H: Host, I: Source>(
         (RunsOn (Filtering source.now) (told_start (I.left input.old) holds (H.moments host.old)))
         (EndedOn (Filtering source.now) (told_start (I.left input.old) holds (H.moments host.old))
         result) }
-    ensures fault_has_cause { IsCounted (IsErrOf result CommandEnd.Fault)
-        (H.moments host.old) (H.faults host.old) (H.faults host.new) }
+    ensures fault_has_cause { FailsAlone H.Host host.old host.new
+        (IsErrOf result CommandEnd.Fault) }
     ensures no_remote_fault { IsErrOf result CommandEnd.RemoteFault → ⊥ }
     ensures input { IsErrOf result CommandEnd.InputFault → Rose
-        (I.faults input.old) (I.faults input.new) × Unchanged
-        (H.moments host.old) (H.moments host.new) }
+        (I.faults input.old) (I.faults input.new) × ChangesNothing H.Host host.old host.new }
     ensures taken { TakenBy result (I.left input.old) (I.left input.new) }
     ensures later { I.faults input.old ≤ I.faults input.new }
 {
@@ -288,17 +280,16 @@ fn batch<T: Threads + Sync, H: Host, R: Remotes, I: Source>(
         (EndedOn Batch (told_start (I.left input.old) (R.holds remotes.old) (H.moments host.old))
         result) }
     ensures exports { OnOk result (AreToldFor (OpsBy Batch (I.left input.old))
-        (R.holds remotes.old) → AtEnd (λ u w. IsSound u → IsInStep (R.holds remotes.old) w)
-        (H.moments host.old) (H.moments host.new)) }
-    ensures fault_has_cause { IsCaused (AreToldFor (OpsBy Batch (I.left input.old))
-        (R.holds remotes.old) × IsErrOf result CommandEnd.Fault) (H.moments host.old) IsReady
-        (H.faults host.old) (H.faults host.new) }
+        (R.holds remotes.old) → AtReturn H.Host host.old host.new
+        (λ u w. IsSound u → IsInStep (R.holds remotes.old) w)) }
+    ensures fault_has_cause { FailsOnly H.Host host.old host.new
+        IsReady (AreToldFor (OpsBy Batch (I.left input.old))
+        (R.holds remotes.old) × IsErrOf result CommandEnd.Fault) }
     ensures remotes { AsksRemotes (OpsBy Batch (I.left input.old))
         (IsErrOf result CommandEnd.RemoteFault) (R.holds remotes.old) (R.holds remotes.new)
         (R.faults remotes.old) (R.faults remotes.new) }
     ensures input { IsErrOf result CommandEnd.InputFault → Rose
-        (I.faults input.old) (I.faults input.new) × Unchanged
-        (H.moments host.old) (H.moments host.new) }
+        (I.faults input.old) (I.faults input.new) × ChangesNothing H.Host host.old host.new }
     ensures taken { TakenBy result (I.left input.old) (I.left input.new) }
     ensures later { I.faults input.old ≤ I.faults input.new }
 {
@@ -320,11 +311,10 @@ fn make_changes<T: Threads + Sync, H: Host, R: Remotes>(
         (RunsOver (R.holds remotes.old) (MayDo changes.now) (changing changes.now))
         (EndedOver (R.holds remotes.old) (changing changes.now) result) }
     ensures exports { OnOk result (AreToldFor (MayDo changes.now) (R.holds remotes.old)
-        → AtEnd (λ u w. IsSound u → IsInStep (R.holds remotes.old) w)
-        (H.moments host.old) (H.moments host.new)) }
-    ensures fault_has_cause { IsCaused (AreToldFor (MayDo changes.now) (R.holds remotes.old)
-        × IsErrOf result RunEnd.Fault) (H.moments host.old) IsReady
-        (H.faults host.old) (H.faults host.new) }
+        → AtReturn H.Host host.old host.new (λ u w. IsSound u → IsInStep (R.holds remotes.old) w)) }
+    ensures fault_has_cause { FailsOnly H.Host host.old host.new
+        IsReady (AreToldFor (MayDo changes.now) (R.holds remotes.old)
+        × IsErrOf result RunEnd.Fault) }
     ensures remotes { AsksRemotes (MayDo changes.now) (IsErrOf result RunEnd.RemoteFault)
         (R.holds remotes.old) (R.holds remotes.new) (R.faults remotes.old) (R.faults remotes.new) }
 {
@@ -338,8 +328,7 @@ fn refuse_words<H: Host>(alloc: Global, host: &mut H, index: u64) -> u8
     ensures status { (result ≡ 2) ⊎ ((result ≡ 3) ⊎ (result ≡ 6)) }
     ensures any_moment { Goes (H.moments host.old) (H.moments host.new)
         (Says (refusal_text (BadWords index))) (Refuses (refusal_text (BadWords index)) 2 result) }
-    ensures fault_has_cause { IsCounted (result ≡ 3) (H.moments host.old) (H.faults host.old)
-        (H.faults host.new) }
+    ensures fault_has_cause { FailsAlone H.Host host.old host.new (result ≡ 3) }
 {
     refuse(alloc, host, Refusal::BadWords { index }, 2)
 }
@@ -350,8 +339,7 @@ fn refuse<H: Host>(alloc: Global, host: &mut H, refusal: Refusal, status: u8) ->
     ensures status { (result ≡ status) ⊎ ((result ≡ 3) ⊎ (result ≡ 6)) }
     ensures any_moment { Goes (H.moments host.old) (H.moments host.new)
         (Says (refusal_text refusal)) (Refuses (refusal_text refusal) status result) }
-    ensures fault_has_cause { IsCounted (result ≡ 3) (H.moments host.old) (H.faults host.old)
-        (H.faults host.new) }
+    ensures fault_has_cause { FailsAlone H.Host host.old host.new (result ≡ 3) }
 {
     match say_refusal(alloc, host, refusal) {
         Ok(()) => status,
@@ -364,8 +352,7 @@ fn refuse<H: Host>(alloc: Global, host: &mut H, refusal: Refusal, status: u8) ->
 fn say_refusal<H: Host>(alloc: Global, host: &mut H, refusal: Refusal) -> Result<(), HostEnd>
     ensures any_moment { Goes (H.moments host.old) (H.moments host.new)
         (Says (refusal_text refusal)) (SaidBy (refusal_text refusal) result) }
-    ensures fault_has_cause { IsCounted (IsErrOf result HostEnd.Fault)
-        (H.moments host.old) (H.faults host.old) (H.faults host.new) }
+    ensures fault_has_cause { FailsAlone H.Host host.old host.new (IsErrOf result HostEnd.Fault) }
 {
     let line = last_line(alloc, refusal)?;
     host.say(line.as_str().as_bytes())?;
@@ -383,8 +370,7 @@ fn last_line(alloc: Global, refusal: Refusal) -> Result<Text, AllocError>
 pub(crate) fn say<H: Host>(host: &mut H, text: &[u8]) -> Result<(), HostEnd>
     ensures any_moment { Goes (H.moments host.old) (H.moments host.new) (Says text.now)
         (SaidBy text.now result) }
-    ensures fault_has_cause { IsCounted (IsErrOf result HostEnd.Fault)
-        (H.moments host.old) (H.faults host.old) (H.faults host.new) }
+    ensures fault_has_cause { FailsAlone H.Host host.old host.new (IsErrOf result HostEnd.Fault) }
 {
     host.say(text)?;
     Ok(())

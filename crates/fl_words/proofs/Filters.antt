@@ -6,7 +6,7 @@ use Rattle.std.proofs.lemmas.Bool.{and_parts}
 use Rattle.std.proofs.lemmas.List.{take-append-drop}
 use Rattle.std.proofs.lemmas.Slice.Eq.{bytes_eq-Decides}
 use Rattle.fp_name.specs.Refs.{is_ref, ref_at}
-use Rattle.fl_rules.specs.Rules.{word_rule, is_rule}
+use Rattle.fl_options.specs.Rules.{word_rule, is_rule}
 use Rattle.fl_words.specs.Forms.{from_app, is_app_text, fits}
 use Rattle.fp_name.specs.Pins.{is_app}
 use Rattle.fl_words.specs.Words.{from_word}

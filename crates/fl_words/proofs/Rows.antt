@@ -7,13 +7,13 @@ use Rattle.std.specs.Str.Lossy.{utf8_lossy}
 use Rattle.std.proofs.lemmas.Str.{utf8_lossy-IsUtf8}
 use Rattle.fp_name.specs.Bytes.{is_dotted}
 use Rattle.fp_name.proofs.Bytes.{Utf8-from_dotted}
-use Rattle.fp_name.specs.Grammar.{is_id, is_arch, is_branch, is_remote_name}
+use Rattle.fp_name.specs.Grammar.{is_id, is_arch, is_branch, is_remote_name, is_url}
 use Rattle.fp_name.specs.Refs.{Ref, ref_of}
 use Rattle.fp_name.specs.declared.kind.RefKind.TheVariants.{App}
 use Rattle.fp_name.specs.Pins.{is_pin}
 use Rattle.fl_words.specs.declared.command.Command.TheVariants.{Change as Changing, List as Listed, Show as Showing, Filter as Filtering, Batch, Fsck, Export, Exercise}
 use Rattle.fl_words.specs.declared.command.PolicySource.TheVariants.{Rules, Session, System}
-use Rattle.fl_rules.specs.Rules.{word_rule}
+use Rattle.fl_options.specs.Rules.{word_rule}
 use Rattle.fl_words.specs.declared.command.Change.TheVariants.{Pin, Unpin, Install, UpdateAll, UpdateOne, Uninstall, UninstallUnused, Rollback, OverrideChange}
 use Rattle.fl_words.specs.declared.command.Listing.TheVariants as listings
 use Rattle.fl_words.specs.declared.command.Shown.TheVariants.{Commit, DirTree, DirMeta, Value}
@@ -266,24 +266,48 @@ space_remainder = refl
 
 -- ---- reasons
 
-pub bad_pattern : reason_text (codes "pin" ∷ codes "app/*/*" ∷ []) ≡ codes "fpk: 'app/*/*' is no pattern: KIND/ID/ARCH/BRANCH\nusage: fpk pin PATTERN\n"
+pub bad_pattern : reason_text (codes "pin" ∷ codes "app/*/*" ∷ []) ≡ codes "fpk: 'app/*/*' is not a pattern (expected KIND/ID/ARCH/BRANCH)\nusage: fpk pin PATTERN\n"
 unfolding is_pin
 bad_pattern = refl
 
-pub list_shown : reason_text (codes "list" ∷ codes "x" ∷ []) ≡ codes "fpk: 'x' isn't known here\nusage: fpk list\nusage: fpk list --remotes\nusage: fpk list --pins\nusage: fpk list --exports\n"
+pub list_shown : reason_text (codes "list" ∷ codes "x" ∷ []) ≡ codes "fpk: 'x' is not known here\nusage: fpk list\nusage: fpk list --remotes\nusage: fpk list --pins\nusage: fpk list --exports\n"
 list_shown = refl
 
 pub one_more_word : reason_text (codes "batch" ∷ codes "x" ∷ []) ≡ codes "fpk: 'x' is one word too many\nusage: fpk batch\n"
 one_more_word = refl
 
-pub no_count : reason_text (codes "exercise" ∷ codes "65" ∷ []) ≡ codes "fpk: '65' is no number from 1 to 64\nusage: fpk exercise COUNT\n"
+pub no_count : reason_text (codes "exercise" ∷ codes "65" ∷ []) ≡ codes "fpk: '65' is not a number from 1 to 64\nusage: fpk exercise COUNT\n"
 unfolding is_count_text digits
 no_count = refl
+
+pub unknown_command : reason_text (codes "frob" ∷ codes "x" ∷ []) ≡ codes "fpk: 'frob' is not known here\nsee fpk --help\n"
+unknown_command = refl
+
+pub nothing_asked : reason_text [] ≡ codes "fpk: a word is missing\nsee fpk --help\n"
+nothing_asked = refl
+
+pub help_of_one : reason_text (codes "install" ∷ codes "--help" ∷ []) ≡ codes "usage: fpk install NAME REF\n"
+unfolding is_remote_name
+help_of_one = refl
+
+pub help_of_all : reason_text (codes "help" ∷ codes "install" ∷ []) ≡ codes "see fpk --help\n"
+help_of_all = refl
+
+pub bad_remote : reason_text (codes "remote-delete" ∷ codes "a/b" ∷ []) ≡ codes "fpk: 'a/b' is not a name of a remote (expected letters, digits, _, - and ., as lab-1)\nusage: fpk remote-delete NAME\n"
+unfolding is_remote_name
+bad_remote = refl
+
+pub bad_url : reason_text (codes "remote-add" ∷ codes "lab" ∷ codes "/lab" ∷ []) ≡ codes "fpk: '/lab' is not a URL of a remote (expected file:///PATH with no blank, as file:///srv/lab)\nusage: fpk remote-add NAME URL\n"
+unfolding is_remote_name is_url
+bad_url = refl
+
+pub missing_ref : reason_text (codes "uninstall" ∷ []) ≡ codes "fpk: missing REF\nusage: fpk uninstall REF\nusage: fpk uninstall --unused\n"
+missing_ref = refl
 
 as_they_are : (word : List ℕ) → list_all is_dotted word ≡ true → utf8_lossy word ≡ word
 as_they_are word plain = utf8_lossy-IsUtf8 word (Utf8-from_dotted word plain)
 
-pub bad_line : batch_reason_text (codes "pin app/*/*/*\nunpin app\n") ≡ Some (codes "fpk: line 2: 'app' is no pattern: KIND/ID/ARCH/BRANCH\nusage: unpin PATTERN\n")
+pub bad_line : batch_reason_text (codes "pin app/*/*/*\nunpin app\n") ≡ Some (codes "fpk: line 2: 'app' is not a pattern (expected KIND/ID/ARCH/BRANCH)\nusage: unpin PATTERN\n")
 unfolding batch_of batch_change is_pin digits
 bad_line = rw (as_they_are (codes "unpin") refl, as_they_are (codes "app") refl) refl
 

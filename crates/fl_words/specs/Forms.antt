@@ -12,7 +12,7 @@ use Rattle.fp_name.specs.Pins.{is_pin, is_app}
 use Rattle.fp_name.specs.Refs.{Ref, ref_of, ref_at}
 use Rattle.fp_small.specs.declared.state.RemoteRow.{RemoteRow}
 use Rattle.fl_options.specs.Options.{is_option, is_launch_option}
-use Rattle.fl_rules.specs.Rules.{is_rule}
+use Rattle.fl_options.specs.Rules.{is_rule}
 use Rattle.fl_words.specs.declared.command.Command.{Command}
 use Rattle.fl_words.specs.declared.command.Command.TheVariants.{Change as Changing, List as Listed, Show as Showing, Filter as Filtering, Batch as Batched, Fsck as Checked, Export as Exporting, Exercise as Exercising}
 use Rattle.fl_words.specs.declared.command.PolicySource.TheVariants as sources

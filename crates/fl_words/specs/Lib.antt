@@ -5,3 +5,4 @@ pub mod Words
 pub mod Reading
 pub mod Batch
 pub mod Reasons
+pub mod Notes

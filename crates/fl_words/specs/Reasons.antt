@@ -1,13 +1,15 @@
 -- What is said of words that are of none of some forms: what is wrong with them, and how the forms
 -- are written that they begin.
-use Rattle.std.specs.Prelude.{ℕ, ◌-◌, List, [], ◌∷◌, ◌++◌, take, map, slice_get, slice_index_or, Bool, Option, Some, None, Result, Ok, Err, codes, decimal, flat_map, option_and_then, if◌then◌else◌}
-use Rattle.std.specs.Option.{option_or, is_some}
+use Rattle.std.specs.Prelude.{ℕ, ◌-◌, List, [], ◌∷◌, ◌++◌, ◌==◌, ◌||◌, take, map, length, slice_get, slice_index_or, Bool, false, Option, Some, None, Result, Ok, Err, codes, decimal, flat_map, option_and_then, if◌then◌else◌}
+use Rattle.std.specs.Option.{option_or, option_map_or, is_some, unwrap_or}
+use Rattle.std.specs.Str.{bytes_eq}
 use Rattle.std.specs.Str.Lossy.{utf8_lossy}
-use Rattle.fp_keyfile.specs.Lines.{lines_of}
+use Rattle.fp_name.specs.Grammar.{is_id}
+use Rattle.fp_keyfile.specs.Lines.{lines_of, split_at}
 use Rattle.fl_words.specs.declared.command.Change.{Change}
 use Rattle.fl_words.specs.declared.forms.Form.{Form}
-use Rattle.fl_words.specs.declared.forms.Form.TheVariants.{Pin, Unpin, RemoteAdd, RemoteModify, RemoteDelete, Install, UpdateAll, UpdateOne, Uninstall, UninstallUnused, Rollback, Override, OverrideApp, OverrideReset, OverrideResetApp}
-use Rattle.fl_words.specs.Forms.{Place, literal, pattern, remote, url, ref_name, app, app_id, type_string, permission, permissions, launch_options, filter_rules, from_app, app_count, forms, slots_of, left_after, most}
+use Rattle.fl_words.specs.declared.limits.TheConstants.{CHANGES}
+use Rattle.fl_words.specs.Forms.{Place, literal, pattern, remote, url, ref_name, app, app_id, type_string, permission, permissions, launch_options, filter_rules, from_app, app_count, forms, slots_of, fits, left_after, most, word_at}
 use Rattle.fl_words.specs.Batch.{words_in, batch_of}
 use Rattle.fl_lines.specs.Lines.{line, escaped}
 
@@ -67,52 +69,111 @@ place_wanted words index [] = None
 place_wanted words index (form ∷ fs) =
     option_or (place_begun words index form) (place_wanted words index fs)
 
--- what a word is that may not stand at a place, or that has none
-abbrev pub fault_at : Option Place → List ℕ
-fault_at None = codes "is one word too many"
-fault_at (Some (literal w)) = codes "isn't known here"
-fault_at (Some pattern) = codes "is no pattern: KIND/ID/ARCH/BRANCH"
-fault_at (Some remote) = codes "is no name of a remote"
-fault_at (Some url) = codes "is no URL of a remote: file:///PATH"
-fault_at (Some ref_name) = codes "is no ref: KIND/ID/ARCH/BRANCH"
-fault_at (Some app) = codes "is no ref of an application: app/ID/ARCH/BRANCH"
-fault_at (Some app_id) = codes "is no ID of an application"
-fault_at (Some type_string) = codes "is no type of GVariant"
-fault_at (Some permission) = codes "is no option"
-fault_at (Some permissions) = codes "is no option"
-fault_at (Some launch_options) = codes "is no option of a launch"
-fault_at (Some filter_rules) = codes "is no rule of the filter"
-fault_at (Some from_app) = codes "isn't --from=APP: --from=app/ID/ARCH/BRANCH"
-fault_at (Some app_count) = codes "is no number from 1 to 64"
+-- the name of an option, which ends at the first `=`
+abbrev pub option_name : List ℕ → List ℕ
+option_name word = option_map_or (λ parts. parts.0) (split_at 61 word) word
 
--- the word there, and what is wrong with it, or that there is none
+-- What an option of this name needs after it, where the name is that of one: the value of each kind
+-- of options stands for its kind.
+abbrev pub need_named : Place → List ℕ → Option (List ℕ)
+need_named place name =
+    if fits place (name ++ codes "=a")
+    then Some (codes "needs =X (one name without ;, = and !)")
+    else (if fits place (name ++ codes "=a.b")
+    then Some (codes "needs =N (a name on the bus, with a dot, as org.gnome.Shell)")
+    else (if fits place (name ++ codes "=a=b")
+    then Some (codes "needs =VAR=VALUE (as --env=LANG=C)")
+    else (if fits place (name ++ codes "=a.b=*")
+    then Some (codes "needs =N=RULE (as --call=org.gnome.Shell=*)") else None)))
+
+-- what the option of a word needs that may not stand at a place
+abbrev pub need_at : Place → List ℕ → Option (List ℕ)
+need_at permission word = need_named permission (option_name word)
+need_at permissions word = need_named permissions (option_name word)
+need_at launch_options word = need_named launch_options (option_name word)
+need_at filter_rules word = need_named filter_rules (option_name word)
+need_at _ word = None
+
+-- what a word is not, which may not stand at a place
+abbrev pub misfit_at : Place → List ℕ → List ℕ
+misfit_at (literal w) word = codes "is not known here"
+misfit_at pattern word = codes "is not a pattern (expected KIND/ID/ARCH/BRANCH)"
+misfit_at remote word =
+    codes "is not a name of a remote (expected letters, digits, _, - and ., as lab-1)"
+misfit_at url word =
+    codes "is not a URL of a remote (expected file:///PATH with no blank, as file:///srv/lab)"
+misfit_at ref_name word = codes "is not a ref (expected KIND/ID/ARCH/BRANCH)"
+misfit_at app word = codes "is not a ref of an application (expected app/ID/ARCH/BRANCH)"
+misfit_at app_id word =
+    codes "is not an ID of an application (expected three parts or more, as org.gnome.Calculator)"
+misfit_at type_string word = codes "is not a type of GVariant"
+misfit_at permission word = if is_id word
+    then codes "is an ID, and stands after at least one option (as --share=network)"
+    else codes "is not an option (as --share=network)"
+misfit_at permissions word =
+    codes "is neither an option (as --share=network) nor an ID (as org.gnome.Calculator)"
+misfit_at launch_options word = codes "is not an option of a launch"
+misfit_at filter_rules word = codes "is not a rule of the filter"
+misfit_at from_app word = codes "is not --from=APP (expected --from=app/ID/ARCH/BRANCH)"
+misfit_at app_count word = codes "is not a number from 1 to 64"
+
+-- what is wrong with a word that may not stand at a place, or that has none
+abbrev pub fault_at : Option Place → List ℕ → List ℕ
+fault_at None word = codes "is one word too many"
+fault_at (Some place) word = unwrap_or (need_at place word) (misfit_at place word)
+
+abbrev pub missing_at : Option Place → List ℕ
+missing_at None = codes "a word is missing"
+missing_at (Some (literal w)) = codes "a word is missing"
+missing_at (Some place) = codes "missing " ++ place_name place
+
+-- the word there, and what is wrong with it, or what is missing
 abbrev pub fault_text : Option (List ℕ) → Option Place → List ℕ
-fault_text None place = codes "a word is missing"
-fault_text (Some word) place = codes "'" ++ (escaped word ++ (codes "' " ++ fault_at place))
+fault_text None place = missing_at place
+fault_text (Some word) place = codes "'" ++ (escaped word ++ (codes "' " ++ fault_at place word))
+
+-- where not even the first word begins a form, the way to all of them
+abbrev pub forms_told : List ℕ → List (List ℕ) → ℕ → List Form → List ℕ
+forms_told program words index fs =
+    if index == 0 then codes "see fpk --help\n" else usages program words index fs
 
 -- What is wrong at the first word with which the words can't go on to be of one of the forms, or
 -- after the last word where they can. Then the usage of the forms that the words before it begin.
 abbrev pub why_at : ℕ → List ℕ → List Form → List (List ℕ) → List ℕ
 why_at index program fs words = line
     (fault_text (slice_get words index) (place_wanted words index fs))
-    ++ usages program words index fs
+    ++ forms_told program words index fs
 
 abbrev pub why : List ℕ → List Form → List (List ℕ) → List ℕ
 why program fs words = why_at (most words fs) program fs words
 
+-- ---- the words of a command line
+
+-- one of the words by which other programs are asked for help
+abbrev pub asks_help : List ℕ → Bool
+asks_help word =
+    bytes_eq word (codes "--help") || (bytes_eq word (codes "-h") || bytes_eq word (codes "help"))
+
+-- What is said of words that are of none of the forms, of which the word at an index is wrong: one
+-- that asks for help isn't blamed, and gets the usage alone.
+abbrev pub said_at : ℕ → List Form → List (List ℕ) → List ℕ
+said_at index fs words = if asks_help (word_at index words)
+    then forms_told (codes " fpk") words index fs
+    else codes "fpk: " ++ why_at index (codes " fpk") fs words
+
+abbrev pub said : List Form → List (List ℕ) → List ℕ
+said fs words = said_at (most words fs) fs words
+
 -- why the words of a command line are no command; the word that is blamed stands at the bad index
 -- of the refusal
 abbrev pub reason_text : List (List ℕ) → List ℕ
-reason_text words = codes "fpk: " ++ why (codes " fpk") forms words
+reason_text words = said forms words
 
 -- ---- a line of a batch
 
--- the forms of what changes the installation
+-- the forms of what changes the installation, which stand first
 abbrev pub change_forms : List Form
-change_forms =
-    Pin ∷ Unpin ∷ RemoteAdd ∷ RemoteModify ∷ RemoteDelete
-    ∷ Install ∷ UpdateAll ∷ UpdateOne ∷ Uninstall ∷ UninstallUnused ∷ Rollback
-    ∷ Override ∷ OverrideApp ∷ OverrideReset ∷ OverrideResetApp ∷ []
+change_forms = take CHANGES forms
 
 -- The words of a line. What is no UTF-8 in them is replaced.
 abbrev pub words_shown : List ℕ → List (List ℕ)

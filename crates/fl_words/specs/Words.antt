@@ -16,7 +16,7 @@ use Rattle.fl_words.specs.declared.command.PolicySource.TheVariants.{Rules, Sess
 use Rattle.fl_words.specs.declared.command.Shown.{Shown}
 use Rattle.fl_words.specs.declared.command.Shown.TheVariants.{Commit, DirTree, DirMeta, Value}
 use Rattle.fl_options.specs.Options.{is_option, is_launch_option}
-use Rattle.fl_rules.specs.Rules.{is_rule}
+use Rattle.fl_options.specs.Rules.{is_rule}
 use Rattle.fl_words.specs.Forms.{command_of}
 use Rattle.fp_name.specs.Pins.{is_app}
 use Rattle.fp_name.specs.Grammar.{is_override}

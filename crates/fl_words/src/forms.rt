@@ -6,6 +6,7 @@ ghost use Rattle.fl_words.specs.Reading.{IsMisfit};
 ghost use Rattle.fl_words.specs.Reasons.{change_forms};
 
 use crate::command::{Change, Command, Listing, PolicySource, Shown, WordsError};
+use crate::limits::CHANGES;
 use crate::override_name::OverrideName;
 use crate::values::{
     app_override, count_at, from_at, global_name, id_at, name_at, override_at, pattern_at, ref_at,
@@ -128,8 +129,42 @@ pub enum Form {
     ShowValue,
 }
 
+/// What is known of a form besides the command that its words ask for.
+#[derive(Clone, Copy)]
+pub(crate) struct Row {
+    /// What stands at each of its places.
+    pub slots: &'static [Slot],
+    /// The section of help that shows it.
+    pub section: Section,
+    /// What its command does, for help.
+    pub does: &'static str,
+}
+
+/// A section of help, in the order in which help shows them. In it stand its forms in the order of
+/// all.
+#[derive(Clone, Copy, PartialEq, Eq)]
+pub(crate) enum Section {
+    /// What is installed.
+    Applications,
+    /// Where applications come from.
+    Remotes,
+    /// What applications are granted.
+    Permissions,
+    /// What stays though nothing needs it.
+    Pins,
+    /// What helps when something is wrong.
+    Repair,
+    /// Many commands at once.
+    Scripts,
+    /// The filter of D-Bus.
+    Buses,
+    /// Looks into objects and values.
+    Objects,
+}
+
 impl Form {
-    /// All forms, in the order in which they are tried.
+    /// All forms, in the order in which they are tried. Those that change the installation stand
+    /// first.
     pub fn all() -> &'static [Form]
         ensures { result.now ≡ forms }
     {
@@ -175,74 +210,197 @@ impl Form {
     pub fn changes() -> &'static [Form]
         ensures { result.now ≡ change_forms }
     {
-        &[
-            Form::Pin,
-            Form::Unpin,
-            Form::RemoteAdd,
-            Form::RemoteModify,
-            Form::RemoteDelete,
-            Form::Install,
-            Form::UpdateAll,
-            Form::UpdateOne,
-            Form::Uninstall,
-            Form::UninstallUnused,
-            Form::Rollback,
-            Form::Override,
-            Form::OverrideApp,
-            Form::OverrideReset,
-            Form::OverrideResetApp,
-        ]
+        &Form::all()[..CHANGES]
+    }
+
+    /// Its row of the table.
+    pub(crate) fn row(self) -> Row
+        ensures { map place_of result.slots.now ≡ slots_of self }
+    {
+        match self {
+            Form::Pin => Row {
+                slots: &[Slot::Word("pin"), Slot::Pattern],
+                section: Section::Pins,
+                does: "keeps the runtimes of a pattern",
+            },
+            Form::Unpin => Row {
+                slots: &[Slot::Word("unpin"), Slot::Pattern],
+                section: Section::Pins,
+                does: "takes a pin away",
+            },
+            Form::RemoteAdd => Row {
+                slots: &[Slot::Word("remote-add"), Slot::Remote, Slot::Url],
+                section: Section::Remotes,
+                does: "adds a remote",
+            },
+            Form::RemoteModify => Row {
+                slots: &[Slot::Word("remote-modify"), Slot::Remote, Slot::Url],
+                section: Section::Remotes,
+                does: "gives a remote another URL",
+            },
+            Form::RemoteDelete => Row {
+                slots: &[Slot::Word("remote-delete"), Slot::Remote],
+                section: Section::Remotes,
+                does: "takes a remote away",
+            },
+            Form::Install => Row {
+                slots: &[Slot::Word("install"), Slot::Remote, Slot::Ref],
+                section: Section::Applications,
+                does: "installs a ref from a remote",
+            },
+            Form::UpdateAll => Row {
+                slots: &[Slot::Word("update")],
+                section: Section::Applications,
+                does: "updates all that is installed",
+            },
+            Form::UpdateOne => Row {
+                slots: &[Slot::Word("update"), Slot::Ref],
+                section: Section::Applications,
+                does: "updates one ref",
+            },
+            Form::Uninstall => Row {
+                slots: &[Slot::Word("uninstall"), Slot::Ref],
+                section: Section::Applications,
+                does: "takes a ref away",
+            },
+            Form::UninstallUnused => Row {
+                slots: &[Slot::Word("uninstall"), Slot::Word("--unused")],
+                section: Section::Applications,
+                does: "takes away runtimes that nothing needs",
+            },
+            Form::Rollback => Row {
+                slots: &[Slot::Word("rollback"), Slot::Ref],
+                section: Section::Repair,
+                does: "goes back to the commit before",
+            },
+            Form::Override => Row {
+                slots: &[Slot::Word("override"), Slot::Permission, Slot::Permissions],
+                section: Section::Permissions,
+                does: "changes what all applications may do",
+            },
+            Form::OverrideApp => Row {
+                slots: &[
+                    Slot::Word("override"),
+                    Slot::Permission,
+                    Slot::Permissions,
+                    Slot::Id,
+                ],
+                section: Section::Permissions,
+                does: "changes what one application may do",
+            },
+            Form::OverrideReset => Row {
+                slots: &[Slot::Word("override"), Slot::Word("--reset")],
+                section: Section::Permissions,
+                does: "takes the override for all away",
+            },
+            Form::OverrideResetApp => Row {
+                slots: &[Slot::Word("override"), Slot::Word("--reset"), Slot::Id],
+                section: Section::Permissions,
+                does: "takes an application's override away",
+            },
+            Form::ListRefs => Row {
+                slots: &[Slot::Word("list")],
+                section: Section::Applications,
+                does: "prints what is installed",
+            },
+            Form::ListRemotes => Row {
+                slots: &[Slot::Word("list"), Slot::Word("--remotes")],
+                section: Section::Remotes,
+                does: "prints the remotes",
+            },
+            Form::ListPins => Row {
+                slots: &[Slot::Word("list"), Slot::Word("--pins")],
+                section: Section::Pins,
+                does: "prints the pins",
+            },
+            Form::ListExports => Row {
+                slots: &[Slot::Word("list"), Slot::Word("--exports")],
+                section: Section::Applications,
+                does: "prints exported desktop files and icons",
+            },
+            Form::Info => Row {
+                slots: &[Slot::Word("info"), Slot::Ref],
+                section: Section::Applications,
+                does: "prints what is known of an installed ref",
+            },
+            Form::Launch => Row {
+                slots: &[Slot::Word("launch"), Slot::App, Slot::LaunchOptions],
+                section: Section::Applications,
+                does: "prints the sandbox of an application",
+            },
+            Form::OverrideShow => Row {
+                slots: &[Slot::Word("override"), Slot::Word("--show")],
+                section: Section::Permissions,
+                does: "prints the override for all",
+            },
+            Form::OverrideShowApp => Row {
+                slots: &[Slot::Word("override"), Slot::Word("--show"), Slot::Id],
+                section: Section::Permissions,
+                does: "prints an application's override",
+            },
+            Form::Filter => Row {
+                slots: &[Slot::Word("filter"), Slot::Rules],
+                section: Section::Buses,
+                does: "filters a recording of a bus by rules",
+            },
+            Form::FilterFrom => Row {
+                slots: &[Slot::Word("filter"), Slot::FromApp],
+                section: Section::Buses,
+                does: "the same by the grants of an application",
+            },
+            Form::FilterSystemFrom => Row {
+                slots: &[Slot::Word("filter"), Slot::Word("--system"), Slot::FromApp],
+                section: Section::Buses,
+                does: "the same on the system bus",
+            },
+            Form::Batch => Row {
+                slots: &[Slot::Word("batch")],
+                section: Section::Scripts,
+                does: "does the commands of the input's lines",
+            },
+            Form::Fsck => Row {
+                slots: &[Slot::Word("fsck")],
+                section: Section::Repair,
+                does: "prints what is wrong in the store",
+            },
+            Form::Export => Row {
+                slots: &[Slot::Word("export"), Slot::Remote, Slot::Ref],
+                section: Section::Remotes,
+                does: "makes a remote of the tree in the input",
+            },
+            Form::Exercise => Row {
+                slots: &[Slot::Word("exercise"), Slot::Count],
+                section: Section::Scripts,
+                does: "tries 1 to 64 made applications",
+            },
+            Form::ShowCommit => Row {
+                slots: &[Slot::Word("show"), Slot::Word("commit")],
+                section: Section::Objects,
+                does: "prints what a commit says",
+            },
+            Form::ShowDirTree => Row {
+                slots: &[Slot::Word("show"), Slot::Word("dirtree")],
+                section: Section::Objects,
+                does: "prints the names in a dirtree",
+            },
+            Form::ShowDirMeta => Row {
+                slots: &[Slot::Word("show"), Slot::Word("dirmeta")],
+                section: Section::Objects,
+                does: "prints the mode of a dirmeta",
+            },
+            Form::ShowValue => Row {
+                slots: &[Slot::Word("show"), Slot::Word("value"), Slot::Type],
+                section: Section::Objects,
+                does: "prints the size of a GVariant",
+            },
+        }
     }
 
     /// What stands at each of its places.
     pub fn slots(self) -> &'static [Slot]
         ensures { map place_of result.now ≡ slots_of self }
     {
-        match self {
-            Form::Pin => &[Slot::Word("pin"), Slot::Pattern],
-            Form::Unpin => &[Slot::Word("unpin"), Slot::Pattern],
-            Form::RemoteAdd => &[Slot::Word("remote-add"), Slot::Remote, Slot::Url],
-            Form::RemoteModify => &[Slot::Word("remote-modify"), Slot::Remote, Slot::Url],
-            Form::RemoteDelete => &[Slot::Word("remote-delete"), Slot::Remote],
-            Form::Install => &[Slot::Word("install"), Slot::Remote, Slot::Ref],
-            Form::UpdateAll => &[Slot::Word("update")],
-            Form::UpdateOne => &[Slot::Word("update"), Slot::Ref],
-            Form::Uninstall => &[Slot::Word("uninstall"), Slot::Ref],
-            Form::UninstallUnused => &[Slot::Word("uninstall"), Slot::Word("--unused")],
-            Form::Rollback => &[Slot::Word("rollback"), Slot::Ref],
-            Form::Override => &[Slot::Word("override"), Slot::Permission, Slot::Permissions],
-            Form::OverrideApp => &[
-                Slot::Word("override"),
-                Slot::Permission,
-                Slot::Permissions,
-                Slot::Id,
-            ],
-            Form::OverrideReset => &[Slot::Word("override"), Slot::Word("--reset")],
-            Form::OverrideResetApp => &[Slot::Word("override"), Slot::Word("--reset"), Slot::Id],
-            Form::ListRefs => &[Slot::Word("list")],
-            Form::ListRemotes => &[Slot::Word("list"), Slot::Word("--remotes")],
-            Form::ListPins => &[Slot::Word("list"), Slot::Word("--pins")],
-            Form::ListExports => &[Slot::Word("list"), Slot::Word("--exports")],
-            Form::Info => &[Slot::Word("info"), Slot::Ref],
-            Form::Launch => &[Slot::Word("launch"), Slot::App, Slot::LaunchOptions],
-            Form::OverrideShow => &[Slot::Word("override"), Slot::Word("--show")],
-            Form::OverrideShowApp => &[Slot::Word("override"), Slot::Word("--show"), Slot::Id],
-            Form::Filter => &[Slot::Word("filter"), Slot::Rules],
-            Form::FilterFrom => &[Slot::Word("filter"), Slot::FromApp],
-            Form::FilterSystemFrom => &[
-                Slot::Word("filter"),
-                Slot::Word("--system"),
-                Slot::FromApp,
-            ],
-            Form::Batch => &[Slot::Word("batch")],
-            Form::Fsck => &[Slot::Word("fsck")],
-            Form::Export => &[Slot::Word("export"), Slot::Remote, Slot::Ref],
-            Form::Exercise => &[Slot::Word("exercise"), Slot::Count],
-            Form::ShowCommit => &[Slot::Word("show"), Slot::Word("commit")],
-            Form::ShowDirTree => &[Slot::Word("show"), Slot::Word("dirtree")],
-            Form::ShowDirMeta => &[Slot::Word("show"), Slot::Word("dirmeta")],
-            Form::ShowValue => &[Slot::Word("show"), Slot::Word("value"), Slot::Type],
-        }
+        self.row().slots
     }
 
     /// The command of words of this form. `BadWords` comes only where they aren't of it.

@@ -8,6 +8,7 @@ ghost use Rattle.fl_words.specs.Reasons.{begins};
 ghost use Rattle.fl_words.specs.Words.{Begins, words_of, is_change, is_command};
 
 use crate::command::{Change, Command};
+use crate::limits::MOST_APPS;
 
 /// The words of each command read as it, and only they do.
 pub fn words_read_back()
@@ -39,4 +40,9 @@ pub fn usage_is_of_forms_begun()
 pub fn batches_hold_changes()
     ensures { (bytes : List ℕ) (changes : List Change) → batch_of bytes ≡ Ok changes → list_all
         is_change changes ≡ true }
+{}
+
+/// The most applications that an exercise has.
+pub fn limits_are()
+    ensures apps { MOST_APPS ≡ 64 }
 {}

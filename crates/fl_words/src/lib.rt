@@ -1,5 +1,5 @@
 //! The words of a command line, read as a command, and the commands of a batch; and why other words
-//! are none.
+//! are none, what is said of options beside, and the help that shows all commands.
 #![tactic(auto)]
 
 mod app_count;
@@ -7,8 +7,10 @@ mod batch;
 mod batch_reasons;
 mod command;
 mod forms;
+mod help_page;
 mod laws;
 mod limits;
+mod option_notes;
 mod override_name;
 mod reading;
 mod reasons;
@@ -20,10 +22,12 @@ pub use batch::{BatchError, read_batch};
 pub use batch_reasons::batch_reason;
 pub use command::{Change, Command, Listing, PolicySource, Shown, WordsError};
 pub use forms::{Form, Slot};
+pub use help_page::help;
 pub use laws::{
-    bad_index_is_least, batches_hold_changes, usage_is_of_forms_begun, words_read_back,
+    bad_index_is_least, batches_hold_changes, limits_are, usage_is_of_forms_begun, words_read_back,
 };
 pub use limits::MOST_APPS;
+pub use option_notes::notes;
 pub use override_name::OverrideName;
 pub use reading::read_words;
 pub use reasons::reason;

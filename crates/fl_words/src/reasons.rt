@@ -1,24 +1,52 @@
 //! Why words are of none of some forms, for a reader.
-ghost use Rattle.std.specs.Prelude.{◌≡◌, ◌≤◌, ◌++◌, ◌∷◌, length, IfOk, OnOk, Some, None, map, option_map, flat_map, string_bytes, slice_get, codes};
-ghost use Rattle.fl_words.specs.Forms.{place_of, slots_of, most};
-ghost use Rattle.fl_lines.specs.Lines.{line, escaped};
-ghost use Rattle.fl_words.specs.Reasons.{place_name, named_place, usage as usage_text, places_left as left_of, begins as does_begin, usage_begun, usages, place_begun, place_wanted, fault_at, fault_text, why, reason_text};
+ghost use Rattle.std.specs.Prelude.{◌≡◌, ◌≤◌, ◌++◌, length, IfOk, OnOk, Some, map, option_map, option_copied, flat_map, string_bytes, slice_get};
+ghost use Rattle.fl_words.specs.Forms.{place_of, fits as may_stand};
+ghost use Rattle.fl_lines.specs.Lines.{line};
+ghost use Rattle.fl_words.specs.Reasons.{place_name, named_place, usage as usage_text, places_left as left_of, begins as does_begin, usage_begun, usages, place_begun, place_wanted, option_name as name_of_option, need_named as need_by_name, need_at, misfit_at, fault_at, asks_help as is_for_help, missing_at, fault_text, forms_told, why_at, why, said, reason_text};
 
 use crate::forms::{Form, Slot};
 use crate::reading::{furthest, left_after};
+use crate::values::{fits, word_at};
 use fl_lines::escape;
 use fp_base::Text;
+use fp_keyfile::cut_at_equals;
 use std::alloc::{AllocError, Global};
 
 /// Why words are no command, in lines that end with a newline. First what is wrong: with the word
 /// at the index of `BadWords`, or that one is missing there. Then how the commands are written that
-/// the words before it begin.
+/// the words before it begin. Where the word there asks for help, it isn't blamed.
 pub fn reason(alloc: Global, words: &[String]) -> Result<Text, AllocError>
     ensures { IfOk result (λ t. t ≡ reason_text (map string_bytes words.now)) }
 {
-    let mut text = "fpk: ".to_string(alloc)?;
-    push_reason(alloc, &mut text, " fpk", Form::all(), words)?;
+    let mut text = String::new(alloc);
+    push_said(alloc, &mut text, Form::all(), words)?;
     Ok(Text::from_string(text))
+}
+
+/// Puts after a text what is said of the words of a command line that are of none of the forms.
+fn push_said(
+    alloc: Global,
+    text: &mut String,
+    forms: &[Form],
+    words: &[String],
+) -> Result<(), AllocError>
+    ensures { OnOk result (string_bytes text.new ≡ string_bytes text.old
+        ++ said forms.now (map string_bytes words.now)) }
+{
+    let index = furthest(alloc, forms, words)?;
+    if asks_help(word_at(words, index)) {
+        push_forms(alloc, text, " fpk", forms, words, index)
+    } else {
+        text.push_str("fpk: ")?;
+        push_why(alloc, text, " fpk", forms, words, index)
+    }
+}
+
+/// Whether it is one of the words by which other programs are asked for help.
+fn asks_help(word: &str) -> bool
+    ensures { result ≡ is_for_help word.now }
+{
+    word == "--help" || word == "-h" || word == "help"
 }
 
 /// Puts after a text why words are of none of the forms. The program is what stands before a form
@@ -34,8 +62,25 @@ pub(crate) fn push_reason(
         ++ why program.now forms.now (map string_bytes words.now)) }
 {
     let index = furthest(alloc, forms, words)?;
+    push_why(alloc, text, program, forms, words, index)
+}
+
+/// Puts after a text what is wrong at an index, and how the forms are written that the words before
+/// it begin.
+fn push_why(
+    alloc: Global,
+    text: &mut String,
+    program: &str,
+    forms: &[Form],
+    words: &[String],
+    index: usize,
+) -> Result<(), AllocError>
+    requires { index ≤ length words.now }
+    ensures { OnOk result (string_bytes text.new ≡ string_bytes text.old
+        ++ why_at index program.now forms.now (map string_bytes words.now)) }
+{
     push_fault(alloc, text, forms, words, index)?;
-    push_usages(alloc, text, program, forms, words, index)
+    push_forms(alloc, text, program, forms, words, index)
 }
 
 /// Puts after a text what is wrong at an index.
@@ -51,42 +96,60 @@ fn push_fault(
         ++ line (fault_text (slice_get (map string_bytes words.now) index)
         (place_wanted (map string_bytes words.now) index forms.now))) }
 {
+    let slot = slot_wanted(alloc, forms, words, index)?;
     match words.get(index) {
-        Some(word) => {
-            let fault = fault_in(alloc, forms, words, index)?;
-            push_word(alloc, text, word.as_str(), fault)
-        }
-        None => text.push_str("a word is missing\n"),
+        Some(word) => push_word(alloc, text, word.as_str(), slot),
+        None => push_missing(text, slot),
     }
 }
 
-/// Puts after a text a word and what is wrong with it.
-fn push_word(alloc: Global, text: &mut String, word: &str, fault: &str) -> Result<(), AllocError>
+/// Puts after a text a word and what is wrong with it at a place.
+fn push_word(
+    alloc: Global,
+    text: &mut String,
+    word: &str,
+    slot: Option<&Slot>,
+) -> Result<(), AllocError>
     ensures { OnOk result (string_bytes text.new ≡ string_bytes text.old
-        ++ line (codes "'" ++ (escaped word.now ++ (codes "' " ++ fault.now)))) }
+        ++ line (fault_text (Some word.now) (option_map (λ s. place_of s.now) slot.entry))) }
 {
+    let fault = fault_of(alloc, slot, word)?;
     let word = escape(alloc, word)?;
     write!(text, "'{word}' {fault}\n")
 }
 
-/// What a word at an index is, by the first form that has a place there and that the words before
-/// it begin.
-fn fault_in(
+/// Puts after a text that a word is missing at a place.
+fn push_missing(text: &mut String, slot: Option<&Slot>) -> Result<(), AllocError>
+    ensures { OnOk result (string_bytes text.new ≡ string_bytes text.old
+        ++ line (missing_at (option_map (λ s. place_of s.now) slot.entry))) }
+{
+    match slot {
+        None | Some(Slot::Word(_)) => text.push_str("a word is missing\n"),
+        Some(slot) => {
+            let name = name_of(slot);
+            write!(text, "missing {name}\n")
+        }
+    }
+}
+
+/// What stands at an index, by the first form that has a place there and that the words before it
+/// begin.
+fn slot_wanted(
     alloc: Global,
     forms: &[Form],
     words: &[String],
     index: usize,
-) -> Result<&'static str, AllocError>
+) -> Result<Option<&'static Slot>, AllocError>
     requires { index ≤ length words.now }
-    ensures { IfOk result (λ t. t.now
-        ≡ fault_at (place_wanted (map string_bytes words.now) index forms.now)) }
+    ensures { IfOk result (λ slot. option_map (λ s. place_of s.now) slot
+        ≡ place_wanted (map string_bytes words.now) index forms.now) }
 {
     for form in forms {
         if let Some(slot) = slot_begun(alloc, *form, words, index)? {
-            return Ok(fault_of(slot));
+            return Ok(Some(slot));
         }
     }
-    Ok("is one word too many")
+    Ok(None)
 }
 
 /// What stands first of the places of a form that are left for the word at an index, where the
@@ -130,24 +193,122 @@ fn begins(alloc: Global, form: Form, words: &[String], count: usize) -> Result<b
     Ok(places_left(alloc, form, words, count)?.is_some())
 }
 
-/// What a word is that may not stand at a place.
-fn fault_of(slot: &Slot) -> &'static str
-    ensures { result.now ≡ fault_at (Some (place_of slot.now)) }
+/// What is wrong with a word that may not stand at a place, or that has none.
+fn fault_of(alloc: Global, slot: Option<&Slot>, word: &str) -> Result<&'static str, AllocError>
+    ensures { IfOk result (λ t. t.now
+        ≡ fault_at (option_map (λ s. place_of s.now) slot.entry) word.now) }
 {
     match slot {
-        Slot::Word(_) => "isn't known here",
-        Slot::Pattern => "is no pattern: KIND/ID/ARCH/BRANCH",
-        Slot::Remote => "is no name of a remote",
-        Slot::Url => "is no URL of a remote: file:///PATH",
-        Slot::Ref => "is no ref: KIND/ID/ARCH/BRANCH",
-        Slot::App => "is no ref of an application: app/ID/ARCH/BRANCH",
-        Slot::Id => "is no ID of an application",
-        Slot::Type => "is no type of GVariant",
-        Slot::Permission | Slot::Permissions => "is no option",
-        Slot::LaunchOptions => "is no option of a launch",
-        Slot::Rules => "is no rule of the filter",
-        Slot::FromApp => "isn't --from=APP: --from=app/ID/ARCH/BRANCH",
-        Slot::Count => "is no number from 1 to 64",
+        None => Ok("is one word too many"),
+        Some(slot) => fault_at_slot(alloc, slot, word),
+    }
+}
+
+/// What is wrong with a word that may not stand at a place.
+fn fault_at_slot(alloc: Global, slot: &Slot, word: &str) -> Result<&'static str, AllocError>
+    ensures { IfOk result (λ t. t.now ≡ fault_at (Some (place_of slot.now)) word.now) }
+{
+    match need_of(alloc, slot, word)? {
+        Some(need) => Ok(need),
+        None => misfit_of(alloc, slot, word),
+    }
+}
+
+/// What the option of a word needs that may not stand at a place.
+fn need_of(alloc: Global, slot: &Slot, word: &str) -> Result<Option<&'static str>, AllocError>
+    ensures { IfOk result (λ need. option_copied need ≡ need_at (place_of slot.now) word.now) }
+{
+    match slot {
+        Slot::Permission | Slot::Permissions | Slot::LaunchOptions | Slot::Rules => {
+            need_named(alloc, slot, option_name(word))
+        }
+        _ => Ok(None),
+    }
+}
+
+/// The name of an option, which ends at the first `=`.
+fn option_name(word: &str) -> &str
+    ensures { result.now ≡ name_of_option word.now }
+{
+    match cut_at_equals(word) {
+        Some((name, _)) => name,
+        None => word,
+    }
+}
+
+/// What an option of this name needs after it, where the name is that of one: of these values each
+/// option takes one.
+fn need_named(alloc: Global, slot: &Slot, name: &str) -> Result<Option<&'static str>, AllocError>
+    ensures { IfOk result (λ need. option_copied need
+        ≡ need_by_name (place_of slot.now) name.now) }
+{
+    Ok(if fits_after(alloc, slot, name, "=a")? {
+        Some("needs =X (one name without ;, = and !)")
+    } else if fits_after(alloc, slot, name, "=a.b")? {
+        Some("needs =N (a name on the bus, with a dot, as org.gnome.Shell)")
+    } else if fits_after(alloc, slot, name, "=a=b")? {
+        Some("needs =VAR=VALUE (as --env=LANG=C)")
+    } else if fits_after(alloc, slot, name, "=a.b=*")? {
+        Some("needs =N=RULE (as --call=org.gnome.Shell=*)")
+    } else {
+        None
+    })
+}
+
+/// Whether a name with this value after it may stand at a place.
+fn fits_after(alloc: Global, slot: &Slot, name: &str, value: &str) -> Result<bool, AllocError>
+    ensures { IfOk result (λ good. good ≡ may_stand (place_of slot.now) (name.now ++ value.now)) }
+{
+    let word = format!(in alloc; "{name}{value}")?;
+    fits(alloc, slot, word.as_str())
+}
+
+/// What a word is not, which may not stand at a place.
+fn misfit_of(alloc: Global, slot: &Slot, word: &str) -> Result<&'static str, AllocError>
+    ensures { IfOk result (λ t. t.now ≡ misfit_at (place_of slot.now) word.now) }
+{
+    Ok(match slot {
+        Slot::Word(_) => "is not known here",
+        Slot::Pattern => "is not a pattern (expected KIND/ID/ARCH/BRANCH)",
+        Slot::Remote =>
+            "is not a name of a remote (expected letters, digits, _, - and ., as lab-1)",
+        Slot::Url =>
+            "is not a URL of a remote (expected file:///PATH with no blank, as file:///srv/lab)",
+        Slot::Ref => "is not a ref (expected KIND/ID/ARCH/BRANCH)",
+        Slot::App => "is not a ref of an application (expected app/ID/ARCH/BRANCH)",
+        Slot::Id =>
+            "is not an ID of an application (expected three parts or more, as org.gnome.Calculator)",
+        Slot::Type => "is not a type of GVariant",
+        Slot::Permission if fits(alloc, &Slot::Id, word)? =>
+            "is an ID, and stands after at least one option (as --share=network)",
+        Slot::Permission => "is not an option (as --share=network)",
+        Slot::Permissions =>
+            "is neither an option (as --share=network) nor an ID (as org.gnome.Calculator)",
+        Slot::LaunchOptions => "is not an option of a launch",
+        Slot::Rules => "is not a rule of the filter",
+        Slot::FromApp => "is not --from=APP (expected --from=app/ID/ARCH/BRANCH)",
+        Slot::Count => "is not a number from 1 to 64",
+    })
+}
+
+/// Puts after a text how the forms are written that this number of words begin, or where the way
+/// to all of them is.
+fn push_forms(
+    alloc: Global,
+    text: &mut String,
+    program: &str,
+    forms: &[Form],
+    words: &[String],
+    count: usize,
+) -> Result<(), AllocError>
+    requires { count ≤ length words.now }
+    ensures { OnOk result (string_bytes text.new ≡ string_bytes text.old
+        ++ forms_told program.now (map string_bytes words.now) count forms.now) }
+{
+    if count == 0 {
+        text.push_str("see fpk --help\n")
+    } else {
+        push_usages(alloc, text, program, forms, words, count)
     }
 }
 
@@ -202,7 +363,7 @@ fn push_usage(text: &mut String, program: &str, form: Form) -> Result<(), AllocE
 }
 
 /// Puts after a text what stands at each place, each after a space.
-fn push_places(text: &mut String, slots: &[Slot]) -> Result<(), AllocError>
+pub(crate) fn push_places(text: &mut String, slots: &[Slot]) -> Result<(), AllocError>
     ensures { OnOk result (string_bytes text.new ≡ string_bytes text.old
         ++ flat_map named_place (map place_of slots.now)) }
 {

@@ -11,8 +11,7 @@ use crate::command::{Change, WordsError};
 use crate::forms::Slot;
 use crate::override_name::OverrideName;
 use crate::value_type::ValueType;
-use fl_options::{is_launch_option, is_option};
-use fl_rules::is_rule;
+use fl_options::{is_launch_option, is_option, is_rule};
 use fp_base::{Items, Text};
 use fp_name::{AppId, NameError, PinPattern, RefKind, RefName, RemoteName, RemoteUrl};
 use fp_small::RemoteRow;
@@ -72,7 +71,7 @@ fn is_read<T: Drop>(read: Result<T, NameError>) -> Result<bool, AllocError>
 }
 
 /// The word at a place, or an empty one after the last.
-fn word_at(words: &[String], place: usize) -> &str
+pub(crate) fn word_at(words: &[String], place: usize) -> &str
     ensures { result.now ≡ text_at place (map string_bytes words.now) }
 {
     match words.get(place) {

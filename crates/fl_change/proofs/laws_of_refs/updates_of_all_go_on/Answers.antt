@@ -1,4 +1,9 @@
-use Rattle.std.proofs.Common.{refl}
+use Rattle.std.proofs.Common.{◌≡◌, ◌∷◌, Some, refl, subst}
+use Rattle.dep_states.specs.After.{Done}
+use Rattle.fl_lines.specs.Lines.{op_text}
+use Rattle.fl_change.specs.Answer.{each_over}
+use Rattle.fl_change.specs.Refs.{target_over}
+use Rattle.fl_change.specs.World.{world_after}
 use Rattle.fl_change.proofs.laws_of_refs.updates_of_all_go_on.Goals as goal
 
 pub returns-clause-begins : goal.returns-clause-begins
@@ -14,7 +19,10 @@ pub returns-clause-stays : goal.returns-clause-stays
 returns-clause-stays c held x name more is = rw is refl
 
 pub returns-clause-brings : goal.returns-clause-brings
-returns-clause-brings c held x name more op d next is fits done goes = rw (is, fits, done, goes) refl
+returns-clause-brings c held x name more op d next is fits done =
+    subst (λ (e : Done). each_over target_over more held (world_after held x e) ≡ next
+    → each_over target_over (name ∷ more) held x ≡ record { pieces = record { text = op_text e.op; op = Some e } ∷ next.pieces; refusal = next.refusal }) done
+    (λ goes. rw (is, fits, goes) refl)
 
 pub returns-clause-refused : goal.returns-clause-refused
 returns-clause-refused c held x name more refusal is = rw is refl

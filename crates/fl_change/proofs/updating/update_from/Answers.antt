@@ -4,7 +4,7 @@ use Rattle.fp_small.specs.declared.state.State.{State}
 use Rattle.fl_plan.specs.Answers.{Plans}
 use Rattle.fl_plan.specs.Plans.{plan_of}
 use Rattle.fp_small.specs.declared.refusal.Refusal.{Refusal}
-use Rattle.ost_head.specs.declared.ends.PullEnd.TheVariants as pulls
+use Rattle.ost_walk.specs.declared.pull_end.PullEnd.TheVariants as pulls
 use Rattle.ost_walk.specs.Ends.{outside}
 use Rattle.op_change.specs.Applied.{Brings}
 use Rattle.fl_change.specs.Performs.{Acts, Rests}

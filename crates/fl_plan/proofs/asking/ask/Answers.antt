@@ -1,5 +1,5 @@
 use Rattle.std.proofs.Common.{Err, ap}
-use Rattle.ost_head.specs.declared.ends.PullEnd.{PullEnd}
+use Rattle.ost_walk.specs.declared.pull_end.PullEnd.{PullEnd}
 use Rattle.fl_plan.specs.Allowed.{IsTaken}
 use Rattle.fl_plan.proofs.Offering.{ask_taken, ask_declined, declined_good}
 use Rattle.fl_plan.proofs.asking.ask.Goals as goal

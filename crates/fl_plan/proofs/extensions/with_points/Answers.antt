@@ -1,7 +1,7 @@
 use Rattle.std.proofs.Common.{◌≡◌, Err, ap, ◌∙◌}
 use Rattle.std.proofs.lemmas.Result.{err_from_is_err_and}
-use Rattle.ost_head.specs.declared.ends.PullEnd.{PullEnd}
-use Rattle.ost_head.specs.declared.ends.PullEnd.TheVariants as ends
+use Rattle.ost_walk.specs.declared.pull_end.PullEnd.{PullEnd}
+use Rattle.ost_walk.specs.declared.pull_end.PullEnd.TheVariants as ends
 use Rattle.fl_plan.proofs.Points.{points_looks, points_next, points_failed, points_starved}
 use Rattle.fl_plan.proofs.Offering.{at_item}
 use Rattle.fl_plan.proofs.Parts.{plan_and}

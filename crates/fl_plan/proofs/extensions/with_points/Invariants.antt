@@ -4,7 +4,7 @@ use Rattle.fp_small.specs.Places.{repo}
 use Rattle.ost_model.specs.Objects.{Have}
 use Rattle.ost_model.specs.Remotes.{Stores}
 use Rattle.ost_walk.specs.Ends.{outside}
-use Rattle.ost_head.specs.Ends.{Looks}
+use Rattle.ost_walk.specs.PullEnds.{Looks}
 use Rattle.fl_plan.specs.Allowed.{IsPlan}
 use Rattle.fl_plan.specs.Extensions.{with_points}
 use Rattle.fl_plan.proofs.extensions.with_points.Given as goal

@@ -8,7 +8,7 @@ use Rattle.dep_states.specs.Sound.{Opens}
 use Rattle.fl_export.specs.Steps.{Refreshes, WasRefreshed}
 use Rattle.fl_gen.specs.Exercise.{exercise_changes}
 use Rattle.fl_change.specs.Turns.{MayDo}
-use Rattle.fl_exercise.specs.Exercising.{exercising}
+use Rattle.fl_top.specs.Exercising.{exercising}
 use Rattle.fl_change.specs.declared.end.RunEnd.TheVariants as run
 use Rattle.fl_top.proofs.Asked.{not_asked, asks_work}
 use Rattle.fl_top.proofs.Refreshed.{goes_refreshed, goes_not_refreshed, exports_stand, refresh_fault, refresh_remote, caused_refresh}

@@ -11,7 +11,7 @@ use Rattle.fl_top.specs.Asked.{OpsBy, AreToldFor, AsksRemotes}
 use Rattle.fl_top.specs.Runs.{told_start, HasCauses, IsFreeFor}
 use Rattle.fl_gen.specs.Exercise.{exercise_changes}
 use Rattle.fl_change.specs.Turns.{changing, MayDo}
-use Rattle.fl_exercise.specs.Exercising.{exercising}
+use Rattle.fl_top.specs.Exercising.{exercising}
 use Rattle.fl_top.specs.Answer.{listing_answer}
 use Rattle.fl_top.specs.RunsOver.{RunsOn, EndedOn}
 use Rattle.fl_top.specs.Status.{checks_store}

@@ -1,2 +1,0 @@
-pub mod Exercising
-pub mod Sample

@@ -1,8 +1,0 @@
-use Rattle.fl_idle.proofs.Updates.{update_leaves_current, update_leaves_layout}
-use Rattle.fl_idle.proofs.laws.updates_leave_all_current.Goals as goal
-
-pub returns-clause-current : goal.returns-clause-current
-returns-clause-current c = update_leaves_current
-
-pub returns-clause-layout : goal.returns-clause-layout
-returns-clause-layout c = update_leaves_layout

@@ -1,5 +1,0 @@
-use Rattle.fl_idle.proofs.Updates.{update_is_idle}
-use Rattle.fl_idle.proofs.laws.updates_of_what_is_current_are_idle.Goals as goal
-
-pub returns : goal.returns
-returns c = update_is_idle

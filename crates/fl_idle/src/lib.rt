@@ -1,4 +1,0 @@
-//! Updates that have nothing left to do.
-#![tactic(auto)]
-
-pub mod laws;

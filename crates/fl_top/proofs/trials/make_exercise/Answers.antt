@@ -1,0 +1,34 @@
+use Rattle.std.proofs.Common.{◌≡◌, ◌∙◌, List, Ok, Err, ap, subst}
+use Rattle.dep_states.specs.Sound.{Opens}
+use Rattle.ost_walk.specs.Ends.{outside}
+use Rattle.fl_words.specs.declared.command.Change.{Change}
+use Rattle.fl_gen.specs.Exercise.{exercise_changes}
+use Rattle.fl_change.specs.Performs.{Acts}
+use Rattle.fl_change.specs.Turns.{changing, MayDo}
+use Rattle.fl_change.specs.declared.end.RunEnd.TheVariants.{NoMemory}
+use Rattle.fl_change.proofs.Acting.{acts_err}
+use Rattle.fl_top.specs.Exercising.{end_answer, exercising}
+use Rattle.fl_top.proofs.Lines.{acts_halted, acts_first, acts_second}
+use Rattle.fl_top.proofs.trials.make_exercise.Goals as goal
+
+pub returns-in_err-changes : goal.returns-in_err-changes
+returns-in_err-changes g c = record { acts = acts_err c.from_residual.result NoMemory c.from_residual.ensures.1 (acts_halted (exercising c.args.apps.now) c.args.opened (g.met.H.Host.is_tree c.args.host.now)) }
+
+pub returns-in_err-changed : goal.returns-in_err-changed
+returns-in_err-changed g c =
+    let n = c.args.apps.now in
+    let u = outside (g.H.Host.moments c.args.host.now) (g.H.Host.faults c.args.host.now) (g.R.Remotes.holds c.args.remotes.now) (g.R.Remotes.faults c.args.remotes.now) in
+    let v = outside (g.H.Host.moments c.change_all.new.host) (g.H.Host.faults c.change_all.new.host) (g.R.Remotes.holds c.change_all.new.remotes) (g.R.Remotes.faults c.change_all.new.remotes) in
+    let e = c.in_err-changed.field-0.0 in
+    let changes : c.as_slice.result.now ≡ exercise_changes n = c.as_slice.ensures ∙ c.in_ok-changes.ensures ∙ ap exercise_changes c.number.ensures.number in
+    let acts = subst (λ (l : List Change). Acts (Opens c.args.opened) (MayDo l) (changing l) c.args.opened (Err e) u v) changes c.in_err-changed.ensures.acts in
+    record { acts = acts_err c.from_residual-in_err-changed.result e c.from_residual-in_err-changed.ensures.1 (acts_first (changing (exercise_changes n)) (end_answer n) c.args.opened e acts) }
+
+pub returns : goal.returns
+returns g c =
+    let n = c.args.apps.now in
+    let u = outside (g.H.Host.moments c.args.host.now) (g.H.Host.faults c.args.host.now) (g.R.Remotes.holds c.args.remotes.now) (g.R.Remotes.faults c.args.remotes.now) in
+    let v = outside (g.H.Host.moments c.change_all.new.host) (g.H.Host.faults c.change_all.new.host) (g.R.Remotes.holds c.change_all.new.remotes) (g.R.Remotes.faults c.change_all.new.remotes) in
+    let changes : c.as_slice.result.now ≡ exercise_changes n = c.as_slice.ensures ∙ c.in_ok-changes.ensures ∙ ap exercise_changes c.number.ensures.number in
+    let acts = subst (λ (l : List Change). Acts (Opens c.args.opened) (MayDo l) (changing l) c.args.opened (Ok c.in_ok-changed.changed) u v) changes c.in_ok-changed.ensures.acts in
+    record { acts = acts_second (changing (exercise_changes n)) (end_answer n) c.args.opened c.in_ok-changed.changed c.say_end.result (g.met.H.Host.is_tree c.change_all.new.host) acts c.say_end.ensures.acts }

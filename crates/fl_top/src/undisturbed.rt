@@ -1,0 +1,35 @@
+//! A run that nothing disturbs.
+ghost use Rattle.std.specs.Prelude.{map, string_bytes};
+ghost use Rattle.fp_host.specs.Moments.{Rose};
+ghost use Rattle.fl_words.specs.Forms.{command_of};
+ghost use Rattle.fl_top.specs.Asked.{AsksFor, AreToldFor};
+ghost use Rattle.fl_top.specs.Whole.{StartsFit, EndsWhole};
+
+use crate::running::run;
+use fp_host::{Host, Remotes, Source};
+use std::alloc::Global;
+use std::thread::Threads;
+
+/// Runs the command of these words as `run` does. Over an installation that every stop leaves
+/// sound, where no count of faults rises, the whole answer is given, and with its status; or memory
+/// runs out, which is status 6, and what was acknowledged stands. Of `fsck` it is said where no path
+/// of the store is too long, and of `export` where nothing is in the way of the remote that it makes.
+pub fn run_undisturbed<H: Host, R: Remotes, I: Source>(
+    rt: &(impl Threads + Sync),
+    alloc: Global,
+    words: &[String],
+    input: &mut I,
+    host: &mut H,
+    remotes: &mut R,
+) -> u8
+    ensures { StartsFit (command_of (map string_bytes words.now)) (H.moments host.old)
+        → AreToldFor (AsksFor (command_of (map string_bytes words.now)) (I.left input.old))
+        (R.holds remotes.old)
+        → (Rose (H.faults host.old) (H.faults host.new) → ⊥)
+        → (Rose (R.faults remotes.old) (R.faults remotes.new) → ⊥)
+        → (Rose (I.faults input.old) (I.faults input.new) → ⊥)
+        → EndsWhole (map string_bytes words.now) (I.left input.old) (R.holds remotes.old) result
+        (H.moments host.old) (H.moments host.new) }
+{
+    run(rt, alloc, words, input, host, remotes)
+}
