@@ -1,14 +1,15 @@
-//! An open file whose reads are counted.
+//! An open file whose reads are watched.
 use crate::line::Progress;
+use crate::work::Watch;
 use std::fs::{FileTimes, Metadata, OpenFile, Permissions};
 use std::io::{self, Eprint, Read, Seek, SeekFrom, Write};
 use std::time::Clock;
 
-/// An open file of a system. The bytes that are read of a remote's are counted.
+/// An open file of a system, whose bytes are told to a progress as they are read.
 pub struct WatchedFile<'a, F, R> {
     file: F,
-    // None where it is no remote's.
-    progress: Option<&'a Progress<'a, R>>,
+    progress: &'a Progress<'a, R>,
+    watch: Watch,
 }
 
 impl<F: Drop, R> Drop for WatchedFile<'_, F, R> {
@@ -16,14 +17,19 @@ impl<F: Drop, R> Drop for WatchedFile<'_, F, R> {
         let WatchedFile {
             file: _,
             progress: _,
+            watch: _,
         } = self;
     }
 }
 
 impl<'a, F, R> WatchedFile<'a, F, R> {
-    /// A file, of a remote where there is a progress to count its bytes.
-    pub fn new(file: F, progress: Option<&'a Progress<'a, R>>) -> Self {
-        WatchedFile { file, progress }
+    /// A file, and what its bytes are for.
+    pub(crate) fn new(file: F, progress: &'a Progress<'a, R>, watch: Watch) -> Self {
+        WatchedFile {
+            file,
+            progress,
+            watch,
+        }
     }
 
     /// The file itself.
@@ -35,8 +41,10 @@ impl<'a, F, R> WatchedFile<'a, F, R> {
 impl<F: Read, R: Clock + Eprint> Read for WatchedFile<'_, F, R> {
     fn read(&mut self, buf: &mut [u8]) -> io::Result<usize> {
         let read = self.file.read(buf);
-        if let (Ok(count), Some(progress)) = (&read, self.progress) {
-            progress.add_bytes(*count);
+        if let Ok(count) = &read
+            && let Some(bytes) = buf.get(..*count)
+        {
+            self.progress.note_read(self.watch, bytes);
         }
         read
     }

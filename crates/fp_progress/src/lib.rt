@@ -4,8 +4,14 @@
 
 mod file;
 mod line;
+mod order;
+mod seen;
+mod shown;
+mod task;
 mod watched;
+mod work;
 
 pub use file::WatchedFile;
 pub use line::Progress;
+pub use task::Task;
 pub use watched::Watched;

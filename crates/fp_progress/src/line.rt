@@ -1,5 +1,10 @@
 //! How far a command is, as one line that is rewritten in place.
-use std::cell::Cell;
+use crate::seen::seen_at;
+use crate::shown::{COLUMNS, line_of};
+use crate::task::Task;
+use crate::work::{Phase, Watch, Work};
+use std::alloc::Global;
+use std::cell::{Cell, RefCell};
 use std::io::Eprint;
 use std::time::{Clock, Duration};
 
@@ -12,39 +17,38 @@ const BETWEEN: u64 = 100;
 const BLANK: &str =
     "                                                                               ";
 
-const KIB: u64 = 1024;
-
-/// How far a command is: the files and bytes that it read from remotes, and the files and folders
-/// that it synced. Once it takes longer than half a second, it is said on standard error as one
-/// line without an end, which is rewritten at its beginning, at most ten times a second. Where
-/// standard error is no terminal nothing is ever said.
+/// How far a command is. Once it takes longer than half a second, it is said on standard error as
+/// one line without an end: what is worked at, in which phase it is, and how much of it is done. The
+/// line is rewritten at its beginning, at most ten times a second. Where standard error is no
+/// terminal nothing is ever said, and only that the objects were listed is kept.
 pub struct Progress<'a, R> {
     rt: &'a R,
+    alloc: Global,
     // When the line is written next, by the system's clock. None where it never is.
     next: Cell<Option<Duration>>,
     // Whether the line stands there.
     is_shown: Cell<bool>,
-    files: Cell<u64>,
-    bytes: Cell<u64>,
-    synced: Cell<u64>,
+    // Whether the objects of the host's store were listed.
+    is_listed: Cell<bool>,
+    work: RefCell<Work>,
 }
 
 impl<R> Drop for Progress<'_, R> {
     fn drop(self) {
         let Progress {
             rt: _,
+            alloc: _,
             next: _,
             is_shown: _,
-            files: _,
-            bytes: _,
-            synced: _,
+            is_listed: _,
+            work: _,
         } = self;
     }
 }
 
 impl<'a, R: Clock> Progress<'a, R> {
     /// That of a command that begins now. Standard error is a terminal or not.
-    pub fn new(rt: &'a R, is_terminal: bool) -> Self {
+    pub fn new(rt: &'a R, alloc: Global, task: Task, is_terminal: bool) -> Self {
         let next = if is_terminal {
             time_in(rt, FIRST)
         } else {
@@ -52,11 +56,11 @@ impl<'a, R: Clock> Progress<'a, R> {
         };
         Progress {
             rt,
+            alloc,
             next: Cell::new(next),
             is_shown: Cell::new(false),
-            files: Cell::new(0),
-            bytes: Cell::new(0),
-            synced: Cell::new(0),
+            is_listed: Cell::new(false),
+            work: RefCell::new(Work::new(alloc, task)),
         }
     }
 }
@@ -70,24 +74,60 @@ fn time_in<R: Clock>(rt: &R, millis: u64) -> Option<Duration> {
 }
 
 impl<R: Clock + Eprint> Progress<'_, R> {
-    /// A file of a remote is read.
-    pub fn add_file(&self) {
-        self.files.set(self.files.get().saturating_add(1));
+    /// A file is opened to be read, of a remote or of the host. Answers what its bytes are for.
+    pub(crate) fn note_open(&self, path: &str, is_remote: bool) -> Watch {
+        if self.next.get().is_none() {
+            return Watch::Nothing;
+        }
+        let watch = match self.work.try_borrow_mut() {
+            Ok(mut work) => work.open(seen_at(path), is_remote),
+            Err(_) => Watch::Nothing,
+        };
+        self.show();
+        watch
+    }
+
+    /// Bytes of an open file were read.
+    pub(crate) fn note_read(&self, watch: Watch, bytes: &[u8]) {
+        if watch == Watch::Nothing {
+            return;
+        }
+        if let Ok(mut work) = self.work.try_borrow_mut() {
+            work.read(watch, bytes);
+        }
         self.show();
     }
 
-    /// Bytes of a remote were read.
-    pub fn add_bytes(&self, count: usize) {
-        self.bytes
-            .set(self.bytes.get().saturating_add(count as u64));
+    /// The phase is at work, so many times.
+    pub(crate) fn note_step(&self, phase: Phase, count: usize) {
+        if self.next.get().is_none() {
+            return;
+        }
+        if let Ok(mut work) = self.work.try_borrow_mut() {
+            work.step(phase, count as u64);
+        }
         self.show();
     }
 
-    /// Files and folders were synced.
-    pub fn add_synced(&self, count: usize) {
-        self.synced
-            .set(self.synced.get().saturating_add(count as u64));
-        self.show();
+    /// The same, where the phase is at work already.
+    pub(crate) fn note_step_on(&self, phase: Phase) {
+        if self.next.get().is_none() {
+            return;
+        }
+        if let Ok(mut work) = self.work.try_borrow_mut() {
+            work.step_on(phase);
+        }
+    }
+
+    /// The objects of the host's store are listed.
+    pub(crate) fn note_listed(&self) {
+        self.is_listed.set(true);
+    }
+
+    /// Whether the objects of the host's store were listed. A change lists them once it knows which
+    /// are used, so where it didn't, an object is missing or damaged that says which are.
+    pub fn has_listed_objects(&self) -> bool {
+        self.is_listed.get()
     }
 
     /// Takes the line away, so that another one may be written.
@@ -120,10 +160,13 @@ impl<R: Clock + Eprint> Progress<'_, R> {
         }
     }
 
+    /// Writes the line over the one before. Without memory for it nothing is written.
     fn write(&self) {
-        let files = self.files.get();
-        let kib = self.bytes.get() / KIB;
-        let synced = self.synced.get();
-        let _said = eprint!(self.rt; "\r{files} files and {kib} KiB read, {synced} synced");
+        if let Ok(work) = self.work.try_borrow()
+            && let Ok(line) = line_of(self.alloc, &work)
+        {
+            let rest = BLANK.get(line.len().min(COLUMNS)..).unwrap_or("");
+            let _said = eprint!(self.rt; "\r{line}{rest}");
+        }
     }
 }

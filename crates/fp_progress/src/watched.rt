@@ -1,8 +1,9 @@
-//! A system that is watched: what a command reads of remotes, and what it syncs.
+//! A system that is watched for how far a command is.
 ghost use Rattle.std.specs.Thread.{IsSync};
 
 use crate::file::WatchedFile;
 use crate::line::Progress;
+use crate::work::{Phase, Watch};
 use fp_realroot::{Access, Failure, System};
 use std::alloc::{Alloc, Allocator, Global};
 use std::fmt::Display;
@@ -15,6 +16,9 @@ use std::time::Clock;
 
 /// How many files or folders are synced between two lines.
 const PART: usize = 1000;
+
+/// Where the objects of a store are.
+const OBJECTS: &str = "/objects";
 
 /// A system, and how far the command is that it is used for. The line of the command is taken away
 /// before anything is printed.
@@ -36,7 +40,7 @@ impl<R> Drop for Watched<'_, R> {
 }
 
 impl<'a, R> Watched<'a, R> {
-    /// The system of a host, whose syncs are counted.
+    /// The system of a host.
     pub fn host(rt: &'a R, progress: &'a Progress<'a, R>) -> Self {
         Watched {
             rt,
@@ -45,7 +49,7 @@ impl<'a, R> Watched<'a, R> {
         }
     }
 
-    /// The system of remotes, whose files and bytes are counted.
+    /// The system of remotes.
     pub fn remotes(rt: &'a R, progress: &'a Progress<'a, R>) -> Self {
         Watched {
             rt,
@@ -62,14 +66,18 @@ impl<'a, R: Files + Clock + Eprint> Files for Watched<'a, R> {
 
     fn open_file(&self, how: &OpenOptions, path: &str) -> io::Result<WatchedFile<'a, R::File, R>> {
         let file = self.rt.open_file(how, path)?;
-        if !self.is_remote {
-            return Ok(WatchedFile::new(file, None));
-        }
-        self.progress.add_file();
-        Ok(WatchedFile::new(file, Some(self.progress)))
+        let watch = if how.asks_write() || how.asks_append() {
+            Watch::Nothing
+        } else {
+            self.progress.note_open(path, self.is_remote)
+        };
+        Ok(WatchedFile::new(file, self.progress, watch))
     }
 
     fn open_dir(&self, path: &str) -> io::Result<R::Dir> {
+        if !self.is_remote && path.ends_with(OBJECTS) {
+            self.progress.note_listed();
+        }
         self.rt.open_dir(path)
     }
 
@@ -86,11 +94,17 @@ impl<'a, R: Files + Clock + Eprint> Files for Watched<'a, R> {
     }
 
     fn rename(&self, from: &str, to: &str) -> io::Result<()> {
-        self.rt.rename(from, to)
+        self.rt.rename(from, to)?;
+        if is_stored(to) {
+            self.progress.note_step(Phase::Storing, 1);
+        }
+        Ok(())
     }
 
     fn remove_file(&self, path: &str) -> io::Result<()> {
-        self.rt.remove_file(path)
+        self.rt.remove_file(path)?;
+        self.progress.note_step(Phase::Removing, 1);
+        Ok(())
     }
 
     fn create_dir(&self, path: &str) -> io::Result<()> {
@@ -110,7 +124,11 @@ impl<'a, R: Files + Clock + Eprint> Files for Watched<'a, R> {
     }
 
     fn hard_link(&self, original: &str, link: &str) -> io::Result<()> {
-        self.rt.hard_link(original, link)
+        self.rt.hard_link(original, link)?;
+        if !is_stored(link) {
+            self.progress.note_step(Phase::Linking, 1);
+        }
+        Ok(())
     }
 
     fn set_permissions(&self, path: &str, perm: Permissions) -> io::Result<()> {
@@ -118,7 +136,9 @@ impl<'a, R: Files + Clock + Eprint> Files for Watched<'a, R> {
     }
 
     fn symlink(&self, original: &str, link: &str) -> io::Result<()> {
-        self.rt.symlink(original, link)
+        self.rt.symlink(original, link)?;
+        self.progress.note_step_on(Phase::Linking);
+        Ok(())
     }
 
     fn create_dir_with_mode(&self, path: &str, mode: u32) -> io::Result<()> {
@@ -179,7 +199,7 @@ impl<R: System + Clock> System for Watched<'_, R> {
             if let Some(failure) = self.rt.sync_paths(threads, part) {
                 return Some(failure_after(i.saturating_mul(PART), failure));
             }
-            self.progress.add_synced(part.len());
+            self.progress.note_step(Phase::Syncing, part.len());
         }
         None
     }
@@ -207,13 +227,18 @@ impl<R: System + Clock> System for Watched<'_, R> {
                 return Some(failure_after(i, failure));
             }
         }
-        self.progress.add_synced(files.len());
+        self.progress.note_step(Phase::Syncing, files.len());
         None
     }
 
     fn prints_to_terminal(&self) -> bool {
         self.rt.prints_to_terminal()
     }
+}
+
+/// Whether an object stands at the path.
+fn is_stored(path: &str) -> bool {
+    path.contains("/objects/")
 }
 
 /// The same failure, where the list before the one that it was met in has this length.

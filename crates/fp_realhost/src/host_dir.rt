@@ -6,11 +6,12 @@ ghost use Rattle.fp_host.specs.declared.host.HostError.TheVariants.{Failed};
 ghost use Rattle.fp_host.specs.declared.limits.TheConstants.{PERMISSION_BITS};
 ghost use Rattle.fp_system.specs.Counts.{Counts, one_more, many_more};
 
+use crate::crew::Crew;
 use crate::output::Output;
+use crate::{Change, Tree};
 use fp_base::{Items, Text};
 use fp_host::{Host, HostError, Path, Stat};
-use fp_realroot::{Access, System, Team};
-use fp_realtree::{Change, Tree};
+use fp_realroot::{Access, System};
 use fp_system::{Call, Cause, Faults, SystemError};
 use std::alloc::{AllocError, Global};
 use std::marker::Model;
@@ -25,16 +26,22 @@ use std::thread::Threads;
 ///
 /// It is opened to look or to change. At its first call, but for `say`, it takes the advisory lock
 /// (`flock`) of the file `.lock` at the top of the root, shared to look and alone to change, and
-/// keeps it as long as it is there. Where another holds it, that it waits is said on standard
-/// error. Where the file was taken away meanwhile, it begins anew. A host that looks makes nothing:
-/// where there is no lock file it takes none, an absent root reads as an empty folder, and every
-/// change fails. A host that changes makes the root, the folders above it and the lock file at its
-/// first call, where they are absent. The list of the root's names leaves the lock file out.
+/// keeps it as long as it is there; one that looks, until it prints. Where another holds it, that
+/// it waits is said on standard error. Where the file was taken away meanwhile, it begins anew. A
+/// folder without that file, which shows no installation and holds what fpk would take away, is not
+/// changed: the first call fails. A host that looks makes nothing: where there is no lock file it
+/// takes none, an absent root reads as an empty folder, and every change fails. A host that changes
+/// makes the root, the folders above it and the lock file at its first call, where they are absent.
+/// The list of the root's names leaves the lock file out.
 ///
-/// A folder gets the permission bits 0755 and a file exactly those that were asked for, whatever
-/// the umask. What is moved into `repo/objects`, or written in `repo/tmp/pull/objects` to be moved
-/// there, gets the modification time 0, as OSTree's objects have. Ids are the numbers of inodes,
-/// and of a file that the host made itself a number of its own.
+/// A folder below the root and the root itself get the permission bits 0755 and a file is told with
+/// exactly those that were asked for, whatever the umask. Folders above it get the bits that the
+/// umask leaves. Where a file's owner was not to read it, it stands on the disk with 0400 and the
+/// sticky bit besides, which tells that and means nothing else there. What is moved to where the
+/// objects of the store stand, or written where they wait, gets the modification time 0, as
+/// OSTree's objects have. Ids are the numbers of inodes, and of a file that the host made itself a
+/// number of its own. A pipe, a socket and a device are never opened: each is told as a symlink
+/// whose text says what it is.
 ///
 /// The root may be a symlink or stand below one. Below the root no symlink is followed: a call
 /// fails where one stands in the place of a folder above its path. What was found is remembered
@@ -43,22 +50,29 @@ use std::thread::Threads;
 /// size of a file, it answers itself. What another program puts in its place later is followed, or
 /// not seen.
 ///
-/// A `sync` makes last each file and then each folder that was changed since the last one, many of
-/// them by several threads. At most 192 files that wait for it stay open: where more are made,
-/// those are synced before. While changes wait for it, the lock file holds the text that Linux
-/// gives this start of the machine, and else nothing or a line of dashes. Where an earlier run of
-/// the same start left that, or the root was there without a lock file, the first `sync` makes last
-/// every file and folder that may be opened, at the names that fpk keeps at the top. After a sync
-/// of a file or folder that failed no later one succeeds, nor after a change that there was no
-/// memory to note.
+/// A new file of at most 256 KiB waits with its bytes until a `sync` comes, a call needs it, or 800
+/// files or 8 MiB wait. Threads make it then, while other calls are done. What is asked of it
+/// meanwhile is answered from memory. What its making met is answered by the next `sync`, and no
+/// later one succeeds.
 ///
-/// Where the system lets a file have no more names, `link` makes a copy of it.
+/// A `sync` makes last each file and then each folder that was changed since the last one, many of
+/// them by several threads. At most 192 larger files that wait for it stay open: where more are
+/// made, those are synced before. Where the process may have no more open files, what is open is
+/// synced and closed, and the call tried once more. While changes wait for it, the lock file holds
+/// the text that Linux gives this start of the machine, and else a line of dashes, or nothing where
+/// it is new. Where an earlier run of the same start left a mark or an empty file, or the root was
+/// there without one, the first `sync` makes last every file and folder that may be opened, at the
+/// names that fpk keeps at the top. The folders above the root are synced, too, where their file
+/// system takes it. After a sync of a file or folder that failed no later one succeeds, nor after a
+/// change that there was no memory to note.
+///
+/// Where the system lets a file have no more names, `link` makes a copy of it, a new file.
 ///
 /// Contracts see how often it failed, whether nothing waits for a sync, and how many bytes were
 /// printed.
 pub struct HostDir<'a, R: Files, T, O> {
     tree: Tree<'a, R>,
-    team: Team<T>,
+    crew: Crew<'a, T>,
     output: Output<'a, O>,
     faults: Faults,
 }
@@ -75,14 +89,14 @@ impl<R: Files, T, O> Drop for HostDir<'_, R, T, O> {
     fn drop(self) {
         let HostDir {
             tree: _,
-            team: _,
+            crew: _,
             output: _,
             faults: _,
         } = self;
     }
 }
 
-impl<'a, R: System, T: Threads, O: Print> HostDir<'a, R, T, O> {
+impl<'a, R: System, T: System + Threads, O: Print> HostDir<'a, R, T, O> {
     /// The host over the folder of this name, which prints to this output; the empty name is the
     /// current folder. It asks nothing of the system yet.
     pub fn new(
@@ -96,12 +110,49 @@ impl<'a, R: System, T: Threads, O: Print> HostDir<'a, R, T, O> {
         ensures untold { IfOk result (λ h. ⟦<HostDir<'a, R, T, O> as Host>⟧.moments h ≡ None) }
         ensures faults { IfOk result (λ h. ⟦<HostDir<'a, R, T, O> as Host>⟧.faults h ≡ 0) }
     {
+        HostDir::with_crew(rt, Crew::of(threads), out, alloc, root, access)
+    }
+
+    /// The same, whose small new files another system makes, which has the same paths. It ends by
+    /// `finish`.
+    pub fn with_maker(
+        rt: &'a R,
+        maker: &'a T,
+        out: &'a O,
+        alloc: Global,
+        root: &str,
+        access: Access,
+    ) -> Result<Self, AllocError>
+        ensures untold { IfOk result (λ h. ⟦<HostDir<'a, R, T, O> as Host>⟧.moments h ≡ None) }
+        ensures faults { IfOk result (λ h. ⟦<HostDir<'a, R, T, O> as Host>⟧.faults h ≡ 0) }
+    {
+        HostDir::with_crew(rt, Crew::with(maker), out, alloc, root, access)
+    }
+
+    fn with_crew(
+        rt: &'a R,
+        crew: Crew<'a, T>,
+        out: &'a O,
+        alloc: Global,
+        root: &str,
+        access: Access,
+    ) -> Result<Self, AllocError>
+        ensures untold { IfOk result (λ h. ⟦<HostDir<'a, R, T, O> as Host>⟧.moments h ≡ None) }
+        ensures faults { IfOk result (λ h. ⟦<HostDir<'a, R, T, O> as Host>⟧.faults h ≡ 0) }
+    {
         Ok(HostDir {
             tree: Tree::new(rt, alloc, root, access)?,
-            team: Team::of(threads),
+            crew,
             output: Output::new(out),
             faults: Faults::none(),
         })
+    }
+
+    /// Waits until no thread is at work. A file that still waits is never made.
+    pub fn finish(&mut self)
+        ensures faults { self.new.faults ≡ self.old.faults }
+    {
+        self.tree.join(&self.crew);
     }
 }
 
@@ -118,6 +169,11 @@ impl<'a, R: Files, T, O> HostDir<'a, R, T, O> {
         ensures { (result ≡ None) ↔ (self.now.faults ≡ 0) }
     {
         self.faults.last()
+    }
+
+    /// Whether no folder was there when it was looked at.
+    pub fn is_absent(&self) -> bool {
+        self.tree.gate.is_absent()
     }
 
     /// Counts what was refused.
@@ -163,18 +219,23 @@ impl<'a, R: Files, T, O> HostDir<'a, R, T, O> {
     }
 }
 
-impl<R: System, T, O> HostDir<'_, R, T, O> {
+impl<R: System, T: System + Threads, O> HostDir<'_, R, T, O> {
     /// Changes what stands at the path.
     fn change(&mut self, call: Call, path: &Path, change: Change<'_>) -> Result<(), HostError>
         ensures counts { Counts self.old.faults self.new.faults result }
         ensures needs_no_memory { NeedsNoMemory result }
     {
-        let done = self.tree.change(path, change);
+        let first = self.tree.change(&self.crew, path, change);
+        let done = if self.tree.makes_room(&self.crew, &first) {
+            self.tree.change(&self.crew, path, change)
+        } else {
+            first
+        };
         self.answer(call, path, done)
     }
 }
 
-impl<R: System, T: Threads, O: Print> Host for HostDir<'_, R, T, O> {
+impl<R: System, T: System + Threads, O: Print> Host for HostDir<'_, R, T, O> {
     ghost use Rattle.std.specs.Prelude.{None};
     ghost use Rattle.std.proofs.lemmas.Option.{none-some};
 
@@ -187,7 +248,7 @@ impl<R: System, T: Threads, O: Print> Host for HostDir<'_, R, T, O> {
         ensures bits { IfOk result HasBits }
         ensures needs_no_memory { NeedsNoMemory result }
     {
-        let done = self.tree.stat(path);
+        let done = self.tree.stat(&self.crew, path);
         self.answer(Call::Stat, path, done)
     }
 
@@ -195,7 +256,12 @@ impl<R: System, T: Threads, O: Print> Host for HostDir<'_, R, T, O> {
         ensures counts { Counts self.old.faults self.new.faults result }
         ensures names { IfOk result AreNames }
     {
-        let done = self.tree.list(alloc, path);
+        let first = self.tree.list(&self.crew, alloc, path);
+        let done = if self.tree.makes_room(&self.crew, &first) {
+            self.tree.list(&self.crew, alloc, path)
+        } else {
+            first
+        };
         self.answer_or_starve(Call::List, path, done)
     }
 
@@ -204,14 +270,19 @@ impl<R: System, T: Threads, O: Print> Host for HostDir<'_, R, T, O> {
         ensures bound { IfOk result (λ n. n ≤ length into.old) }
         ensures needs_no_memory { NeedsNoMemory result }
     {
-        let done = self.tree.read_at(path, at, into);
+        let first = self.tree.read_at(&self.crew, path, at, into);
+        let done = if self.tree.makes_room(&self.crew, &first) {
+            self.tree.read_at(&self.crew, path, at, into)
+        } else {
+            first
+        };
         self.answer(Call::Read, path, done)
     }
 
     fn read_link(&mut self, alloc: Global, path: &Path) -> Result<Text, HostError>
         ensures counts { Counts self.old.faults self.new.faults result }
     {
-        let done = self.tree.read_link(alloc, path);
+        let done = self.tree.read_link(&self.crew, alloc, path);
         self.answer_or_starve(Call::ReadLink, path, done)
     }
 
@@ -227,7 +298,12 @@ impl<R: System, T: Threads, O: Print> Host for HostDir<'_, R, T, O> {
         ensures bits { OnOk result (mode ≤ PERMISSION_BITS) }
         ensures needs_no_memory { NeedsNoMemory result }
     {
-        let done = self.tree.create(&self.team, path, mode);
+        let first = self.tree.create(&self.crew, path, mode);
+        let done = if self.tree.makes_room(&self.crew, &first) {
+            self.tree.create(&self.crew, path, mode)
+        } else {
+            first
+        };
         self.answer(Call::Create, path, done)
     }
 
@@ -235,14 +311,25 @@ impl<R: System, T: Threads, O: Print> Host for HostDir<'_, R, T, O> {
         ensures counts { Counts self.old.faults self.new.faults result }
         ensures needs_no_memory { NeedsNoMemory result }
     {
-        self.change(Call::Append, path, Change::Append(bytes))
+        let first = self.tree.append(&self.crew, path, bytes);
+        let done = if self.tree.makes_room(&self.crew, &first) {
+            self.tree.append(&self.crew, path, bytes)
+        } else {
+            first
+        };
+        self.answer(Call::Append, path, done)
     }
 
     fn link(&mut self, from: &Path, to: &Path) -> Result<(), HostError>
         ensures counts { Counts self.old.faults self.new.faults result }
         ensures needs_no_memory { NeedsNoMemory result }
     {
-        let done = self.tree.link(from, to);
+        let first = self.tree.link(&self.crew, from, to);
+        let done = if self.tree.makes_room(&self.crew, &first) {
+            self.tree.link(&self.crew, from, to)
+        } else {
+            first
+        };
         self.answer(Call::Link, to, done)
     }
 
@@ -257,7 +344,12 @@ impl<R: System, T: Threads, O: Print> Host for HostDir<'_, R, T, O> {
         ensures counts { Counts self.old.faults self.new.faults result }
         ensures needs_no_memory { NeedsNoMemory result }
     {
-        let done = self.tree.rename(from, to);
+        let first = self.tree.rename(&self.crew, from, to);
+        let done = if self.tree.makes_room(&self.crew, &first) {
+            self.tree.rename(&self.crew, from, to)
+        } else {
+            first
+        };
         self.answer(Call::Rename, to, done)
     }
 
@@ -273,7 +365,7 @@ impl<R: System, T: Threads, O: Print> Host for HostDir<'_, R, T, O> {
         ensures below { OnOk result (path.now ≢ []) }
         ensures needs_no_memory { NeedsNoMemory result }
     {
-        let done = self.tree.remove_dir(path);
+        let done = self.tree.remove_dir(&self.crew, path);
         self.answer(Call::RemoveDir, path, done)
     }
 
@@ -282,7 +374,7 @@ impl<R: System, T: Threads, O: Print> Host for HostDir<'_, R, T, O> {
         ensures needs_no_memory { NeedsNoMemory result }
         ensures settled { OnOk result (self.new.is_settled ≡ true) }
     {
-        match self.tree.sync(&self.team) {
+        match self.tree.sync(&self.crew) {
             Ok(()) => Ok(()),
             Err(unsynced) => {
                 let refusal = self.tree.unsynced(unsynced);
@@ -297,6 +389,7 @@ impl<R: System, T: Threads, O: Print> Host for HostDir<'_, R, T, O> {
         ensures printed { OnOk result (self.new.printed ≡ many_more self.old.printed
             (length piece.now)) }
     {
+        self.tree.gate.release();
         match self.output.print(piece) {
             Ok(()) => Ok(()),
             Err(cause) => Err(self.fail(SystemError::without_path(Call::Say, cause))),

@@ -6,8 +6,10 @@ mod grants;
 mod listed;
 mod made;
 mod notes;
+mod waiting;
 
 pub use found_files::FoundFiles;
 pub use grants::Grants;
 pub use made::Made;
 pub use notes::Notes;
+pub use waiting::{Appended, Batch, Waiting};

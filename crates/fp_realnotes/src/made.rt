@@ -96,9 +96,14 @@ impl Made {
         self.files.contains_key(at) || self.others.contains(at)
     }
 
+    /// Whether the names in the folder are known, since it was made.
+    pub fn has_names(&self, at: &str) -> bool {
+        self.is_whole && self.folders.contains(at)
+    }
+
     /// The names in a folder that was made, in no order.
     pub fn names(&self, alloc: Global, at: &str) -> Option<Result<Vec<Text>, AllocError>> {
-        if !self.is_whole || !self.folders.contains(at) {
+        if !self.has_names(at) {
             return None;
         }
         Some(names_in(alloc, at, &self.files, &self.others))

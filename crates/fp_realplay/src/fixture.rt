@@ -1,6 +1,6 @@
 //! What tests are made of: what stands before them, paths, and texts.
+use crate::Log;
 use fp_host::Path;
-use fp_reallog::Log;
 use fp_system::SystemError;
 use std::alloc::Global;
 use std::fs::Permissions;

@@ -1,8 +1,8 @@
 //! What is asked of a host, as data, and what is to come of it.
+use crate::Log;
 use crate::fixture::path;
 use crate::step::{Step, change, shows};
 use fp_host::{Host, HostError, Path, Stat};
-use fp_reallog::Log;
 use fp_realroot::{Access, System};
 use std::fs;
 

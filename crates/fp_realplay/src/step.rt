@@ -1,8 +1,8 @@
 //! Calls of a host as data, and what a folder shows.
+use crate::Log;
 use crate::fixture::{bits_and_size, path};
 use fp_base::Text;
 use fp_host::{Host, HostError, Path, Stat};
-use fp_reallog::Log;
 use std::alloc::Global;
 
 /// A call, on paths of one element or two.

@@ -1,10 +1,12 @@
 //! The root folder, and the lock.
 use crate::hold::Hold;
+use crate::layout::LAYOUT;
+use crate::others::find_others;
 use crate::roots::make_root;
 use crate::standing::stands_at;
 use fp_host::Path;
 use fp_realsync::{Access, System, Touched};
-use fp_system::{Cause, Kind, has_folder, join, kind_at, known};
+use fp_system::{Call, Cause, Kind, SystemError, has_folder, join, kind_at, known};
 use std::alloc::{AllocError, Global};
 use std::fs;
 use std::fs::{OpenFile, OpenOptions, Permissions};
@@ -62,6 +64,8 @@ pub struct Gate<F> {
     lock: Lock<F>,
     // Whether an earlier run may have left changes that are not on the disk.
     has_left: bool,
+    // The path of what isn't ours, where that keeps the folder from being an installation.
+    others: Option<String>,
 }
 
 impl<F: Drop> Drop for Gate<F> {
@@ -73,6 +77,7 @@ impl<F: Drop> Drop for Gate<F> {
             state: _,
             lock: _,
             has_left: _,
+            others: _,
         } = self;
     }
 }
@@ -98,6 +103,7 @@ impl<F> Gate<F> {
                 state: Root::Unknown,
                 lock: Lock::NotYet,
                 has_left: false,
+                others: None,
             }),
             Err(e) => Err(e),
         }
@@ -116,6 +122,19 @@ impl<F> Gate<F> {
     /// Whether the root folder was there when it was looked at last.
     pub fn is_there(&self) -> bool {
         self.state == Root::There
+    }
+
+    /// Whether no folder was there when it was looked at last.
+    pub fn is_absent(&self) -> bool {
+        self.state == Root::Absent
+    }
+
+    /// Why the root could not be entered, with what stands there that isn't ours.
+    pub fn refusal(&self, alloc: Global, cause: Cause) -> SystemError {
+        match &self.others {
+            Some(at) => SystemError::on(alloc, Call::TakeOver, at, cause),
+            None => SystemError::on(alloc, Call::Enter, &self.root, cause),
+        }
     }
 
     /// Whether an earlier run may have left changes that are not on the disk.
@@ -184,10 +203,22 @@ impl<F: Write + Seek + OpenFile + Drop> Gate<F> {
         touched: &mut Touched,
     ) -> Result<bool, Cause> {
         let found = find_or_make_root(rt, touched, &self.root, &self.lock_at)?;
+        if found == Entry::Unlocked {
+            self.must_be_ours(rt)?;
+        }
         match take_lock(rt, &self.lock_at, &self.root, found) {
             Ok(Some(hold)) => self.keep(hold, found),
             Ok(None) => Ok(false),
             Err(e) => Err(e),
+        }
+    }
+
+    /// A folder without a lock file may be another's: what fpk would take away there is an error.
+    fn must_be_ours<R: System<File = F>>(&mut self, rt: &R) -> Result<(), Cause> {
+        self.others = find_others(rt, rt.alloc(), &self.root, &LAYOUT)?;
+        match self.others {
+            None => Ok(()),
+            Some(_) => Err(Cause::NotOurs),
         }
     }
 
@@ -201,6 +232,13 @@ impl<F: Write + Seek + OpenFile + Drop> Gate<F> {
         match marked {
             Ok(()) => Ok(true),
             Err(e) => Err(e),
+        }
+    }
+
+    /// Lets a lock to look go. Where another call comes it is taken again.
+    pub fn release(&mut self) {
+        if matches!(self.lock, Lock::Shared(_)) {
+            self.lock = Lock::NotYet;
         }
     }
 
@@ -323,51 +361,77 @@ fn share<R: System>(
     }
 }
 
-/// The lock to change. Its file is made where it is absent, so that all may read it, whatever the
-/// umask.
+/// The lock to change, and none where another file is there by now.
 fn take_lock<R: System>(
     rt: &R,
     at: &str,
     root: &str,
     found: Entry,
 ) -> Result<Option<Hold<R::File>>, Cause> {
-    match open_lock(rt, at) {
-        Ok(file) if found == Entry::Old => hold(rt, file, at, root),
-        Ok(file) => hold_new(rt, file, at, root),
+    match found {
+        Entry::Old => hold_old(rt, at, root),
+        Entry::New | Entry::Unlocked => hold_new(rt, at, root),
+    }
+}
+
+/// The lock of the file that stood there. It is opened only: what came in its place isn't changed
+/// before it is known to stand there.
+fn hold_old<R: System>(rt: &R, at: &str, root: &str) -> Result<Option<Hold<R::File>>, Cause> {
+    match known(OpenOptions::new().write(true).open(rt, at)) {
+        Ok(file) => hold_opened(rt, file, at, root),
+        Err(e) if e.is(ErrorKind::NotFound) => Ok(None),
         Err(e) => Err(e),
     }
 }
 
-fn open_lock<R: System>(rt: &R, at: &str) -> Result<R::File, Cause> {
-    let opened = OpenOptions::new()
-        .write(true)
-        .create(true)
-        .mode(LOCK_BITS)
-        .open(rt, at);
-    known(opened)
-}
-
-fn hold_new<R: System>(
-    rt: &R,
-    file: R::File,
-    at: &str,
-    root: &str,
-) -> Result<Option<Hold<R::File>>, Cause> {
-    match known(file.set_permissions(Permissions::from_mode(LOCK_BITS))) {
-        Ok(()) => hold(rt, file, at, root),
-        Err(e) => Err(e),
-    }
-}
-
-fn hold<R: System>(
+fn hold_opened<R: System>(
     rt: &R,
     file: R::File,
     at: &str,
     root: &str,
 ) -> Result<Option<Hold<R::File>>, Cause> {
     match wait(rt, &file, at, Access::Change, root) {
-        Ok(true) => Ok(Some(Hold::new(rt, file, at))),
+        Ok(true) => Ok(Some(Hold::old(rt, file, at))),
         Ok(false) => Ok(None),
+        Err(e) => Err(e),
+    }
+}
+
+/// The lock of a file that is made. What came there before is no error: it begins anew.
+fn hold_new<R: System>(rt: &R, at: &str, root: &str) -> Result<Option<Hold<R::File>>, Cause> {
+    match make_lock(rt, at) {
+        Ok(file) => hold_made(rt, file, at, root),
+        Err(e) if e.is(ErrorKind::AlreadyExists) => Ok(None),
+        Err(e) => Err(e),
+    }
+}
+
+fn make_lock<R: System>(rt: &R, at: &str) -> Result<R::File, Cause> {
+    let made = OpenOptions::new()
+        .write(true)
+        .create_new(true)
+        .mode(LOCK_BITS)
+        .open(rt, at);
+    known(made)
+}
+
+fn hold_made<R: System>(
+    rt: &R,
+    file: R::File,
+    at: &str,
+    root: &str,
+) -> Result<Option<Hold<R::File>>, Cause> {
+    match wait(rt, &file, at, Access::Change, root) {
+        Ok(true) => open_to_all(rt, file, at),
+        Ok(false) => Ok(None),
+        Err(e) => Err(e),
+    }
+}
+
+/// Once a new file is held, all may read it, whatever the umask.
+fn open_to_all<R: System>(rt: &R, file: R::File, at: &str) -> Result<Option<Hold<R::File>>, Cause> {
+    match known(file.set_permissions(Permissions::from_mode(LOCK_BITS))) {
+        Ok(()) => Ok(Some(Hold::made(rt, file, at))),
         Err(e) => Err(e),
     }
 }

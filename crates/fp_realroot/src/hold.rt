@@ -40,10 +40,17 @@ impl<F: Drop> Drop for Hold<F> {
 }
 
 impl<F: Write + Seek + OpenFile + Drop> Hold<F> {
-    /// Of a file that is locked.
-    pub fn new<R: Files<File = F> + AllocGlobal>(rt: &R, file: F, at: &str) -> Self {
+    /// Of a file that is locked and stood there.
+    pub fn old<R: Files<File = F> + AllocGlobal>(rt: &R, file: F, at: &str) -> Self {
         let boot = read_start(rt);
         let mark = find_mark(rt, at, &boot);
+        Hold { file, boot, mark }
+    }
+
+    /// Of one that this process made.
+    pub fn made<R: Files<File = F> + AllocGlobal>(rt: &R, file: F, at: &str) -> Self {
+        let boot = read_start(rt);
+        let mark = find_mark_of_made(rt, &file, at, &boot);
         Hold { file, boot, mark }
     }
 
@@ -100,6 +107,19 @@ fn find_mark<R: Files + AllocGlobal>(rt: &R, at: &str, boot: &Option<String>) ->
         Ok(text) if text.as_str() == mark_of(boot) => Marking::Ours,
         Ok(text) if !is_mark(text.as_str(), boot) => Marking::Absent,
         _ => Marking::Other,
+    }
+}
+
+/// The same of a file that this process made. As long as it is empty nobody changed anything.
+fn find_mark_of_made<R: Files + AllocGlobal>(
+    rt: &R,
+    file: &R::File,
+    at: &str,
+    boot: &Option<String>,
+) -> Marking {
+    match file.metadata() {
+        Ok(found) if found.len() == 0 => Marking::Absent,
+        _ => find_mark(rt, at, boot),
     }
 }
 

@@ -2,38 +2,31 @@
 use crate::gate::LOCK_NAME;
 use crate::roots::{above_root, folder_at};
 use fp_base::Text;
-use fp_realfiles::{OddNames, read_names};
 use fp_realsync::Touched;
-use fp_system::{Cause, Kind, kind_at};
+use fp_system::{Call, Cause, Kind, OddNames, kind_at, read_names, sync_above};
 use std::alloc::Global;
 use std::io::ErrorKind;
 use std::rt::Files;
 
-/// The names at the top of an installation that fpk keeps, those of older layouts too. What stands
-/// there under another name isn't ours: the root may be a home folder, or the whole machine. A run
-/// that is stopped leaves its changes below these alone, so each new name is added here.
-const OWN_NAMES: [&str; 10] = [
-    LOCK_NAME,
-    "app",
-    "config",
-    "exports",
-    "made",
-    "overrides",
-    "pins",
-    "remotes.conf",
-    "repo",
-    "runtime",
-];
-
-/// Notes the root folder and those above it.
-pub fn add_above(root: &str, touched: &mut Touched) {
-    touched.add_left(above_root(root));
+/// Syncs the folders above the root, since a run that was stopped may have made them, and notes the
+/// root. A file system may take no sync of those above.
+pub fn sync_above_root<R: Files>(rt: &R, root: &str, touched: &mut Touched) {
+    add_above(rt, above_root(root), touched);
     for end in 1..root.len() {
         if let Some(above) = folder_at(root, end) {
-            touched.add_left(above);
+            add_above(rt, above, touched);
         }
     }
     touched.add_left(root);
+}
+
+/// A sync that failed is answered by the next sync of all. What could not be opened is opened then.
+fn add_above<R: Files>(rt: &R, at: &str, touched: &mut Touched) {
+    match sync_above(rt, at) {
+        Some(unsynced) if unsynced.call == Call::Sync => touched.lose(at, unsynced),
+        Some(_) => touched.add_left(at),
+        None => {}
+    }
 }
 
 /// Notes each file and folder of ours below the root. What may not be looked at or listed isn't
@@ -42,24 +35,27 @@ pub fn add_below<R: Files + AllocGlobal>(
     rt: &R,
     alloc: Global,
     root: &str,
+    names: &[&str],
     touched: &mut Touched,
 ) -> Result<(), Cause> {
     let mut folders = Vec::new(alloc);
-    match add_own(rt, alloc, root, &mut folders, touched) {
+    match add_own(rt, alloc, root, names, &mut folders, touched) {
         Ok(()) => add_folders(rt, alloc, &mut folders, touched),
         Err(e) => Err(e),
     }
 }
 
-/// Notes what stands at our names at the top, and gathers the folders of them.
+/// Notes the lock file and what stands at our names at the top, and gathers the folders of them.
 fn add_own<R: Files>(
     rt: &R,
     alloc: Global,
     root: &str,
+    names: &[&str],
     folders: &mut Vec<String>,
     touched: &mut Touched,
 ) -> Result<(), Cause> {
-    for name in &OWN_NAMES {
+    add_name(rt, alloc, root, LOCK_NAME, folders, touched)?;
+    for name in names {
         add_name(rt, alloc, root, name, folders, touched)?;
     }
     Ok(())

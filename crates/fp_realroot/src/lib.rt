@@ -3,16 +3,19 @@
 
 mod gate;
 mod hold;
+mod layout;
 mod leftover;
+mod others;
 mod roots;
 mod standing;
 mod text;
 
-pub use fp_realfiles::{
+pub use fp_realsync::{Access, OpenFiles, System, Touched, sync_open};
+pub use fp_system::{
     Failure, Team, Unsynced, find_file, list_names, open_own, open_to_read, sorted_names,
     sync_in_turn, sync_open_in_turn,
 };
-pub use fp_realsync::{Access, OpenFiles, System, Touched, sync_open};
 pub use gate::{Gate, LOCK_NAME};
-pub use leftover::{add_above, add_below};
+pub use layout::{LAYOUT, Layout};
+pub use leftover::{add_below, sync_above_root};
 pub use roots::make_folder;

@@ -1,8 +1,7 @@
 //! The root folder of a host and those above it.
-use fp_realfiles::set_bits;
 use fp_realsync::Touched;
-use fp_system::{Cause, FOLDER_BITS, has_folder, known};
-use std::fs::DirBuilder;
+use fp_system::{Cause, FOLDER_BITS, has_folder, known, set_bits};
+use std::fs::{self, DirBuilder};
 use std::os::unix::fs::DirBuilderExt;
 use std::rt::Files;
 
@@ -14,14 +13,17 @@ pub fn make_folder<R: Files>(rt: &R, at: &str) -> Result<(), Cause> {
     }
 }
 
-/// Makes the folder and those above it where they are absent.
+/// Makes the folder and those above it where they are absent. Those above it get the permission
+/// bits that the umask leaves: they aren't ours.
 pub fn make_root<R: Files>(rt: &R, touched: &mut Touched, root: &str) -> Result<(), Cause> {
     for end in 1..root.len() {
         if let Some(above) = folder_at(root, end) {
-            make_missing(rt, touched, above)?;
+            let made = known(fs::create_dir(rt, above));
+            note_made(rt, touched, above, made)?;
         }
     }
-    make_missing(rt, touched, root)
+    let made = make_folder(rt, root);
+    note_made(rt, touched, root, made)
 }
 
 /// The folder above the root whose path ends at this place of its text.
@@ -32,9 +34,14 @@ pub fn folder_at(root: &str, end: usize) -> Option<&str> {
     }
 }
 
-/// Makes a folder that is absent. Another process may come before.
-fn make_missing<R: Files>(rt: &R, touched: &mut Touched, at: &str) -> Result<(), Cause> {
-    match make_folder(rt, at) {
+/// Notes a folder that was made. It may have been there before, and another process may come before.
+fn note_made<R: Files>(
+    rt: &R,
+    touched: &mut Touched,
+    at: &str,
+    made: Result<(), Cause>,
+) -> Result<(), Cause> {
+    match made {
         Ok(()) => {
             touched.add_made(at);
             Ok(())

@@ -11,12 +11,12 @@ const DASHES: [usize; 4] = [8, 13, 18, 23];
 
 const END: usize = 36;
 
-/// Whether the text of a lock file marks changes that may be unsynced, in this start of the
-/// machine. The empty text is none, nor a cleared one, nor the text of another start. Anything else
-/// was written over one.
+/// Whether the text of a lock file that stood there marks changes that may be unsynced, in this
+/// start of the machine. A cleared one is none, nor the text of another start. Anything else was
+/// written over one; and the empty text is that of a file that took the place of another.
 pub fn is_mark(text: &str, boot: &Option<String>) -> bool {
     match boot {
-        _ if text.is_empty() || text == CLEARED => false,
+        _ if text == CLEARED => false,
         Some(name) if is_start(text) => text == name.as_str(),
         _ => true,
     }

@@ -1,6 +1,7 @@
 //! What the adapters need of a system, and what waits there for a sync.
 #![tactic(auto)]
 
+mod most_threads;
 mod open_files;
 mod sets;
 mod system;

@@ -1,7 +1,7 @@
 //! New files that stay open until they are synced.
 use crate::system::System;
 use crate::touched::Touched;
-use fp_realfiles::Failure;
+use fp_system::Failure;
 use std::alloc::{AllocError, Global};
 use std::collections::BTreeMap;
 use std::thread::Threads;

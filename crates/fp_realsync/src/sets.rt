@@ -1,6 +1,6 @@
 //! Sets of paths that are made to last.
 use crate::system::System;
-use fp_realfiles::{Failure, Unsynced, is_denied, sync_at, sync_own};
+use fp_system::{Failure, Unsynced, is_denied, sync_at, sync_own};
 use std::alloc::{AllocError, Global};
 use std::collections::BTreeSet;
 use std::thread::Threads;

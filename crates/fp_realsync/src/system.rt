@@ -1,7 +1,8 @@
 //! What the adapters need of a system beside what std names.
 ghost use Rattle.std.specs.Thread.{IsSync};
 
-use fp_realfiles::{Failure, sync_by_threads, sync_open_in_turn};
+use crate::most_threads::most_threads;
+use fp_system::{Failure, NewFile, Work, make_by_threads, sync_by_threads, sync_open_in_turn};
 use std::fs::{File, TryLockError};
 use std::io;
 use std::io::IsTerminal;
@@ -38,6 +39,12 @@ pub trait System: Files + Eprint + AllocGlobal {
         requires sync { IsSync T.row }
     {
         sync_open_in_turn(files)
+    }
+
+    /// Makes new files, which last then. They may be made at once, or by threads that are at work
+    /// until they are joined.
+    fn make_files<T: Threads>(&self, _threads: &T, files: Vec<NewFile>) -> Work {
+        Work::at_once(self, self.alloc(), files)
     }
 
     /// Whether the standard output is a terminal.
@@ -79,6 +86,10 @@ impl System for HostRuntime {
         requires sync { IsSync T.row }
     {
         sync_by_threads(threads, self, files)
+    }
+
+    fn make_files<T: Threads>(&self, threads: &T, files: Vec<NewFile>) -> Work {
+        make_by_threads(self, threads, self.alloc(), files, most_threads(self))
     }
 
     fn prints_to_terminal(&self) -> bool {

@@ -3,8 +3,7 @@ ghost use Rattle.std.specs.Prelude.{◌≡◌, Bool, true, OnOk};
 
 use crate::sets::sync_set;
 use crate::system::System;
-use fp_realfiles::Unsynced;
-use fp_system::{Call, Cause, folder_of, note};
+use fp_system::{Call, Cause, Unsynced, folder_of, note};
 use std::alloc::{AllocError, Global};
 use std::collections::BTreeSet;
 use std::marker::Model;

@@ -1,7 +1,5 @@
 //! What each call does to a real folder.
-use fp_realacts::{Act, tell};
-use fp_reallog::Kind;
-use fp_realplay::{Made, Part, Step};
+use fp_realplay::{Act, Kind, Made, Part, Step, tell};
 use fp_realroot::Access;
 
 /// Calls, a path, and what it shows after each.

@@ -1,11 +1,38 @@
-//! Tests of a real folder as a host: what its calls do, over real folders.
+//! Tests of the adapters over real folders: what a host's calls do, what the system is asked, in
+//! order, what several threads sync, the lock, folders as remotes, and an input as a source.
 #![tactic(auto)]
 
 #[cfg(test)]
+mod bits;
+#[cfg(test)]
 mod calls;
 #[cfg(test)]
+mod far;
+#[cfg(test)]
+mod held;
+#[cfg(test)]
+mod hostile;
+#[cfg(test)]
+mod input;
+#[cfg(test)]
+mod later;
+#[cfg(test)]
+mod layout;
+#[cfg(test)]
+mod left;
+#[cfg(test)]
 mod links;
+#[cfg(test)]
+mod names;
+#[cfg(test)]
+mod order;
+#[cfg(test)]
+mod others;
+#[cfg(test)]
+mod remotes;
 #[cfg(test)]
 mod shown;
 #[cfg(test)]
 mod stored;
+#[cfg(test)]
+mod synced;

@@ -1,7 +1,5 @@
 //! Symlinks above a path, which no call follows.
-use fp_realacts::{Act, FAULT, Remote, tell};
-use fp_reallog::Kind;
-use fp_realplay::{Made, Part, Step};
+use fp_realplay::{Act, FAULT, Kind, Made, Part, Remote, Step, tell};
 use fp_realroot::Access;
 
 /// A folder `links` with a root whose `repo` leads to the folder `outside` beside it, and that is

@@ -1,6 +1,6 @@
 //! What is printed to a terminal.
 use fp_realhost::Screen;
-use fp_reallog::{Kind, Log, Logged};
+use fp_realplay::{Kind, Log, Logged};
 use std::panic::Expect;
 use std::process::Abort;
 

@@ -1,7 +1,5 @@
 //! Times and bits of stored files.
-use fp_realacts::{Act, tell};
-use fp_reallog::Kind;
-use fp_realplay::{Part, Step};
+use fp_realplay::{Act, Kind, Part, Step, tell};
 use fp_realroot::Access;
 
 const STORED: [Step<'static>; 8] = [

@@ -8,6 +8,10 @@ use std::{fmt, io};
 /// The system's number of the error that nothing stands there: ENOENT of Linux.
 pub const NO_ENTRY: i32 = 2;
 
+/// The system's number of the error that a process has as many open files as it may have: EMFILE of
+/// Linux.
+const TOO_MANY_OPEN: i32 = 24;
+
 /// Why the system refused a call, or what breaks the call's condition.
 #[derive(Clone, Copy, Debug)]
 pub enum Cause {
@@ -45,6 +49,8 @@ pub enum Cause {
     OnlyLooks,
     /// An earlier sync failed, or a change could not be noted.
     MayBeLost,
+    /// No file of fpk's is in the folder, and what stands there would be taken away.
+    NotOurs,
 }
 
 impl Cause {
@@ -78,6 +84,20 @@ impl Cause {
         matches!(self.kind(), ErrorKind::NotFound | ErrorKind::NotADirectory)
     }
 
+    /// Whether the process has as many open files as it may have.
+    pub fn is_too_many_open(self) -> bool {
+        matches!(self, Cause::Number(TOO_MANY_OPEN))
+    }
+
+    /// Whether a file system takes no sync of this file or folder: what has nothing to sync answers
+    /// EINVAL, and what is never written EROFS.
+    pub fn is_no_sync(self) -> bool {
+        matches!(
+            self.kind(),
+            ErrorKind::InvalidInput | ErrorKind::ReadOnlyFilesystem
+        )
+    }
+
     /// The words for what no system refused.
     fn words(self) -> &'static str {
         match self {
@@ -97,6 +117,7 @@ impl Cause {
             Cause::InTheWay => "what stands there is no file or symlink",
             Cause::OnlyLooks => "it was opened only to be looked at",
             Cause::MayBeLost => "an earlier change or sync failed and may be lost",
+            Cause::NotOurs => "nothing shows that its folder is an installation of fpk's",
         }
     }
 }

@@ -7,6 +7,7 @@ use fp_base::Text;
 use std::alloc::Global;
 use std::error::Error;
 use std::fmt;
+use std::io::ErrorKind;
 use std::marker::Model;
 
 /// What an adapter asked of the system.
@@ -26,6 +27,8 @@ pub enum Call {
     Create,
     /// Adding bytes to a file.
     Append,
+    /// Setting the time of a file's last change.
+    Date,
     /// Making a hard link.
     Link,
     /// Making a symlink.
@@ -38,6 +41,8 @@ pub enum Call {
     RemoveDir,
     /// Finding or making the root folder.
     Enter,
+    /// Making a folder an installation that holds what isn't fpk's.
+    TakeOver,
     /// Opening a file or folder that is to be synced.
     Open,
     /// Making what was done last.
@@ -60,11 +65,13 @@ impl Call {
             Call::MakeDir => "make the folder",
             Call::Create => "create",
             Call::Append => "write to",
+            Call::Date => "date",
             Call::Link | Call::Symlink => "make the link",
             Call::Rename => "rename to",
             Call::Unlink => "remove",
             Call::RemoveDir => "remove the folder",
             Call::Enter => "use the folder",
+            Call::TakeOver => "take over",
             Call::Open => "open",
             Call::Sync => "sync",
             Call::Say => "print",
@@ -118,6 +125,11 @@ impl SystemError {
             path: None,
             cause,
         }
+    }
+
+    /// Whether something was printed for a reader that is gone.
+    pub fn is_closed_pipe(&self) -> bool {
+        self.call == Call::Say && self.cause.is(ErrorKind::BrokenPipe)
     }
 }
 

@@ -1,0 +1,273 @@
+//! The calls of a host over a folder of the system that only read. They make nothing: a root that
+//! is absent reads as an empty folder.
+ghost use Rattle.std.specs.Prelude.{◌≤◌, length, IfOk, IfSome};
+ghost use Rattle.fp_host.specs.Reads.{AreNames, HasBits};
+
+use crate::crew::Crew;
+use crate::special::link_text;
+use crate::tree::Tree;
+use fp_base::{Items, Text};
+use fp_host::{Path, Stat};
+use fp_realnotes::Notes;
+use fp_realroot::{LOCK_NAME, System, find_file, list_names, sorted_names};
+use fp_system::{Cause, Folders, Found, Kind, Reader, asked_bits, look};
+use std::alloc::Global;
+use std::io::ErrorKind;
+use std::rt::Files;
+use std::thread::Threads;
+
+impl<R: System> Tree<'_, R> {
+    /// What stands at the path.
+    pub fn stat<T: System + Threads>(
+        &mut self,
+        crew: &Crew<'_, T>,
+        path: &Path,
+    ) -> Result<Stat, Cause>
+        ensures { IfOk result HasBits }
+    {
+        match self.locate(path) {
+            Ok(_) if path.is_root() => Ok(Stat::Dir),
+            Ok(below) => match known_stat(&self.at, &self.notes) {
+                Some(known) => known,
+                None => self.look(crew, below),
+            },
+            Err(e) => Err(e),
+        }
+    }
+
+    /// What the system tells of the path. A file that waits there is made before.
+    fn look<T: System + Threads>(&mut self, crew: &Crew<'_, T>, below: usize) -> Result<Stat, Cause>
+        ensures { IfOk result HasBits }
+    {
+        self.make_at(crew);
+        stat_at(self.rt, &self.at, below, &mut self.notes)
+    }
+
+    /// The names in a folder, without that of the lock file. Where the system is asked for them, all
+    /// files that wait are made before.
+    pub fn list<T: System + Threads>(
+        &mut self,
+        crew: &Crew<'_, T>,
+        alloc: Global,
+        path: &Path,
+    ) -> Result<Items<Text>, Cause>
+        ensures { IfOk result AreNames }
+    {
+        match self.reach(path) {
+            Ok(()) => {
+                if !self.notes.made.has_names(&self.at) {
+                    self.make_waiting(crew);
+                }
+                self.list_at(alloc, path.is_root())
+            }
+            Err(e) => Err(e),
+        }
+    }
+
+    fn list_at(&mut self, alloc: Global, is_root: bool) -> Result<Items<Text>, Cause>
+        ensures { IfOk result AreNames }
+    {
+        if is_root {
+            list_root(self.rt, alloc, &self.at, self.gate.is_there())
+        } else {
+            list_folder(self.rt, alloc, &self.at, &mut self.notes)
+        }
+    }
+
+    /// Reads the file from a place on, until the buffer is full or the file ends, and answers how
+    /// many bytes it read.
+    pub fn read_at<T: System + Threads>(
+        &mut self,
+        crew: &Crew<'_, T>,
+        path: &Path,
+        from: u64,
+        into: &mut [u8],
+    ) -> Result<usize, Cause>
+        ensures { IfOk result (λ n. n ≤ length into.old) }
+    {
+        match self.reach(path) {
+            Ok(()) => match self.later.read(&self.at, from, into) {
+                Some(count) => Ok(count),
+                None => self.read_made(crew, from, into),
+            },
+            Err(e) => Err(e),
+        }
+    }
+
+    fn read_made<T: System + Threads>(
+        &mut self,
+        crew: &Crew<'_, T>,
+        from: u64,
+        into: &mut [u8],
+    ) -> Result<usize, Cause>
+        ensures { IfOk result (λ n. n ≤ length into.old) }
+    {
+        self.make_at(crew);
+        let is_found = is_file(&self.at, &self.notes);
+        read_piece(self.rt, &self.at, is_found, &mut self.reader, from, into)
+    }
+
+    /// The text of a symlink.
+    pub fn read_link<T: System + Threads>(
+        &mut self,
+        crew: &Crew<'_, T>,
+        alloc: Global,
+        path: &Path,
+    ) -> Result<Text, Cause> {
+        match self.reach(path) {
+            Ok(()) => {
+                self.make_at(crew);
+                link_text(self.rt, alloc, &self.at)
+            }
+            Err(e) => Err(e),
+        }
+    }
+}
+
+/// Whether a file was found or made there.
+fn is_file(at: &str, notes: &Notes) -> bool {
+    notes.files.has(at) || notes.made.is_file(at)
+}
+
+/// What is remembered of the path, which isn't looked at again.
+fn known_stat(at: &str, notes: &Notes) -> Option<Result<Stat, Cause>>
+    ensures { IfSome result (λ known. IfOk known HasBits) }
+{
+    if notes.folders.has(at) {
+        return Some(Ok(Stat::Dir));
+    }
+    if notes.made.is_absent(at) {
+        return Some(Ok(Stat::Absent));
+    }
+    if let Some(made) = notes.made.stat(at) {
+        return Some(Ok(made));
+    }
+    match notes.files.get(at) {
+        Some(found) => Some(stat_of(found)),
+        None => None,
+    }
+}
+
+/// What stands at the path, by the system.
+fn stat_at<R: Files>(rt: &R, at: &str, below: usize, notes: &mut Notes) -> Result<Stat, Cause>
+    ensures { IfOk result HasBits }
+{
+    match notes.folders.look_above(rt, at, below) {
+        Ok(true) => stat_below(rt, at, notes),
+        Ok(false) => Ok(Stat::Absent),
+        Err(e) => Err(e),
+    }
+}
+
+/// The same of a path above which no symlink stands.
+fn stat_below<R: Files>(rt: &R, at: &str, notes: &mut Notes) -> Result<Stat, Cause>
+    ensures { IfOk result HasBits }
+{
+    match look(rt, at) {
+        Ok(found) => {
+            notes.add_found(at, found);
+            stat_of(&found)
+        }
+        Err(e) => Err(e),
+    }
+}
+
+/// A file is told with the bits that were asked for. A pipe, socket or device is told as a symlink.
+fn stat_of(found: &Found) -> Result<Stat, Cause>
+    ensures { IfOk result HasBits }
+{
+    if found.kind == Kind::Other {
+        return Ok(Stat::Link);
+    }
+    match found.stat() {
+        Ok(Stat::File { id, mode, size }) => Ok(Stat::File {
+            id,
+            mode: asked_bits(mode),
+            size,
+        }),
+        told => told,
+    }
+}
+
+/// All but the file that is locked.
+fn list_root<R: System>(
+    rt: &R,
+    alloc: Global,
+    at: &str,
+    is_there: bool,
+) -> Result<Items<Text>, Cause>
+    ensures { IfOk result AreNames }
+{
+    if is_there {
+        list_names(rt, alloc, at, LOCK_NAME)
+    } else {
+        Ok(Items::from_vec(Vec::new(alloc)))
+    }
+}
+
+fn list_folder<R: System>(
+    rt: &R,
+    alloc: Global,
+    at: &str,
+    notes: &mut Notes,
+) -> Result<Items<Text>, Cause>
+    ensures { IfOk result AreNames }
+{
+    match notes.made.names(alloc, at) {
+        Some(Ok(names)) => sorted_names(names, ""),
+        Some(Err(_)) => Err(Cause::NoMemory),
+        None => list_found(rt, alloc, at, &mut notes.folders),
+    }
+}
+
+/// The same of a folder that the host didn't make.
+fn list_found<R: System>(
+    rt: &R,
+    alloc: Global,
+    at: &str,
+    folders: &mut Folders,
+) -> Result<Items<Text>, Cause>
+    ensures { IfOk result AreNames }
+{
+    match folders.is_folder(rt, at) {
+        Ok(true) => list_names(rt, alloc, at, ""),
+        Ok(false) => Err(Cause::Kind(ErrorKind::NotADirectory)),
+        Err(e) => Err(e),
+    }
+}
+
+fn read_piece<R: Files>(
+    rt: &R,
+    at: &str,
+    is_found: bool,
+    reader: &mut Reader<R::File>,
+    from: u64,
+    into: &mut [u8],
+) -> Result<usize, Cause>
+    ensures { IfOk result (λ n. n ≤ length into.old) }
+{
+    match begin(rt, at, is_found, reader, from) {
+        Ok(()) => reader.read(from, into),
+        Err(e) => Err(e),
+    }
+}
+
+/// Opens the file where the read begins it. One that was found isn't looked at again.
+fn begin<R: Files>(
+    rt: &R,
+    at: &str,
+    is_found: bool,
+    reader: &mut Reader<R::File>,
+    from: u64,
+) -> Result<(), Cause> {
+    if !reader.begins(at, from) {
+        return Ok(());
+    }
+    if is_found {
+        return reader.open(rt, at);
+    }
+    match find_file(rt, at) {
+        Ok(_) => reader.open(rt, at),
+        Err(e) => Err(e),
+    }
+}

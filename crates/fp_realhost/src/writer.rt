@@ -1,0 +1,203 @@
+//! The file that was written last.
+use crate::below::is_below;
+use fp_realroot::{OpenFiles, open_own, open_to_read};
+use fp_system::{Call, Cause, NewFile, Unsynced, create_new, date, give_bits, known, note};
+use std::alloc::Global;
+use std::collections::BTreeSet;
+use std::fs::{OpenFile, OpenOptions};
+use std::io::Write;
+use std::rt::Files;
+
+/// At most one open file, with its path. An object that waits for the store is dated when it was
+/// written, while it is open.
+pub struct Writer<F> {
+    alloc: Global,
+    // The folder below which objects wait.
+    waiting: String,
+    at: String,
+    file: Option<F>,
+    // The objects that were dated, and not written since.
+    dated: BTreeSet<String>,
+}
+
+impl<F: Drop> Drop for Writer<F> {
+    fn drop(self) {
+        let Writer {
+            alloc: _,
+            waiting: _,
+            at: _,
+            file: _,
+            dated: _,
+        } = self;
+    }
+}
+
+impl<F: Drop> Writer<F> {
+    /// No file is open, and no object was dated. Objects wait below this folder of the system.
+    pub fn nothing(alloc: Global, waiting: String) -> Self {
+        Writer {
+            alloc,
+            waiting,
+            at: String::new(alloc),
+            file: None,
+            dated: BTreeSet::new(alloc),
+        }
+    }
+
+    /// The path has no file any more, or another one.
+    pub fn close_at(&mut self, at: &str) {
+        self.dated.remove(at);
+        if self.at.as_str() == at {
+            self.file = None;
+        }
+    }
+
+    /// Whether the file at the path is dated once it is written.
+    pub fn dates(&self, at: &str) -> bool {
+        is_below(at, &self.waiting)
+    }
+
+    /// The file at the path was dated when it was made.
+    pub fn add_dated(&mut self, at: &str) {
+        let _noted = note(self.alloc, &mut self.dated, at);
+    }
+
+    fn is_at(&self, at: &str) -> bool {
+        self.file.is_some() && self.at.as_str() == at
+    }
+
+    /// Keeps the file in the place of the one before.
+    fn keep(&mut self, at: &str, file: F) -> Result<(), Cause> {
+        self.at.clear();
+        match self.at.push_str(at) {
+            Ok(()) => {
+                self.file = Some(file);
+                Ok(())
+            }
+            Err(_) => {
+                self.file = None;
+                Err(Cause::NoMemory)
+            }
+        }
+    }
+}
+
+impl<F: Write + OpenFile + Drop> Writer<F> {
+    /// Keeps a file that was created, and gives it exactly these permission bits, unless it is
+    /// known to have them.
+    pub fn keep_new(&mut self, at: &str, file: F, mode: u32, is_given: bool) -> Result<(), Cause> {
+        let given = if is_given {
+            Ok(())
+        } else {
+            give_bits(&file, mode)
+        };
+        match self.keep(at, file) {
+            Ok(()) => given,
+            Err(e) => Err(e),
+        }
+    }
+
+    /// Lets the file go that was written last, which stays open until it is synced. Where it is an
+    /// object that waits for the store, it is dated; where that fails, it is dated later.
+    pub fn finish(&mut self, open: &mut OpenFiles<F>) {
+        if let Some(file) = self.file.take() {
+            if is_below(&self.at, &self.waiting) && date(&file).is_ok() {
+                let _noted = note(self.alloc, &mut self.dated, &self.at);
+            }
+            open.keep(&self.at, file);
+        }
+    }
+
+    /// Makes a file with its bytes, which may be written on.
+    pub fn make<R: Files<File = F>>(
+        &mut self,
+        rt: &R,
+        file: &NewFile,
+        open: &mut OpenFiles<F>,
+    ) -> Result<(), Unsynced> {
+        match self.create(rt, file, open) {
+            Ok(()) => self.fill(&file.bytes),
+            Err(cause) => Err(Unsynced {
+                call: Call::Create,
+                cause,
+            }),
+        }
+    }
+
+    fn create<R: Files<File = F>>(
+        &mut self,
+        rt: &R,
+        file: &NewFile,
+        open: &mut OpenFiles<F>,
+    ) -> Result<(), Cause> {
+        match create_new(rt, &file.at, file.mode) {
+            Ok(opened) => {
+                self.finish(open);
+                self.keep_new(&file.at, opened, file.mode, file.is_granted)
+            }
+            Err(e) => Err(e),
+        }
+    }
+
+    fn fill(&mut self, bytes: &[u8]) -> Result<(), Unsynced> {
+        match self.write(bytes) {
+            Ok(()) => Ok(()),
+            Err(cause) => Err(Unsynced {
+                call: Call::Append,
+                cause,
+            }),
+        }
+    }
+
+    /// Writes at the end of a file of ours.
+    pub fn append<R: Files<File = F>>(
+        &mut self,
+        rt: &R,
+        at: &str,
+        bytes: &[u8],
+        open: &mut OpenFiles<F>,
+    ) -> Result<(), Cause> {
+        self.dated.remove(at);
+        if self.is_at(at) {
+            return self.write(bytes);
+        }
+        self.finish(open);
+        match self.open(rt, at) {
+            Ok(()) => self.write(bytes),
+            Err(e) => Err(e),
+        }
+    }
+
+    fn write(&mut self, bytes: &[u8]) -> Result<(), Cause> {
+        match &mut self.file {
+            Some(file) => known(file.write_all(bytes)),
+            None => Err(Cause::NotNew),
+        }
+    }
+
+    fn open<R: Files<File = F>>(&mut self, rt: &R, at: &str) -> Result<(), Cause> {
+        match open_own(rt, OpenOptions::new().append(true), at) {
+            Ok(file) => self.keep(at, file),
+            Err(e) => Err(e),
+        }
+    }
+
+    /// Dates the last change of a file of ours to the beginning of 1970, as OSTree dates what it
+    /// stores.
+    pub fn date<R: Files<File = F>>(&self, rt: &R, at: &str) -> Result<(), Cause> {
+        if self.dated.contains(at) {
+            return Ok(());
+        }
+        match &self.file {
+            Some(file) if self.at.as_str() == at => date(file),
+            _ => date_at(rt, at),
+        }
+    }
+}
+
+fn date_at<R: Files>(rt: &R, at: &str) -> Result<(), Cause> {
+    match open_to_read(rt, at) {
+        Ok(file) => date(&file),
+        Err(e) => Err(e),
+    }
+}

@@ -1,0 +1,75 @@
+//! What other programs put in the way, and how few files may be open.
+use fp_realplay::{Act, Kind, Part, Step, tell};
+use fp_realroot::Access;
+
+const DEVICES: [(Step<'static>, &str, &str); 1] = [(Step::Stat(""), "null", "a character device")];
+
+/// A device is told as a symlink, and never opened.
+const DEVICE: [Act<'static>; 1] = [Act::Run(
+    Access::Look,
+    "/dev",
+    &[Part::Show(&DEVICES), Part::Fail(&[Step::Read("null")])],
+    (1, "cannot read /dev/null: it is no regular file"),
+)];
+
+const TAKEN: [Step<'static>; 4] = [
+    Step::Create("kept", 0o644),
+    Step::Append("kept", "words"),
+    Step::Symlink("kept", "b"),
+    Step::Create("a", 0o644),
+];
+
+/// Where a symlink stands in the place of a copy, what it leads to stays as it is.
+const LEADING: [Act<'static>; 1] = [Act::Logged(
+    Access::Change,
+    "leading",
+    &[
+        Part::Done(&TAKEN),
+        Part::Fail(&[Step::Link("a", "b")]),
+        Part::Show(&[(Step::Stat("b"), "kept", "644 5 words")]),
+    ],
+)];
+
+/// With four open files, the lock among them, each call is done: what is open is synced and closed.
+/// New files are made so, too.
+const NARROW: [Step<'static>; 17] = [
+    Step::Create("a", 0o644),
+    Step::Create("b", 0o644),
+    Step::Create("c", 0o644),
+    Step::Create("d", 0o644),
+    Step::List(""),
+    Step::Append("a", "bytes"),
+    Step::Append("b", "bytes"),
+    Step::Append("c", "bytes"),
+    Step::Append("d", "bytes"),
+    Step::Read("b"),
+    Step::Append("a", "more"),
+    Step::Append("b", "more"),
+    Step::Append("c", "more"),
+    Step::Append("d", "more"),
+    Step::Create("e", 0o644),
+    Step::Append("e", "bytes"),
+    Step::Sync,
+];
+
+const MADE: [(Step<'static>, &str, &str); 2] = [
+    (Step::Stat(""), "a", "644 9 bytesmore"),
+    (Step::Stat(""), "e", "644 5 bytes"),
+];
+
+const FEW: [Act<'static>; 1] = [Act::Logged(
+    Access::Change,
+    "few",
+    &[Part::Done(&NARROW), Part::Show(&MADE)],
+)];
+
+#[test]
+fn what_is_in_the_way_is_left_alone(rt: HostRuntime) {
+    assert!(rt; tell(&rt, &rt, "none", Kind::Plain, &DEVICE));
+    assert!(rt; tell(&rt, &rt, "leading", Kind::Crowded(""), &LEADING));
+}
+
+#[test]
+fn few_open_files_are_enough(rt: HostRuntime) {
+    assert!(rt; tell(&rt, &rt, "few", Kind::Narrow(4), &FEW));
+}
