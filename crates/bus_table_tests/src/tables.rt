@@ -102,9 +102,24 @@ fn opened(alloc: Global) -> Result<Filter, Fail> {
     Ok(Filter::new(alloc, policy, None, &owners)?)
 }
 
-/// Whether all calls go on where none is answered yet, then all returns, and nothing is left.
+/// Whether each message of this kind goes on, and so many peers and calls are kept then.
+fn pass_and_leave(
+    alloc: Global,
+    filter: &mut Filter,
+    kind: &Kind,
+    kept: u32,
+) -> Result<bool, Fail> {
+    Ok(all_pass(alloc, filter, kind)? && filter.count_kept() == kept as usize)
+}
+
+/// Whether all calls go on where none is answered yet, then all returns, and nothing is left but
+/// the peer.
 fn calls_and_returns_pass(alloc: Global, filter: &mut Filter) -> Result<bool, Fail> {
-    Ok(all_pass(alloc, filter, &CALL)? && all_pass(alloc, filter, &RETURN)? && filter.end().is_ok())
+    Ok(
+        pass_and_leave(alloc, filter, &CALL, CALLS + 1)?
+            && pass_and_leave(alloc, filter, &RETURN, 1)?
+            && filter.end().is_ok(),
+    )
 }
 
 /// Whether a filter at its opening takes many calls, and then their returns.

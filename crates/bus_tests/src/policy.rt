@@ -229,7 +229,7 @@ fn bad_rules(rt: HostRuntime) {
 }
 
 /// Calls of the client: to a name at talk, see, none; without a reply; by a rule and past it; to
-/// the client itself.
+/// the client itself. Its signals: a rule for calls opens a name for no signal.
 const CALLS: &str = "\
 c 1 0 1 - - org.foo.x - M - - Pass
 c 1 0 1 - - org.bar - M - - Deny
@@ -242,6 +242,7 @@ c 1 0 1 - - :1.8 - M - - Hide
 c 1 0 1 - - :1.1 - M - - Pass
 c 4 0 1 - - - - M - - Pass
 c 4 0 1 - - org.bar - M - - Drop
+c 4 0 1 - - org.ruled.a a.b C - - Drop
 c 5 0 1 - - org.foo - M - - Drop
 c 2 0 1 1 - org.foo - M - - Drop";
 
@@ -249,6 +250,9 @@ c 2 0 1 1 - org.foo - M - - Drop";
 const DRIVER_CALLS: &str = "\
 c 1 0 1 - - org.freedesktop.DBus org.freedesktop.DBus Hello - - Pass
 c 1 0 1 - - - - GetId - - Pass
+c 1 0 1 - - org.freedesktop.DBus - GetId - - Pass
+c 1 0 1 - - org.freedesktop.DBus - ListNames - - Pass
+c 1 0 1 - - org.freedesktop.DBus - Ping - - Deny
 c 1 0 1 - - org.freedesktop.DBus org.freedesktop.DBus AddMatch s 0d000000747970653d277369676e616c2700 Pass
 c 1 0 1 - - org.freedesktop.DBus org.freedesktop.DBus AddMatch s 16000000613d2762272c656176657364726f703d27747275652700 Deny
 c 1 0 1 - - org.freedesktop.DBus org.freedesktop.DBus AddMatch u 05000000 Deny
@@ -259,6 +263,7 @@ c 1 0 1 - - org.freedesktop.DBus org.freedesktop.DBus StartServiceByName su 0700
 c 1 0 1 - - org.freedesktop.DBus org.freedesktop.DBus RequestName su 070000006f72672e6f776e0000000000 Pass
 c 1 0 1 - - org.freedesktop.DBus org.freedesktop.DBus RequestName su 070000006f72672e666f6f0000000000 Deny
 c 1 0 1 - - org.freedesktop.DBus org.freedesktop.DBus BecomeMonitor - - Deny
+c 1 0 1 - - org.freedesktop.DBus org.freedesktop.DBus GetAdtAuditSessionData s 070000006f72672e666f6f00 Deny
 c 1 0 1 - - org.freedesktop.DBus org.freedesktop.DBus.Peer Ping - - Pass
 c 1 0 1 - - org.freedesktop.DBus org.freedesktop.DBus.Peer Hello - - Deny
 c 1 0 1 - - org.freedesktop.DBus org.freedesktop.DBus.Introspectable Introspect - - Pass
@@ -279,25 +284,48 @@ b 2 0 14 7 org.freedesktop.DBus :1.1 - M as 00000000 Drop
 c 1 0 8 - - org.freedesktop.DBus org.freedesktop.DBus ListNames - - Pass
 b 3 0 15 8 org.freedesktop.DBus :1.1 - M - - Pass";
 
-/// Serials that are used again after a call listed names: a bus answers such a call that wants no
-/// reply, and both of two calls. No other call with its serial gets the names.
+/// Serials that come again, with one of a call that lists names or without: a bus answers such a
+/// call that wants no reply, and both of two calls. A list that the bus itself returns is filtered
+/// then, and what is no list passes.
 const SERIALS_AGAIN: &str = "\
 c 1 1 9 - - org.freedesktop.DBus org.freedesktop.DBus ListNames - - Pass
 b 2 0 12 9 org.freedesktop.DBus :1.1 - M as 0c000000070000006f72672e62617200 Drop
 c 1 0 9 - - org.freedesktop.DBus org.freedesktop.DBus GetId - - Pass
 b 2 0 13 9 org.freedesktop.DBus :1.1 - M as 0c000000070000006f72672e62617200 FilterNameList
-b 2 0 14 9 org.freedesktop.DBus :1.1 - M s 070000006f72672e62617200 Drop
 c 1 0 9 - - org.freedesktop.DBus org.freedesktop.DBus GetId - - Pass
+b 2 0 14 9 org.freedesktop.DBus :1.1 - M s 070000006f72672e62617200 Pass
 b 2 0 15 9 org.freedesktop.DBus :1.1 - M s 070000006f72672e62617200 Drop
 c 1 0 10 - - org.freedesktop.DBus org.freedesktop.DBus ListActivatableNames - - Pass
 c 1 0 10 - - org.freedesktop.DBus org.freedesktop.DBus ListNames - - Pass
 b 2 0 16 10 org.freedesktop.DBus :1.1 - M as 0c000000070000006f72672e62617200 FilterNameList
 b 2 0 17 10 org.freedesktop.DBus :1.1 - M as 0c000000070000006f72672e62617200 Drop
 c 1 0 10 - - org.foo - M - - Pass
-b 2 0 18 10 org.freedesktop.DBus :1.1 - M as 0c000000070000006f72672e62617200 FilterNameList
+b 2 0 18 10 - :1.1 - M as 0c000000070000006f72672e62617200 FilterNameList
 c 1 1 11 - - org.freedesktop.DBus org.freedesktop.DBus GetId - - Pass
 c 1 0 11 - - org.freedesktop.DBus org.freedesktop.DBus GetId - - Pass
-b 2 0 19 11 org.freedesktop.DBus :1.1 - M s 070000006f72672e62617200 Pass";
+b 2 0 19 11 org.freedesktop.DBus :1.1 - M s 070000006f72672e62617200 Pass
+c 1 0 12 - - org.freedesktop.DBus org.freedesktop.DBus GetId - - Pass
+b 2 0 20 12 org.freedesktop.DBus :1.1 - M as 0c000000070000006f72672e62617200 Pass
+c 1 0 5 - - org.freedesktop.DBus org.freedesktop.DBus GetId - - Pass
+b 2 0 21 5 org.freedesktop.DBus :1.1 - M as 0c000000070000006f72672e62617200 FilterNameList
+c 1 0 13 - - org.freedesktop.DBus org.freedesktop.DBus GetId - - Pass
+c 1 0 13 - - org.freedesktop.DBus org.freedesktop.DBus Hello - - Pass
+b 2 0 22 13 org.freedesktop.DBus :1.1 - M as 05000000 Drop";
+
+/// A serial with which the client listed names, then called a peer: what the peer returns is its
+/// own, whatever it is.
+const PEERS_AGAIN: &str = "\
+c 1 0 9 - - org.freedesktop.DBus org.freedesktop.DBus ListNames - - Pass
+b 2 0 12 9 org.freedesktop.DBus :1.1 - M as 0c000000070000006f72672e62617200 FilterNameList
+c 1 0 9 - - org.foo - M - - Pass
+b 2 0 13 9 :1.7 :1.1 - M s 070000006f72672e62617200 Pass
+c 1 0 9 - - org.foo - M - - Pass
+b 2 0 14 9 :1.7 :1.1 - M as 0c000000070000006f72672e62617200 Pass
+b 2 0 15 9 :1.7 :1.1 - M as 0c000000070000006f72672e62617200 Drop
+c 1 0 10 - - org.freedesktop.DBus org.freedesktop.DBus ListNames - - Pass
+b 2 0 16 10 :1.7 :1.1 - M as 0c000000070000006f72672e62617200 Pass
+c 1 0 11 - - org.freedesktop.DBus org.freedesktop.DBus ListNames - - Pass
+b 3 0 17 11 org.freedesktop.DBus :1.1 - M s 070000006f72672e62617200 Pass";
 
 /// Calls to the client, of which each gets one reply.
 const PEER_CALLS: &str = "\
@@ -351,6 +379,7 @@ fn verdicts(rt: HostRuntime) {
         DRIVER_CALLS,
         REPLIES,
         SERIALS_AGAIN,
+        PEERS_AGAIN,
         PEER_CALLS,
         SIGNALS,
     ] {

@@ -4,8 +4,7 @@
 use crate::rows::agree;
 use crate::told::spelled;
 use bus_policy::{Level, Policy};
-use bus_proxy::{Filtered, Out, filter};
-use bus_stream::Recording;
+use bus_proxy::{Filter, Next, Out};
 use fp_base::{Blob, Items, Side, Text};
 use std::alloc::Global;
 use std::panic::Expect;
@@ -197,37 +196,54 @@ fn policy(rt: &impl Abort, alloc: Global, level: Level) -> Policy {
     policy
 }
 
-/// What becomes of messages under a policy, where names have these owners.
+/// Adds what a filter gives for a piece that it was fed: of each byte one message at most.
+fn push_given(rt: &impl Abort, filter: &mut Filter, out: &mut Vec<Out>, piece: &[u8]) {
+    for _ in 0..piece.len() {
+        match filter.next().expect(rt, "no bad message") {
+            Next::Out(message) => out.push(message).expect(rt, "memory"),
+            Next::Quiet => {}
+            Next::NotYet => return,
+        }
+    }
+}
+
+/// What goes to a side of pieces under a policy, where names have these owners.
 fn filtered(
     rt: &impl Abort,
     alloc: Global,
     policy: Policy,
-    owners: Items<(Text, Text)>,
-    pieces: Items<(Side, Blob)>,
-) -> Filtered {
-    let recording = Recording {
-        client: None,
-        owners,
-        pieces,
-    };
-    let filtered = filter(alloc, policy, &recording);
-    drop(recording);
-    filtered.expect(rt, "memory")
+    owners: &Items<(Text, Text)>,
+    pieces: &Items<(Side, Blob)>,
+) -> Vec<Out> {
+    let mut filter = Filter::new(alloc, policy, None, owners).expect(rt, "memory");
+    let mut out = Vec::new(alloc);
+    for (side, piece) in pieces.as_slice() {
+        filter.feed(*side, piece.as_slice()).expect(rt, "memory");
+        push_given(rt, &mut filter, &mut out, piece.as_slice());
+    }
+    filter.end().expect(rt, "a whole message");
+    drop(filter);
+    out
 }
 
-/// Whether these are the messages that were let through, and none was bad.
-fn are_filtered(rt: &impl Abort, alloc: Global, filtered: Filtered, wanted: &str) -> bool {
-    let is_so = filtered.bad.is_none() && are_sent(rt, alloc, filtered.out.as_slice(), wanted);
-    drop(filtered);
-    is_so
+/// Whether these messages go to a side, of these pieces.
+fn gives(
+    rt: &impl Abort,
+    alloc: Global,
+    policy: Policy,
+    owners: &Items<(Text, Text)>,
+    pieces: &Items<(Side, Blob)>,
+    wanted: &str,
+) -> bool {
+    let out = filtered(rt, alloc, policy, owners, pieces);
+    are_sent(rt, alloc, &out, wanted)
 }
 
 /// Whether a case comes to what it has to, cut into pieces of at most this many bytes.
 fn is_filtered(rt: &impl Abort, alloc: Global, case: &Case, most: usize) -> bool {
     let pieces = pieces(rt, alloc, case.sent, most);
     let policy = policy(rt, alloc, case.level);
-    let filtered = filtered(rt, alloc, policy, Items::new(alloc), pieces);
-    are_filtered(rt, alloc, filtered, case.wanted)
+    gives(rt, alloc, policy, &Items::new(alloc), &pieces, case.wanted)
 }
 
 /// Ends the test where a case, cut so, comes to something else.
@@ -275,8 +291,8 @@ fn owners(rt: &impl Abort, alloc: Global, count: u32) -> Items<(Text, Text)> {
 fn is_owned(rt: &impl Abort, alloc: Global, case: &Case, count: u32) -> bool {
     let pieces = pieces(rt, alloc, case.sent, 1000);
     let policy = policy(rt, alloc, case.level);
-    let filtered = filtered(rt, alloc, policy, owners(rt, alloc, count), pieces);
-    are_filtered(rt, alloc, filtered, case.wanted)
+    let owners = owners(rt, alloc, count);
+    gives(rt, alloc, policy, &owners, &pieces, case.wanted)
 }
 
 #[test]

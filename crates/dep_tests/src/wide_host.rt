@@ -4,7 +4,7 @@ ghost use Rattle.fp_host.specs.Reads.{AreNames, HasBits};
 
 use fp_base::{Blob, Items, Text};
 use fp_host::{Host, HostError, Path, Stat, copy_out};
-use fp_realfiles::sorted_names;
+use fp_system::sorted_names;
 use std::alloc::{AllocError, Global};
 
 /// How many applications are deployed, and how many overrides there are.

@@ -139,9 +139,8 @@ fn points_of_metadata(rt: HostRuntime) {
 }
 
 /// Texts of the key `directory`, and whether a group with each is a point.
-const DIRECTORIES: [(&str, bool); 25] = [
+const DIRECTORIES: [(&str, bool); 26] = [
     ("share", true),
-    ("share ", true),
     ("share/locale", true),
     ("lib/x86_64-linux-gnu/GL", true),
     ("a b", true),
@@ -161,7 +160,9 @@ const DIRECTORIES: [(&str, bool); 25] = [
     ("./share", false),
     ("share/../locale", false),
     ("share/.", false),
-    // what can't stand in a key
+    // what can't stand in a key, nor at its end
+    ("share ", false),
+    ("share/a\t", false),
     ("a=b", false),
     ("share/=", false),
     ("a\tb", false),
@@ -203,7 +204,7 @@ fn directories(rt: HostRuntime) {
 }
 
 /// Keys of a point's group, and its candidates for an application of the branch `stable`.
-const CANDIDATES: [(&str, &str); 17] = [
+const CANDIDATES: [(&str, &str); 19] = [
     ("", "runtime/org.x.E/x86_64/stable "),
     ("version=2", "runtime/org.x.E/x86_64/2 "),
     ("versions=2", "runtime/org.x.E/x86_64/2 "),
@@ -233,11 +234,14 @@ const CANDIDATES: [(&str, &str); 17] = [
     // a blank is a part of its entry
     ("versions=1; 2;\t3;4 ", "runtime/org.x.E/x86_64/1 "),
     ("version= 2", "runtime/org.x.E/x86_64/2 "),
-    // an entry that comes again stays
+    // an entry that comes again counts at its first place
+    ("versions=1;1", "runtime/org.x.E/x86_64/1 "),
     (
-        "versions=1;1",
-        "runtime/org.x.E/x86_64/1 runtime/org.x.E/x86_64/1 ",
+        "versions=2;1;.3;2;.3;1;3",
+        "runtime/org.x.E/x86_64/2 runtime/org.x.E/x86_64/1 runtime/org.x.E/x86_64/3 ",
     ),
+    // a `;` after a backslash ends no entry
+    ("versions=1\\;2;3", "runtime/org.x.E/x86_64/3 "),
 ];
 
 /// Whether a point with these keys besides its directory has these candidates.
@@ -303,7 +307,7 @@ const FOUND: [(&str, &str, Option<usize>); 9] = [
         None,
     ),
     // places are those among the candidates
-    (";.1;2;1", "runtime/org.x.E/x86_64/1", Some(1)),
+    (";.1;2;2;1", "runtime/org.x.E/x86_64/1", Some(1)),
     ("", "runtime/org.x.E/x86_64/stable", None),
 ];
 
@@ -370,6 +374,26 @@ fn many_candidates(rt: HostRuntime) {
     let refs = many(&rt, alloc, 1_100, "runtime/org.x.D", "/x86_64/1 ");
     let refs = joined_texts(&rt, alloc, &[&refs, "runtime/org.x.E/x86_64/v299"]);
     assert!(rt; is_found(&rt, alloc, &versions, &refs, Some(299)));
+}
+
+/// How many candidates the one point has.
+fn candidate_count(points: &[Point]) -> usize {
+    match points {
+        [point] => point.candidates.as_slice().len(),
+        _ => 0,
+    }
+}
+
+/// 100,000 entries of `versions`, of which every tenth is another one: they are taken one after
+/// another, and not each beside each.
+#[test]
+fn many_equal_candidates(rt: HostRuntime) {
+    let alloc = rt.alloc();
+    let some = many(&rt, alloc, 10_000, "v", ";");
+    let versions = some.repeat(alloc, 10).expect(&rt, "memory");
+    let keys = joined_texts(&rt, alloc, &["directory=e\nversions=", &versions]);
+    let text = group_of(&rt, alloc, &keys);
+    assert!(rt; candidate_count(points_of(&rt, alloc, &text, OF).as_slice()) == 10_000);
 }
 
 /// A version of 100 KiB is left out, and the next one is found.

@@ -3,8 +3,7 @@
 use crate::launch::is_rule;
 use bus_policy::PolicyRule;
 use fl_meta::{Mention, PermList};
-use fl_options::{is_launch_option, is_option, last_command, layer_of, option_layer};
-use fl_rules::policy_of;
+use fl_options::{is_launch_option, is_option, last_command, layer_of, option_layer, policy_of};
 use fp_base::Text;
 use std::alloc::{AllocError, Global};
 use std::panic::Expect;
@@ -92,7 +91,7 @@ fn command_length(rt: &impl Abort, alloc: Global, word: Text) -> usize {
 
 /// Whether a word is one rule.
 fn is_one_rule(rt: &impl Abort, alloc: Global, word: Text) -> bool {
-    let is_so = fl_rules::is_rule(alloc, word.as_str()).expect(rt, "memory");
+    let is_so = fl_options::is_rule(alloc, word.as_str()).expect(rt, "memory");
     let policy = policy_of(alloc, &[word]).expect(rt, "memory");
     is_so && policy.rules().len() == 1
 }

@@ -90,7 +90,7 @@ fn are_shown(rt: &impl Abort, alloc: Global, mentions: &[Mention], want: &str) -
 }
 
 /// Keys and values of the group `Context`, and what they mention.
-const LISTS: [(&str, &str); 55] = [
+const LISTS: [(&str, &str); 61] = [
     // cuts, blanks and empty entries
     ("shared=network;ipc;", "shared<network>on shared<ipc>on "),
     ("shared=network;ipc", "shared<network>on shared<ipc>on "),
@@ -107,6 +107,20 @@ const LISTS: [(&str, &str); 55] = [
         "shared=ipc;network;ipc",
         "shared<ipc>on shared<network>on shared<ipc>on ",
     ),
+    // a `;` after an odd number of backslashes belongs to its entry
+    ("filesystems=!/srv/a\\;home", "files</srv/a\\;home>off "),
+    (
+        "filesystems=/srv/a\\\\;home;",
+        "files</srv/a\\\\>rw files<home>rw ",
+    ),
+    (
+        "shared=a\\;\\\\\\;b;network;",
+        "?shared<a\\;\\\\\\;b>on shared<network>on ",
+    ),
+    ("persistent= \\; a;", "persistent<\\; a>on "),
+    // a name that ends in an odd number of them is none
+    ("persistent=.a;.b\\", "persistent<.a>on "),
+    ("filesystems=/a\\/;!/b\\:ro;/c;", "files</c>rw "),
     // `!`
     ("shared=!network;", "shared<network>off "),
     (
@@ -224,7 +238,7 @@ fn lists(rt: HostRuntime) {
 }
 
 /// Overrides, and what they mention.
-const OVERRIDES: [(&str, &str); 18] = [
+const OVERRIDES: [(&str, &str); 20] = [
     ("", ""),
     ("[Other]\nshared=network\n", ""),
     ("[Environment]\nA=b c\nA b=\n", "env<A>b c env<A b> "),
@@ -251,6 +265,11 @@ const OVERRIDES: [(&str, &str); 18] = [
     ("[Session Bus Policy]\norg.foo=ta;lk\n", ""),
     ("[Session Bus Policy]\n!org.foo=talk\n", ""),
     ("[Session Bus Policy]\norg;foo=talk\n", ""),
+    ("[Session Bus Policy]\norg.foo=talk\\\n", ""),
+    (
+        "[Session Bus Policy]\norg.foo=talk\\\\\n",
+        "?session<org.foo=talk\\\\>on ",
+    ),
     (
         "[Context]\nunknown-shared=x;!network\n",
         "?shared<x>on ?shared<network>off ",

@@ -25,7 +25,7 @@ fn is_written(rt: &impl Abort, alloc: Global, text: &str, want: &str) -> bool {
 }
 
 /// Overrides, and how each is written anew.
-const FILES: [(&str, &str); 22] = [
+const FILES: [(&str, &str); 25] = [
     ("", ""),
     ("[Context]\nshared=\n", ""),
     (
@@ -70,6 +70,19 @@ const FILES: [(&str, &str); 22] = [
     (
         "[Context]\npersistent=.b;!.a\n",
         "[Context]\npersistent=!.a;.b;\n",
+    ),
+    // backslashes
+    (
+        "[Context]\nfilesystems=!/srv/a\\;home;/b\\\\:ro\n",
+        "[Context]\nfilesystems=/b\\\\:ro;!/srv/a\\;home;\n",
+    ),
+    (
+        "[Context]\npersistent=a\\;b;c\\\n",
+        "[Context]\npersistent=a\\;b;\n",
+    ),
+    (
+        "[Context]\nunknown-session-bus=a=\\;b\n[Session Bus Policy]\na.b=c\\\n",
+        "[Context]\nunknown-session-bus=a=\\;b;\n",
     ),
     // variables and buses
     (

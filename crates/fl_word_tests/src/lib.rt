@@ -1,10 +1,17 @@
-//! Tests of what words are: commands, batches, why others are none, and the lines that are printed.
+//! Tests of what words are: commands, batches, why others are none, the lines that are printed, and
+//! what is said of refusals.
 #![tactic(auto)]
 
 #[cfg(test)]
+mod advice;
+#[cfg(test)]
 mod batches;
 #[cfg(test)]
+mod help;
+#[cfg(test)]
 mod lines;
+#[cfg(test)]
+mod notes;
 #[cfg(test)]
 mod reasons;
 #[cfg(test)]

@@ -15,49 +15,62 @@ fn is_said(rt: &impl Abort, alloc: Global, words: &[&str], want: &str) -> bool {
     said.expect(rt, "memory").as_str() == want
 }
 
-/// The usage of all commands.
-const USAGE: &str = "\
-usage: fpk pin PATTERN
-usage: fpk unpin PATTERN
-usage: fpk remote-add NAME URL
-usage: fpk remote-modify NAME URL
-usage: fpk remote-delete NAME
-usage: fpk install NAME REF
-usage: fpk update
-usage: fpk update REF
-usage: fpk uninstall REF
-usage: fpk uninstall --unused
-usage: fpk rollback REF
-usage: fpk override OPTION [OPTION..]
-usage: fpk override OPTION [OPTION..] ID
-usage: fpk override --reset
-usage: fpk override --reset ID
-usage: fpk list
-usage: fpk list --remotes
-usage: fpk list --pins
-usage: fpk list --exports
-usage: fpk info REF
-usage: fpk launch APP [OPTION..]
-usage: fpk override --show
-usage: fpk override --show ID
-usage: fpk filter [RULE..]
-usage: fpk filter --from=APP
-usage: fpk filter --system --from=APP
-usage: fpk batch
-usage: fpk fsck
-usage: fpk export NAME REF
-usage: fpk exercise COUNT
-usage: fpk show commit
-usage: fpk show dirtree
-usage: fpk show dirmeta
-usage: fpk show value TYPE
-";
-
 /// Words that are no command, and what is said of them.
-const REASONS: [(&[&str], &str); 24] = [
+const REASONS: [(&[&str], &str); 33] = [
+    (
+        &["override", "org.x.App", "--share=ipc"],
+        "fpk: 'org.x.App' is an ID, and stands after at least one option (as --share=network)\n\
+        usage: fpk override OPTION [OPTION..]\n\
+        usage: fpk override OPTION [OPTION..] ID\n\
+        usage: fpk override --reset\n\
+        usage: fpk override --reset ID\n\
+        usage: fpk override --show\n\
+        usage: fpk override --show ID\n",
+    ),
+    (
+        &["override", "--share=ipc", "--shrae=ipc"],
+        "fpk: '--shrae=ipc' is neither an option (as --share=network) nor an ID (as org.gnome.Calculator)\n\
+        usage: fpk override OPTION [OPTION..]\n\
+        usage: fpk override OPTION [OPTION..] ID\n",
+    ),
+    (
+        &["launch", "app/org.x.App/x86_64/stable", "--env=FOO"],
+        "fpk: '--env=FOO' needs =VAR=VALUE (as --env=LANG=C)\nusage: fpk launch APP [OPTION..]\n",
+    ),
+    (
+        &["launch", "app/org.x.App/x86_64/stable", "--talk-name=foo"],
+        "fpk: '--talk-name=foo' needs =N (a name on the bus, with a dot, as org.gnome.Shell)\n\
+        usage: fpk launch APP [OPTION..]\n",
+    ),
+    (
+        &[
+            "launch",
+            "app/org.x.App/x86_64/stable",
+            "--socket=x11;wayland",
+        ],
+        "fpk: '--socket=x11;wayland' needs =X (one name without ;, = and !)\n\
+        usage: fpk launch APP [OPTION..]\n",
+    ),
+    (
+        &["launch", "app/org.x.App/x86_64/stable", "--persist"],
+        "fpk: '--persist' needs =X (one name without ;, = and !)\nusage: fpk launch APP [OPTION..]\n",
+    ),
+    (
+        &["filter", "--see=org.x", "--own=foo"],
+        "fpk: '--own=foo' needs =N (a name on the bus, with a dot, as org.gnome.Shell)\n\
+        usage: fpk filter [RULE..]\n",
+    ),
+    (
+        &["filter", "--see=org.x", "--call=org.x"],
+        "fpk: '--call=org.x' needs =N=RULE (as --call=org.gnome.Shell=*)\nusage: fpk filter [RULE..]\n",
+    ),
+    (
+        &["filter", "--see=org.x", "--from=org.x.App"],
+        "fpk: '--from=org.x.App' is not a rule of the filter\nusage: fpk filter [RULE..]\n",
+    ),
     (
         &["override", "--share"],
-        "fpk: '--share' is no option\n\
+        "fpk: '--share' needs =X (one name without ;, = and !)\n\
         usage: fpk override OPTION [OPTION..]\n\
         usage: fpk override OPTION [OPTION..] ID\n\
         usage: fpk override --reset\n\
@@ -67,7 +80,7 @@ const REASONS: [(&[&str], &str); 24] = [
     ),
     (
         &["override", "--share=ipc", "global"],
-        "fpk: 'global' is no option\n\
+        "fpk: 'global' is neither an option (as --share=network) nor an ID (as org.gnome.Calculator)\n\
         usage: fpk override OPTION [OPTION..]\n\
         usage: fpk override OPTION [OPTION..] ID\n",
     ),
@@ -77,37 +90,37 @@ const REASONS: [(&[&str], &str); 24] = [
     ),
     (
         &["filter", "--see=org.x", "--see"],
-        "fpk: '--see' is no rule of the filter\nusage: fpk filter [RULE..]\n",
+        "fpk: '--see' needs =N (a name on the bus, with a dot, as org.gnome.Shell)\nusage: fpk filter [RULE..]\n",
     ),
     (
         &["filter", "--system", "--see=org.x"],
-        "fpk: '--see=org.x' isn't --from=APP: --from=app/ID/ARCH/BRANCH\n\
+        "fpk: '--see=org.x' is not --from=APP (expected --from=app/ID/ARCH/BRANCH)\n\
         usage: fpk filter --system --from=APP\n",
     ),
     (
         &["launch", "org.x.App"],
-        "fpk: 'org.x.App' is no ref of an application: app/ID/ARCH/BRANCH\n\
+        "fpk: 'org.x.App' is not a ref of an application (expected app/ID/ARCH/BRANCH)\n\
         usage: fpk launch APP [OPTION..]\n",
     ),
     (
         &["launch", "app/org.x.App/x86_64/stable", "--share=ipc", "x"],
-        "fpk: 'x' is no option of a launch\nusage: fpk launch APP [OPTION..]\n",
+        "fpk: 'x' is not an option of a launch\nusage: fpk launch APP [OPTION..]\n",
     ),
     (
         &["override", "--show", "global"],
-        "fpk: 'global' is no ID of an application\nusage: fpk override --show\nusage: fpk override --show ID\n",
+        "fpk: 'global' is not an ID of an application (expected three parts or more, as org.gnome.Calculator)\nusage: fpk override --show\nusage: fpk override --show ID\n",
     ),
     (
         &["install", "hub", "org.x.App"],
-        "fpk: 'org.x.App' is no ref: KIND/ID/ARCH/BRANCH\nusage: fpk install NAME REF\n",
+        "fpk: 'org.x.App' is not a ref (expected KIND/ID/ARCH/BRANCH)\nusage: fpk install NAME REF\n",
     ),
     (
         &["update", "org.x.App"],
-        "fpk: 'org.x.App' is no ref: KIND/ID/ARCH/BRANCH\nusage: fpk update\nusage: fpk update REF\n",
+        "fpk: 'org.x.App' is not a ref (expected KIND/ID/ARCH/BRANCH)\nusage: fpk update\nusage: fpk update REF\n",
     ),
     (
         &["uninstall"],
-        "fpk: a word is missing\nusage: fpk uninstall REF\nusage: fpk uninstall --unused\n",
+        "fpk: missing REF\nusage: fpk uninstall REF\nusage: fpk uninstall --unused\n",
     ),
     (
         &["uninstall", "--unused", "x"],
@@ -115,23 +128,23 @@ const REASONS: [(&[&str], &str); 24] = [
     ),
     (
         &["pin", "app/*/*"],
-        "fpk: 'app/*/*' is no pattern: KIND/ID/ARCH/BRANCH\nusage: fpk pin PATTERN\n",
+        "fpk: 'app/*/*' is not a pattern (expected KIND/ID/ARCH/BRANCH)\nusage: fpk pin PATTERN\n",
     ),
     (
         &["unpin"],
-        "fpk: a word is missing\nusage: fpk unpin PATTERN\n",
+        "fpk: missing PATTERN\nusage: fpk unpin PATTERN\n",
     ),
     (
         &["remote-add", "a/b", "file:///lab"],
-        "fpk: 'a/b' is no name of a remote\nusage: fpk remote-add NAME URL\n",
+        "fpk: 'a/b' is not a name of a remote (expected letters, digits, _, - and ., as lab-1)\nusage: fpk remote-add NAME URL\n",
     ),
     (
         &["remote-modify", "lab", "/lab"],
-        "fpk: '/lab' is no URL of a remote: file:///PATH\nusage: fpk remote-modify NAME URL\n",
+        "fpk: '/lab' is not a URL of a remote (expected file:///PATH with no blank, as file:///srv/lab)\nusage: fpk remote-modify NAME URL\n",
     ),
     (
         &["list", "pins"],
-        "fpk: 'pins' isn't known here\nusage: fpk list\nusage: fpk list --remotes\nusage: fpk list --pins\nusage: fpk list --exports\n",
+        "fpk: 'pins' is not known here\nusage: fpk list\nusage: fpk list --remotes\nusage: fpk list --pins\nusage: fpk list --exports\n",
     ),
     (
         &["list", "--pins", "x", "y"],
@@ -139,11 +152,11 @@ const REASONS: [(&[&str], &str); 24] = [
     ),
     (
         &["show", "value", "si"],
-        "fpk: 'si' is no type of GVariant\nusage: fpk show value TYPE\n",
+        "fpk: 'si' is not a type of GVariant\nusage: fpk show value TYPE\n",
     ),
     (
         &["exercise", "65"],
-        "fpk: '65' is no number from 1 to 64\nusage: fpk exercise COUNT\n",
+        "fpk: '65' is not a number from 1 to 64\nusage: fpk exercise COUNT\n",
     ),
     (
         &["exercise", "4", "4"],
@@ -170,13 +183,67 @@ fn reasons(rt: HostRuntime) {
     }
 }
 
-/// The usage of all commands is told where the first word is none, and where it is missing.
+/// Words with which a beginner asks, and what is said of them.
+const FIRST_WORDS: [(&[&str], &str); 16] = [
+    (&[], "fpk: a word is missing\nsee fpk --help\n"),
+    (&[""], "fpk: '' is not known here\nsee fpk --help\n"),
+    (
+        &["pins", "app/*/*/*"],
+        "fpk: 'pins' is not known here\nsee fpk --help\n",
+    ),
+    (
+        &["remote-ls", "hub"],
+        "fpk: 'remote-ls' is not known here\nsee fpk --help\n",
+    ),
+    (&["-h"], "see fpk --help\n"),
+    (&["help"], "see fpk --help\n"),
+    (&["--help", "pin"], "see fpk --help\n"),
+    (&["install", "--help"], "usage: fpk install NAME REF\n"),
+    (&["install", "hub", "-h"], "usage: fpk install NAME REF\n"),
+    (
+        &["update", "--help"],
+        "usage: fpk update\nusage: fpk update REF\n",
+    ),
+    (&["batch", "--help"], "usage: fpk batch\n"),
+    (
+        &[
+            "launch",
+            "app/org.x.App/x86_64/stable",
+            "--filesystem",
+            "home",
+        ],
+        "fpk: '--filesystem' needs =X (one name without ;, = and !)\nusage: fpk launch APP [OPTION..]\n",
+    ),
+    (
+        &["launch", "app/org.x.App/x86_64/stable", "--command="],
+        "fpk: '--command=' needs =X (one name without ;, = and !)\nusage: fpk launch APP [OPTION..]\n",
+    ),
+    (
+        &["override", "--share=ipc", "--env"],
+        "fpk: '--env' needs =VAR=VALUE (as --env=LANG=C)\n\
+        usage: fpk override OPTION [OPTION..]\n\
+        usage: fpk override OPTION [OPTION..] ID\n",
+    ),
+    (
+        &["override", "--share=ipc", "--talk-name="],
+        "fpk: '--talk-name=' needs =N (a name on the bus, with a dot, as org.gnome.Shell)\n\
+        usage: fpk override OPTION [OPTION..]\n\
+        usage: fpk override OPTION [OPTION..] ID\n",
+    ),
+    (
+        &["filter", "--call"],
+        "fpk: '--call' needs =N=RULE (as --call=org.gnome.Shell=*)\n\
+        usage: fpk filter [RULE..]\n\
+        usage: fpk filter --from=APP\n\
+        usage: fpk filter --system --from=APP\n",
+    ),
+];
+
 #[test]
-fn unknown_commands(rt: HostRuntime) {
-    let want = joined_texts(&rt, rt.alloc(), &["fpk: 'pins' isn't known here\n", USAGE]);
-    assert!(rt; is_said(&rt, rt.alloc(), &["pins", "app/*/*/*"], &want));
-    let want = joined_texts(&rt, rt.alloc(), &["fpk: a word is missing\n", USAGE]);
-    assert!(rt; is_said(&rt, rt.alloc(), &[], &want));
+fn first_words(rt: HostRuntime) {
+    for (words, want) in &FIRST_WORDS {
+        agree_on_words(&rt, words, is_said(&rt, rt.alloc(), words, want));
+    }
 }
 
 /// Whether of words after `show commit`, of which the first is this one, it is told whole.
@@ -203,7 +270,9 @@ const LINES: [(&[u8], Option<&str>); 8] = [
     (b"pin app/*/*/*\nunpin app/*/*/*", None),
     (
         b"pin app/*/*/*\npin app/*/*\npin x",
-        Some("fpk: line 2: 'app/*/*' is no pattern: KIND/ID/ARCH/BRANCH\nusage: pin PATTERN\n"),
+        Some(
+            "fpk: line 2: 'app/*/*' is not a pattern (expected KIND/ID/ARCH/BRANCH)\nusage: pin PATTERN\n",
+        ),
     ),
     (
         b"pin app/*/*/* \n",
@@ -215,35 +284,18 @@ const LINES: [(&[u8], Option<&str>); 8] = [
     ),
     (
         b"remote-delete",
-        Some("fpk: line 1: a word is missing\nusage: remote-delete NAME\n"),
+        Some("fpk: line 1: missing NAME\nusage: remote-delete NAME\n"),
     ),
     (
         b"unpin app/*/*/\xff\x01\n",
         Some(
-            "fpk: line 1: 'app/*/*/\u{fffd}\\01' is no pattern: KIND/ID/ARCH/BRANCH\n\
+            "fpk: line 1: 'app/*/*/\u{fffd}\\01' is not a pattern (expected KIND/ID/ARCH/BRANCH)\n\
             usage: unpin PATTERN\n",
         ),
     ),
     (
         b"pin app/*/*/*\n\nlist --pins\n",
-        Some(
-            "fpk: line 2: '' isn't known here\n\
-            usage: pin PATTERN\n\
-            usage: unpin PATTERN\n\
-            usage: remote-add NAME URL\n\
-            usage: remote-modify NAME URL\n\
-            usage: remote-delete NAME\n\
-            usage: install NAME REF\n\
-            usage: update\n\
-            usage: update REF\n\
-            usage: uninstall REF\n\
-            usage: uninstall --unused\n\
-            usage: rollback REF\n\
-            usage: override OPTION [OPTION..]\n\
-            usage: override OPTION [OPTION..] ID\n\
-            usage: override --reset\n\
-            usage: override --reset ID\n",
-        ),
+        Some("fpk: line 2: '' is not known here\nsee fpk --help\n"),
     ),
 ];
 
@@ -284,6 +336,7 @@ fn late_line(rt: HostRuntime) {
         .repeat(rt.alloc(), 1_100)
         .expect(&rt, "memory");
     let lines = joined_texts(&rt, rt.alloc(), &[&many, "remote-delete a/b"]);
-    let want = "fpk: line 1101: 'a/b' is no name of a remote\nusage: remote-delete NAME\n";
+    let want =
+        "fpk: line 1101: 'a/b' is not a name of a remote (expected letters, digits, _, - and ., as lab-1)\nusage: remote-delete NAME\n";
     assert!(rt; is_said_of(&rt, rt.alloc(), lines.as_bytes(), Some(want)));
 }

@@ -18,3 +18,4 @@ pub mod Results
 pub mod Viewing
 pub mod Sound
 pub mod Taking
+mod Stops

@@ -17,6 +17,7 @@ pub mod Sources
 pub mod Start
 pub mod Stats
 pub mod Stood
+pub mod Stops
 pub mod Stories
 pub mod Story
 pub mod Supply

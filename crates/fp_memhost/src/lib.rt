@@ -11,6 +11,7 @@ mod folders;
 mod history;
 mod hosting;
 mod image;
+pub mod laws;
 mod mem;
 mod names;
 mod opening;

@@ -1,11 +1,11 @@
 //! A case over the host in memory.
+use crate::NotedHost;
 use crate::folder::is_for_folder;
 use crate::program::Program;
 use crate::stage::{Ending, PathState, find, give, unless_fault};
 use fp_base::{Blob, Text};
 use fp_host::{Host, Path};
 use fp_memhost::{MemHost, MemNode, MemRemotes, MemSource};
-use fpk_case_notes::NotedHost;
 use fpk_case_remotes::{Ware, Wares};
 use fpk_case_text::{Case, Command, Failing, Failure, Fixture};
 use std::alloc::{AllocError, Global};

@@ -1,8 +1,8 @@
 //! Whether what a stop may leave is as it has to be.
 use crate::showing::{State, reopen};
+use crate::{fault_in, outcomes, picture};
 use fp_memhost::{Image, MemHost};
 use fpk_case_hosts::Program;
-use fpk_case_left::{fault_in, outcomes, picture};
 use fpk_case_remotes::Wares;
 use fpk_case_text::{bytes_text, message};
 use std::alloc::{AllocError, Global};

@@ -1,7 +1,7 @@
 //! The commands of a case over a host in memory, with a call that fails.
+use crate::present_image;
 use fp_memhost::MemHost;
 use fpk_case_hosts::{Program, give, run_in_memory, unless_fault};
-use fpk_case_left::present_image;
 use fpk_case_remotes::Wares;
 use fpk_case_text::{Action, Case, Failing, Failure};
 use std::alloc::{AllocError, Global};

@@ -8,10 +8,9 @@ use fp_host::Path;
 use fp_memhost::{MemHost, MemRemotes};
 use fp_name::Digest;
 use ost_commit::Built;
-use ost_head::PullEnd;
 use ost_prune::prune;
 use ost_store::remove;
-use ost_walk::{Found, Places, WalkEnd, look, order, used};
+use ost_walk::{Found, Places, PullEnd, WalkEnd, look, order, used};
 use std::alloc::Global;
 use std::panic::Expect;
 use std::process::Abort;
@@ -231,7 +230,7 @@ fn all_stay(rt: &(impl Abort + Threads + Sync), alloc: Global, times: usize) -> 
     let mut host = new_host(rt, alloc);
     let end = pull_offered(rt, alloc, &mut host, &built, &[]);
     let keep = so_often(rt, alloc, built.commit, times);
-    end.as_str().is_empty() && prune(alloc, &mut host, &root, &keep) == Ok(0)
+    end.as_str().is_empty() && prune(alloc, &mut host, &root, &keep) == Ok(Some(0))
 }
 
 #[test]

@@ -117,16 +117,18 @@ fn objects_of_a_repository(rt: HostRuntime) {
 
 /// Permission bits, and whether files have them.
 const MODES: &[(u32, bool)] = &[
-    (0, false),
+    (0, true),
     (0o644, true),
     (0o755, true),
     (0o664, true),
     (0o775, true),
     (0o444, true),
     (0o400, true),
-    (0o1, false),
-    (0o4, false),
-    (0o375, false),
+    (0o1, true),
+    (0o4, true),
+    (0o111, true),
+    (0o311, true),
+    (0o375, true),
     (0o2, false),
     (0o777, false),
     (0o646, false),

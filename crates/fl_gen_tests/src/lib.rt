@@ -1,5 +1,0 @@
-//! Tests of made remotes.
-#![tactic(auto)]
-
-#[cfg(test)]
-mod remotes;
