@@ -9,6 +9,9 @@ A twin runs with all three open, but with a full device as standard output where
 standard input, which can't be read. After each command the status and every file of the two have to be the same, and `.lock` without
 a mark.
 
+Then what only prints is run with a pipe as standard output that nobody reads any more, as `fpk --help | head -1` has it: the status is 3,
+and nothing stands on standard error. A change says there that it could not print.
+
 The status is 1 where something was amiss, and each such place is printed.
 """
 
@@ -101,6 +104,37 @@ def commands(remote):
     ]
 
 
+def unread(program, folder, words):
+    """The status of a run whose output nobody reads, and what it says."""
+    reading, writing = os.pipe()
+    os.close(reading)
+    done = subprocess.run(
+        [program, *words],
+        env={"FPK_INSTALLATION": folder, "PATH": os.environ["PATH"]},
+        stdin=subprocess.DEVNULL,
+        stdout=writing,
+        stderr=subprocess.PIPE,
+        check=False,
+    )
+    os.close(writing)
+    return done.returncode, done.stderr
+
+
+def try_unread(program, top, remote):
+    """What is amiss where nobody reads what is printed, and how many runs it took."""
+    folder = os.path.join(top, "unread")
+    for words in commands(remote)[:4]:
+        run(program, folder, words)
+    quiet = [["--help"], ["--version"], ["list"], ["list", "--pins"], ["list", "--remotes"], ["info", REF], ["launch", REF], ["fsck"]]
+    told = [["pin", "app/org.x.B/*/*"]]
+    wrong = []
+    for words in quiet + told:
+        status, said = unread(program, folder, words)
+        if status != 3 or (said == b"") != (words in quiet):
+            wrong.append(f"{words} into a pipe that nobody reads: status {status}, {said}")
+    return wrong, len(quiet + told)
+
+
 def main():
     program = os.path.abspath(sys.argv[1])
     top = tempfile.mkdtemp()
@@ -121,6 +155,8 @@ def main():
                         wrong.append(f"{words} without {numbers}: other files")
                 for it in (tried, twin):
                     shutil.rmtree(it, ignore_errors=True)
+        more, tries = try_unread(program, top, remote)
+        wrong, count = wrong + more, count + tries
     finally:
         shutil.rmtree(top)
     print(f"runs: {count}, amiss: {len(wrong)}")

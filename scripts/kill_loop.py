@@ -10,8 +10,9 @@ and then asks for all three lists. They must read, and show the installation as 
 after one more. Then the folder is read without fpk: each path of each shown commit, and of the one before it, is as `ostree checkout`
 lays it out; each of its files is a hard link of its object; all that stands below `repo/objects` has the digest of its name. Once in
 ten rounds `ostree fsck` looks at what the kill left, and has to pass. One round in eight begins anew with an installation of layout 1,
-which the batch migrates. At the end it prints what it counted; the status is 0 where nothing was amiss. A killed process loses nothing that it wrote: what a power
-cut leaves isn't tried here.
+which the batch migrates. Where it may mount, once in five rounds a batch of its own runs on a new tmpfs that is too small for it: what
+fails for want of room has to leave the same, and the status is 3. At the end it prints what it counted; the status is 0 where nothing
+was amiss. A killed process loses nothing that it wrote: what a power cut leaves isn't tried here.
 """
 
 import collections
@@ -375,6 +376,52 @@ def checked(folder, model, remote, counts, printed, words):
     return None
 
 
+# ---- a file system that is full
+
+
+def may_mount():
+    """Whether a tmpfs can be mounted here."""
+    with tempfile.TemporaryDirectory(prefix="kill_loop") as folder:
+        if os.geteuid() != 0 or subprocess.run(["mount", "-t", "tmpfs", "none", folder], check=False).returncode != 0:
+            return False
+        tool("umount", folder)
+        return True
+
+
+def full_round(program, home, rng, remote, counts):
+    """One batch on a tmpfs that may be too small for it. Answers whether all is as it must be."""
+    place = os.path.join(home, "full")
+    os.makedirs(place, exist_ok=True)
+    tool("mount", "-t", "tmpfs", "-o", f"size={rng.randrange(16, 800)}k", "none", place)
+    folder, before = os.path.join(place, "installation"), os.environ["FPK_INSTALLATION"]
+    os.environ["FPK_INSTALLATION"] = folder
+    try:
+        return full_batch(program, folder, rng, remote, counts)
+    finally:
+        os.environ["FPK_INSTALLATION"] = before
+        tool("umount", place)
+
+
+def full_batch(program, folder, rng, remote, counts):
+    remote.offer(rng)
+    words, lines, models = batch(Model(), rng, remote, rng.randrange(2, 10))
+    printed, status = run_killed(program, "".join(words), 600)
+    whole = printed.split("\n")[:-1]
+    counts["on a full disk" if status == 3 else "on a small disk"] += 1
+    if whole != lines[: len(whole)] or status not in (0, 3) or status == 0 and whole != lines:
+        print(f"full: status {status}, printed {printed!r} for {words!r}")
+        return False
+    text = listed(program) if os.path.isdir(folder) else Model().shown()
+    for model in models[len(whole) : len(whole) + 2]:
+        if model.shown() == text:
+            found = amiss(folder, model, remote) if os.path.isdir(os.path.join(folder, "repo/objects")) else None
+            if found is None:
+                return True
+            text = found
+    print(f"full: {text!r} after {printed!r} for {words!r}")
+    return False
+
+
 def main():
     """Runs the rounds, and prints the counts."""
     if len(sys.argv) != 4:
@@ -390,8 +437,10 @@ def main():
         counts = collections.Counter(seconds=seconds_each(program, remote, rng))
         shutil.rmtree(folder)
         os.mkdir(folder)
-        model, faults = Model(), 0
-        for _ in range(rounds):
+        model, faults, mounts = Model(), 0, may_mount()
+        for number in range(rounds):
+            if mounts and number % 5 == 0:
+                faults += not full_round(program, home, rng, remote, counts)
             model = one_round(program, folder, rng, model, remote, counts)
             if model is None:
                 faults += 1
@@ -399,7 +448,8 @@ def main():
                 os.mkdir(folder)
                 model = Model()
     print(f"rounds {rounds}, amiss {faults}")
-    for name in ("killed", "ended", "of layout 1", "acknowledged", "with one more", "refs looked at", "looked at by ostree fsck"):
+    names = ["killed", "ended", "of layout 1", "acknowledged", "with one more", "refs looked at", "looked at by ostree fsck"]
+    for name in [*names, "on a full disk", "on a small disk"]:
         print(f"{name} {counts[name]}")
     return 1 if faults else 0
 

@@ -4,7 +4,8 @@
 `progress.py PROGRAM` runs PROGRAM, a built fpk, in a folder of its own, and needs `ostree` and `strace`. It builds a runtime of
 1,000 files with `ostree commit`, and installs it while `strace` makes each sync last 20 milliseconds. It tries that
 
-- where standard error is a terminal and standard output isn't, a line of files, bytes and syncs is written on standard error,
+- where standard error is a terminal and standard output isn't, a line is written on standard error that names the runtime and
+  says how many objects of the total there are, then how many files are synced and linked; no line is wider than 79 columns,
   nothing of it stands there in the end, and standard output has the command's own line alone,
 - where both are one terminal, its screen shows the command's own line alone in the end,
 - where standard error is no terminal, not one byte is written on it.
@@ -23,7 +24,9 @@ import tempfile
 from real_folder import FILES, REF, make_repository
 
 SLOW = ["strace", "-f", "-o", "/dev/null", "-e", "trace=fsync", "-e", "inject=fsync:delay_exit=20000"]
-LINE = rb"\r(\d+) files and (\d+) KiB read, (\d+) synced"
+ID = REF.split("/")[1]
+# A runtime has its files, the file `metadata`, and dirtrees and dirmetas besides.
+FETCHED = re.compile(r" [0-9,]+ of [0-9,]{4,} objects, [0-9,]+ [KM]iB$")
 
 
 def drain(terminal):
@@ -104,13 +107,19 @@ def main():
         see("said where standard error is no terminal", said, said == b"")
         again, said = installs.said()
         see("printed beside a terminal", again.decode().strip(), again == printed)
-        lines = re.findall(LINE, said)
+        lines = [line.rstrip() for line in said.decode().split("\r") if line.strip()]
         see("lines said on it", len(lines), len(lines) > 1)
-        counts = [tuple(map(int, line)) for line in lines]
-        see("the last of them", counts[-1:], bool(counts) and counts == sorted(counts) and counts[-1][0] >= FILES)
+        see("the widest of them", max(map(len, lines)), max(map(len, lines)) < 80)
+        named = [line for line in lines if line.startswith(f"installing {ID} ")]
+        see("of which name the runtime", len(named), len(named) > 1)
+        synced = [line for line in named if line.endswith(" synced")]
+        see("the first that tells of a sync", synced[:1], bool(synced))
+        linked = [line for line in named if line.endswith(f" of {FILES:,} files linked")]
+        fetched = [line for line in named if FETCHED.search(line)]
+        see("the last with objects or links of a total", (fetched + linked)[-1:], bool(fetched or linked))
         see("what stands there in the end", on_screen(said), on_screen(said) == [])
         written = installs.shown()
-        see("lines said on one terminal", len(re.findall(LINE, written)), re.search(LINE, written) is not None)
+        see("lines said on one terminal", written.count(b"\rinstalling "), b"\rinstalling " in written)
         shown = on_screen(written)
         see("what it shows in the end", shown, shown == [printed.decode().rstrip("\n")])
     finally:

@@ -8,8 +8,9 @@ both, each in a folder of its own. Of each exported file it is asked:
 - It has the same keys with the same values, but for those of KNOWN, and `Exec` starts the same command.
 - `desktop-file-validate` passes over it where it passes over the application's own.
 - GLib's own launcher (Gio.DesktopAppInfo) starts `fpk launch REF`, with `--command=WORD` after it where the application's own command
-  was a plain word, and no word more: also where `Exec` begins with `%i`, a quote, `$` or a backslash. A program in the place of fpk
-  writes its words down. A desktop file that hands `%i` on is launched too, and has to add words, so that the question can be lost.
+  was a plain word, and no word more: also where `Exec` begins with `%i`, a quote, `$` or a backslash, and where the application's
+  own file has `Path` and `DBusActivatable`. A program in the place of fpk writes its words down. A desktop file that hands `%i` on is
+  launched too, and has to add words, so that the question can be lost.
 
 usage: real_exports.py FPK
 
@@ -51,6 +52,9 @@ KNOWN_FILES = {
 # The keys that one of the two leaves out or adds, and why.
 KNOWN_KEYS = {
     "X-Flatpak": "flatpak's mark on its own files",
+    "Path": "the folder in which `fpk launch` would start",
+    "DBusActivatable": "no service is exported",
+    "Icon[$e]": "a key whose value some desktops expand",
 }
 
 
@@ -76,6 +80,7 @@ ODD = {
     f"{ID}.Dollar.desktop": (desktop("$HOME/hello"), None),
     f"{ID}.Back.desktop": (desktop("\\\\$HOME"), None),
     f"{ID}.Inner.desktop": (desktop('he"llo %i" x'), None),
+    f"{ID}.Keys.desktop": (desktop("keys", Path="/srv", DBusActivatable="true") + "Name[sr@latin]=Zdravo\nIcon[$e]=$HOME/x\n", "keys"),
 }
 # Desktop files that hand on what a desktop reads as more words.
 NAIVE = {

@@ -6,8 +6,9 @@ usage: real_permissions.py FPK
 A runtime and an application are built with the real flatpak into a repository of mode `bare-user-only`, and installed from it with
 flatpak, in a user folder of its own, and with fpk. Then the same overrides are set in both, one after another. Each time
 `flatpak info --show-permissions` is compared with what `fpk launch` grants, and `flatpak override --show` with
-`fpk override --show`, permission by permission. Then come options that one of the two refuses, and updates to
-metadata with lists as long as can be.
+`fpk override --show`, permission by permission. Then come options that one of the two refuses, overrides that flatpak
+wrote with `;` and backslashes in names, which fpk reads as they stand, and updates to metadata with lists as long as
+can be.
 
 FPK is the program that was built. Debian's packages ostree and flatpak are needed. Each difference is printed with its kind, which
 docs/GUIDE.md tells in a user's words. It ends with status 0 where every difference is of a known kind.
@@ -78,6 +79,17 @@ REFUSALS = [
     (["--talk-name=org"], False, False, None),
     (["--unset-env=A"], True, False, "option"),
     (["--add-policy=group.key=value"], True, False, "option"),
+    (["--nofilesystem=/srv/a;/srv/b"], True, False, "escape"),
+    (["--nofilesystem=/srv/a\\"], True, False, "escape"),
+    (["--persist=.a\\"], True, False, "escape"),
+    (["--nofilesystem=/srv/a\\\\"], True, True, None),
+]
+
+# Overrides that flatpak writes, and fpk is given as they are written.
+ESCAPED = [
+    ["--nofilesystem=/srv/a;/srv/b"],
+    ["--filesystem=/srv/a\\;/srv/b:ro", "--filesystem=/srv/c\\"],
+    ["--persist=.a;.b", "--nofilesystem=/srv/d\\;/srv/e;f", "--filesystem=/srv/g"],
 ]
 
 # How many bytes a list of places has that is as long as the metadata may be.
@@ -90,6 +102,7 @@ KINDS = {
     "unknown": "a word that is none of the list's is carried here, in `[Unknown]` or `unknown-LIST`; flatpak leaves it out or refuses the option",
     "place": "flatpak refuses what is no place of its list; here any name is one",
     "option": "an option that fpk hasn't",
+    "escape": "flatpak escapes `;` and backslashes of an option; fpk refuses `;`, and an odd number of backslashes at the end",
 }
 
 ENDINGS = (":ro", ":rw", ":create")
@@ -103,11 +116,23 @@ def permissions(text):
         if line.startswith("["):
             group = line[1:-1]
         elif is_pair and group in ("Context", "Unknown"):
-            for entry in filter(None, value.split(";")):
+            for entry in filter(None, entries(value)):
                 name, value_of = entry_of(key, entry)
                 found["unknown-" * (group == "Unknown") + key, name] = value_of
         elif is_pair:
             found[group, key] = value
+    return found
+
+
+def entries(value):
+    """What stands between the `;` of a list that are no part of an entry."""
+    found, escaped = [""], False
+    for char in value:
+        if char == ";" and not escaped:
+            found.append("")
+        else:
+            found[-1] += char
+        escaped = char == "\\" and not escaped
     return found
 
 
@@ -220,6 +245,29 @@ class Comparison(Bench):
             self.fpk_tool("override", "--reset", *name)
         self.set = {None: [], ID: []}
 
+    def give(self, options):
+        """flatpak's override with these options, given to fpk as flatpak wrote it."""
+        self.flatpak("override", *options, ID)
+        with open(os.path.join(self.folder, "user/overrides", ID)) as text:
+            written = text.read()
+        path = os.path.join(self.installation, "overrides", ID)
+        os.makedirs(os.path.dirname(path), exist_ok=True)
+        with open(path, "w") as out:
+            out.write(written)
+
+    def compare_escaped(self):
+        """What flatpak shows of the names that were given, and what fpk grants of them."""
+        shown = permissions(self.flatpak("override", "--show", ID))
+        mine = permissions(self.fpk_tool("override", "--show", ID))
+        self.count(None, f"shown: fpk {mine}, flatpak {shown}", mine != shown)
+        on = {name: value for name, value in shown.items() if value != "off"}
+        granted = grants(self.fpk_tool("launch", APP))
+        for name, value in sorted(granted.items()):
+            if name not in on and (name[1].startswith("/srv/") and name not in OF_THE_RUNTIME):
+                self.count(None, f"granted though it isn't named: {name} {value}", True)
+        for name, value in sorted(on.items()):
+            self.count(None, f"granted: {name}: fpk {granted.get(name)}, flatpak {value}", granted.get(name) != value)
+
     def update_with(self, places):
         """A new commit of the application, whose metadata grants these places, in both."""
         metadata = os.path.join(self.folder, "hello/metadata")
@@ -282,6 +330,11 @@ def main():
             bench.override(whose, options)
             bench.compare()
         bench.refuse()
+        for options in ESCAPED:
+            print("- flatpak's own file for", *options)
+            bench.reset()
+            bench.give(options)
+            bench.compare_escaped()
         bench.reset()
         print("- without overrides, as installed")
         bench.compare()

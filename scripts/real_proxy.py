@@ -7,7 +7,7 @@ A private dbus-daemon, services on it, and a client that goes through `xdg-dbus-
 given to `PROGRAM filter RULES` as a recording. A message counts as the same where its type, serials, names, members and body are. It needs
 Debian's packages dbus, xdg-dbus-proxy and python3-gi.
 
-Each difference is printed with its kind. The kinds that are known are those of KINDS, which docs/DECISIONS.md justifies. The last line counts the
+Each difference is printed with its kind. The kinds that are known are those of KINDS, which docs/GUIDE.md lists. The last line counts the
 differences of no known kind, and the status is 0 where there are none."""
 import os, socket, struct, subprocess, sys, tempfile, threading, time
 import gi
@@ -27,6 +27,17 @@ KINDS = {
     "GetNameOwner": "GetNameOwner of a hidden name: ServiceUnknown here, NameHasNoOwner there",
     "NameHasOwner": "NameHasOwner of a hidden name: ServiceUnknown here, the value false there",
     "peer": "Ping or GetMachineId of the bus itself: it passes here, AccessDenied there",
+    "no interface": "a call to the bus that names no interface: by its member here, AccessDenied there",
+    "no destination": "a call without a destination: judged as one to the bus here, passed on there",
+    "eavesdrop": "an AddMatch with the word in a value: AccessDenied here, passed on there",
+    "audit": "GetAdtAuditSessionData or the SELinux context of a name: AccessDenied here, by the name's level there",
+    "no reply": "GetNameOwner or NameHasOwner of a hidden name that wants no reply: dropped here, answered there",
+    "unasked": "the bus's answer to a call that wants none: dropped here, passed on there",
+    "call rule": "a signal of the client to a name that only a rule for calls opens: dropped here, passed on there where the rule fits it",
+    "to the bus": "a signal of the client to the bus itself: it passes here, it is dropped there",
+    "start": "StartServiceByName of a name that rules for calls or broadcasts alone open: AccessDenied here, passed on there",
+    "serial": "a call with a serial that the client used before: it passes here, the connection is closed there",
+    "no text": "an AddMatch, or a call about a name, whose argument is no text: AccessDenied here, another answer there",
 }
 lock = threading.Lock()
 record = []  # (tap, direction, bytes), in the order in which they came
@@ -89,6 +100,32 @@ def call(connection, name, path, interface, method, arguments=None, flags=NO_STA
         return None
 
 
+def bare(connection, name, member, flags):
+    """A call to the bus that names no interface."""
+    it = Gio.DBusMessage()
+    it.set_message_type(Gio.DBusMessageType.METHOD_CALL)
+    it.set_path(DRIVER[1])
+    it.set_member(member)
+    if name:
+        it.set_destination(name)
+    if flags == NO_START:
+        it.set_flags(Gio.DBusMessageFlags.NO_AUTO_START)
+    try:
+        connection.send_message_with_reply_sync(it, Gio.DBusSendMessageFlags.NONE, 1500, None)
+    except GLib.Error:
+        pass
+
+
+def unasked(connection, member, arguments):
+    """A call to the bus that wants no reply. What comes all the same is only recorded."""
+    it = Gio.DBusMessage.new_method_call(*DRIVER, member)
+    it.set_flags(Gio.DBusMessageFlags.NO_REPLY_EXPECTED)
+    if arguments:
+        it.set_body(arguments)
+    connection.send_message(it, Gio.DBusSendMessageFlags.NONE)
+    connection.flush_sync(None)
+
+
 def driver_calls(client, services, flags):
     """Calls to the bus itself."""
     def ask(method, arguments=None):
@@ -103,10 +140,21 @@ def driver_calls(client, services, flags):
         ask("RequestName", GLib.Variant("(su)", (name, 0)))
         ask("ListQueuedOwners", text(name))
         ask("ReleaseName", text(name))
-    for name in ("org.t.Talk", "org.t.See", "org.t.Hidden"):
+    for name in ("org.t.Talk", "org.t.See", "org.t.Hidden", "org.t.Call", "org.t.Cast"):
         ask("StartServiceByName", GLib.Variant("(su)", (name, 0)))
     ask("AddMatch", text("type='signal'"))
     ask("AddMatch", text("type='signal',eavesdrop='true'"))
+    for rule in ("arg0='eavesdrop'", "eavesdrop='false'", "type='signal',arg0namespace='org.t',path_namespace='/a'", "sender='org.t.Hidden'", "nonsense"):
+        ask("AddMatch", text(rule))
+    ask("AddMatch", GLib.Variant("(u)", (1,)))
+    ask("NameHasOwner", GLib.Variant("(u)", (1,)))
+    for name in ("org.t.See", "org.t.Hidden"):
+        ask("GetAdtAuditSessionData", text(name))
+        ask("GetConnectionSELinuxSecurityContext", text(name))
+    for name, member in ((DRIVER[0], "GetId"), (DRIVER[0], "ListNames"), (None, "GetId")):
+        bare(client, name, member, flags)
+    for member, arguments in (("ListNames", None), ("GetNameOwner", text("org.t.Hidden")), ("NameHasOwner", text("org.t.Hidden"))):
+        unasked(client, member, arguments)
     ask("UpdateActivationEnvironment", GLib.Variant("(a{ss})", ({},)))
     for interface, method in (("Peer", "Ping"), ("Peer", "GetMachineId"), ("Introspectable", "Introspect")):
         call(client, DRIVER[0], DRIVER[1], "org.freedesktop.DBus." + interface, method, None, flags)
@@ -142,8 +190,9 @@ def traffic(client, services, control):
         call(services[name], client.get_unique_name(), "/a", "org.t.I", "Fail")
     call(client, services["org.t.Hidden"].get_unique_name(), "/a", "org.t.I", "M", text("after it wrote"))
     client.emit_signal(None, "/a", "org.t.I", "S", text("to everybody"))
-    for name in ("org.t.Talk", "org.t.Hidden"):
-        client.emit_signal(name, "/a", "org.t.I", "S", text("to " + name))
+    for name in ("org.t.Talk", "org.t.Hidden", "org.t.Call", "org.t.See", DRIVER[0]):
+        for path, member in (("/a", "S"), ("/a/b", "M")):
+            client.emit_signal(name, path, "org.t.I", member, text("to " + name))
     client.flush_sync(None)
     for name in ("org.t.Talk", "org.t.Hidden"):
         call(control, *DRIVER, "GetId")
@@ -151,6 +200,18 @@ def traffic(client, services, control):
         time.sleep(0.1)
     services["org.t.Talk"].emit_signal(None, "/a", "org.t.I", "S", text("without its name"))
     services["org.t.Talk"].flush_sync(None)
+    time.sleep(0.3)
+    serial_again(client)
+
+
+def serial_again(client):
+    """A call to the bus with the serial of the call before it, which was answered. It comes last: the real proxy closes the connection."""
+    call(client, *DRIVER, "GetId")
+    again = Gio.DBusMessage.new_method_call(*DRIVER, "GetId")
+    again.set_serial(client.get_last_serial())
+    client.set_exit_on_close(False)
+    client.send_message(again, Gio.DBusSendMessageFlags.PRESERVE_SERIAL)
+    client.flush_sync(None)
     time.sleep(0.3)
 
 
@@ -226,15 +287,16 @@ def seen(data):
 
 def apart(ours, theirs):
     """The messages of each that the other lacks."""
-    left = list(theirs)
+    left = [(seen(m), m) for m in theirs]
     only = []
     for m in ours:
-        same = next((t for t in left if seen(t) == seen(m)), None)
-        if same is None:
+        says = seen(m)
+        at = next((at for at, (other, _) in enumerate(left) if other == says), None)
+        if at is None:
             only.append(m)
         else:
-            left.remove(same)
-    return only, left
+            del left[at]
+    return only, [m for _, m in left]
 
 
 def answer_of(data):
@@ -244,17 +306,54 @@ def answer_of(data):
     return m.get_error_name() or (body.print_(False) if body else "()")
 
 
-def kind_of(asked, ours, theirs):
-    """The known kind of what differs about one call of the client, or none. Each of ours and theirs has the messages to the bus and to the client."""
+def opened(rules, name):
+    """The kinds of the rules whose pattern matches a name. A unique name may have had any name, so each rule counts."""
+    pairs = [rule[2:].split("=")[:2] for rule in rules]
+    return {kind for kind, it in pairs if name.startswith(":") or name == it.removesuffix(".*") or it.endswith(".*") and name.startswith(it[:-1])}
+
+
+def signal_kind(asked, ours, theirs, rules):
+    """The same of a signal of the client."""
+    sides = (len(ours["bus"]), len(theirs["bus"]))
+    if ours["client"] or theirs["client"] or not asked.get_destination():
+        return None
+    if asked.get_destination() == DRIVER[0]:
+        return "to the bus" if sides == (1, 0) else None
+    return "call rule" if sides == (0, 1) and "call" in opened(rules, asked.get_destination()) else None
+
+
+def kind_of(asked, ours, theirs, rules):
+    """The known kind of what differs about one message of the client, or none. Each of ours and theirs has the messages to the bus and to the client."""
     if asked is None:
+        return None
+    if asked.get_message_type() == Gio.DBusMessageType.SIGNAL:
+        return signal_kind(asked, ours, theirs, rules)
+    if asked.get_message_type() != Gio.DBusMessageType.METHOD_CALL:
         return None
     denied, unknown, no_owner = ("org.freedesktop.DBus.Error." + it for it in ("AccessDenied", "ServiceUnknown", "NameHasNoOwner"))
     answers = [[answer_of(m) for m in side["client"]] for side in (ours, theirs)]
+    wants_none = bool(asked.get_flags() & Gio.DBusMessageFlags.NO_REPLY_EXPECTED)
+    refusal = [] if wants_none else [denied]
     to_driver = asked.get_destination() in (None, DRIVER[0])
     if to_driver and asked.get_interface() == "org.freedesktop.DBus.Peer" and asked.get_member() in ("Ping", "GetMachineId"):
-        return "peer" if len(ours["bus"]) == 1 and not theirs["bus"] and answers == [[], [denied]] else None
+        return "peer" if len(ours["bus"]) == 1 and not theirs["bus"] and answers == [[], refusal] else None
+    if to_driver and not asked.get_interface():
+        return "no interface" if asked.get_destination() else "no destination"
+    denied_here = not ours["bus"] and answers[0] == refusal
+    if to_driver and denied_here and asked.get_member() == "AddMatch" and asked.get_signature() == "s":
+        return "eavesdrop" if "eavesdrop" in asked.get_body().unpack()[0] else None
+    if to_driver and denied_here and asked.get_member() == "StartServiceByName":
+        return "start" if opened(rules, asked.get_body().unpack()[0]) & {"call", "broadcast"} else None
+    if to_driver and denied_here and asked.get_member() in ("GetAdtAuditSessionData", "GetConnectionSELinuxSecurityContext"):
+        return "audit"
+    if to_driver and denied_here and asked.get_signature() == "u":
+        return "no text"
     if ours["bus"] or theirs["bus"]:
         return None
+    if wants_none and not answers[0]:
+        if all(read(m).get_sender() == DRIVER[0] for m in theirs["client"]):
+            return "unasked"
+        return "no reply" if to_driver and asked.get_member() in ("GetNameOwner", "NameHasOwner") else None
     if to_driver and asked.get_member() == "NameHasOwner" and answers == [[unknown], ["(false,)"]]:
         return "NameHasOwner"
     if answers != [[unknown], [no_owner]]:
@@ -263,6 +362,11 @@ def kind_of(asked, ours, theirs):
         return "GetNameOwner"
     starts_nothing = asked.get_flags() & Gio.DBusMessageFlags.NO_AUTO_START or (asked.get_destination() or "").startswith(":")
     return "no owner" if starts_nothing else None
+
+
+def is_again(serial, sent, ours, theirs):
+    """Whether what differs is that a second call with a serial passes here."""
+    return [number(m, 8) for m in sent].count(serial) > 1 and len(ours["bus"]) == 1 and not (ours["client"] or theirs["bus"] or theirs["client"])
 
 
 def compare(ours, theirs, sent):
@@ -274,10 +378,10 @@ def compare(ours, theirs, sent):
             for m in found:
                 serial = number(m, 8) if side == "bus" else read(m).get_reply_serial()
                 about.setdefault(serial, ({"bus": [], "client": []}, {"bus": [], "client": []}))[which][side].append(m)
-    asked = {number(m, 8): read(m) for m in sent if m[1] == 1}
+    asked = {number(m, 8): read(m) for m in sent}
     kinds = {}
     for serial, (mine, other) in sorted(about.items()):
-        kind = kind_of(asked.get(serial), mine, other)
+        kind = "serial" if is_again(serial, sent, mine, other) else kind_of(asked.get(serial), mine, other, RULES)
         kinds[kind] = kinds.get(kind, 0) + 1
         print(f"{kind or 'NO KNOWN KIND'}: the client's message {serial}")
         for who, found in (("fpk", mine), ("the proxy", other)):

@@ -1,15 +1,17 @@
 #!/usr/bin/env python3
 """Measures installs and updates beside the real ostree.
 
-usage: speed.py FPK [FILES] [DIRECTORIES] [REMOTES]
+usage: speed.py FPK [FILES] [DIRECTORIES] [ROUNDS]
 
 FPK is the program that was built; Debian's packages ostree and strace are needed. `ostree commit` makes a runtime of FILES files of
 4 KiB in DIRECTORIES directories (20000 in 200 where nothing is said). Both programs bring it from that folder into a new store and lay
 it out with hard links, both looking at each digest: `fpk install`, and `ostree pull-local --untrusted` with `ostree checkout -H -U`.
 Then one file of each directory is changed, and both bring that; then nothing is changed. It prints for each step the time by the
-clock, that of the processor, the peak of memory, and the first divided by that of ostree; and which calls of the system fpk makes,
-counted by `strace -c` over a second installation. All in one folder below TMPDIR, but for the repository, which is made in a folder
-below REMOTES where that is said: one of another file system, say, from which nothing can be linked.
+clock, that of the processor, the peak of memory, and the first divided by that of ostree: of ROUNDS rounds (1 where nothing is said)
+the one in the middle by the clock of fpk. The last round also prints which calls of the system fpk makes, counted by `strace -c` over a
+second installation. Both work on a new ext4 of their own, on a loop device, where one may be mounted, else in a new folder. The
+repository is in a folder below TMPDIR: then nothing can be linked from it. No file is deleted there before: ext4 looks at inodes that
+went lately.
 """
 
 import contextlib
@@ -21,6 +23,8 @@ import time
 
 REF = "runtime/org.x.Big/x86_64/1"
 SIZE = 4096
+# the bytes of the file system that is made
+DISK = 4 << 30
 # what strace -c is asked for
 ROWS = 10
 
@@ -46,6 +50,25 @@ class Cost:
         if process.returncode != 0:
             sys.exit(f"{' '.join(words)}: status {process.returncode}, {text}")
         return text
+
+
+@contextlib.contextmanager
+def own_disk(folder):
+    """A new ext4 on a loop device, or else a new folder."""
+    image, place = os.path.join(folder, "disk.img"), os.path.join(folder, "disk")
+    os.mkdir(place)
+    with open(image, "wb") as out:
+        out.truncate(DISK)
+    quiet = {"stdout": subprocess.DEVNULL, "stderr": subprocess.DEVNULL, "check": False}
+    steps = [["mkfs.ext4", "-q", "-F", image], ["mount", "-o", "loop", image, place]]
+    is_mounted = os.geteuid() == 0 and all(subprocess.run(step, **quiet).returncode == 0 for step in steps)
+    print("on a new ext4" if is_mounted else "in a new folder", flush=True)
+    try:
+        yield place
+    finally:
+        if is_mounted:
+            subprocess.run(["umount", place], check=True)
+        os.remove(image)
 
 
 class Bench:
@@ -118,6 +141,21 @@ class Bench:
         print(f"calls of {title}: {total}: {', '.join(counts)}")
 
 
+class Rounds:
+    """What each step took, round by round."""
+
+    def __init__(self):
+        self.steps = {}
+
+    def add(self, title, fpk, ostree=None):
+        self.steps.setdefault(title, []).append((fpk, ostree))
+
+    def tell(self):
+        """Prints of each step the round in the middle."""
+        for title, costs in self.steps.items():
+            told(title, *sorted(costs, key=lambda pair: pair[0].clock)[len(costs) // 2])
+
+
 def told(title, fpk, ostree=None):
     """Prints what a step took."""
     text = f"{title}: fpk {fpk.clock:.2f} s, processor {fpk.processor:.2f} s, {fpk.memory / 1024:.0f} MiB"
@@ -128,36 +166,40 @@ def told(title, fpk, ostree=None):
     print(text, flush=True)
 
 
-def play(bench):
+def play(bench, rounds, is_last):
     url = "file://" + bench.repo
     bench.make()
     for installation in ("installation", "traced"):
         bench.fpk_run(["remote-add", "hub", url], installation=installation)
-    told("install", bench.fpk_run(["install", "hub", REF]), bench.ostree_run())
-    bench.traced("install", ["install", "hub", REF])
+    traced = bench.traced if is_last else lambda *_: None
+    os.sync()
+    rounds.add("install", bench.fpk_run(["install", "hub", REF]), bench.ostree_run())
+    traced("install", ["install", "hub", REF])
     bench.change()
-    told("update", bench.fpk_run(["update"]), bench.ostree_run())
-    bench.traced("update", ["update"])
-    told("idle update", bench.fpk_run(["update"]), bench.ostree_run())
-    bench.traced("idle update", ["update"])
-    told("pin", bench.fpk_run(["pin", "app/*/*/*"]))
-    bench.traced("pin", ["pin", "app/*/*/*"])
-    told("list", bench.fpk_run(["list"]))
-    told("rollback", bench.fpk_run(["rollback", REF]))
-    told("uninstall", bench.fpk_run(["uninstall", REF]))
+    os.sync()
+    rounds.add("update", bench.fpk_run(["update"]), bench.ostree_run())
+    traced("update", ["update"])
+    rounds.add("idle update", bench.fpk_run(["update"]), bench.ostree_run())
+    traced("idle update", ["update"])
+    rounds.add("pin", bench.fpk_run(["pin", "app/*/*/*"]))
+    traced("pin", ["pin", "app/*/*/*"])
+    rounds.add("list", bench.fpk_run(["list"]))
+    rounds.add("rollback", bench.fpk_run(["rollback", REF]))
+    rounds.add("uninstall", bench.fpk_run(["uninstall", REF]))
 
 
 def main():
     if not 2 <= len(sys.argv) <= 5:
         sys.exit(__doc__)
     os.umask(0o022)
-    files, directories = [int(word) for word in sys.argv[2:4]] + [20000, 200][len(sys.argv[2:4]) :]
-    with contextlib.ExitStack() as folders:
-        folder = folders.enter_context(tempfile.TemporaryDirectory(prefix="speed"))
-        remotes = folder
-        if len(sys.argv) == 5:
-            remotes = folders.enter_context(tempfile.TemporaryDirectory(prefix="speed", dir=sys.argv[4]))
-        play(Bench(sys.argv[1], folder, remotes, files, directories))
+    files, directories, count = [int(word) for word in sys.argv[2:5]] + [20000, 200, 1][len(sys.argv[2:5]) :]
+    rounds = Rounds()
+    for number in range(count):
+        with contextlib.ExitStack() as places:
+            remotes = places.enter_context(tempfile.TemporaryDirectory(prefix="speed"))
+            folder = places.enter_context(own_disk(remotes))
+            play(Bench(sys.argv[1], folder, remotes, files, directories), rounds, number == count - 1)
+    rounds.tell()
 
 
 if __name__ == "__main__":
