@@ -126,7 +126,7 @@ module _ (s : State) {v w : View} (step : Alters (RefAt s.refs) (RefName s.refs)
 -- ---- and objects
 
 -- what says a commit has its bytes
-says_bytes : (commit : List ℕ) (spot : Spot) → ref_in spot ≡ Digest commit → HasBytes (hex commit ++ 10 ∷ []) spot
+pub says_bytes : (commit : List ℕ) (spot : Spot) → ref_in spot ≡ Digest commit → HasBytes (hex commit ++ 10 ∷ []) spot
 says_bytes commit gone is = cc is
 says_bytes commit folder is = cc is
 says_bytes commit (points text) is = cc is

@@ -78,7 +78,7 @@ may_file s q id (ref_folder row has at is) = absurd (cc is)
 may_file s q id (object_gone d kind digits at none) = absurd (cc none)
 
 -- so it links no other file
-tidy_links : (s : State) {u w : View} → ((q : Elements) → (w.names q ≡ u.names q) ⊎ MayTidy s q (w.names q)) → Links u w
+pub tidy_links : (s : State) {u w : View} → ((q : Elements) → (w.names q ≡ u.names q) ⊎ MayTidy s q (w.names q)) → Links u w
 tidy_links s names = links_lasting (MayTidy s) names (may_file s)
 
 -- ---- no name changes
@@ -281,7 +281,7 @@ module _ {u w : View} (tree : IsTree u) (takes : TakesOld u w) where
 beside_no_config : {q : Elements} → IsBeside q → q ≡ config → ⊥
 beside_no_config b e = repo_no_config (sym b.0 ∙ ap top e)
 
-beside_no_object : {q : Elements} → IsBeside q → (d : List ℕ) (kind : ObjKind) → q ≡ object_path repo d kind → ⊥
+pub beside_no_object : {q : Elements} → IsBeside q → (d : List ℕ) (kind : ObjKind) → q ≡ object_path repo d kind → ⊥
 beside_no_object b d kind e = b.1 (ap (λ (p : Elements). second (outward p)) e)
 
 other_beside : {s : State} {q : Elements} → IsOtherFile s q → IsBeside q
@@ -428,6 +428,13 @@ pub ended_goes : {s : State} {a b c : Option Moments} {r : Result (Unit {0}) Hos
 ended_goes {s = s} told between first call = knowing {P = IsTree} {R = λ u w. IsTree u → Tidying s u w} {Q = λ u w. IsTree u → Tidying s u w} told
     (goes_on between (begins {R' = λ u w. IsTree u → Tidying s u w} {Q' = λ u w. IsTree u → Tidying s u w} told first (λ u w t r tree. r) (λ u w t r q tree. q)) (makes_goes call)
     (λ u v w t r q x tree steady. tidies_on tree t (q tree steady) (tidies_sync t x)) (λ u v w t r q x e tree steady. tidies_on tree t (q tree steady) (tidies_sync t e)))
+    (λ u w tree r. r tree) (λ u w tree q. q tree)
+
+-- steps that tidy, one after another
+pub tidies_going : {s : State} {S T : View → View → Type 0} {a b c : Option Moments} → IsTold a → IsTold b → Goes a b (Tidies s) (Tidies s) → Goes b c S T → ((u w : View) → IsTree u → S u w → Tidies s u w) → ((u w : View) → IsTree u → T u w → Tidies s u w) → Goes a c (Tidies s) (Tidies s)
+tidies_going {s = s} told between first second_ each last = knowing {P = IsTree} {R = λ u w. IsTree u → Tidies s u w} {Q = λ u w. IsTree u → Tidies s u w} told
+    (goes_on between (begins {R' = λ u w. IsTree u → Tidies s u w} {Q' = λ u w. IsTree u → Tidies s u w} told first (λ u w t r tree. r) (λ u w t r q tree. q)) second_
+    (λ u v w t r q x tree. tidies_on tree t (q tree) (each v w t x)) (λ u v w t r q x e tree. tidies_on tree t (q tree) (last v w t e)))
     (λ u w tree r. r tree) (λ u w tree q. q tree)
 
 -- what is settled stays so

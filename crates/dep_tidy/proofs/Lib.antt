@@ -1,14 +1,15 @@
 pub mod Views
 mod Alter
-mod Apart
+pub mod Apart
 mod Clearing
 mod UnkeptFolders
 pub mod RowsKept
 mod OldFiles
 mod Lasted
-mod RefFiles
+pub mod RefFiles
 pub mod Pruned
 mod Joined
 mod Ended
 pub mod Small
+mod Added
 pub mod Left

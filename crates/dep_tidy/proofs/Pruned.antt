@@ -297,7 +297,7 @@ used_cases have (c ∷ commits) d kind = elim (place_cases (order have c) d kind
 
 module _ {s : State} {v : View} (opens : Opens s v) where
   -- the objects that the commits of the list use
-  from_list : (d : List ℕ) (kind : ObjKind) → IsUsed (store repo (shows v)) (kept_of s.refs) (d, kind) → Used (shows v) d kind
+  pub from_list : (d : List ℕ) (kind : ObjKind) → IsUsed (store repo (shows v)) (kept_of s.refs) (d, kind) → Used (shows v) d kind
   from_list d kind used =
       let row = from_kept used.commit s.refs used.kept in
       record {

@@ -1,5 +1,5 @@
 -- Ref files that are dropped and written.
-use Rattle.std.proofs.Common.{◌≡◌, ◌⊎◌, inl, inr, ℕ, ◌+◌, ◌<◌, ◌≤◌, List, [], ◌∷◌, length, take, drop, get_or, true, refl, sym, ◌∙◌, ap, subst, Contains}
+use Rattle.std.proofs.Common.{◌≡◌, ◌⊎◌, inl, inr, ℕ, ◌+◌, ◌<◌, ◌≤◌, List, [], ◌∷◌, length, take, drop, get_or, true, Option, Some, None, refl, sym, ◌∙◌, ap, subst, Contains}
 use Rattle.std.specs.Prelude.{map}
 use Rattle.std.specs.List.{AllByRecursion}
 use Rattle.std.proofs.lemmas.List.{take-append-drop}
@@ -7,6 +7,7 @@ use Rattle.std.proofs.lemmas.List.Elements.{Contains-append_left, Contains-get_o
 use Rattle.fp_host.specs.Paths.{Elements, Slot, absent, IsAbove}
 use Rattle.fp_host.specs.View.{View, IsTree}
 use Rattle.fp_host.specs.Calls.{IsFile}
+use Rattle.fp_host.specs.Moments.{Moments, Always}
 use Rattle.fp_host.specs.Reads.{is_ascending}
 use Rattle.fp_host.specs.Outcome.{Spot, shows}
 use Rattle.fp_name.specs.Grammar.{is_remote_name}
@@ -30,29 +31,29 @@ use Rattle.dep_states.specs.Names.{ref_file}
 use Rattle.dep_states.specs.Shown.{at_name, ref_key}
 use Rattle.dep_states.specs.Sound.{Opens}
 use Rattle.ost_refs.specs.Changes.{CanWrite, WasDropped}
-use Rattle.dep_states.specs.After.{IsGoodRow}
+use Rattle.dep_states.specs.After.{row_at, IsGoodRow}
 use Rattle.dep_states.proofs.Good.{shown_good as state_good}
 use Rattle.dep_states.proofs.Law.{frame_law}
 use Rattle.dep_tidy.proofs.Lasted.{lasts_same, lasts_on, lasts_ref}
 use Rattle.dep_tidy.proofs.Clearing.{can_drop, can_write, refs_spare}
 use Rattle.dep_states.proofs.Single.{some_is}
 use Rattle.dep_states.proofs.Worked.{word_same}
-use Rattle.dep_tidy.specs.Steps.{Alters, IsWanted, HasGoodNames, IsOther, IsOtherFile, OtherGone, OtherAbsent, HasNoOther, HasNoneAt, RefAt, file_at, folder_at, work_at, RefName, file_name, folder_name, work_name, HasRefFiles, Writes, WroteFile, WroteSome}
+use Rattle.dep_tidy.specs.Steps.{Alters, IsWanted, HasGoodNames, IsOther, IsOtherFile, OtherGone, OtherAbsent, HasNoOther, HasNoneAt, RefAt, file_at, folder_at, work_at, RefName, file_name, folder_name, work_name, HasRefFiles, Writes, WroteFile, WroteSome, rows_by, rows_named}
 use Rattle.fp_host.proofs.Follow.{follows_to}
 use Rattle.dep_tidy.proofs.Alter.{alters_none, alters_same, alters_on, alters_to}
 use Rattle.dep_tidy.proofs.Apart.{folder_shorter, folder_no_work, file_no_work, tmp_no_refs}
 use Rattle.dep_tidy.proofs.UnkeptFolders.{took_cases, all_taken}
-use Rattle.dep_tidy.proofs.RowsKept.{in_at}
+use Rattle.dep_tidy.proofs.RowsKept.{at_in, in_at}
 use Rattle.dep_tidy.proofs.Views.{now_left, same_shows}
 use Rattle.dep_states.proofs.Switching.{second}
 use Rattle.dep_states.specs.Zones.{outward}
 
 -- ---- two places have two paths
 
-first_same : {x y : List ℕ} {up down : Elements} → x ∷ up ≡ y ∷ down → x ≡ y
+pub first_same : {x y : List ℕ} {up down : Elements} → x ∷ up ≡ y ∷ down → x ≡ y
 first_same h = cc h
 
-rest_same : {x y : List ℕ} {up down : Elements} → x ∷ up ≡ y ∷ down → up ≡ down
+pub rest_same : {x y : List ℕ} {up down : Elements} → x ∷ up ≡ y ∷ down → up ≡ down
 rest_same h = cc h
 
 pub file_same : (o p : List ℕ) (r s : Ref) → ref_file o r ≡ ref_file p s → (o ≡ p) × (r ≡ s)
@@ -221,6 +222,21 @@ module _ (s : State) (row : RefRow) (has : Contains s.refs row) {v : View} (open
 pub can_write_row : (s : State) (row : RefRow) → Contains s.refs row → {v : View} → IsTree v → Opens s v → CanWrite repo (Remote row.origin row.name) v
 can_write_row s row has tree opens = let good = row_of_state s row has opens in can_write tree opens row.origin row.name good.origin good.name
 
+-- more rows
+module _ {less more : List RefRow} (wider : (r : RefRow) → Contains less r → Contains more r) where
+  pub wider_gives : (q : Elements) (spot : Spot) → RefAt less q spot → RefAt more q spot
+  wider_gives q spot (file_at r has at new) = file_at r (wider r has) at new
+  wider_gives q spot (folder_at r has at f) = folder_at r (wider r has) at f
+  wider_gives q spot (work_at k at) = work_at k at
+
+  pub wider_puts : (q : Elements) (e : Slot) → RefName less q e → RefName more q e
+  wider_puts q e (file_name r has at f) = file_name r (wider r has) at f
+  wider_puts q e (folder_name r has at d) = folder_name r (wider r has) at d
+  wider_puts q e (work_name k at) = work_name k at
+
+  pub fewer_files : {v : View} → HasRefFiles more v → HasRefFiles less v
+  fewer_files files = record { each = λ r has. files.each r (wider r has) }
+
 -- the rows, and the items that are gone through
 module _ (rows items : List RefRow) (i : ℕ) (row : RefRow) (low : i < length items) (is : row ≡ get_or items i row) (same : items ≡ rows) where
   pub in_rows : Contains rows row
@@ -229,24 +245,11 @@ module _ (rows items : List RefRow) (i : ℕ) (row : RefRow) (low : i < length i
   widened : (r : RefRow) → Contains (row ∷ []) r → Contains rows r
   widened r has = subst (Contains rows) (sym (in_one row r has)) in_rows
 
-  wide_gives : (q : Elements) (spot : Spot) → RefAt (row ∷ []) q spot → RefAt rows q spot
-  wide_gives q spot (file_at r has at new) = file_at r (widened r has) at new
-  wide_gives q spot (folder_at r has at f) = folder_at r (widened r has) at f
-  wide_gives q spot (work_at k at) = work_at k at
-
-  wide_puts : (q : Elements) (e : Slot) → RefName (row ∷ []) q e → RefName rows q e
-  wide_puts q e (file_name r has at f) = file_name r (widened r has) at f
-  wide_puts q e (folder_name r has at d) = folder_name r (widened r has) at d
-  wide_puts q e (work_name k at) = work_name k at
-
-  row_has : {v : View} → HasRefFiles rows v → HasRefFiles (row ∷ []) v
-  row_has files = record { each = λ r has. files.each r (widened r has) }
-
   -- one row more
   pub writes_on : {u v w : View} → Writes rows u v → Writes (row ∷ []) v w → Writes rows u w
   writes_on {w = w} first step = record {
-    alters = alters_on first.alters (alters_to wide_gives wide_puts step.alters);
-    idle = λ files. let before = first.idle files in subst (λ (x : View). w ≡ x) before (step.idle (row_has (subst (HasRefFiles rows) (sym before) files)));
+    alters = alters_on first.alters (alters_to (wider_gives widened) (wider_puts widened) step.alters);
+    idle = λ files. let before = first.idle files in subst (λ (x : View). w ≡ x) before (step.idle (fewer_files widened (subst (HasRefFiles rows) (sym before) files)));
   }
 
   took_in : (r : RefRow) → Contains (take i items) r → Contains rows r
@@ -294,3 +297,41 @@ wrote_all s items i high same wrote = record {
   work = wrote.work;
   lasts = wrote.lasts;
 }
+
+-- ---- the row of one ref
+
+module _ (s : State) (name : Ref) where
+  pub named_in : (r : RefRow) → Contains (rows_named s name) r → Contains s.refs r × (row_at s name ≡ Some r)
+  named_in r has = go (row_at s name) refl has
+    where
+      go : (o : Option RefRow) → row_at s name ≡ o → Contains (rows_by o) r → Contains s.refs r × (row_at s name ≡ Some r)
+      go None is has = absurd (in_none r has)
+      go (Some row) is has = let same = is ∙ ap (λ (x : RefRow). Some x) (sym (in_one row r has)) in ((at_in s.refs (ref_text name) r same).0, same)
+
+  pub in_named : (r : RefRow) → row_at s name ≡ Some r → Contains (rows_named s name) r
+  in_named r is = subst (λ (o : Option RefRow). Contains (rows_by o) r) (sym is) (in_first r [])
+
+  -- the state has no such ref
+  pub wrote_no_row : {u w : View} → row_at s name ≡ None → w ≡ u → WroteSome s (rows_named s name) u w
+  wrote_no_row none same = record {
+    files = λ opens. record { each = λ r has. absurd (in_none r (subst (λ (o : Option RefRow). Contains (rows_by o) r) none has)) };
+    work = λ q above. ap (λ (v : View). v.names q) same;
+    lasts = lasts_same same;
+  }
+
+  module _ (row : RefRow) (is : row_at s name ≡ Some row) where
+    one_row : row ∷ [] ≡ rows_named s name
+    one_row = sym (ap rows_by is)
+
+    pub writes_row : {a b : Option Moments} → Always (Writes (row ∷ [])) a b → Always (Writes (rows_named s name)) a b
+    writes_row {a = a} {b = b} each = subst (λ (l : List RefRow). Always (Writes l) a b) one_row each
+
+    pub row_in : Contains s.refs row
+    row_in = (at_in s.refs (ref_text name) row is).0
+
+    pub wrote_row : {u w : View} → WroteFile row u w → WroteSome s (rows_named s name) u w
+    wrote_row {u = u} {w = w} wrote = subst (λ (l : List RefRow). WroteSome s l u w) one_row (record {
+      files = λ opens. wrote.file ((row_of_state s row row_in opens).commit);
+      work = wrote.work;
+      lasts = wrote.lasts;
+    })

@@ -1,5 +1,5 @@
 -- The steps of tidying.
-use Rattle.std.specs.Prelude.{◌≡◌, ◌≢◌, ◌⊎◌, ◌∷◌, ℕ, List, [], true, Contains}
+use Rattle.std.specs.Prelude.{◌≡◌, ◌≢◌, ◌⊎◌, ◌∷◌, ℕ, List, [], true, Option, Some, None, Contains}
 use Rattle.fp_host.specs.Paths.{Elements, Slot, absent, dir, IsAbove}
 use Rattle.fp_host.specs.View.{View}
 use Rattle.fp_host.specs.Calls.{IsFile, IsNoDir}
@@ -22,6 +22,7 @@ use Rattle.ost_refs.specs.declared.place.RefFile.TheVariants.{Digest}
 use Rattle.ost_refs.specs.declared.place.RefPlace.{RefPlace}
 use Rattle.ost_refs.specs.declared.place.RefPlace.TheVariants.{Head, Remote}
 use Rattle.dep_states.specs.Names.{config, remotes_conf, pins_file, branch_dir, commit_dir, ref_file}
+use Rattle.dep_states.specs.After.{row_at}
 use Rattle.dep_states.specs.Frames.{KeptIn}
 use Rattle.dep_states.specs.Sound.{Opens, IsOld, OldGone, HasConfig}
 use Rattle.dep_tidy.specs.Lasts.{Lasts}
@@ -170,6 +171,14 @@ pub record WroteSome (s : State) (rows : List RefRow) (u w : View) : Type 0 wher
   pub files : Opens s u → HasRefFiles rows w
   pub work : (q : Elements) → IsAbove tmp q → w.names q ≡ u.names q
   pub lasts : Lasts u w
+
+-- the row of this ref, where the state has one
+abbrev pub rows_by : Option RefRow → List RefRow
+rows_by None = []
+rows_by (Some row) = row ∷ []
+
+abbrev pub rows_named : State → Ref → List RefRow
+rows_named s name = rows_by (row_at s name)
 
 -- each ref of the state has its file
 abbrev pub WroteFiles : State → View → View → Type 0

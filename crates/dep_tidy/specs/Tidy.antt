@@ -88,6 +88,18 @@ pub record SettledButWork (disk : Disk) : Type 0 where
       → disk (ref_file origin name) ≢ gone → HasOrigin disk name origin
   pub no_old : disk config ≢ gone → (disk remotes_conf ≡ gone) × (disk pins_file ≡ gone)
 
+-- Settled, but that work may be left in `repo/tmp`, and that this ref may lack its file
+pub record SettledButRef (name : Ref) (disk : Disk) : Type 0 where
+  pub used : (d : List ℕ) (kind : ObjKind) → is_digest d ≡ true
+      → disk (object_path repo d kind) ≢ gone → Used disk d kind
+  pub dirs : (other : Ref) (commit : List ℕ) → is_ref other ≡ true → is_digest commit ≡ true
+      → disk (commit_dir other commit) ≢ gone → Keeps disk other commit
+  pub ref_files : (other : Ref) (row : RefRow) → ref_seen disk other ≡ there row
+      → (other ≡ name) ⊎ HasBytes (hex row.commit ++ 10 ∷ []) (disk (ref_file row.origin other))
+  pub no_other : (origin : List ℕ) (other : Ref) → is_remote_name origin ≡ true
+      → is_ref other ≡ true → disk (ref_file origin other) ≢ gone → HasOrigin disk other origin
+  pub no_old : disk config ≢ gone → (disk remotes_conf ≡ gone) × (disk pins_file ≡ gone)
+
 -- where an operation on the settings or on an override works: `config`, the overrides, and the
 -- folders of work
 pub data IsSmallPlace (p : Elements) : Type 0 where

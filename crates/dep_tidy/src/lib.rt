@@ -10,4 +10,4 @@ mod rows;
 mod tidying;
 mod work;
 
-pub use tidying::{tidy, tidy_work};
+pub use tidying::{tidy, tidy_added, tidy_work};

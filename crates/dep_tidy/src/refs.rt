@@ -7,11 +7,11 @@ ghost use Rattle.ost_refs.specs.Changes.{CanWrite};
 ghost use Rattle.ost_refs.specs.declared.place.RefFile.TheVariants.{Digest as DigestOf};
 ghost use Rattle.ost_refs.specs.declared.place.RefPlace.TheVariants.{Remote};
 ghost use Rattle.dep_states.specs.Sound.{Opens};
-ghost use Rattle.dep_tidy.specs.Steps.{IsWanted, HasGoodNames, OtherGone, OtherAbsent, HasNoOther, HasNoneAt, Writes, WroteFile, WroteFiles};
+ghost use Rattle.dep_tidy.specs.Steps.{IsWanted, HasGoodNames, OtherGone, OtherAbsent, HasNoOther, HasNoneAt, Writes, WroteFile, WroteSome, WroteFiles, rows_named};
 
-use crate::rows::is_from;
+use crate::rows::{is_from, row_of};
 use fp_host::{Host, HostEnd, Path};
-use fp_name::Digest;
+use fp_name::{Digest, RefName};
 use fp_small::{RefRow, State};
 use ost_refs::{RefFile, RefPlace, drop_ref, list_refs, read_ref, write_ref};
 use std::alloc::{AllocError, Global};
@@ -107,6 +107,28 @@ fn write_file<H: Host>(
         return Ok(());
     }
     write_ref(alloc, host, root, &place, &row.commit)
+}
+
+/// Writes the file of this ref, where the state has the ref and the file says something else.
+pub(crate) fn write_file_of<H: Host>(
+    alloc: Global,
+    host: &mut H,
+    root: &Path,
+    state: &State,
+    name: &RefName,
+) -> Result<(), HostEnd>
+    requires root { root.now ≡ repo }
+    ensures any_moment { AtEachMoment H.Host host.old host.new
+        (Writes (rows_named state.now name.now)) }
+    ensures on_success { OnOk result (AtReturn H.Host host.old host.new
+        (WroteSome state.now (rows_named state.now name.now))) }
+    ensures fault_has_cause { FailsOnly H.Host host.old host.new
+        (Opens state.now) (IsErrOf result HostEnd.Fault) }
+{
+    match row_of(state.refs.as_slice(), name) {
+        None => Ok(()),
+        Some(row) => write_file(alloc, host, root, row),
+    }
 }
 
 /// Writes the ref files of the state that say something else, or aren't there.

@@ -13,7 +13,7 @@ use fp_small::{Previous, RefRow, State};
 use std::alloc::{AllocError, Global};
 
 /// The row of the ref, where there is one.
-fn row_of<'a>(rows: &'a [RefRow], name: &RefName) -> Option<&'a RefRow>
+pub(crate) fn row_of<'a>(rows: &'a [RefRow], name: &RefName) -> Option<&'a RefRow>
     ensures row { option_copied result ≡ at_name ref_key rows.now (ref_text name.now) }
     ensures good { is_ref name.now ≡ true }
 {

@@ -8,16 +8,17 @@ ghost use Rattle.fp_small.specs.Clear.{GoneBelow, AbsentBelow};
 ghost use Rattle.dep_states.specs.Sound.{Opens};
 ghost use Rattle.dep_states.specs.Settled.{Settled};
 ghost use Rattle.dep_tidy.specs.Lasts.{Lasts};
-ghost use Rattle.dep_tidy.specs.Tidy.{Tidies, WasTidied, SettledButWork};
+ghost use Rattle.dep_tidy.specs.Tidy.{Tidies, WasTidied, SettledButWork, SettledButRef};
 ghost use Rattle.dep_tidy.specs.Steps.{IsSteady, Steadily, IsReady, IsCleared, HasRefs};
 
 use crate::folders::clear_folders;
 use crate::old_files::take_old_files;
 use crate::pruning::prune_unused;
-use crate::refs::{drop_others, write_files};
+use crate::refs::{drop_others, write_file_of, write_files};
 use crate::work::empty_work;
 use dep_states::Opened;
 use fp_host::{Host, HostEnd, Path};
+use fp_name::RefName;
 use fp_small::{State, repo_path};
 use std::alloc::Global;
 
@@ -52,6 +53,46 @@ pub fn tidy_work<H: Host>(alloc: Global, host: &mut H, opened: Opened) -> Result
 {
     empty_work(alloc, host)?;
     Ok(opened)
+}
+
+/// Writes the file of this ref and takes away the work that was left in `repo/tmp`, and nothing
+/// else, for an installation that is settled but for them: after a ref came to it. It syncs where it
+/// writes the file.
+pub fn tidy_added<H: Host>(
+    alloc: Global,
+    host: &mut H,
+    opened: Opened,
+    name: &RefName,
+) -> Result<Opened, HostEnd>
+    ensures state { IfOk result (λ o. o ≡ opened) }
+    ensures any_moment { AtEachMoment H.Host host.old host.new (Tidies opened) }
+    ensures on_success { OnOk result (AtReturn H.Host host.old host.new
+        (λ u w. Opens opened u → SettledButRef name.now (shows u) → Settled (shows w))) }
+    ensures lasts { OnOk result (AtReturn H.Host host.old host.new Lasts) }
+    ensures fault_has_cause { FailsOnly H.Host host.old host.new
+        (Opens opened) (IsErrOf result HostEnd.Fault) }
+{
+    settle_added(alloc, host, opened.state(), name)?;
+    Ok(opened)
+}
+
+/// The file of the ref, and the work.
+fn settle_added<H: Host>(
+    alloc: Global,
+    host: &mut H,
+    state: &State,
+    name: &RefName,
+) -> Result<(), HostEnd>
+    ensures any_moment { AtEachMoment H.Host host.old host.new (Tidies state.now) }
+    ensures on_success { OnOk result (AtReturn H.Host host.old host.new
+        (λ u w. Opens state.now u → SettledButRef name.now (shows u) → Settled (shows w))) }
+    ensures lasts { OnOk result (AtReturn H.Host host.old host.new Lasts) }
+    ensures fault_has_cause { FailsOnly H.Host host.old host.new
+        (Opens state.now) (IsErrOf result HostEnd.Fault) }
+{
+    let repo = repo_path(alloc)?;
+    write_file_of(alloc, host, &repo, state, name)?;
+    empty_work(alloc, host)
 }
 
 /// All that is done after the first sync, and the last one.

@@ -27,7 +27,7 @@ use Rattle.dep_states.specs.Sound.{Opens}
 use Rattle.dep_states.specs.After.{Done, May, plain, state_after, IsOnConfig}
 use Rattle.dep_states.specs.Effects.{Effect, effect_of, writes_config, BringsCommit, brings, writes}
 use Rattle.dep_states.specs.Switch.{OpensEither}
-use Rattle.dep_tidy.specs.Tidy.{Tidies, SettledButWork}
+use Rattle.dep_tidy.specs.Tidy.{Tidies}
 use Rattle.op_change.specs.Bringing.{AreTold, WasLeft}
 use Rattle.op_change.specs.Applied.{Brings, have_for, op_refusal, refusal_by, done_with, AppliesWith, Applies, WasApplied}
 use Rattle.fl_lines.specs.Lines.{op_text}
@@ -36,7 +36,7 @@ use Rattle.fl_change.specs.Answer.{Answer, Piece, lines_of, pieces_text, ops_in,
 use Rattle.fl_change.specs.Refs.{op_over}
 use Rattle.fl_change.specs.Changes.{HasText}
 use Rattle.fl_change.specs.Created.{LacksFor}
-use Rattle.fl_change.specs.Performs.{Printed, IsSome, Performs, Holds, IsDone, IsHalted, Performed, Rests, done_of, WasDone, WasDoneBy, WasTidiedAfter}
+use Rattle.fl_change.specs.Performs.{Printed, IsSome, Performs, Holds, IsDone, IsHalted, Performed, Rests, done_of, IsNearlySettled, WasDone, WasDoneBy, WasTidiedAfter}
 use Rattle.fl_change.specs.declared.end.RunEnd.TheVariants.{Refused}
 use Rattle.fl_change.specs.Says.{Says, WasSaid}
 use Rattle.fl_change.proofs.Brought.{plainly, done_is, supplied_is, world_is, same_world}
@@ -44,6 +44,7 @@ use Rattle.fl_change.proofs.Changing.{config_kept, config_tidied, tidied_not, st
 use Rattle.fl_change.proofs.Created.{none_created, no_ops_created, lacks_is, brought_is, one_created}
 use Rattle.fl_change.proofs.Pulled.{op_pulls}
 use Rattle.fl_change.proofs.Resting.{small_rest}
+use Rattle.fl_change.proofs.Adding.{added_rest}
 use Rattle.fl_change.proofs.Same.{same_opens, same_rest, now_left}
 use Rattle.fl_change.proofs.Worlds.{holds_on, holds_tidied, same_objects}
 
@@ -221,7 +222,7 @@ pub record Applied (held : Holdings) (op : Op) (s t : State) (v w : View) : Type
   pub holds : Holds (world_after held (world_at s v) (done_of op held (world_at s v))) w
   pub text : sets_config op ≡ true → HasText t w
   pub config : sets_config op ≡ false → w.names config ≡ v.names config
-  pub rest : keeps_commits op ≡ true → SettledButWork (shows w)
+  pub rest : IsNearlySettled op (shows w)
   pub shares : Shares IsLasting v w
   pub creates : Creates repo (LacksFor held (world_at s v) op) v w
 
@@ -256,7 +257,10 @@ applied holds held told op s t {v = v} {w = w} may tree next rests applies was a
           let plain_is : t ≡ state_after s (plain op) = answers.1 ∙ ap (state_after s) (plainly (have_for s op held v) op on.off).done in
           subst (λ (x : State). HasText x w) (sym plain_is) (written (was.settings on.is).text);
       config = λ not. config_kept s op not changes;
-      rest = small_rest s op may tree next rests changes;
+      rest = record {
+        kept = small_rest s op may tree next rests changes;
+        added = added_rest s op (have_for s op held v) may tree next rests changes (was.opens held (λ b. told) rests.opens) (was.objects held (λ b. told) (λ b. rests.opens));
+      };
       shares = was.shares held (λ b. told) (λ b. rests.opens);
       creates = creates_to (lacks_is held op s rests) (brought_is held op s rests) (was.creates held (λ b. told) (λ b. rests.opens));
     }
@@ -320,7 +324,7 @@ module _ (held : Holdings) (op : Op) (s t : State) (v : View) where
     holds = holds_on (same_opens was.follows a.holds.opens) (same_objects w z was.shown) a.holds;
     text = λ sets. text_on (was.untouched.names config) (keeps_files was.untouched) (a.text sets);
     config = λ not. was.untouched.names config ∙ a.config not;
-    rest = λ keeps. same_rest was.shown (a.rest keeps);
+    rest = same_rest was.shown a.rest;
     shares = shares_on a.shares (none_made was.untouched) (keeps_files was.untouched);
     creates = creates_on a.creates (none_created was.untouched) a.files (keeps_files was.untouched);
   }

@@ -9,6 +9,7 @@ pub mod Brought
 pub mod Created
 pub mod Pulled
 pub mod Resting
+mod Adding
 pub mod Doing
 pub mod Turning
 pub mod Working

@@ -9,12 +9,14 @@ use Rattle.fp_host.proofs.Ending.{ends_to, ends_both, ends_frame}
 use Rattle.fp_host.proofs.Framed.{IsTold}
 use Rattle.fp_host.specs.Outcome.{Spot, gone, folder, holds, points, shows}
 use Rattle.fp_small.specs.Clear.{IsWithin}
+use Rattle.fp_name.specs.Refs.{Ref}
 use Rattle.fp_small.specs.Places.{repo, tmp}
 use Rattle.fp_small.specs.Replace.{ReplacesName, folders_of}
 use Rattle.fp_small.specs.declared.state.State.{State}
 use Rattle.fp_small.specs.declared.state.Layout.TheVariants.{One, Two}
 use Rattle.fp_small.specs.declared.state.RemoteRow.{RemoteRow}
 use Rattle.fp_small.specs.declared.op.Op.{Op}
+use Rattle.fp_small.specs.declared.op.Op.TheVariants.{Install}
 use Rattle.fp_small.proofs.Sharing.{shares_empty}
 use Rattle.ost_store.proofs.Creating.{creates_frame}
 use Rattle.ost_store.proofs.Lists.{in_cases, in_one}
@@ -24,12 +26,14 @@ use Rattle.dep_states.specs.Effects.{Effect, Write, effect_of, is_small, keeps_r
 use Rattle.dep_states.specs.declared.setup.Setup.{Setup}
 use Rattle.dep_states.specs.Shown.{Seen, away, bad, there, read_of, read_file, small_most, Shows, settings_at, remotes_at, pins_at, layout_one, setup_of}
 use Rattle.dep_states.specs.Settled.{Settled}
-use Rattle.dep_tidy.specs.Tidy.{SettledButWork, IsSmallPlace, is_config, is_layer, is_repo, is_work}
+use Rattle.dep_states.specs.Sound.{Opens}
+use Rattle.dep_tidy.specs.Lasts.{Lasts}
+use Rattle.dep_tidy.specs.Tidy.{SettledButWork, SettledButRef, IsSmallPlace, is_config, is_layer, is_repo, is_work}
 use Rattle.dep_tidy.proofs.Small.{small_changes, work_apart}
 use Rattle.dep_tidy.proofs.Views.{same_shows}
 use Rattle.op_change.specs.Applied.{MayChange, MayWrite, ChangesName, ChangesBy}
 use Rattle.fl_change.specs.Answer.{keeps_commits}
-use Rattle.fl_change.specs.Performs.{Rests, WasTidiedAfter}
+use Rattle.fl_change.specs.Performs.{Rests, OfAdded, WasTidiedAfter}
 use Rattle.fl_change.proofs.Same.{now_left}
 
 -- ---- in layout 2 without `config` there are no files of layout 1
@@ -143,5 +147,15 @@ small_rest s op {v = v} {w = w} may tree next rests changes keeps =
 
 pub work_is_enough : {E : Type 0} {G : Elements → Spot → Type 0} {W : Elements → Slot → Type 0} (op : Op) (s : State) (r : Result State E) (a b : Option Moments) → keeps_commits op ≡ true → ((q : Elements) (id : ℕ) → W q (file id) → ⊥) → IsTold a → Frame G W NoPath a b
     → OnOk r (AtEnd (λ u w. SettledButWork (shows u) → Settled (shows w)) a b) → OnOk r (AtEnd (WasTidiedAfter op s) a b)
-work_is_enough {W = W} op s (Ok t) a b keeps off told frame end = ends_to (ends_both end (ends_frame told frame)) (λ u w q. record { settled = λ opens rest. q.0 (rest keeps); shares = shares_empty q.1; creates = creates_frame W q.1 (λ p id below put. off p id put) })
+work_is_enough {W = W} op s (Ok t) a b keeps off told frame end = ends_to (ends_both end (ends_frame told frame)) (λ u w q. record { settled = λ opens rest. q.0 (rest.kept keeps); shares = shares_empty q.1; creates = creates_frame W q.1 (λ p id below put. off p id put) })
 work_is_enough op s (Err e) a b keeps off told frame end = end
+
+-- and, where it adds a ref, that its file comes
+pub file_is_enough : {E : Type 0} (op : Op) (name : Ref) (origin commit : List ℕ) (s : State) (r : Result State E) (a b : Option Moments) → op ≡ Install name origin commit
+    → OnOk r (AtEnd (λ u w. Opens s u → SettledButRef name (shows u) → Settled (shows w)) a b) → OnOk r (AtEnd Lasts a b) → OnOk r (AtEnd (WasTidiedAfter op s) a b)
+file_is_enough op name origin commit s (Ok t) a b is end lasts = ends_to (ends_both end lasts) (λ u w q. record {
+  settled = λ opens rest. q.0 opens (subst (λ (o : Op). OfAdded o (λ n. SettledButRef n (shows u))) is rest.added);
+  shares = q.1.shares;
+  creates = q.1.creates;
+})
+file_is_enough op name origin commit s (Err e) a b is end lasts = end

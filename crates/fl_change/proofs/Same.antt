@@ -7,7 +7,8 @@ use Rattle.fp_small.specs.declared.state.State.{State}
 use Rattle.dep_states.specs.Shown.{Shows}
 use Rattle.dep_states.specs.Sound.{Sound, Opens}
 use Rattle.dep_states.specs.Settled.{Settled}
-use Rattle.dep_tidy.specs.Tidy.{SettledButWork}
+use Rattle.fp_small.specs.declared.op.Op.{Op}
+use Rattle.fl_change.specs.Performs.{IsNearlySettled}
 
 pub unmoved : {disk before : Disk} → ((p : Elements) → (disk p ≡ before p) ⊎ Nothing p (disk p)) → (p : Elements) → disk p ≡ before p
 unmoved each p = elim (each p) [ inl same ↦ same | inr given ↦ absurd given ]
@@ -24,8 +25,8 @@ same_sound {disk = disk} {before = before} same sound = subst Sound (sym (same_d
 pub same_settled : {disk before : Disk} → ((p : Elements) → disk p ≡ before p) → Settled before → Settled disk
 same_settled {disk = disk} {before = before} same settled = subst Settled (sym (same_disk disk before same)) settled
 
-pub same_rest : {disk before : Disk} → ((p : Elements) → disk p ≡ before p) → SettledButWork before → SettledButWork disk
-same_rest {disk = disk} {before = before} same rest = subst SettledButWork (sym (same_disk disk before same)) rest
+pub same_rest : {op : Op} {disk before : Disk} → ((p : Elements) → disk p ≡ before p) → IsNearlySettled op before → IsNearlySettled op disk
+same_rest {op = op} {disk = disk} {before = before} same rest = subst (IsNearlySettled op) (sym (same_disk disk before same)) rest
 
 pub same_opens : {v w : View} {s : State} → Follows Nothing v w → Opens s v → Opens s w
 same_opens follows opens = record {

@@ -55,7 +55,7 @@ same_number n m small same =
 cons_same : {x y : ℕ} {xs ys : List ℕ} → x ≡ y → xs ≡ ys → x ∷ xs ≡ y ∷ ys
 cons_same e f = λ i. e i ∷ f i
 
-hex_same : (d e : List ℕ) → list_all is_byte e ≡ true → hex d ≡ hex e → d ≡ e
+pub hex_same : (d e : List ℕ) → list_all is_byte e ≡ true → hex d ≡ hex e → d ≡ e
 unfolding hex
 hex_same [] [] bytes same = refl
 hex_same [] (y ∷ ys) bytes same = absurd (cc same)

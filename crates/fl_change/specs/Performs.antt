@@ -6,11 +6,13 @@ use Rattle.fp_host.specs.Moments.{Goes, Always}
 use Rattle.fp_host.specs.Remote.{Holdings}
 use Rattle.fp_host.specs.View.{View}
 use Rattle.fp_host.specs.Outcome.{Disk, Leaves, shows}
+use Rattle.fp_name.specs.Refs.{Ref}
 use Rattle.fp_small.specs.declared.state.State.{State}
 use Rattle.fp_small.specs.Files.{KeepsFiles}
 use Rattle.fp_small.specs.Places.{repo}
 use Rattle.fp_small.specs.Shares.{Shares}
 use Rattle.fp_small.specs.declared.op.Op.{Op}
+use Rattle.fp_small.specs.declared.op.Op.TheVariants.{Install}
 use Rattle.ost_model.specs.Objects.{store}
 use Rattle.ost_store.specs.Created.{Creates, NoObject}
 use Rattle.ost_walk.specs.Ends.{IsRemotes, Outside}
@@ -20,7 +22,7 @@ use Rattle.dep_states.specs.Shown.{Shows}
 use Rattle.dep_states.specs.Sound.{Sound, Opens}
 use Rattle.dep_states.specs.After.{Done, state_after, after_all}
 use Rattle.dep_states.specs.Settled.{Settled}
-use Rattle.dep_tidy.specs.Tidy.{SettledButWork}
+use Rattle.dep_tidy.specs.Tidy.{SettledButWork, SettledButRef}
 use Rattle.op_change.specs.Bringing.{AreTold}
 use Rattle.op_change.specs.Applied.{Brings, op_refusal, done_with}
 use Rattle.fl_lines.specs.Lines.{op_text}
@@ -160,9 +162,19 @@ Just op o = o ≡ op
 abbrev pub done_of : Op → Holdings → World → Done
 done_of op held x = done_with (supplied held x op) op
 
--- An operation is done and its line printed; it isn't tidied after it. Where it changes no commit,
--- all is settled but for work. Each new file that has bytes came to a lasting name, and just the
--- objects were made that the operation lacked.
+-- this holds of a ref that the operation adds
+abbrev pub OfAdded : Op → (Ref → Type 0) → Type 0
+OfAdded (Install name remote commit) Is = Is name
+OfAdded _ Is = Unit {0}
+
+-- What is settled before it is tidied after an operation: all but work, where no commit changes; and
+-- all but work and the file of the ref, where one is added.
+pub record IsNearlySettled (op : Op) (disk : Disk) : Type 0 where
+  pub kept : keeps_commits op ≡ true → SettledButWork disk
+  pub added : OfAdded op (λ name. SettledButRef name disk)
+
+-- An operation is done and its line printed; it isn't tidied after it. Each new file that has bytes
+-- came to a lasting name, and just the objects were made that the operation lacked.
 pub record WasDone (held : Holdings) (op : Op) (s t : State) (v w : View) : Type 0 where
   pub allowed : op_refusal (supplied held (world_at s v) op) op ≡ None
   pub state : t ≡ state_after s (done_of op held (world_at s v))
@@ -171,14 +183,14 @@ pub record WasDone (held : Holdings) (op : Op) (s t : State) (v w : View) : Type
   pub holds : Holds (world_after held (world_at s v) (done_of op held (world_at s v))) w
   pub text : sets_config op ≡ true → HasText t w
   pub config : sets_config op ≡ false → w.names config ≡ v.names config
-  pub rest : keeps_commits op ≡ true → SettledButWork (shows w)
+  pub rest : IsNearlySettled op (shows w)
   pub shares : Shares IsLasting v w
   pub creates : Creates repo (LacksFor held (world_at s v) op) v w
 
--- After an operation that changes no commit it is enough that work is taken away. Each new file
--- that has bytes came to a lasting name, and no object was made.
+-- Where that was settled, all is. Each new file that has bytes came to a lasting name, and no object
+-- was made.
 pub record WasTidiedAfter (op : Op) (s : State) (u w : View) : Type 0 where
-  pub settled : Opens s u → (keeps_commits op ≡ true → SettledButWork (shows u)) → Settled (shows w)
+  pub settled : Opens s u → IsNearlySettled op (shows u) → Settled (shows w)
   pub shares : Shares IsLasting u w
   pub creates : Creates repo NoObject u w
 

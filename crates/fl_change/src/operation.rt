@@ -14,7 +14,7 @@ ghost use Rattle.fl_change.specs.Refs.{op_over};
 
 use crate::end::RunEnd;
 use dep_states::Opened;
-use dep_tidy::{tidy, tidy_work};
+use dep_tidy::{tidy, tidy_added, tidy_work};
 use fl_lines::op_line;
 use fp_host::{Host, HostEnd, Remotes};
 use fp_small::Op;
@@ -85,8 +85,8 @@ fn do_and_say<H: Host, R: Remotes>(
     Ok(done)
 }
 
-/// Tidies after an operation. One that changes no commit left no more than work in `repo/tmp`, so
-/// nothing else is looked at.
+/// Tidies after an operation. One that changes no commit left no more than work in `repo/tmp`, and an
+/// install besides a ref without its file, so nothing else is looked at.
 fn tidy_after<H: Host>(
     alloc: Global,
     host: &mut H,
@@ -101,9 +101,11 @@ fn tidy_after<H: Host>(
         (Opens done) (IsErrOf result HostEnd.Fault) }
 {
     if keeps_commits(op) {
-        tidy_work(alloc, host, done)
-    } else {
-        tidy(alloc, host, done)
+        return tidy_work(alloc, host, done);
+    }
+    match op {
+        Op::Install { name, .. } => tidy_added(alloc, host, done, name),
+        _ => tidy(alloc, host, done),
     }
 }
 
