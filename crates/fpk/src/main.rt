@@ -4,6 +4,7 @@
 ghost use Rattle.std.specs.Prelude.{◌≡◌, ◌↔◌, Some, true, IfOk, map, option_map, string_bytes};
 ghost use Rattle.fl_words.specs.Forms.{command_of};
 ghost use Rattle.fl_words.specs.Words.{may_change};
+ghost use Rattle.fl_top.specs.Status.{IsStatus, IsOfWords};
 
 mod damage;
 mod hints;
@@ -156,7 +157,7 @@ fn run_on(
 }
 
 /// Runs the words on this host, and says why the status is not 0, what an option doesn't do, or that
-/// a look found no folder.
+/// a look found no folder. The status is that of the run of exactly these words.
 fn run_over<R: System + Print + Input + Clock + Threads + Sync>(
     rt: &R,
     alloc: Global,
@@ -164,7 +165,10 @@ fn run_over<R: System + Print + Input + Clock + Threads + Sync>(
     progress: &Progress<'_, R>,
     printed: &Refusals<'_, Watched<'_, R>>,
     asked: Asked<'_>,
-) -> u8 {
+) -> u8
+    ensures status { IsStatus result }
+    ensures words { IsOfWords (command_of (map string_bytes asked.entry.words.now)) result }
+{
     let system = Watched::remotes(rt, progress);
     let mut remotes = DirRemotes::new(&system, alloc);
     let mut input = input_of(rt, alloc, asked.words);
