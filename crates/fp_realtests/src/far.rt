@@ -202,10 +202,10 @@ fn last_line(alloc: Global, log: &Log<'_>) -> Option<String> {
 
 /// Asks all of it, of a command for this whose line is on a terminal or not, and demands what each
 /// makes its line say. Nothing is said elsewhere.
-fn ask_all<T: Threads + Sync>(
-    rt: &HostRuntime,
+fn ask_all<'a, T: Threads + Sync>(
+    rt: &'a HostRuntime,
     threads: &T,
-    log: &Log<'_>,
+    log: &'a Log<'_>,
     told: (Task, bool),
     asks: &[(Ask<'_>, &str)],
 ) {
