@@ -10,7 +10,9 @@ and then asks for all three lists. They must read, and show the installation as 
 after one more. Then the folder is read without fpk: each path of each shown commit, and of the one before it, is as `ostree checkout`
 lays it out; each of its files is a hard link of its object; all that stands below `repo/objects` has the digest of its name. Once in
 ten rounds `ostree fsck` looks at what the kill left, and has to pass. One round in eight begins anew with an installation of layout 1,
-which the batch migrates. Where it may mount, once in five rounds a batch of its own runs on a new tmpfs that is too small for it: what
+which the batch migrates. In one round of three, and on each full file system, looks run beside the batch, one after another: each of `list`,
+`list --pins`, `list --remotes`, `info` and `launch` has to show the installation as it is after the commands whose lines were printed at some
+moment of the look, or after one more, and with no error. Where it may mount, once in five rounds a batch of its own runs on a new tmpfs that is too small for it: what
 fails for want of room has to leave the same, and the status is 3. At the end it prints what it counted; the status is 0 where nothing
 was amiss. A killed process loses nothing that it wrote: what a power cut leaves isn't tried here.
 """
@@ -19,11 +21,13 @@ import collections
 import hashlib
 import os
 import random
+import re
 import shutil
 import struct
 import subprocess
 import sys
 import tempfile
+import threading
 import time
 
 NAMES = ["art", "lab", "lux", "x_1", "a.b-c"]
@@ -33,6 +37,8 @@ APPS = ["app/org.x.Ape/x86_64/stable", "app/org.x.Bee/x86_64/stable"]
 PINS = ["app/*/*/*", "runtime/*/*/*", RUNTIME, APPS[0]]
 # What stands where an installation of the present layout has a store that was made to its end.
 STORE = ["config", "repo/config", "repo/refs/heads", "repo/refs/remotes"]
+LOOKS = [["list"], ["list", "--pins"], ["list", "--remotes"]]
+LOOKS += [["info", ref] for ref in [RUNTIME] + APPS] + [["launch", ref] for ref in APPS]
 COMMITS = 3
 FILES = 12
 
@@ -94,6 +100,22 @@ class Model:
         lines = [f"{ref} {self.refs[ref][0]} hub" for ref in sorted(self.refs)] + sorted(self.pins)
         lines += [f"{name} {self.remotes[name]}" for name in sorted(self.remotes)]
         return "".join(line + "\n" for line in lines)
+
+    def told(self, words):
+        """The status of a look, and the text that it prints, or the digests where it says more than those."""
+        if words == ["list"]:
+            return 0, "".join(f"{ref} {self.refs[ref][0]} hub\n" for ref in sorted(self.refs))
+        if words == ["list", "--pins"]:
+            return 0, "".join(pin + "\n" for pin in sorted(self.pins))
+        if words == ["list", "--remotes"]:
+            return 0, "".join(f"{name} {self.remotes[name]}\n" for name in sorted(self.remotes))
+        command, ref = words
+        if ref not in self.refs:
+            return 1, f"error: not installed {ref}\n"
+        commit, other = self.refs[ref]
+        if command == "launch":
+            other = self.refs[RUNTIME][0]
+        return 0, [commit, other] if other else [commit]
 
     # ---- commands: each gives its words and, for each operation, the line and the model after it
 
@@ -269,6 +291,33 @@ def amiss_commit(folder, tree, inodes):
     return None
 
 
+# ---- looks beside a batch
+
+
+class Looks:
+    """Looks that run beside a batch, and what each of them told."""
+
+    def __init__(self, program, folder, rng):
+        self.program, self.folder, self.rng, self.seen = program, folder, rng, []
+
+    def look(self, acknowledged):
+        """Runs one. The function tells how many lines the batch has printed."""
+        words, before = self.rng.choice(LOOKS), acknowledged()
+        done = subprocess.run([self.program, *words], capture_output=True, text=True, timeout=60, check=False)
+        told = done.stdout
+        if done.returncode == 0 and words[0] in ("info", "launch"):
+            told = re.findall(r"\b[0-9a-f]{64}\b", told)
+        self.seen.append((words, before, acknowledged(), (done.returncode, told), done.stderr))
+
+    def amiss(self, models):
+        """The first that is another than each of these models tells between its start and its end."""
+        quiet = ["", f"fpk: waiting for another fpk that works on {self.folder}\n", f"fpk: no installation at {self.folder}\n"]
+        for words, first, last, told, said in self.seen:
+            if told not in [model.told(words) for model in models[first : last + 2]] or told[0] == 0 and said not in quiet:
+                return f"{' '.join(words)} beside it, after {first} to {last} lines: {told}, {said!r}"
+        return None
+
+
 # ---- rounds
 
 
@@ -282,17 +331,18 @@ def old_layout(folder, model):
     write(os.path.join(folder, "pins"), "".join(pin + "\n" for pin in sorted(model.pins)))
 
 
-def run_killed(program, text, seconds):
-    """What a batch printed up to the moment when it was killed, and its status."""
+def run_killed(program, text, seconds, looks=None):
+    """What a batch printed up to the moment when it was killed, and its status. Looks may run beside it."""
     with tempfile.TemporaryFile() as source, tempfile.TemporaryFile() as sink:
         source.write(text.encode("ascii"))
         source.seek(0)
         process = subprocess.Popen([program, "batch"], stdin=source, stdout=sink)
-        try:
-            process.wait(timeout=seconds)
-        except subprocess.TimeoutExpired:
-            process.kill()
-            process.wait()
+        killer = threading.Timer(seconds, process.kill)
+        killer.start()
+        while looks and process.poll() is None:
+            looks.look(lambda: os.pread(sink.fileno(), 1 << 20, 0).count(b"\n"))
+        process.wait()
+        killer.cancel()
         sink.seek(0)
         return sink.read().decode("ascii"), process.returncode
 
@@ -340,7 +390,10 @@ def one_round(program, folder, rng, model, remote, counts):
     if is_old:
         lines.insert(0, "migrated layout 2")
         models.insert(0, model)
-    printed, status = run_killed(program, "".join(words), rng.random() * len(words) * counts["seconds"] / 2)
+    looks = Looks(program, folder, rng) if rng.random() < 1 / 3 else None
+    printed, status = run_killed(program, "".join(words), rng.random() * len(words) * counts["seconds"] / 2, looks)
+    if is_amiss_beside(looks, models, counts):
+        return None
     counts["killed" if status < 0 else "ended"] += 1
     whole = printed.split("\n")[:-1]
     counts["acknowledged"] += len(whole)
@@ -354,6 +407,15 @@ def one_round(program, folder, rng, model, remote, counts):
             return checked(folder, models[place], remote, counts, printed, words)
     print(f"shown {text!r} after {printed!r} for {words!r}")
     return None
+
+
+def is_amiss_beside(looks, models, counts):
+    """Whether a look beside a batch told otherwise than these models do."""
+    text = looks.amiss(models) if looks else None
+    counts["looks beside changes"] += len(looks.seen) if looks else 0
+    if text:
+        print(text)
+    return text is not None
 
 
 def complaint(folder):
@@ -405,7 +467,10 @@ def full_round(program, home, rng, remote, counts):
 def full_batch(program, folder, rng, remote, counts):
     remote.offer(rng)
     words, lines, models = batch(Model(), rng, remote, rng.randrange(2, 10))
-    printed, status = run_killed(program, "".join(words), 600)
+    looks = Looks(program, folder, rng)
+    printed, status = run_killed(program, "".join(words), 600, looks)
+    if is_amiss_beside(looks, models, counts):
+        return False
     whole = printed.split("\n")[:-1]
     counts["on a full disk" if status == 3 else "on a small disk"] += 1
     if whole != lines[: len(whole)] or status not in (0, 3) or status == 0 and whole != lines:
@@ -449,7 +514,7 @@ def main():
                 model = Model()
     print(f"rounds {rounds}, amiss {faults}")
     names = ["killed", "ended", "of layout 1", "acknowledged", "with one more", "refs looked at", "looked at by ostree fsck"]
-    for name in [*names, "on a full disk", "on a small disk"]:
+    for name in [*names, "looks beside changes", "on a full disk", "on a small disk"]:
         print(f"{name} {counts[name]}")
     return 1 if faults else 0
 

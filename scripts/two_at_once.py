@@ -6,7 +6,9 @@
 - a look makes nothing where there is no installation,
 - 60 pins each of two runs side by side are all there afterwards, from a folder on that is not there at first,
 - a batch that waits for its input holds no lock,
-- a run that waits says so once on standard error, and goes on when the lock is free,
+- a run that waits says so once on standard error, and goes on when the lock is free; after ten seconds it says who holds it,
+- an update that is held in its pull keeps no look waiting: `list`, `info` and `launch` answer within a second, by the state of before,
+- a change that is about to replace a file waits for those who look, and until then the file stands,
 - a run that waits for a lock file that is taken away meanwhile holds the one that stands there afterwards,
 - a run that is killed by SIGKILL while it holds the lock leaves none,
 - after such a run the next one that changes something syncs every file and folder that is fpk's, and none of others, and
@@ -17,7 +19,9 @@
 It prints what it counted; the status is 0 where nothing was amiss.
 """
 
+import contextlib
 import fcntl
+import glob
 import os
 import re
 import shutil
@@ -27,6 +31,7 @@ import tempfile
 import time
 
 LOCK = ".lock"
+APP = "app/org.x.Held/x86_64/1"
 
 
 class Runs:
@@ -62,6 +67,22 @@ class Runs:
 
     def lock(self):
         return open(os.path.join(self.folder, LOCK), "r+")
+
+    @contextlib.contextmanager
+    def folder_lock(self, how):
+        """The lock of the folder, while it is held."""
+        folder = os.open(self.folder, os.O_RDONLY)
+        try:
+            fcntl.flock(folder, how)
+            yield
+        finally:
+            os.close(folder)
+
+    def export(self, ref, *lines):
+        """Offers a tree of these lines, and names its commit."""
+        text = "".join(line + "\n" for line in ["timestamp 1", "subject a tree", *lines])
+        said = self.start("export", "lab", ref).communicate(text)[0]
+        return said.removeprefix("commit ").rstrip("\n")
 
     def size_of_lock(self):
         return os.stat(os.path.join(self.folder, LOCK)).st_size
@@ -100,14 +121,68 @@ def waiting_batch(runs):
 
 def waiting(runs):
     """What a run says that has to wait for half a second, and its status."""
-    with runs.lock() as lock:
-        fcntl.flock(lock, fcntl.LOCK_EX)
+    with runs.folder_lock(fcntl.LOCK_EX):
         waiter = runs.start("list", "--pins")
         time.sleep(0.5)
         assert waiter.poll() is None
-        fcntl.flock(lock, fcntl.LOCK_UN)
-        _, said = waiter.communicate()
-        return said, waiter.returncode
+    _, said = waiter.communicate()
+    return said, waiter.returncode
+
+
+def waiting_long(runs):
+    """The same of one that has to wait for eleven seconds."""
+    with runs.lock() as lock:
+        fcntl.flock(lock, fcntl.LOCK_EX)
+        waiter = runs.start("pin", "app/org.x.Long/*/*")
+        time.sleep(11)
+        assert waiter.poll() is None
+    _, said = waiter.communicate()
+    return said, waiter.returncode
+
+
+def behind_a_look(runs):
+    """What a change says that waits for a look, whether it replaced nothing meanwhile, and whether it is done then."""
+    config = os.path.join(runs.folder, "config")
+    with runs.folder_lock(fcntl.LOCK_SH):
+        before = os.stat(config).st_ino
+        changing = runs.start("pin", "app/org.x.Behind/*/*")
+        time.sleep(0.5)
+        stays = changing.poll() is None and os.stat(config).st_ino == before
+        looks = runs.start("list", "--pins")
+        _, said = looks.communicate(timeout=1)
+        stays = stays and said == ""
+    _, said = changing.communicate()
+    return said, stays, changing.returncode == 0 and os.stat(config).st_ino != before
+
+
+def beside_a_pull(runs):
+    """How long the slowest of three looks took beside an update that is held in its pull, and whether they told the state of before."""
+    runtime = ["[Runtime]", "name=org.x.P"]
+    application = ["[Application]", "name=org.x.Held", "runtime=org.x.P/x86_64/1"]
+    files = [f"file metadata 644 {''.join(line + chr(10) for line in lines).encode().hex()}" for lines in (runtime, application)]
+    runs.export("runtime/org.x.P/x86_64/1", files[0])
+    old = runs.export(APP, files[1], "file files/a 644 61")
+    runs.run("remote-add", "lab", f"file://{runs.folder}/made/lab")
+    runs.run("install", "lab", APP)
+    stood = set(glob.glob(f"{runs.folder}/made/lab/objects/*/*.file"))
+    new = runs.export(APP, files[1], "file files/a 644 62")
+    (held,) = set(glob.glob(f"{runs.folder}/made/lab/objects/*/*.file")) - stood
+    slow = ["strace", "-f", "-o", "/dev/null", "-P", held, "-e", "trace=openat", "-e", "inject=openat:delay_enter=4000000"]
+    update = runs.start("update", APP, before=slow)
+    time.sleep(1.5)
+    begun, tells, slowest = time.monotonic(), True, 0.0
+    for words in (["list"], ["info", APP], ["launch", APP]):
+        begun = time.monotonic()
+        shown, said = runs.run(*words)
+        slowest = max(slowest, time.monotonic() - begun)
+        tells = tells and old in shown and new not in shown and said == ""
+    is_held = update.poll() is None
+    printed, _ = update.communicate()
+    tells = tells and is_held and printed == f"updated {APP} {new}\n" and new in runs.run("list")[0]
+    runs.run("uninstall", APP)
+    runs.run("uninstall", "--unused")
+    shutil.rmtree(os.path.join(runs.folder, "made"))
+    return slowest, tells
 
 
 def taken_away(runs):
@@ -134,7 +209,7 @@ def killed(runs):
     """Kills a run at its second sync, while it holds the lock. What the lock file holds afterwards."""
     inject = ["strace", "-f", "-e", "inject=fsync:signal=SIGKILL:when=2", "-o", "/dev/null"]
     runs.start("pin", "app/org.x.K/*/*", before=inject).communicate()
-    with runs.lock() as lock:
+    with runs.lock() as lock, runs.folder_lock(fcntl.LOCK_EX | fcntl.LOCK_NB):
         fcntl.flock(lock, fcntl.LOCK_EX | fcntl.LOCK_NB)
         return lock.read()
 
@@ -162,6 +237,16 @@ def main():
         said, status = waiting(runs)
         want = f"fpk: waiting for another fpk that works on {runs.folder}\n"
         see("said by the one that waited", repr(said), said == want and status == 0)
+        said, status = waiting_long(runs)
+        want += f"fpk: still waiting: the lock of {runs.folder}/{LOCK} is held by process {os.getpid()} (python3)\n"
+        see("said by the one that waited long", repr(said), said == want and status == 0)
+        said, stays, done = behind_a_look(runs)
+        want = f"fpk: waiting for another fpk that looks at {runs.folder}\n"
+        see("said by a change that waited for a look", repr(said), said == want)
+        see("it replaced nothing before, and then it did", (stays, done), stays and done)
+        slowest, tells = beside_a_pull(runs)
+        see("seconds of the slowest look beside a pull", f"{slowest:.2f}", slowest < 1)
+        see("the looks told what was before", tells, tells)
         holds = taken_away(runs)
         see("one that waited for a lock file that was taken away holds the new one", holds, holds)
         runs.add_files("made")
@@ -186,7 +271,7 @@ def main():
             text = lock.read()
         see("text of the lock file", repr(text), text == "-" * 36 + "\n" and size == len(text))
         names = [name.split("/")[1] for name in runs.pins()]
-        kept = all(f"org.x.{name}" in names for name in ("Beside", "Batch", "Away", "One", "Two", "Three", "Four"))
+        kept = all(f"org.x.{name}" in names for name in ("Beside", "Batch", "Long", "Behind", "Away", "One", "Two", "Three", "Four"))
         see("all of it is pinned", kept, kept)
     finally:
         shutil.rmtree(top)

@@ -192,6 +192,10 @@ impl<R: System + Clock> System for Watched<'_, R> {
         self.rt.lock(file.inner(), access)
     }
 
+    fn lock_within(&self, file: &Self::File, access: Access, seconds: u64) -> io::Result<bool> {
+        self.rt.lock_within(file.inner(), access, seconds)
+    }
+
     fn sync_paths<T: Threads + Sync>(&self, threads: &T, paths: &[&str]) -> Option<Failure>
         requires sync { IsSync T.row }
     {

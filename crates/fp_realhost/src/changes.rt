@@ -3,12 +3,13 @@ ghost use Rattle.std.specs.Prelude.{◌≢◌, ◌≤◌, [], OnOk};
 
 use crate::below::is_below;
 use crate::crew::Crew;
+use crate::moves::Move;
 use crate::tree::Tree;
 use crate::writer::Writer;
 use crate::{folders, links, moves};
 use fp_host::{PERMISSION_BITS, Path};
 use fp_realnotes::Notes;
-use fp_realroot::{OpenFiles, System, sync_open};
+use fp_realroot::{LAYOUT, OpenFiles, System, sync_open};
 use fp_system::{Cause, Reader, create_new, is_sticky, kept_bits};
 use std::fs::OpenFile;
 use std::io::Write;
@@ -28,9 +29,26 @@ pub enum Change<'a> {
     RemoveDir,
 }
 
+impl Change<'_> {
+    fn takes_away(self) -> bool {
+        matches!(self, Change::Unlink | Change::RemoveDir)
+    }
+}
+
+/// Whether no look reads what stands at the path: it is work.
+fn is_work(path: &Path) -> bool {
+    is_below(path.text(), LAYOUT.work)
+}
+
+/// Whether no look sees the move: it is one of work, or gives a new object its name, which nothing
+/// needs that a look reads.
+fn is_unseen(from: &Path, to: &Path, is_stored: bool, moved: &Move) -> bool {
+    is_work(from) && (is_work(to) || is_stored && !moved.replaces)
+}
+
 impl<R: System> Tree<'_, R> {
     /// Makes the change. Folders get the permission bits 0755. A file that waits at the path is made
-    /// before.
+    /// before. Where a name goes, those who look are kept out.
     pub fn change<T: System + Threads>(
         &mut self,
         crew: &Crew<'_, T>,
@@ -40,6 +58,9 @@ impl<R: System> Tree<'_, R> {
         match self.reach_to_change(path) {
             Ok(()) => {
                 self.make_at(crew);
+                if change.takes_away() && !is_work(path) {
+                    self.gate.keep_looks_out(self.rt)?;
+                }
                 change_at(
                     self.rt,
                     &self.at,
@@ -171,7 +192,8 @@ impl<R: System> Tree<'_, R> {
         }
     }
 
-    /// Moves a file or symlink to nothing, or in the place of another one.
+    /// Moves a file or symlink to nothing, or in the place of another one. Where a look may see it,
+    /// those who look are kept out.
     pub fn rename<T: System + Threads>(
         &mut self,
         crew: &Crew<'_, T>,
@@ -182,11 +204,15 @@ impl<R: System> Tree<'_, R> {
         match self.reach_both(from, to) {
             Ok(()) => {
                 self.make_both(crew);
+                let moved = Move::of(self.rt, &self.from, &self.at, &self.notes.made)?;
+                if !is_unseen(from, to, is_stored, &moved) {
+                    self.gate.keep_looks_out(self.rt)?;
+                }
                 rename_at(
                     self.rt,
                     &self.from,
                     &self.at,
-                    is_stored,
+                    is_stored && moved.is_of_file(),
                     &mut self.notes,
                     &mut self.reader,
                     &mut self.writer,
@@ -277,13 +303,13 @@ fn rename_at<R: Files>(
     rt: &R,
     from: &str,
     to: &str,
-    is_stored: bool,
+    is_dated: bool,
     notes: &mut Notes,
     reader: &mut Reader<R::File>,
     writer: &mut Writer<R::File>,
     open: &mut OpenFiles<R::File>,
 ) -> Result<(), Cause> {
-    let done = moves::rename(rt, from, to, is_stored, notes, writer);
+    let done = moves::rename(rt, from, to, is_dated, notes, writer);
     if done.is_ok() {
         forget(from, reader, writer, open);
         forget(to, reader, writer, open);

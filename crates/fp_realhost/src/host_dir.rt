@@ -24,15 +24,19 @@ use std::thread::Threads;
 /// condition, is counted and answered `Failed`, and so is running out of memory in a call that may
 /// not answer `NoMemory`; no call answers `Clash`.
 ///
-/// It is opened to look or to change. At its first call, but for `say`, it takes the advisory lock
-/// (`flock`) of the file `.lock` at the top of the root, shared to look and alone to change, and
-/// keeps it as long as it is there; one that looks, until it prints. Where another holds it, that
-/// it waits is said on standard error. Where the file was taken away meanwhile, it begins anew. A
-/// folder without that file, which shows no installation and holds what fpk would take away, is not
-/// changed: the first call fails. A host that looks makes nothing: where there is no lock file it
-/// takes none, an absent root reads as an empty folder, and every change fails. A host that changes
-/// makes the root, the folders above it and the lock file at its first call, where they are absent.
-/// The list of the root's names leaves the lock file out.
+/// It is opened to look or to change, and takes advisory locks (`flock`). One that changes takes
+/// that of the file `.lock` at the top of the root at its first call, but for `say`, and keeps it
+/// as long as it is there. One that looks takes the lock of the root folder so, which looks share,
+/// until it prints. One that changes has that lock alone from the first call that a look may see,
+/// which takes a name away or moves one outside `repo/tmp`, but for a new object, to the `sync`
+/// after it. Where another holds a lock, that it waits is said on standard error, and after ten
+/// seconds who holds it. Where what is locked was taken away meanwhile, it begins anew.
+///
+/// A folder without the lock file, which shows no installation and holds what fpk would take away,
+/// is not changed: the first call fails. A host that looks makes nothing: an absent root reads as
+/// an empty folder, and every change fails. A host that changes makes the root, the folders above
+/// it and the lock file at its first call, where they are absent. The list of the root's names
+/// leaves the lock file out.
 ///
 /// A folder below the root and the root itself get the permission bits 0755 and a file is told with
 /// exactly those that were asked for, whatever the umask. Folders above it get the bits that the
@@ -365,7 +369,12 @@ impl<R: System, T: System + Threads, O: Print> Host for HostDir<'_, R, T, O> {
         ensures below { OnOk result (path.now ≢ []) }
         ensures needs_no_memory { NeedsNoMemory result }
     {
-        let done = self.tree.remove_dir(&self.crew, path);
+        let first = self.tree.remove_dir(&self.crew, path);
+        let done = if self.tree.makes_room(&self.crew, &first) {
+            self.tree.remove_dir(&self.crew, path)
+        } else {
+            first
+        };
         self.answer(Call::RemoveDir, path, done)
     }
 

@@ -8,38 +8,33 @@ use std::fs::OpenFile;
 use std::io::Write;
 use std::rt::Files;
 
+/// A move that may be made.
+#[derive(Clone, Copy)]
+pub struct Move {
+    kind: Kind,
+    /// Whether it replaces what stands at the second path.
+    pub replaces: bool,
+}
+
 /// Moves a file or symlink to nothing, or in the place of another one. A file that goes into the
 /// store is dated.
 pub fn rename<F: Write + OpenFile + Drop, R: Files<File = F>>(
     rt: &R,
     from: &str,
     to: &str,
-    is_stored: bool,
+    is_dated: bool,
     notes: &mut Notes,
     writer: &Writer<F>,
 ) -> Result<(), Cause> {
-    match rename_checked(rt, from, to, is_stored, &notes.made, writer) {
-        Ok(()) => {
-            notes.add_moved(from, to);
-            Ok(())
-        }
-        Err(e) => Err(e),
+    let moved = if is_dated {
+        rename_dated(rt, from, to, writer)
+    } else {
+        known(fs::rename(rt, from, to))
+    };
+    if moved.is_ok() {
+        notes.add_moved(from, to);
     }
-}
-
-fn rename_checked<F: Write + OpenFile + Drop, R: Files<File = F>>(
-    rt: &R,
-    from: &str,
-    to: &str,
-    is_stored: bool,
-    made: &Made,
-    writer: &Writer<F>,
-) -> Result<(), Cause> {
-    match check_rename(rt, from, to, made) {
-        Ok(kind) if is_stored && kind == Kind::File => rename_dated(rt, from, to, writer),
-        Ok(_) => known(fs::rename(rt, from, to)),
-        Err(e) => Err(e),
-    }
+    moved
 }
 
 fn rename_dated<F: Write + OpenFile + Drop, R: Files<File = F>>(
@@ -54,23 +49,45 @@ fn rename_dated<F: Write + OpenFile + Drop, R: Files<File = F>>(
     }
 }
 
-/// What the first is, which may be moved to the second.
-fn check_rename<R: Files>(rt: &R, from: &str, to: &str, made: &Made) -> Result<Kind, Cause> {
-    if made.is_absent(to) {
-        return leaf_kind(rt, from, made);
+impl Move {
+    /// What the move from the first path to the second does. It errs where that may not be.
+    pub fn of<R: Files>(rt: &R, from: &str, to: &str, made: &Made) -> Result<Self, Cause> {
+        if made.is_absent(to) {
+            return Move::to_nothing(leaf_kind(rt, from, made));
+        }
+        match look(rt, to) {
+            Ok(there) if there.kind == Kind::Absent => {
+                Move::to_nothing(leaf_kind(rt, from, made))
+            }
+            Ok(there) => Move::onto(rt, from, &there),
+            Err(e) => Err(e),
+        }
     }
-    match look(rt, to) {
-        Ok(there) if there.kind == Kind::Absent => leaf_kind(rt, from, made),
-        Ok(there) => check_exchange(rt, from, &there),
-        Err(e) => Err(e),
-    }
-}
 
-fn check_exchange<R: Files>(rt: &R, from: &str, there: &Found) -> Result<Kind, Cause> {
-    match find_leaf(rt, from) {
-        Ok(moved) if moved.is_one_with(there) => Err(Cause::OneFile),
-        Ok(moved) if is_leaf(there) => Ok(moved.kind),
-        Ok(_) => Err(Cause::InTheWay),
-        Err(e) => Err(e),
+    fn to_nothing(kind: Result<Kind, Cause>) -> Result<Self, Cause> {
+        match kind {
+            Ok(kind) => Ok(Move {
+                kind,
+                replaces: false,
+            }),
+            Err(e) => Err(e),
+        }
+    }
+
+    fn onto<R: Files>(rt: &R, from: &str, there: &Found) -> Result<Self, Cause> {
+        match find_leaf(rt, from) {
+            Ok(moved) if moved.is_one_with(there) => Err(Cause::OneFile),
+            Ok(moved) if is_leaf(there) => Ok(Move {
+                kind: moved.kind,
+                replaces: true,
+            }),
+            Ok(_) => Err(Cause::InTheWay),
+            Err(e) => Err(e),
+        }
+    }
+
+    /// Whether a file is moved.
+    pub fn is_of_file(&self) -> bool {
+        self.kind == Kind::File
     }
 }

@@ -27,6 +27,7 @@ impl<R: System> Tree<'_, R> {
     {
         match self.locate(path) {
             Ok(_) if path.is_root() => Ok(Stat::Dir),
+            Ok(_) if self.gate.is_absent() => Ok(Stat::Absent),
             Ok(below) => match known_stat(&self.at, &self.notes) {
                 Some(known) => known,
                 None => self.look(crew, below),

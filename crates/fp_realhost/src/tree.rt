@@ -180,7 +180,7 @@ impl<R: System> Tree<'_, R> {
 
 impl<R: System> Tree<'_, R> {
     /// Makes all changes last, the first time also what an earlier run may have left. Threads make
-    /// the new files while the open ones are synced.
+    /// the new files while the open ones are synced. Afterwards those who look are let in.
     pub fn sync<T: System + Threads>(&mut self, crew: &Crew<'_, T>) -> Result<(), Unsynced>
         ensures settled { OnOk result (self.new ≡ true) }
     {
@@ -197,7 +197,11 @@ impl<R: System> Tree<'_, R> {
         ensures settled { OnOk result (self.new ≡ true) }
     {
         match self.notes.touched.sync(self.rt, &crew.team, &mut self.at) {
-            Ok(()) => cleared(self.gate.clear()),
+            Ok(()) => {
+                cleared(self.gate.clear())?;
+                self.gate.let_looks_in();
+                Ok(())
+            }
             Err(e) => Err(e),
         }
     }

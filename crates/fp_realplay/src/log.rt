@@ -13,6 +13,8 @@ pub enum Kind<'a> {
     Failing(&'a str),
     /// Somebody else holds each lock until it is waited for.
     Busy,
+    /// The same, and for longer than the seconds for which it is waited first.
+    Stuck,
     /// The same, and this many times its file is taken away meanwhile. Whether another one comes in
     /// its place.
     Losing(u32, bool),
@@ -146,7 +148,11 @@ impl<'a> Log<'a> {
     }
 
     pub(crate) fn is_busy(&self) -> bool {
-        matches!(self.kind, Kind::Busy | Kind::Losing(_, _))
+        matches!(self.kind, Kind::Busy | Kind::Stuck | Kind::Losing(_, _))
+    }
+
+    pub(crate) fn is_stuck(&self) -> bool {
+        matches!(self.kind, Kind::Stuck)
     }
 
     /// Whether a lock file is taken away that is waited for, and whether another one comes in its

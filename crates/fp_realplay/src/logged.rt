@@ -22,7 +22,7 @@ pub struct Logged<'a> {
 }
 
 impl Logged<'_> {
-    /// Takes a lock file away that is waited for, where that is to be.
+    /// Takes a lock file or folder away that is waited for, where that is to be.
     fn lose(&self, at: &str) -> io::Result<()> {
         match self.log.loses() {
             Some(comes) => lose_file(self.rt, at, comes),
@@ -32,8 +32,18 @@ impl Logged<'_> {
 }
 
 fn lose_file(rt: &HostRuntime, at: &str, comes: bool) -> io::Result<()> {
+    if fs::metadata(rt, at)?.is_dir() {
+        return lose_folder(rt, at, comes);
+    }
     match rt.remove_file(at) {
         Ok(()) if comes => fs::write(rt, at, ""),
+        removed => removed,
+    }
+}
+
+fn lose_folder(rt: &HostRuntime, at: &str, comes: bool) -> io::Result<()> {
+    match rt.remove_dir_all(rt.alloc(), at) {
+        Ok(()) if comes => rt.create_dir(at),
         removed => removed,
     }
 }
@@ -331,6 +341,19 @@ impl System for Logged<'_> {
         }
         self.lose(&file.at)?;
         self.rt.lock(&file.file, access)
+    }
+
+    fn lock_within(&self, file: &Self::File, access: Access, seconds: u64) -> io::Result<bool> {
+        if !self.log.is_stuck() {
+            self.lock(file, access)?;
+            return Ok(true);
+        }
+        let what = format!(in self.log.alloc; "wait {seconds} seconds for")?;
+        if self.log.lets(&what, &file.at) {
+            Ok(false)
+        } else {
+            Err(out())
+        }
     }
 
     fn sync_paths<T: Threads + Sync>(&self, _threads: &T, paths: &[&str]) -> Option<Failure> {

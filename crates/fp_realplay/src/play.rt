@@ -1,6 +1,6 @@
 //! What is asked of a host, as data, and what is to come of it.
 use crate::Log;
-use crate::fixture::path;
+use crate::fixture::{Made, make_all, path};
 use crate::step::{Step, change, shows};
 use fp_host::{Host, HostError, Path, Stat};
 use fp_realroot::{Access, System};
@@ -23,8 +23,10 @@ pub enum Part<'a> {
     AreOne(&'a str, &'a str, bool),
     /// A file, places in it, how many bytes come from there, and the buffer after.
     Give(&'a str, &'a [(u64, usize, [u8; 4])]),
-    /// A lock, and whether others could look, and change.
+    /// A file or folder, and whether others could share its lock, and have it alone.
     Free(&'a str, bool, bool),
+    /// What another program makes meanwhile.
+    Make(&'a [Made<'a>]),
     /// Calls, the first of them that fails, and whether a sync succeeds afterwards.
     Stop(&'a [Step<'a>], usize, bool),
     /// How many files are made, how many of them are synced before a sync, and by it, and whether
@@ -49,6 +51,7 @@ fn play<H: Host>(rt: &HostRuntime, log: &Log<'_>, host: &mut H, part: &Part<'_>)
         Part::AreOne(a, b, want) => log.demand(are_one(log, host, a, b) == Some(*want), 0, b),
         Part::Give(at, rows) => all_give(log, host, &path(log, at), rows),
         Part::Free(at, looks, changes) => is_open_to(rt, log, at, *looks, *changes),
+        Part::Make(made) => make_all(rt, log, made),
         Part::Stop(steps, at, syncs) => stop(log, host, steps, *at, *syncs),
         Part::Many(count, want) => sync_many(log, host, *count, want),
     }

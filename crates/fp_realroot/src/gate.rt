@@ -1,26 +1,31 @@
 //! The root folder, and the lock.
+use crate::folder::{Sight, hold_alone, look_at};
 use crate::hold::Hold;
 use crate::layout::LAYOUT;
 use crate::others::find_others;
 use crate::roots::make_root;
 use crate::standing::stands_at;
+use crate::waiting::{Wanted, wait};
 use fp_host::Path;
 use fp_realsync::{Access, System, Touched};
 use fp_system::{Call, Cause, Kind, SystemError, has_folder, join, kind_at, known};
 use std::alloc::{AllocError, Global};
-use std::fs;
 use std::fs::{OpenFile, OpenOptions, Permissions};
 use std::io::{ErrorKind, Seek, Write};
 use std::os::unix::fs::{OpenOptionsExt, PermissionsExt};
 
-/// The name of the file at the top of an installation that is locked. No command looks at it.
+/// The name of the file at the top of an installation by which changes keep one another out. No
+/// command looks at it.
 pub const LOCK_NAME: &str = ".lock";
 
-/// Its permission bits: who may not open it looks without a lock.
+/// Its permission bits.
 const LOCK_BITS: u32 = 0o644;
 
-/// How often a lock file is opened anew that was taken away while its lock was waited for.
+/// How often what is locked is opened anew that was taken away while its lock was waited for.
 const TRIES: u32 = 100;
+
+/// What another one does for whom a change waits.
+const WORKS: &str = "works on";
 
 /// What it is called where it was taken away each time.
 const BUSY: Cause = Cause::Kind(ErrorKind::ResourceBusy);
@@ -38,9 +43,11 @@ enum Root {
 enum Lock<F> {
     // It was not asked for.
     NotYet,
-    // There is no lock file, or none that may be opened.
+    // There is no root to look at, or none that may be opened.
     Open,
+    // The lock of the root folder, which looks share.
     Shared(F),
+    // The lock file, which a change has alone.
     Whole(Hold<F>),
 }
 
@@ -55,13 +62,21 @@ impl<F: Drop> Drop for Lock<F> {
 }
 
 /// The root folder of a host, which is held against other processes while the host is at work.
+///
+/// There are two locks. Changes keep one another out by the file `.lock`, for all of their time.
+/// Looks share the lock of the root folder, and a change has it alone only from the first name that
+/// it takes away or replaces to the sync after it. So what a look reads stands still but for what a
+/// change adds, which no state has yet. A change takes the lock file first and then the folder; a
+/// look takes the folder alone, and waits for nothing while it has it: no two wait for each other.
 pub struct Gate<F> {
     root: String,
-    // The path of the file that is locked.
+    // The path of the lock file.
     lock_at: String,
     access: Access,
     state: Root,
     lock: Lock<F>,
+    // The root folder, while a change keeps those out who look.
+    alone: Option<F>,
     // Whether an earlier run may have left changes that are not on the disk.
     has_left: bool,
     // The path of what isn't ours, where that keeps the folder from being an installation.
@@ -76,6 +91,7 @@ impl<F: Drop> Drop for Gate<F> {
             access: _,
             state: _,
             lock: _,
+            alone: _,
             has_left: _,
             others: _,
         } = self;
@@ -102,6 +118,7 @@ impl<F> Gate<F> {
                 access,
                 state: Root::Unknown,
                 lock: Lock::NotYet,
+                alone: None,
                 has_left: false,
                 others: None,
             }),
@@ -163,23 +180,30 @@ impl<F: Write + Seek + OpenFile + Drop> Gate<F> {
         }
     }
 
-    /// Where there is no root there is no lock yet.
+    /// A folder that was taken away meanwhile keeps nobody out: it begins anew.
     fn enter_to_look<R: System<File = F>>(&mut self, rt: &R) -> Result<(), Cause> {
-        match look_in(rt, &self.lock_at, &self.root) {
-            Ok(Some(lock)) => {
-                self.lock = lock;
-                self.state = Root::There;
-                Ok(())
-            }
-            Ok(None) => {
-                self.state = Root::Absent;
-                Ok(())
-            }
-            Err(e) => {
-                self.state = Root::Unknown;
-                Err(e)
+        self.state = Root::Unknown;
+        for _ in 0..TRIES {
+            let sight = look_at(rt, &self.root)?;
+            if !sight.is_replaced() {
+                self.keep_sight(sight);
+                return Ok(());
             }
         }
+        Err(BUSY)
+    }
+
+    /// An absent root stays absent to the look, whatever is made meanwhile.
+    fn keep_sight(&mut self, sight: Sight<F>) {
+        self.state = if sight.is_absent() {
+            Root::Absent
+        } else {
+            Root::There
+        };
+        self.lock = match sight.take() {
+            Some(folder) => Lock::Shared(folder),
+            None => Lock::Open,
+        };
     }
 
     /// A lock file that was taken away meanwhile keeps nobody out: it begins anew.
@@ -237,9 +261,28 @@ impl<F: Write + Seek + OpenFile + Drop> Gate<F> {
 
     /// Lets a lock to look go. Where another call comes it is taken again.
     pub fn release(&mut self) {
-        if matches!(self.lock, Lock::Shared(_)) {
+        if matches!(self.lock, Lock::Shared(_) | Lock::Open) {
             self.lock = Lock::NotYet;
         }
+    }
+
+    /// Keeps those out who look: a change is about to take a name away or to replace it.
+    pub fn keep_looks_out<R: System<File = F>>(&mut self, rt: &R) -> Result<(), Cause> {
+        if self.alone.is_some() {
+            return Ok(());
+        }
+        match hold_alone(rt, &self.root) {
+            Ok(folder) => {
+                self.alone = Some(folder);
+                Ok(())
+            }
+            Err(e) => Err(e),
+        }
+    }
+
+    /// Lets those in again who look: all changes are synced.
+    pub fn let_looks_in(&mut self) {
+        self.alone = None;
     }
 
     /// Marks that changes wait for a sync.
@@ -301,66 +344,6 @@ fn make_new_root<R: System>(rt: &R, touched: &mut Touched, root: &str) -> Result
     }
 }
 
-/// The lock to look, and none where there is no root.
-fn look_in<R: System>(rt: &R, at: &str, root: &str) -> Result<Option<Lock<R::File>>, Cause> {
-    match has_folder(rt, root) {
-        Ok(true) => some_lock(rt, at, root),
-        Ok(false) => Ok(None),
-        Err(e) => Err(e),
-    }
-}
-
-fn some_lock<R: System>(rt: &R, at: &str, root: &str) -> Result<Option<Lock<R::File>>, Cause> {
-    match find_lock(rt, at, root) {
-        Ok(lock) => Ok(Some(lock)),
-        Err(e) => Err(e),
-    }
-}
-
-/// A lock file that was taken away meanwhile keeps nobody out: it begins anew.
-fn find_lock<R: System>(rt: &R, at: &str, root: &str) -> Result<Lock<R::File>, Cause> {
-    for _ in 0..TRIES {
-        if let Some(lock) = try_to_look(rt, at, root)? {
-            return Ok(lock);
-        }
-    }
-    Err(BUSY)
-}
-
-fn try_to_look<R: System>(rt: &R, at: &str, root: &str) -> Result<Option<Lock<R::File>>, Cause> {
-    match find_lock_file(rt, at) {
-        Ok(Entry::Unlocked) => Ok(Some(Lock::Open)),
-        Ok(_) => open_to_look(rt, at, root),
-        Err(e) if e.is(ErrorKind::PermissionDenied) => Ok(Some(Lock::Open)),
-        Err(e) => Err(e),
-    }
-}
-
-/// The lock to look, where there is a file for it that may be opened: who may only read an
-/// installation looks without it.
-fn open_to_look<R: System>(rt: &R, at: &str, root: &str) -> Result<Option<Lock<R::File>>, Cause> {
-    match known(fs::open(rt, at)) {
-        Ok(file) => share(rt, file, at, root),
-        Err(e) if e.is(ErrorKind::NotFound) || e.is(ErrorKind::PermissionDenied) => {
-            Ok(Some(Lock::Open))
-        }
-        Err(e) => Err(e),
-    }
-}
-
-fn share<R: System>(
-    rt: &R,
-    file: R::File,
-    at: &str,
-    root: &str,
-) -> Result<Option<Lock<R::File>>, Cause> {
-    match wait(rt, &file, at, Access::Look, root) {
-        Ok(true) => Ok(Some(Lock::Shared(file))),
-        Ok(false) => Ok(None),
-        Err(e) => Err(e),
-    }
-}
-
 /// The lock to change, and none where another file is there by now.
 fn take_lock<R: System>(
     rt: &R,
@@ -390,7 +373,7 @@ fn hold_opened<R: System>(
     at: &str,
     root: &str,
 ) -> Result<Option<Hold<R::File>>, Cause> {
-    match wait(rt, &file, at, Access::Change, root) {
+    match wait_for_file(rt, &file, at, root) {
         Ok(true) => Ok(Some(Hold::old(rt, file, at))),
         Ok(false) => Ok(None),
         Err(e) => Err(e),
@@ -421,7 +404,7 @@ fn hold_made<R: System>(
     at: &str,
     root: &str,
 ) -> Result<Option<Hold<R::File>>, Cause> {
-    match wait(rt, &file, at, Access::Change, root) {
+    match wait_for_file(rt, &file, at, root) {
         Ok(true) => open_to_all(rt, file, at),
         Ok(false) => Ok(None),
         Err(e) => Err(e),
@@ -436,30 +419,16 @@ fn open_to_all<R: System>(rt: &R, file: R::File, at: &str) -> Result<Option<Hold
     }
 }
 
-/// Takes the lock, and answers whether its file still stands at the path. Who has to wait says so
-/// once.
-fn wait<R: System>(
-    rt: &R,
-    file: &R::File,
-    at: &str,
-    access: Access,
-    root: &str,
-) -> Result<bool, Cause> {
-    match get_lock(rt, file, access, root) {
+/// Takes the lock file alone, and answers whether it still stands at the path.
+fn wait_for_file<R: System>(rt: &R, file: &R::File, at: &str, root: &str) -> Result<bool, Cause> {
+    let wanted = Wanted {
+        at,
+        access: Access::Change,
+        doing: WORKS,
+        root,
+    };
+    match wait(rt, file, wanted) {
         Ok(()) => stands_at(rt, file, at),
         Err(e) => Err(e),
     }
-}
-
-fn get_lock<R: System>(rt: &R, file: &R::File, access: Access, root: &str) -> Result<(), Cause> {
-    match known(rt.try_lock(file, access)) {
-        Ok(true) => Ok(()),
-        Ok(false) => wait_long(rt, file, access, root),
-        Err(e) => Err(e),
-    }
-}
-
-fn wait_long<R: System>(rt: &R, file: &R::File, access: Access, root: &str) -> Result<(), Cause> {
-    let _said = eprintln!(rt; "fpk: waiting for another fpk that works on {root}");
-    known(rt.lock(file, access))
 }

@@ -1,14 +1,17 @@
 //! The root folder of a host, and the lock that keeps others out.
 #![tactic(auto)]
 
+mod folder;
 mod gate;
 mod hold;
+mod holders;
 mod layout;
 mod leftover;
 mod others;
 mod roots;
 mod standing;
 mod text;
+mod waiting;
 
 pub use fp_realsync::{Access, OpenFiles, System, Touched, sync_open};
 pub use fp_system::{
@@ -16,6 +19,7 @@ pub use fp_system::{
     sync_in_turn, sync_open_in_turn,
 };
 pub use gate::{Gate, LOCK_NAME};
+pub use holders::{holders_at, place_of};
 pub use layout::{LAYOUT, Layout};
 pub use leftover::{add_below, sync_above_root};
 pub use roots::make_folder;

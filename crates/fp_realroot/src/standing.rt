@@ -12,8 +12,21 @@ pub fn stands_at<R: Files>(rt: &R, file: &R::File, at: &str) -> Result<bool, Cau
     }
 }
 
+/// Whether the path leads to the open folder. A symlink is followed.
+pub fn leads_to<R: Files>(rt: &R, folder: &R::File, at: &str) -> Result<bool, Cause> {
+    match known(folder.metadata()) {
+        Ok(opened) => is_one_with(&opened, known(fs::metadata(rt, at))),
+        Err(e) => Err(e),
+    }
+}
+
 fn is_at<R: Files>(rt: &R, opened: &Metadata, at: &str) -> Result<bool, Cause> {
-    match known(fs::symlink_metadata(rt, at)) {
+    is_one_with(opened, known(fs::symlink_metadata(rt, at)))
+}
+
+/// Where nothing stands there any more, it isn't.
+fn is_one_with(opened: &Metadata, found: Result<Metadata, Cause>) -> Result<bool, Cause> {
+    match found {
         Ok(found) => Ok(are_one(opened, &found)),
         Err(e) if e.is_absence() => Ok(false),
         Err(e) => Err(e),

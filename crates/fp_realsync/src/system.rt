@@ -8,15 +8,22 @@ use std::io;
 use std::io::IsTerminal;
 use std::rt::Files;
 use std::thread::Threads;
+use std::time::{Clock, Duration};
 
-/// What an installation is opened for.
+/// What an installation is opened for, and what a lock is taken for.
 #[derive(Clone, Copy, PartialEq, Eq)]
 pub enum Access {
-    /// Reading: others may read at the same time.
+    /// Reading: others may have the lock at the same time.
     Look,
-    /// Changing: nobody else may read or change it meanwhile.
+    /// Changing: nobody else may have the lock meanwhile.
     Change,
 }
+
+/// How often a lock is asked for in a second by whom it keeps waiting.
+const TRIES_A_SECOND: u64 = 200;
+
+/// How many milliseconds there are between two of these tries.
+const PAUSE: u64 = 5;
 
 /// A system whose open files have advisory locks, as `flock` of Linux gives them: the system takes
 /// a lock away when the process that holds it ends, however it ends.
@@ -27,6 +34,15 @@ pub trait System: Files + Eprint + AllocGlobal {
 
     /// Takes the lock of the open file, and waits while somebody else holds one that is in the way.
     fn lock(&self, file: &Self::File, access: Access) -> io::Result<()>;
+
+    /// The same for about so many seconds, and answers whether it has the lock then. A system that
+    /// knows no clock waits as long as it takes.
+    fn lock_within(&self, file: &Self::File, access: Access, _seconds: u64) -> io::Result<bool> {
+        match self.lock(file, access) {
+            Ok(()) => Ok(true),
+            Err(e) => Err(e),
+        }
+    }
 
     /// Makes the files and folders at these paths last, as they may be opened, and answers the
     /// first that failed; but one whose sync failed comes before one that could not be opened. What
@@ -74,6 +90,16 @@ impl System for HostRuntime {
             Access::Look => file.lock_shared(),
             Access::Change => file.lock(),
         }
+    }
+
+    fn lock_within(&self, file: &File, access: Access, seconds: u64) -> io::Result<bool> {
+        for _ in 0..seconds.saturating_mul(TRIES_A_SECOND) {
+            if self.try_lock(file, access)? {
+                return Ok(true);
+            }
+            self.sleep(Duration::from_millis(PAUSE));
+        }
+        Ok(false)
     }
 
     fn sync_paths<T: Threads + Sync>(&self, threads: &T, paths: &[&str]) -> Option<Failure>

@@ -32,7 +32,7 @@ const LEADING: [Act<'static>; 1] = [Act::Logged(
 
 /// With four open files, the lock among them, each call is done: what is open is synced and closed.
 /// New files are made so, too.
-const NARROW: [Step<'static>; 17] = [
+const NARROW: [Step<'static>; 21] = [
     Step::Create("a", 0o644),
     Step::Create("b", 0o644),
     Step::Create("c", 0o644),
@@ -49,6 +49,10 @@ const NARROW: [Step<'static>; 17] = [
     Step::Append("d", "more"),
     Step::Create("e", 0o644),
     Step::Append("e", "bytes"),
+    Step::Sync,
+    Step::Create("f", 0o644),
+    Step::Append("f", "bytes"),
+    Step::Unlink("d"),
     Step::Sync,
 ];
 

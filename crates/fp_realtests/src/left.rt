@@ -187,7 +187,10 @@ const GOES_ON: [(Step<'static>, &str); 3] = [
         "lock left/root/.lock\nwrite over left/root/.lock\nmake left/root/app/d\n",
     ),
     (Step::MakeDir("app/e"), "make left/root/app/e\n"),
-    (Step::Unlink("app/l"), "remove left/root/app/l\n"),
+    (
+        Step::Unlink("app/l"),
+        "lock left/root\nremove left/root/app/l\n",
+    ),
 ];
 
 /// Where the system doesn't tell its start, each text is a mark but those that are none anywhere.

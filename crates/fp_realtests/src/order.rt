@@ -49,7 +49,7 @@ const ASKED: [(Step<'static>, &str); 24] = [
     ),
     (
         Step::Rename("new", "d/f"),
-        "write over order/root/.lock\nrename to order/root/d/f\n",
+        "write over order/root/.lock\nlock order/root\nrename to order/root/d/f\n",
     ),
     (
         Step::Sync,
@@ -59,7 +59,10 @@ const ASKED: [(Step<'static>, &str); 24] = [
         Step::Symlink("text", "d/l"),
         "write over order/root/.lock\nlink order/root/d/l\n",
     ),
-    (Step::Unlink("d/f"), "remove order/root/d/f\n"),
+    (
+        Step::Unlink("d/f"),
+        "lock order/root\nremove order/root/d/f\n",
+    ),
     (
         Step::Sync,
         "sync order/root/d\nwrite over order/root/.lock\n",
@@ -79,7 +82,7 @@ const ASKED: [(Step<'static>, &str); 24] = [
     (
         Step::Rename("x", "repo/objects/x"),
         "create order/root/x\nsync order/root/x\n\
-         date order/root/x\nrename to order/root/repo/objects/x\n",
+         lock order/root\ndate order/root/x\nrename to order/root/repo/objects/x\n",
     ),
     (
         Step::Sync,
@@ -251,7 +254,10 @@ const LOOKS: [(Step<'static>, &str); 27] = [
     (Step::Stat("d/x"), "look looks/root/d/x\n"),
     (Step::Stat("d/x"), ""),
     (Step::Stat("d/y"), "look looks/root/d/y\n"),
-    (Step::Rename("d/x", "d/z"), "rename to looks/root/d/z\n"),
+    (
+        Step::Rename("d/x", "d/z"),
+        "lock looks/root\nrename to looks/root/d/z\n",
+    ),
     (Step::Stat("d/e/f"), ""),
     (Step::Unlink("d/y"), "remove looks/root/d/y\n"),
     (Step::Stat("none/x"), "look looks/root/none\n"),
@@ -306,7 +312,7 @@ const NAMES: [(Step<'static>, &str); 17] = [
     ),
     (
         Step::Unlink("d/f"),
-        "write over names/root/.lock\nremove names/root/d/f\n",
+        "write over names/root/.lock\nlock names/root\nremove names/root/d/f\n",
     ),
     (
         Step::Sync,
@@ -314,7 +320,7 @@ const NAMES: [(Step<'static>, &str); 17] = [
     ),
     (
         Step::RemoveDir("d/e"),
-        "write over names/root/.lock\nremove names/root/d/e\n",
+        "write over names/root/.lock\nlock names/root\nremove names/root/d/e\n",
     ),
     (
         Step::Sync,
@@ -333,7 +339,10 @@ const NAMES: [(Step<'static>, &str); 17] = [
         Step::Link("d/x", "g/x"),
         "create names/root/d/x\nsync names/root/d/x\nlink names/root/g/x\n",
     ),
-    (Step::Unlink("d/x"), "remove names/root/d/x\n"),
+    (
+        Step::Unlink("d/x"),
+        "lock names/root\nremove names/root/d/x\n",
+    ),
     (
         Step::Sync,
         "sync names/root/g/x\nsync names/root/d\nsync names/root/g\nwrite over names/root/.lock\n",

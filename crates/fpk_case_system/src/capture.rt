@@ -165,6 +165,15 @@ impl<R: fp_realroot::System> fp_realroot::System for Capture<'_, R> {
         self.rt.lock(file.inner(), access)
     }
 
+    fn lock_within(
+        &self,
+        file: &Unsynced<R::File>,
+        access: Access,
+        seconds: u64,
+    ) -> io::Result<bool> {
+        self.rt.lock_within(file.inner(), access, seconds)
+    }
+
     /// Nothing is made last.
     fn sync_paths<T: Threads + Sync>(&self, _threads: &T, _paths: &[&str]) -> Option<Failure> {
         None
