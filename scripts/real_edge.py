@@ -9,6 +9,7 @@ is.
 """
 
 import os
+import resource
 import shutil
 import subprocess
 import sys
@@ -94,6 +95,35 @@ def nobody(rows):
         rows.hold(f"a closed pipe of {words}", (done.returncode, done.stderr) == (3, b""), (done.returncode, done.stderr))
 
 
+def limited(rows):
+    """Where a file may not be so large, the command says so. Linux would end it."""
+
+    def limit(most):
+        return lambda: resource.setrlimit(resource.RLIMIT_FSIZE, (most, most))
+
+    found = rows.run("tiny", PIN, preexec_fn=limit(36))
+    said = f"fpk: cannot use the folder {rows.path('tiny')}: File too large (os error 27)\n"
+    rows.hold("files of 36 bytes", found == (3, "", said), found)
+    tree = "timestamp 1\nsubject t\nfile f 644 " + "61" * 100_000 + "\n"
+    words = ["export", "lab", "app/org.x.A/x86_64/1"]
+    status, out, said = rows.run("small", words, input=tree, preexec_fn=limit(65536))
+    holds = (status, out) == (3, "") and said.startswith("fpk: cannot write to ") and said.endswith(": File too large (os error 27)\n")
+    rows.hold("a file above 64 KiB", holds, (status, out, said))
+    rows.hold("the same with no limit", rows.run("small", words, input=tree)[0] == 0, "")
+
+
+def pipes(rows):
+    """A pipe among the objects is told by fsck, and one among what is exported goes. None is opened."""
+    rows.run("pipes", PIN)
+    for name in ["pipes/repo/objects/aa", "pipes/exports"]:
+        os.makedirs(rows.path(name), exist_ok=True)
+        os.mkfifo(rows.path(f"{name}/pipe"))
+    status, out, said = rows.run("pipes", ["fsck"])
+    rows.hold("a pipe among the objects", status == 0 and "repo/objects/aa" in out and said == "", (status, out, said))
+    found = rows.run("pipes", ["unpin", PIN[1]])
+    rows.hold("a change beside pipes", found[0] == 0 and not os.path.lexists(rows.path("pipes/exports/pipe")), found)
+
+
 def in_between(rows):
     """A symlink that comes in the place of the lock file after it was looked for."""
     if not shutil.which("strace"):
@@ -117,7 +147,7 @@ def main():
         sys.exit(__doc__)
     with tempfile.TemporaryDirectory(dir=".") as folder:
         rows = Rows(os.path.abspath(sys.argv[1]), os.path.abspath(folder))
-        for part in [foreign, masked, unsynced, odd_name, nobody, in_between]:
+        for part in [foreign, masked, unsynced, odd_name, nobody, limited, pipes, in_between]:
             part(rows)
         print(f"{rows.tried} rows, {rows.wrong} otherwise")
         sys.exit(rows.wrong > 0)

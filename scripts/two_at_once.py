@@ -8,6 +8,7 @@
 - a batch that waits for its input holds no lock,
 - a run that waits says so once on standard error, and goes on when the lock is free; after ten seconds it says who holds it,
 - an update that is held in its pull keeps no look waiting: `list`, `info` and `launch` answer within a second, by the state of before,
+- a look asks nothing of the folder once it has printed its first piece, which is when it lets its lock go,
 - a change that is about to replace a file waits for those who look, and until then the file stands,
 - a run that waits for a lock file that is taken away meanwhile holds the one that stands there afterwards,
 - a run that is killed by SIGKILL while it holds the lock leaves none,
@@ -32,6 +33,7 @@ import time
 
 LOCK = ".lock"
 APP = "app/org.x.Held/x86_64/1"
+LOOKS = [["list"], ["list", "--pins"], ["list", "--remotes"], ["list", "--exports"]]
 
 
 class Runs:
@@ -155,8 +157,21 @@ def behind_a_look(runs):
     return said, stays, changing.returncode == 0 and os.stat(config).st_ino != before
 
 
+def asked_late(runs):
+    """What looks ask of the folder after they began to print."""
+    late = []
+    for words in [*LOOKS, ["launch", APP], ["info", APP], ["fsck"]]:
+        with tempfile.NamedTemporaryFile("r") as trace:
+            runs.start(*words, before=["strace", "-f", "-e", "trace=%file,write", "-o", trace.name]).communicate()
+            _, printed, rest = trace.read().partition(" write(1, ")
+        late += [f"{words}: {line}" for line in rest.splitlines() if runs.folder in line]
+        late += [] if printed or words in LOOKS else [f"{words} printed nothing"]
+    return late
+
+
 def beside_a_pull(runs):
-    """How long the slowest of three looks took beside an update that is held in its pull, and whether they told the state of before."""
+    """How long the slowest of three looks took beside an update that is held in its pull, whether they told the state of before, and
+    what looks asked late."""
     runtime = ["[Runtime]", "name=org.x.P"]
     application = ["[Application]", "name=org.x.Held", "runtime=org.x.P/x86_64/1"]
     files = [f"file metadata 644 {''.join(line + chr(10) for line in lines).encode().hex()}" for lines in (runtime, application)]
@@ -164,6 +179,7 @@ def beside_a_pull(runs):
     old = runs.export(APP, files[1], "file files/a 644 61")
     runs.run("remote-add", "lab", f"file://{runs.folder}/made/lab")
     runs.run("install", "lab", APP)
+    late = asked_late(runs)
     stood = set(glob.glob(f"{runs.folder}/made/lab/objects/*/*.file"))
     new = runs.export(APP, files[1], "file files/a 644 62")
     (held,) = set(glob.glob(f"{runs.folder}/made/lab/objects/*/*.file")) - stood
@@ -182,7 +198,7 @@ def beside_a_pull(runs):
     runs.run("uninstall", APP)
     runs.run("uninstall", "--unused")
     shutil.rmtree(os.path.join(runs.folder, "made"))
-    return slowest, tells
+    return slowest, tells, late
 
 
 def taken_away(runs):
@@ -244,9 +260,10 @@ def main():
         want = f"fpk: waiting for another fpk that looks at {runs.folder}\n"
         see("said by a change that waited for a look", repr(said), said == want)
         see("it replaced nothing before, and then it did", (stays, done), stays and done)
-        slowest, tells = beside_a_pull(runs)
+        slowest, tells, late = beside_a_pull(runs)
         see("seconds of the slowest look beside a pull", f"{slowest:.2f}", slowest < 1)
         see("the looks told what was before", tells, tells)
+        see("asked after a look began to print", late, not late)
         holds = taken_away(runs)
         see("one that waited for a lock file that was taken away holds the new one", holds, holds)
         runs.add_files("made")

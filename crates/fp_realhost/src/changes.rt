@@ -7,10 +7,10 @@ use crate::moves::Move;
 use crate::tree::Tree;
 use crate::writer::Writer;
 use crate::{folders, links, moves};
-use fp_host::{PERMISSION_BITS, Path};
+use fp_host::{PERMISSION_BITS, Path, Stat};
 use fp_realnotes::Notes;
-use fp_realroot::{LAYOUT, OpenFiles, System, sync_open};
-use fp_system::{Cause, Reader, create_new, is_sticky, kept_bits};
+use fp_realroot::{LAYOUT, OpenFiles, System, TOO_LARGE, sync_open};
+use fp_system::{Cause, Reader, create_new, is_sticky, kept_bits, look};
 use std::fs::OpenFile;
 use std::io::Write;
 use std::rt::Files;
@@ -128,7 +128,8 @@ impl<R: System> Tree<'_, R> {
         )
     }
 
-    /// Adds bytes at the end of a file that was created since the last sync.
+    /// Adds bytes at the end of a file that was created since the last sync. Where it would be larger
+    /// than the process may make one, Linux would end the process: so that is an error.
     pub fn append<T: System + Threads>(
         &mut self,
         crew: &Crew<'_, T>,
@@ -136,9 +137,19 @@ impl<R: System> Tree<'_, R> {
         bytes: &[u8],
     ) -> Result<(), Cause> {
         match self.reach_to_change(path) {
+            Ok(()) if self.is_too_large(bytes.len()) => Err(TOO_LARGE),
             Ok(()) => self.append_at(crew, bytes),
             Err(e) => Err(e),
         }
+    }
+
+    /// Whether the file at the path of the call would be too large with so many bytes more.
+    fn is_too_large(&self, count: usize) -> bool {
+        let size = match self.notes.made.stat(&self.at) {
+            Some(Stat::File { size, .. }) => size,
+            _ => size_at(self.rt, &self.at),
+        };
+        size.saturating_add(count as u64) > self.gate.largest_file()
     }
 
     fn append_at<T: System + Threads>(
@@ -221,6 +232,14 @@ impl<R: System> Tree<'_, R> {
             }
             Err(e) => Err(e),
         }
+    }
+}
+
+/// How many bytes a file has, as far as the system tells it.
+fn size_at<R: System>(rt: &R, at: &str) -> u64 {
+    match look(rt, at) {
+        Ok(found) => found.size,
+        Err(_) => 0,
     }
 }
 

@@ -26,6 +26,8 @@ pub enum Kind<'a> {
     Crowded(&'a str),
     /// No more files than this many may be open.
     Narrow(u32),
+    /// What the process may do is told by the file at this path.
+    Limited(&'a str),
     /// Each look at the clock is a second after the one before.
     Slow,
 }
@@ -35,6 +37,9 @@ const CROWDED: i32 = 31;
 
 /// The system's number of the error that no more files may be open: EMFILE of Linux.
 const NARROW: i32 = 24;
+
+/// Where Linux tells what a process may have.
+const LIMITS: &str = "/proc/self/limits";
 
 /// The lines since they were read last, and the first row of a table that didn't hold.
 #[derive(Drop)]
@@ -128,6 +133,14 @@ impl<'a> Log<'a> {
         match self.kind {
             Kind::Narrow(most) => self.open.get() >= most,
             _ => false,
+        }
+    }
+
+    /// The file that is opened in the place of the one that tells limits, where there is one.
+    pub(crate) fn limits_for(&self, at: &str) -> Option<&'a str> {
+        match self.kind {
+            Kind::Limited(limits) if at == LIMITS => Some(limits),
+            _ => None,
         }
     }
 

@@ -98,7 +98,10 @@ impl<'a> Files for Logged<'a> {
             return Err(out());
         }
         let at = path.to_string(self.log.alloc)?;
-        let file = self.rt.open_file(how, path)?;
+        let file = match self.log.limits_for(path) {
+            Some(limits) => self.rt.open_file(how, limits)?,
+            None => self.rt.open_file(how, path)?,
+        };
         self.log.add_open();
         Ok(LoggedFile {
             log: self.log,

@@ -5,9 +5,10 @@ use crate::layout::LAYOUT;
 use crate::others::find_others;
 use crate::roots::make_root;
 use crate::standing::stands_at;
+use crate::text::MARK_BYTES;
 use crate::waiting::{Wanted, wait};
 use fp_host::Path;
-use fp_realsync::{Access, System, Touched};
+use fp_realsync::{Access, System, Touched, largest_file};
 use fp_system::{Call, Cause, Kind, SystemError, has_folder, join, kind_at, known};
 use std::alloc::{AllocError, Global};
 use std::fs::{OpenFile, OpenOptions, Permissions};
@@ -23,6 +24,9 @@ const LOCK_BITS: u32 = 0o644;
 
 /// How often what is locked is opened anew that was taken away while its lock was waited for.
 const TRIES: u32 = 100;
+
+/// What it is called where a file would be larger than the process may make one: EFBIG of Linux.
+pub const TOO_LARGE: Cause = Cause::Number(27);
 
 /// What another one does for whom a change waits.
 const WORKS: &str = "works on";
@@ -77,6 +81,8 @@ pub struct Gate<F> {
     lock: Lock<F>,
     // The root folder, while a change keeps those out who look.
     alone: Option<F>,
+    // How many bytes a file may have that is changed.
+    largest: u64,
     // Whether an earlier run may have left changes that are not on the disk.
     has_left: bool,
     // The path of what isn't ours, where that keeps the folder from being an installation.
@@ -92,6 +98,7 @@ impl<F: Drop> Drop for Gate<F> {
             state: _,
             lock: _,
             alone: _,
+            largest: _,
             has_left: _,
             others: _,
         } = self;
@@ -119,6 +126,7 @@ impl<F> Gate<F> {
                 state: Root::Unknown,
                 lock: Lock::NotYet,
                 alone: None,
+                largest: u64::MAX,
                 has_left: false,
                 others: None,
             }),
@@ -157,6 +165,11 @@ impl<F> Gate<F> {
     /// Whether an earlier run may have left changes that are not on the disk.
     pub fn has_left(&self) -> bool {
         self.has_left
+    }
+
+    /// How many bytes a file may have that is changed.
+    pub fn largest_file(&self) -> u64 {
+        self.largest
     }
 
     /// Writes the path for the system: the root, a slash and the elements.
@@ -206,12 +219,17 @@ impl<F: Write + Seek + OpenFile + Drop> Gate<F> {
         };
     }
 
-    /// A lock file that was taken away meanwhile keeps nobody out: it begins anew.
+    /// A lock file that was taken away meanwhile keeps nobody out: it begins anew. Where no mark may
+    /// be written, nothing is changed.
     fn enter_to_change<R: System<File = F>>(
         &mut self,
         rt: &R,
         touched: &mut Touched,
     ) -> Result<(), Cause> {
+        self.largest = largest_file(rt);
+        if self.largest < MARK_BYTES {
+            return Err(TOO_LARGE);
+        }
         for _ in 0..TRIES {
             if self.try_to_change(rt, touched)? {
                 return Ok(());

@@ -18,7 +18,7 @@ pub use fp_system::{
     Failure, Team, Unsynced, find_file, list_names, open_own, open_to_read, sorted_names,
     sync_in_turn, sync_open_in_turn,
 };
-pub use gate::{Gate, LOCK_NAME};
+pub use gate::{Gate, LOCK_NAME, TOO_LARGE};
 pub use holders::{holders_at, place_of};
 pub use layout::{LAYOUT, Layout};
 pub use leftover::{add_below, sync_above_root};

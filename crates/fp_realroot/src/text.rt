@@ -6,6 +6,9 @@ pub const UNKNOWN: &str = "unknown-----------------------------\n";
 /// What takes the place of a mark once all is synced.
 pub const CLEARED: &str = "------------------------------------\n";
 
+/// How many bytes each of these texts has.
+pub const MARK_BYTES: u64 = 37;
+
 /// The places of the dashes in the text of a start, and where its line ends.
 const DASHES: [usize; 4] = [8, 13, 18, 23];
 

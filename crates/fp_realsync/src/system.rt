@@ -1,7 +1,7 @@
 //! What the adapters need of a system beside what std names.
 ghost use Rattle.std.specs.Thread.{IsSync};
 
-use crate::most_threads::most_threads;
+use crate::process_limits::most_threads;
 use fp_system::{Failure, NewFile, Work, make_by_threads, sync_by_threads, sync_open_in_turn};
 use std::fs::{File, TryLockError};
 use std::io;

@@ -1,5 +1,5 @@
-//! What other programs put in the way, and how few files may be open.
-use fp_realplay::{Act, Kind, Part, Step, tell};
+//! What other programs put in the way, how few files may be open, and how small they may have to be.
+use fp_realplay::{Act, Kind, Made, Part, Step, tell};
 use fp_realroot::Access;
 
 const DEVICES: [(Step<'static>, &str, &str); 1] = [(Step::Stat(""), "null", "a character device")];
@@ -76,4 +76,72 @@ fn what_is_in_the_way_is_left_alone(rt: HostRuntime) {
 #[test]
 fn few_open_files_are_enough(rt: HostRuntime) {
     assert!(rt; tell(&rt, &rt, "few", Kind::Narrow(4), &FEW));
+}
+
+/// What Linux tells of the size of files where `ulimit` has set it, and where it hasn't.
+const LIMIT_100: &str =
+    "Limit                     Soft Limit           Hard Limit           Units     \n\
+    Max cpu time              unlimited            unlimited            seconds   \n\
+    Max file size             100                  200                  bytes     \n";
+
+const LIMIT_36: &str =
+    "Max file size             36                   unlimited            bytes     \n";
+
+const NO_LIMIT: &str =
+    "Max file size             unlimited            unlimited            bytes     \n";
+
+/// 51 bytes.
+const BYTES: &str = "fifty bytes and one more are here, so two are large";
+
+/// A file that would be larger than it may be stays as it is, whether it waits or is made.
+const LARGE: [Part<'static>; 5] = [
+    Part::Done(&[Step::Create("f", 0o644), Step::Append("f", BYTES)]),
+    Part::Fail(&[Step::Append("f", BYTES)]),
+    Part::Done(&[Step::List("")]),
+    Part::Fail(&[Step::Append("f", BYTES)]),
+    Part::Done(&[Step::Append("f", "more"), Step::Sync]),
+];
+
+const LARGE_ACTS: [Act<'static>; 4] = [
+    Act::Make(&[Made::Folder("large"), Made::File("large/limits", LIMIT_100)]),
+    Act::Logged(Access::Change, "large/root", &LARGE),
+    Act::Text(
+        "large/root/f",
+        "fifty bytes and one more are here, so two are largemore",
+    ),
+    Act::Text("large/root/.lock", "------------------------------------\n"),
+];
+
+/// Where no mark may be written, nothing is made.
+const MARKLESS: [Act<'static>; 3] = [
+    Act::Make(&[Made::Folder("large"), Made::File("large/limits", LIMIT_36)]),
+    Act::Logged(
+        Access::Change,
+        "large/root",
+        &[Part::Fail(&[Step::Stat("f"), Step::MakeDir("d")])],
+    ),
+    Act::Absent("large/root"),
+];
+
+const LIMITLESS: [Act<'static>; 3] = [
+    Act::Make(&[Made::Folder("large"), Made::File("large/limits", NO_LIMIT)]),
+    Act::Logged(
+        Access::Change,
+        "large/root",
+        &[Part::Done(&[
+            Step::Create("f", 0o644),
+            Step::Append("f", BYTES),
+            Step::Append("f", BYTES),
+            Step::Sync,
+        ])],
+    ),
+    Act::Bits("large/root/f", 0o644),
+];
+
+#[test]
+fn a_file_that_may_not_be_so_large_is_an_error(rt: HostRuntime) {
+    let limited = Kind::Limited("large/limits");
+    assert!(rt; tell(&rt, &rt, "large", limited, &LARGE_ACTS));
+    assert!(rt; tell(&rt, &rt, "large", limited, &MARKLESS));
+    assert!(rt; tell(&rt, &rt, "large", limited, &LIMITLESS));
 }
