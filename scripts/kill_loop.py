@@ -4,17 +4,18 @@
 usage: kill_loop.py PROGRAM ROUNDS SEED
 
 PROGRAM is a built fpk, which runs on a folder of its own; Debian's package ostree is needed. `ostree commit` makes a repository with a
-runtime and two applications of several commits each. Each round offers random commits of them, gives `batch` a random list of
-commands that all can be done (pins, remotes, installs, updates, rollbacks, uninstalls), kills the run by SIGKILL after a random time,
-and then asks for all three lists. They must read, and show the installation as it is after the commands whose lines were printed, or
-after one more. Then the folder is read without fpk: each path of each shown commit, and of the one before it, is as `ostree checkout`
-lays it out; each of its files is a hard link of its object; all that stands below `repo/objects` has the digest of its name. Once in
-ten rounds `ostree fsck` looks at what the kill left, and has to pass. One round in eight begins anew with an installation of layout 1,
-which the batch migrates. In one round of three, and on each full file system, looks run beside the batch, one after another: each of `list`,
-`list --pins`, `list --remotes`, `info` and `launch` has to show the installation as it is after the commands whose lines were printed at some
-moment of the look, or after one more, and with no error. Where it may mount, once in five rounds a batch of its own runs on a new tmpfs that is too small for it: what
-fails for want of room has to leave the same, and the status is 3. At the end it prints what it counted; the status is 0 where nothing
-was amiss. A killed process loses nothing that it wrote: what a power cut leaves isn't tried here.
+runtime and two applications of several commits each. Each round offers random commits of them, gives `batch` a random list of commands
+that all can be done (pins, remotes, installs, updates, rollbacks, uninstalls), kills the run by SIGKILL after a random time, and then
+asks for all three lists. They must read, and show the installation as it is after the commands whose lines were printed, or after one
+more. Then the folder is read without fpk: each path of each shown commit, and of the one before it, is as `ostree checkout` lays it
+out; each of its files is a hard link of its object; all that stands below `repo/objects` has the digest of its name. Once in ten rounds
+`ostree fsck` looks at what the kill left, and has to pass. One round in eight begins anew with an installation of layout 1, which the
+batch migrates. In one round of three, and on each full file system, looks run beside the batch, one after another: each of `list`,
+`list --pins`, `list --remotes`, `info` and `launch` has to show the installation as it is after the commands whose lines were printed
+at some moment of the look, or after one more, and with no error. Where it may mount, once in five rounds a batch of its own runs on a
+new tmpfs that is too small for it: what fails for want of room has to leave the same, and the status is 3. At the end it prints what it
+counted; the status is 0 where nothing was amiss. A killed process loses nothing that it wrote: what a power cut leaves isn't tried
+here.
 """
 
 import collections

@@ -145,11 +145,16 @@ impl<R: System> Tree<'_, R> {
 
     /// Whether the file at the path of the call would be too large with so many bytes more.
     fn is_too_large(&self, count: usize) -> bool {
-        let size = match self.notes.made.stat(&self.at) {
+        let largest = self.gate.largest_file();
+        largest < u64::MAX && self.size_now().saturating_add(count as u64) > largest
+    }
+
+    /// How many bytes the file at the path of the call has.
+    fn size_now(&self) -> u64 {
+        match self.notes.made.stat(&self.at) {
             Some(Stat::File { size, .. }) => size,
             _ => size_at(self.rt, &self.at),
-        };
-        size.saturating_add(count as u64) > self.gate.largest_file()
+        }
     }
 
     fn append_at<T: System + Threads>(

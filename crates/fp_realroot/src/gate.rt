@@ -68,10 +68,10 @@ impl<F: Drop> Drop for Lock<F> {
 /// The root folder of a host, which is held against other processes while the host is at work.
 ///
 /// There are two locks. Changes keep one another out by the file `.lock`, for all of their time.
-/// Looks share the lock of the root folder, and a change has it alone only from the first name that
-/// it takes away or replaces to the sync after it. So what a look reads stands still but for what a
-/// change adds, which no state has yet. A change takes the lock file first and then the folder; a
-/// look takes the folder alone, and waits for nothing while it has it: no two wait for each other.
+/// Looks share the lock of the root folder, and a change has it alone only from the first call that
+/// a look may see to the sync after it. So what a look reads stands still but for what a change
+/// adds, which no state has yet. A change takes the lock file first and then the folder; a look
+/// takes the folder alone, and waits for no lock while it has it: no two wait for each other.
 pub struct Gate<F> {
     root: String,
     // The path of the lock file.
