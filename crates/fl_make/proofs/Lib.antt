@@ -1,4 +1,7 @@
 pub mod Spared
 pub mod Kept
 pub mod Moments
+pub mod Digests
+pub mod Dirtrees
+pub mod OneCommit
 mod Free
