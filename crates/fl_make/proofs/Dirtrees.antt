@@ -3,12 +3,12 @@ use Rattle.std.proofs.Common.{◌≡◌, inl, inr, ℕ, List, [], ◌∷◌, map
 use Rattle.std.specs.Prelude.{if◌then◌else◌}
 use Rattle.std.specs.List.{list_all, list_any}
 use Rattle.std.specs.Str.{bytes_eq}
-use Rattle.std.proofs.lemmas.Bool.{cases_Bool, and_parts, both_ways, not-true, false≢true}
+use Rattle.std.proofs.lemmas.Bool.{cases_Bool, and_parts, or_right, both_ways, not-true, false≢true}
 use Rattle.fp_base.specs.declared.rule.Rule.{Rule}
 use Rattle.fp_base.specs.declared.rule.Rule.TheVariants as rules
 use Rattle.fp_host.specs.Paths.{is_element}
 use Rattle.fp_host.specs.Reads.{is_ascending}
-use Rattle.fp_small.proofs.Ordered.{bytes_eq-itself, bytes_eq-is, or_from_right}
+use Rattle.fp_small.proofs.Ordered.{bytes_eq-itself, bytes_eq-is}
 use Rattle.ost_model.specs.Fields.{DirRow, FileRow, TreeView}
 use Rattle.ost_model.specs.Readers.{first_broken, file_name, dir_name, file_names, dir_names, has_long, has_both_long, shares, name_tests, tree_breaks}
 use Rattle.ost_model.specs.Look.{directory, find_dir, find_file, either, entry_in}
@@ -43,7 +43,7 @@ module _ {A : Type 0} (name : A → List ℕ) where
   name_among x [] a is = absurd (none_some is)
   name_among x (y ∷ ys) a is = elim (cases_Bool (bytes_eq (name y) x)) [
     | inl t ↦ ap (λ b. b || list_any (bytes_eq x) (map name ys)) (subst (λ z. bytes_eq z (name y) ≡ true) (bytes_eq-is (name y) x t) (bytes_eq-itself (name y)))
-    | inr f ↦ or_from_right (bytes_eq x (name y)) (list_any (bytes_eq x) (map name ys)) (name_among x ys a (rw f at is))
+    | inr f ↦ or_right (bytes_eq x (name y)) (list_any (bytes_eq x) (map name ys)) (name_among x ys a (rw f at is))
   ]
 
 -- a name of both lists is shared
@@ -51,7 +51,7 @@ shared : (x : List ℕ) (ys : List (List ℕ)) → list_any (bytes_eq x) ys ≡ 
 shared x ys among [] other = absurd (false≢true other)
 shared x ys among (z ∷ zs) other = elim (cases_Bool (bytes_eq x z)) [
   | inl t ↦ ap (λ b. b || shares zs ys) (subst (λ w. list_any (bytes_eq w) ys ≡ true) (bytes_eq-is x z t) among)
-  | inr f ↦ or_from_right (list_any (bytes_eq z) ys) (shares zs ys) (shared x ys among zs (rw f at other))
+  | inr f ↦ or_right (list_any (bytes_eq z) ys) (shares zs ys) (shared x ys among zs (rw f at other))
 ]
 
 -- ---- the names of a dirtree that breaks no rule
