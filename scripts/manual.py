@@ -13,6 +13,8 @@ import sys
 import time
 
 TOP = os.path.join(os.path.dirname(os.path.abspath(__file__)), "..")
+# What the help says of itself, and the page otherwise.
+OTHERWISE = {"This": "Help and version", "prints this": "prints every command"}
 ROW = re.compile(r" *fpk ((?:-|[a-z])\S*(?: \S+)*?)  +(\S.*)$")
 
 
@@ -21,8 +23,7 @@ class Help:
 
     def __init__(self, text):
         self.sections, self.words, self.notes = [("", [])], [], []
-        lines = text.splitlines()
-        for line in lines:
+        for line in text.splitlines()[1:]:
             row = ROW.match(line)
             if row:
                 self.sections[-1][1].append((row[1], row[2]))
@@ -57,6 +58,10 @@ class Help:
         """What the help says at its end, a text for each paragraph."""
         return [" ".join(it.split()) for it in "\n".join(self.notes).split("\n\n") if it.strip()]
 
+    def said_of(self, word):
+        """The paragraph with this word."""
+        return next(it for it in self.paragraphs() if word in it)
+
 
 def table(guide, heading):
     """The rows of the first table from this heading of the guide on, the table's own heading left out."""
@@ -82,7 +87,7 @@ def entry(tag, text):
 
 def page(help_, guide, version):
     day = time.strftime("%Y-%m-%d", time.gmtime(int(os.environ.get("SOURCE_DATE_EPOCH", time.time()))))
-    lines = [f'.TH FPK 1 {day} "{version}" "User commands"', ".SH NAME"]
+    lines = [f'.TH FPK 1 {day} "{version}" "User commands"', ".nh", ".ad l", ".SH NAME"]
     lines += ["fpk \\- install applications of Flatpak from OSTree repositories"]
     lines += [".SH SYNOPSIS", ".B fpk", ".I COMMAND", ".RI [ WORD .. ]", ".SH DESCRIPTION"]
     lines += ["fpk keeps an installation of applications and runtimes. They come from folders that are OSTree repositories"]
@@ -90,15 +95,16 @@ def page(help_, guide, version):
     lines += ["once the change stands on the disk. There are no signatures: use repositories of those whom you trust."]
     lines += [".SH COMMANDS"]
     for title, rows in help_.sections:
-        lines += [f".SS {roff(title)}"] if title else []
-        lines += [line for form, does in rows for line in entry(form, does)]
+        lines += [f".SS {roff(OTHERWISE.get(title, title))}"] if title else []
+        lines += [line for form, does in rows for line in entry(form, OTHERWISE.get(does, does))]
     if help_.words:
         lines += [".SH WORDS"] + [line for word, text in help_.words for line in entry(word, text)]
-    lines += [".SH NOTES"] + [line for text in help_.paragraphs() for line in (".PP", roff(text))]
+    folder = help_.said_of("FPK_INSTALLATION")
+    lines += [".SH NOTES"] + [line for text in help_.paragraphs() if text != folder for line in (".PP", roff(text))]
     lines += [".SH EXIT STATUS"] + [line for row in table(guide, "| Status |") for line in entry(*row[:2])]
     lines += [".SH DIAGNOSTICS"]
     lines += [line for row in table(guide, "| Line | What it means |") for line in entry(row[0], f"{row[1]}. What helps: {row[2]}.")]
-    lines += [".SH ENVIRONMENT"] + entry("FPK_INSTALLATION", "The folder of the installation.")
+    lines += [".SH ENVIRONMENT"] + entry("FPK_INSTALLATION", folder)
     lines += [".SH FILES", "Below the folder of an installation:"]
     lines += [line for row in table(guide, "## Layout of an installation") for line in entry(*row[:2])]
     lines += [".SH SEE ALSO", ".BR ostree (1),", ".BR flatpak (1),", ".BR bwrap (1),", ".BR xdg\\-dbus\\-proxy (1)"]
@@ -214,9 +220,8 @@ function __fpk_at
             printf '%s\n' @OPTIONS@ | string match -v -- '--command=*'
         case '*:RULE..'
             printf '%s\n' @RULES@
-        case '*:[A-Z]*' '*:'
         case '*'
-            string split -m1 -f2 ':' -- $argv[1]
+            string match -rg '^[^:]*:([a-z-].*)' -- $argv[1]
     end
 end
 
