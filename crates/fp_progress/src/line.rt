@@ -131,11 +131,17 @@ impl<R: Clock + Eprint> Progress<'_, R> {
     }
 
     /// Takes the line away, so that another one may be written.
-    pub fn clear(&self) {
+    pub(crate) fn clear(&self) {
         if self.is_shown.get() {
             self.is_shown.set(false);
             let _said = eprint!(self.rt; "\r{BLANK}\r");
         }
+    }
+
+    /// Takes the line away, and shows none any more.
+    pub fn end(&self) {
+        self.next.set(None);
+        self.clear();
     }
 
     fn show(&self) {

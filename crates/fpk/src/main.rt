@@ -174,7 +174,7 @@ fn run_over<R: System + Print + Input + Clock + Threads + Sync>(
     let mut input = input_of(rt, alloc, asked.words);
     let status = run(rt, alloc, asked.words, &mut input, host, &mut remotes);
     host.finish();
-    progress.clear();
+    progress.end();
     if asked.access == Access::Look && host.is_absent() {
         tell_absence(rt, alloc, asked.installation);
     }
