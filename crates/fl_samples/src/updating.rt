@@ -1,0 +1,16 @@
+//! What an update of the small installation answers.
+ghost use Rattle.std.specs.Prelude.{◌≡◌, Ok};
+ghost use Rattle.fl_change.specs.Answer.{done_answer};
+ghost use Rattle.fl_samples.specs.Image.{whole_disk};
+ghost use Rattle.fl_samples.specs.Remote.{holdings};
+ghost use Rattle.fl_samples.specs.Update.{update_words, whole_world, moved_on};
+ghost use Rattle.fl_top.specs.Answer.{answer, Given, IsOver};
+
+/// Where the remote offers another commit of the application, the answer to an update is that it
+/// moves on to that, and nothing is refused. It is the answer that counts.
+pub fn an_update_has_an_operation()
+    ensures answered { (given : Given) → given.held ≡ holdings
+        → answer update_words given (Ok whole_world) ≡ done_answer moved_on }
+    ensures counts { (given : Given)
+        → IsOver (answer update_words given) whole_disk (Ok whole_world) }
+{}
