@@ -6,6 +6,7 @@ use fp_progress::{Progress, Task, Watched};
 use fp_realhost::HostDir;
 use fp_realroot::{Access, System};
 use std::fs;
+use std::io::Print;
 use std::os::unix::fs::MetadataExt;
 use std::thread::Threads;
 use std::time::{SystemTime, UNIX_EPOCH};
@@ -105,36 +106,44 @@ fn run_plain<T: System + Threads + Sync>(
     }
 }
 
-fn run_logged<T: System + Threads + Sync>(
+/// Plays the parts on a folder of this system, which prints what the host says too.
+fn run_over<R: System + Print, T: System + Threads + Sync>(
     rt: &HostRuntime,
+    system: &R,
     threads: &T,
     log: &Log<'_>,
     place: (Access, &str),
     parts: &[Part<'_>],
 ) {
     let (access, root) = place;
-    let system = Logged { rt, log };
-    match HostDir::new(&system, threads, &system, log.alloc, root, access) {
+    match HostDir::new(system, threads, system, log.alloc, root, access) {
         Ok(mut host) => play_all(rt, log, &mut host, parts),
         Err(_) => log.demand(false, 0, "memory"),
     }
 }
 
-fn run_watched<T: System + Threads + Sync>(
-    rt: &HostRuntime,
+fn run_logged<'a, T: System + Threads + Sync>(
+    rt: &'a HostRuntime,
     threads: &T,
-    log: &Log<'_>,
+    log: &'a Log<'_>,
     place: (Access, &str),
     parts: &[Part<'_>],
 ) {
-    let (access, root) = place;
+    let system = Logged { rt, log };
+    run_over(rt, &system, threads, log, place, parts);
+}
+
+fn run_watched<'a, T: System + Threads + Sync>(
+    rt: &'a HostRuntime,
+    threads: &T,
+    log: &'a Log<'_>,
+    place: (Access, &str),
+    parts: &[Part<'_>],
+) {
     let logged = Logged { rt, log };
     let progress = Progress::new(&logged, log.alloc, Task::Other, false);
     let system = Watched::host(&logged, &progress);
-    match HostDir::new(&system, threads, &system, log.alloc, root, access) {
-        Ok(mut host) => play_all(rt, log, &mut host, parts),
-        Err(_) => log.demand(false, 0, "memory"),
-    }
+    run_over(rt, &system, threads, log, place, parts);
 }
 
 fn has_bits(rt: &HostRuntime, at: &str, want: u32) -> bool {
