@@ -25,6 +25,7 @@ import fcntl
 import glob
 import os
 import re
+import select
 import shutil
 import subprocess
 import sys
@@ -132,14 +133,15 @@ def waiting(runs):
 
 
 def waiting_long(runs):
-    """The same of one that has to wait for eleven seconds."""
+    """The same of one that has to wait until it says who holds the lock, but no longer than a minute."""
     with runs.lock() as lock:
         fcntl.flock(lock, fcntl.LOCK_EX)
         waiter = runs.start("pin", "app/org.x.Long/*/*")
-        time.sleep(11)
-        assert waiter.poll() is None
-    _, said = waiter.communicate()
-    return said, waiter.returncode
+        said = waiter.stderr.readline()
+        if select.select([waiter.stderr], [], [], 60)[0]:
+            said += waiter.stderr.readline()
+    _, rest = waiter.communicate()
+    return said + rest, waiter.returncode
 
 
 def behind_a_look(runs):
