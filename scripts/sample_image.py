@@ -1,16 +1,19 @@
 #!/usr/bin/env python3
-"""Prints the objects of a small installation as definitions: `sample_image.py >crates/fl_samples/specs/Objects.antt`, and then
-`rt fmt` in crates/fl_samples.
+"""Prints the objects of a small installation as definitions.
 
-The real `ostree` commits an application at three times, its runtime and its extension, in a repository of the mode bare-user-only.
-Of each object its digest, its bytes and the rest of its name are printed, and of each kept commit the record that stands beside its
-tree. It needs Debian's package ostree. The same trees give the same objects, so a second run prints the same.
+    scripts/sample_image.py >crates/fl_samples/specs/Objects.antt
+
+The real `ostree` commits an application at three times, its runtime and its extension, in a repository of the mode
+bare-user-only. Of each object its digest, its name and its bytes are printed, and of each kept commit the record that
+stands beside its tree. It needs Debian's package ostree. The same trees give the same objects, so a second run prints
+the same.
 """
 import os
 import pathlib
 import struct
 import subprocess
 import tempfile
+import textwrap
 
 APP = "app/o.x.A/x86_64/s"
 LOCALE = "runtime/o.x.A.L/x86_64/s"
@@ -93,8 +96,10 @@ def listed(repo, digest):
         yield path, words[4:]
 
 
-def numbers(data):
-    return "".join(f"{byte} ∷ " for byte in data) + "[]"
+def numbers(data, indent=6):
+    """The bytes as a list of numbers, in short lines; all but the first are indented so."""
+    lines = textwrap.wrap(" ".join(f"{byte}_∷" for byte in data) + " []", 92)
+    return ("\n" + indent * " ").join(lines).replace("_∷", " ∷")
 
 
 def text(data):
@@ -106,7 +111,7 @@ def text(data):
 
 
 def define(name, of, value, comment):
-    print(f"-- {comment}\nabbrev pub {name} : {of}\n{name} = {value}\n")
+    print(f"\n-- {comment}\nabbrev pub {name} : {of}\n{name} = {value}")
 
 
 def record(commit, time, previous=None):
@@ -142,7 +147,7 @@ class Objects:
             f'name = codes "{digest[2:]}.{kind}"',
             f"spot = {spot}",
         ]
-        define(name, "Stored", "record { " + "; ".join(fields) + " }", comment)
+        define(name, "Stored", "record {\n" + "".join(f"  {field};\n" for field in fields) + "}", comment)
 
 
 HEAD = """-- The objects of a small installation and of its remote, as the `ostree` command made them
@@ -164,7 +169,7 @@ pub record Stored : Type 0 where
 
 
 def main():
-    print(HEAD)
+    print(HEAD, end="")
     with tempfile.TemporaryDirectory() as work:
         work = pathlib.Path(work)
         repo = work / "repo"
@@ -175,7 +180,7 @@ def main():
             make_tree(work / name, tree)
             digests[name] = commit(repo, work / name, ref, time)
         for name, ref, tree, time in COMMITS:
-            print(f"-- ---- {ref} at time {time}\n")
+            print(f"\n-- ---- {ref} at time {time}")
             objects.tell(f"{name}_commit", digests[name], "commit", "the commit")
             define(f"{name}_text", "List ℕ", f'codes "{digests[name]}"', "its digest's digits")
             for path, found in listed(repo, digests[name]):
@@ -185,12 +190,12 @@ def main():
                     objects.tell("dir_mode", found[1], "dirmeta", "of the mode 040755")
                 else:
                     objects.tell(place, found[0], "file", f"the file {path}")
-        print("-- ---- the records of kept commits\n")
+        print("\n-- ---- the records of kept commits")
         back = (digests["old"], 1)
-        define("app_record", "List ℕ", numbers(record(digests["app"], 2, back)), "with the commit of before")
-        define("old_record", "List ℕ", numbers(record(digests["old"], 1)), "as it was first installed")
-        define("locale_record", "List ℕ", numbers(record(digests["locale"], 1)), "of the extension")
-        define("platform_record", "List ℕ", numbers(record(digests["platform"], 1)), "of the runtime")
+        define("app_record", "List ℕ", numbers(record(digests["app"], 2, back), 4), "with the commit of before")
+        define("old_record", "List ℕ", numbers(record(digests["old"], 1), 4), "as it was first installed")
+        define("locale_record", "List ℕ", numbers(record(digests["locale"], 1), 4), "of the extension")
+        define("platform_record", "List ℕ", numbers(record(digests["platform"], 1), 4), "of the runtime")
 
 
 if __name__ == "__main__":
