@@ -54,7 +54,6 @@ KNOWN_KEYS = {
     "X-Flatpak": "flatpak's mark on its own files",
     "Path": "the folder in which `fpk launch` would start",
     "DBusActivatable": "no service is exported",
-    "Icon[$e]": "a key whose value some desktops expand",
 }
 
 
@@ -80,7 +79,7 @@ ODD = {
     f"{ID}.Dollar.desktop": (desktop("$HOME/hello"), None),
     f"{ID}.Back.desktop": (desktop("\\\\$HOME"), None),
     f"{ID}.Inner.desktop": (desktop('he"llo %i" x'), None),
-    f"{ID}.Keys.desktop": (desktop("keys", Path="/srv", DBusActivatable="true") + "Name[sr@latin]=Zdravo\nIcon[$e]=$HOME/x\n", "keys"),
+    f"{ID}.Keys.desktop": (desktop("keys", Path="/srv", DBusActivatable="true") + "Name[sr@latin]=Zdravo\n", "keys"),
 }
 # Desktop files that hand on what a desktop reads as more words.
 NAIVE = {
