@@ -7,7 +7,7 @@ use std::alloc::Global;
 use std::test::Fail;
 
 /// How many peers come, each with a number of its own.
-const PEERS: u32 = 100_000;
+const PEERS: u32 = 1_000_000;
 
 /// A message of the bus in hexadecimal, and where a peer's number stands in it, as seven digits.
 #[derive(Clone, Copy)]
