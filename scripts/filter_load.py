@@ -25,6 +25,8 @@ import subprocess
 import sys
 import tempfile
 
+from speed import started
+
 MIB = 1 << 20
 RECORDING = 60 * MIB  # fpk reads at most 64 MiB
 DRIVER = b"org.freedesktop.DBus"
@@ -67,21 +69,6 @@ def recording(calls, returns, size):
     return "\n".join(lines) + "\n"
 
 
-# Starts a program on a file, and prints its status, its seconds and the peak of its memory in KiB. A process begins with the peak of the one that
-# started it, so it is started by a small one.
-STARTER = """
-import os, sys
-recording, printed, *words = sys.argv[1:]
-child = os.fork()
-if not child:
-    os.dup2(os.open(recording, os.O_RDONLY), 0)
-    os.dup2(os.open(printed, os.O_WRONLY | os.O_CREAT | os.O_TRUNC, 0o600), 1)
-    os.execv(words[0], words)
-_, status, used = os.wait4(child, 0)
-print(os.waitstatus_to_exitcode(status), used.ru_utime + used.ru_stime, used.ru_maxrss)
-"""
-
-
 class Run:
     """What a program prints of a recording, the seconds of processor time, and the peak of its memory in bytes."""
 
@@ -89,13 +76,12 @@ class Run:
         path, printed = os.path.join(folder, "recording"), os.path.join(folder, "printed")
         with open(path, "w") as file:
             file.write(text)
-        words = [sys.executable, "-c", STARTER, path, printed, fpk, "filter", "--talk=org.bar"]
-        told = subprocess.run(words, capture_output=True, text=True, check=True).stdout.split()
+        status, _, self.seconds, peak, _ = started([fpk, "filter", "--talk=org.bar"], path, printed)
         with open(printed) as file:
             self.printed = file.read()
-        if told[0] != "0":
-            sys.exit(f"status {told[0]}: {self.printed[:80]}")
-        self.seconds, self.peak = float(told[1]), int(told[2]) * 1024
+        if status:
+            sys.exit(f"status {status}: {self.printed[:80]}")
+        self.peak = peak * 1024
 
 
 def printed_of(calls, returns):

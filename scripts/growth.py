@@ -61,8 +61,7 @@ class Bench:
     def ask(self, *words, given=""):
         """Runs fpk, and answers its seconds by the clock."""
         cost = Cost()
-        front = [] if not given else ["sh", "-c", 'exec "$@" <"$0"', self.input_of(given)]
-        cost.run([*front, self.fpk, *words], self.env)
+        cost.run([self.fpk, *words], self.env, self.input_of(given))
         self.peak = max(getattr(self, "peak", 0), cost.memory)
         return cost.clock
 

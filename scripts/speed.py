@@ -19,7 +19,6 @@ import os
 import subprocess
 import sys
 import tempfile
-import time
 
 REF = "runtime/org.x.Big/x86_64/1"
 SIZE = 4096
@@ -29,26 +28,46 @@ DISK = 4 << 30
 ROWS = 10
 
 
+# Starts a program on two files, and prints its status, its seconds by the clock and of the processor, and the peak of its memory in
+# KiB. A process begins with the peak of the one that started it, so it is started by a small one.
+STARTER = """
+import os, sys, time
+given, printed, *words = sys.argv[1:]
+begun = time.monotonic()
+child = os.fork()
+if not child:
+    os.dup2(os.open(given, os.O_RDONLY), 0)
+    os.dup2(os.open(printed, os.O_WRONLY | os.O_CREAT | os.O_TRUNC, 0o600), 1)
+    os.execvp(words[0], words)
+_, status, used = os.wait4(child, 0)
+print(os.waitstatus_to_exitcode(status), time.monotonic() - begun, used.ru_utime + used.ru_stime, used.ru_maxrss)
+"""
+
+
+def started(words, given, printed, env=None):
+    """The status of a program, its seconds by the clock and of the processor, the peak of its memory in KiB, and what it complained of."""
+    front = [sys.executable, "-c", STARTER, given, printed]
+    run = subprocess.run([*front, *words], env=env, capture_output=True, text=True, check=True)
+    status, clock, processor, memory = run.stdout.split()
+    return int(status), float(clock), float(processor), int(memory), run.stderr
+
+
 class Cost:
     """What some programs took: seconds by the clock and of the processor, and the peak of memory in KiB."""
 
     def __init__(self):
         self.clock, self.processor, self.memory = 0.0, 0.0, 0
 
-    def run(self, words, env=None):
+    def run(self, words, env=None, given=os.devnull):
         """Runs a program, which has to end with status 0, and adds what it took. Answers what it printed."""
-        with tempfile.TemporaryFile() as sink:
-            begun = time.monotonic()
-            process = subprocess.Popen(words, env=env, stdout=sink, stderr=subprocess.STDOUT)
-            _, status, usage = os.wait4(process.pid, 0)
-            process.returncode = os.waitstatus_to_exitcode(status)
-            self.clock += time.monotonic() - begun
-            self.processor += usage.ru_utime + usage.ru_stime
-            self.memory = max(self.memory, usage.ru_maxrss)
-            sink.seek(0)
+        with tempfile.NamedTemporaryFile() as sink:
+            status, clock, processor, memory, said = started(words, given, sink.name, env)
             text = sink.read().decode()
-        if process.returncode != 0:
-            sys.exit(f"{' '.join(words)}: status {process.returncode}, {text}")
+        self.clock += clock
+        self.processor += processor
+        self.memory = max(self.memory, memory)
+        if status != 0:
+            sys.exit(f"{' '.join(words)}: status {status}, {text}{said}")
         return text
 
 
