@@ -43,7 +43,7 @@ sockets=wayland;
 
 
 def program(code):
-    """A program of one segment: the headers of ELF for 64 bits, and the code behind them."""
+    """A program of one segment: the headers of ELF for 64 bits, then the code."""
     place, headers = 0x400000, 64 + 56
     start = struct.pack("<16sHHIQQQIHHHHHH", b"\x7fELF\x02\x01\x01", 2, 62, 1, place + headers, 64, 0, 0, 64, 56, 1, 64, 0, 0)
     size = headers + len(code)

@@ -4,11 +4,12 @@
 usage: growth.py FPK [FILES [REFS [SVG]]]
 
 FILES and REFS are numbers with commas between them (1000,10000,100000 and 10,100,1000 where nothing is said). Debian's package
-ostree is needed. First an application of so many files of 4 KiB, which `ostree commit` made, is installed, updated where one file
-in a hundred is another, updated with nothing to do, pinned, listed, launched and uninstalled. Then so many applications of one file
-each are installed by one `batch`, and the same is asked; one of them is updated and uninstalled. Each has a runtime of one file. It
-prints a table of seconds by the clock and of the peak of memory, and writes a picture of it where a file SVG is named. It works as
-scripts/speed.py does, on an ext4 of its own where one may be mounted.
+ostree is needed. For each number of FILES an application of that many files of 4 KiB, which `ostree commit` made, is installed,
+updated where one file in a hundred is another, updated with nothing to do, pinned, listed, launched and uninstalled. For each
+number of REFS that many applications of one file each are installed by one `batch`, and the same is asked; one of them is
+updated and uninstalled. Each has a runtime of one file. It prints a table of seconds by the clock and of the peak of memory,
+and writes a picture of it where a file SVG is named. It works as scripts/speed.py does, on an ext4 of its own where one may be
+mounted.
 """
 
 import contextlib

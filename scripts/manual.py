@@ -51,8 +51,8 @@ class Help:
     def named(text):
         """The options of a launch and an override, and the rules of the filter: those that the help names after its forms."""
         said = " ".join(line for line in text.splitlines() if not ROW.match(line))
-        before, _, behind = re.split(r"(A RULE is|\bRULE  )", said, maxsplit=1)
-        return [list(dict.fromkeys(re.findall(r"--[a-z-]+=", it))) for it in (before, behind)]
+        before, _, after = re.split(r"(A RULE is|\bRULE  )", said, maxsplit=1)
+        return [list(dict.fromkeys(re.findall(r"--[a-z-]+=", it))) for it in (before, after)]
 
     def paragraphs(self):
         """What the help says at its end, a text for each paragraph."""
