@@ -49,7 +49,7 @@ module _ {May : Op → Type 0} {s : State} where
         performed = λ held known rests. subst (λ (a : Answer). Performed held a (world_at s x) (Err (Refused r)) x x) (sym (is x first held known rests))
             (refl, none_done held (refusal_answer r) (world_at s x) x refl (holds_at s x rests.opens) rests.settled);
       })
-      (λ x. tt) (λ no. cc no) (λ no. cc no)
+      (λ x opens. (s, opens)) (λ no. cc no) (λ no. cc no)
 
   -- out of memory
   pub acts_halted : (f : Holdings → World → Answer) {o : Outside} → IsTold o.told → Acts (Rests s) May f s (Err NoMemory) o o

@@ -57,7 +57,7 @@ use Rattle.op_change.specs.Bringing.{IsFolderFor, above_commit, above_object, ab
 use Rattle.op_change.specs.Brought.{HasObjects, commit_time}
 use Rattle.op_change.specs.Readying.{a_head}
 use Rattle.fl_change.specs.Performs.{Rests, OfAdded}
-use Rattle.fl_change.proofs.Same.{now_left}
+use Rattle.dep_tidy.proofs.Views.{now_left}
 use Rattle.fl_change.proofs.Stored.{hex_same, kept_had, kept_digest}
 use Rattle.fl_change.proofs.Worlds.{contains_in}
 

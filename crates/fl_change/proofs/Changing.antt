@@ -46,7 +46,7 @@ change_on {May = May} u v w first second = record {
 pub change_none : {May : Op → Type 0} {u w : View} → ((q : Elements) → w.names q ≡ u.names q) → KeepsFiles u w → Changes May u w
 change_none names files = record { names = λ q. inl (names q); files = files; links = links_still names }
 
-may_hold : {A B : Op → Type 0} {q : Elements} {e : Slot} → ((op : Op) → A op → B op) → MayHold A q e → MayHold B q e
+pub may_hold : {A B : Op → Type 0} {q : Elements} {e : Slot} → ((op : Op) → A op → B op) → MayHold A q e → MayHold B q e
 may_hold wider (operated s op v may put) = operated s op v (wider op may) put
 may_hold wider (tidied s may) = tidied s may
 

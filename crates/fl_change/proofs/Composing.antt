@@ -43,7 +43,7 @@ use Rattle.fl_change.proofs.Changing.{applied_changes, tidied_changes, change_un
 use Rattle.fl_change.proofs.Doing.{Applied, applying, apply_refused, apply_halted, applied, saying, said, tidying, tidied, untidied}
 use Rattle.fl_change.proofs.Saying.{says_step, was_said}
 use Rattle.fl_change.proofs.Same.{same_opens}
-use Rattle.fl_change.proofs.Working.{goes_to, goes_first, IsFirst, works_as, works_on}
+use Rattle.fl_change.proofs.Working.{goes_to, goes_first, IsFirst, works_as, works_on, opens_stayed}
 
 -- ---- what an operation promises
 
@@ -123,6 +123,16 @@ module _ (op : Op) (s : State) (u v : Outside) where
 
   -- ---- it isn't
 
+  -- what is refused leaves the state
+  opens_not : (e : ApplyEnd) → Attempts s op (Err e) u v → (AsksBy (Just op) → AreTold u.holdings) → (x y : View) → IsFirst u.told x → Applies s op u.holdings x y → OpensBy s (Err (end_of_apply e)) x y
+  opens_not (applies.Refused r) clauses known x y first step = λ opens. elim (brings_or_not op) [
+    | inl b ↦ let told = known (op, refl, b) in (s, step.refused told.0 (λ b. told.1) r (answers_at clauses told.0 told.1 x first) opens)
+    | inr none ↦ absurd (clauses.plain none)
+  ]
+  opens_not applies.Fault clauses known x y first step = tt
+  opens_not applies.RemoteFault clauses known x y first step = tt
+  opens_not applies.NoMemory clauses known x y first step = tt
+
   -- where no commit is brought it is none of the remotes
   plain_end : Attempts s op (Err applies.RemoteFault) u v → (Brings op → ⊥) → ⊥
   plain_end clauses none = clauses.plain none
@@ -130,7 +140,7 @@ module _ (op : Op) (s : State) (u v : Outside) where
   not_applied : (Q : View → View → Type 0) (e : ApplyEnd) → Attempts s op (Err e) u v → Goes u.told v.told (PerformsOver (Rests s) u.holdings (op_over op) s) Q → Works (Just op) s (PerformsOver (Rests s) u.holdings (op_over op) s) Q (Err (end_of_apply e)) u v
   not_applied Q e clauses goes = record {
     goes = goes;
-    opens = λ known. record { goes = goes_to clauses.moments (λ x y r. tt) (λ x y r. tt) };
+    opens = λ known. record { goes = goes_to (goes_first clauses.moments) (λ x y r. tt) (λ x y q. opens_not e clauses known x y q.1 q.0) };
     changes = λ known. goes_to clauses.moments changes_at changes_at;
     same = clauses.same;
     host = record {
@@ -201,7 +211,7 @@ no_remote error.NoMemory is = cc is
 pub works_not_said : {May : Op → Type 0} (text : List ℕ) (t : State) (piece : List ℕ) (e : HostError) {u v : Outside} → piece ≡ text → Saying piece (Err e) u v → Works May t (Says text) (λ x y. end_of_host (end_of e) ≡ Fault) (Err (end_of_host (end_of e))) u v
 works_not_said text t piece e same call = record {
   goes = goes_to (makes_goes call.step) (λ x y r. says_as text same r) (λ x y q. line_end piece e x y q);
-  opens = λ known. record { goes = goes_to (makes_goes call.step) (λ x y r. tt) (λ x y q. tt) };
+  opens = λ known. record { goes = goes_to (makes_goes call.step) (λ x y r. tt) (λ x y q. opens_stayed t (end_of_host (end_of e)) (same_opens (says_as text same q).follows)) };
   changes = λ known. goes_to (makes_goes call.step) (says_changes t text same) (says_changes t text same);
   same = call.holdings;
   host = record { later = call.cause.later; fault = λ is m told opens. line_rose piece e call (cc is.1) m told };
@@ -261,7 +271,7 @@ tidy_no_remote host.NoMemory is = cc is
 pub works_untidied : {May : Op → Type 0} {Q : View → View → Type 0} (s : State) (e : HostEnd) {u v : Outside} → Tidying Q s (Err e) u v → Works May s (Tidies s) (Tidies s) (Err (end_of_host e)) u v
 works_untidied s e call = record {
   goes = call.moments;
-  opens = λ known. record { goes = goes_to call.moments (λ x y r. tt) (λ x y r. tt) };
+  opens = λ known. record { goes = goes_to call.moments (λ x y r. tt) (λ x y r. opens_stayed s (end_of_host e) r.opens) };
   changes = λ known. goes_to call.moments (tidy_changes s) (tidy_changes s);
   same = call.holdings;
   host = record { later = call.host.later; fault = λ is m told opens. call.host.fault (ap (λ (x : HostEnd). Err x) (tidy_end e (cc is.1))) m told opens };

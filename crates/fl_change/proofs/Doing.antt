@@ -45,7 +45,8 @@ use Rattle.fl_change.proofs.Created.{none_created, no_ops_created, lacks_is, bro
 use Rattle.fl_change.proofs.Pulled.{op_pulls}
 use Rattle.fl_change.proofs.Resting.{small_rest}
 use Rattle.fl_change.proofs.Adding.{added_rest}
-use Rattle.fl_change.proofs.Same.{same_opens, same_rest, now_left}
+use Rattle.dep_tidy.proofs.Views.{now_left}
+use Rattle.fl_change.proofs.Same.{same_opens, same_rest}
 use Rattle.fl_change.proofs.Worlds.{holds_on, holds_tidied, same_objects}
 
 -- ---- nothing is done

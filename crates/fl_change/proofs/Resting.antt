@@ -34,7 +34,7 @@ use Rattle.dep_tidy.proofs.Views.{same_shows}
 use Rattle.op_change.specs.Applied.{MayChange, MayWrite, ChangesName, ChangesBy}
 use Rattle.fl_change.specs.Answer.{keeps_commits}
 use Rattle.fl_change.specs.Performs.{Rests, OfAdded, WasTidiedAfter}
-use Rattle.fl_change.proofs.Same.{now_left}
+use Rattle.dep_tidy.proofs.Views.{now_left}
 
 -- ---- in layout 2 without `config` there are no files of layout 1
 

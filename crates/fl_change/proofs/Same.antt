@@ -1,8 +1,8 @@
 -- Images that have the same at each path are the same, and so is all that is said of them.
-use Rattle.std.proofs.Common.{◌≡◌, ◌⊎◌, inl, inr, refl, sym, subst}
+use Rattle.std.proofs.Common.{◌≡◌, ◌⊎◌, inl, inr, sym, subst}
 use Rattle.fp_host.specs.Paths.{Elements}
 use Rattle.fp_host.specs.View.{View}
-use Rattle.fp_host.specs.Outcome.{Disk, Leaves, Follows, Nothing, shows}
+use Rattle.fp_host.specs.Outcome.{Disk, Follows, Nothing}
 use Rattle.fp_small.specs.declared.state.State.{State}
 use Rattle.dep_states.specs.Shown.{Shows}
 use Rattle.dep_states.specs.Sound.{Sound, Opens}
@@ -33,7 +33,3 @@ same_opens follows opens = record {
   shown = λ disk left. let from = follows.from disk left in same_shown (unmoved from.2) (opens.shown from.0 from.1);
   sound = λ disk left. let from = follows.from disk left in same_sound (unmoved from.2) (opens.sound from.0 from.1);
 }
-
--- what stands now is an outcome
-pub now_left : (v : View) → Leaves v (shows v)
-now_left v = record { names = v.names; files = v.files; may_be = λ p. inl refl; rows = λ id. inl refl; seen = λ p. refl }

@@ -22,10 +22,10 @@ use Rattle.fl_change.proofs.Same.{same_opens, same_settled}
 use Rattle.fl_change.proofs.Working.{works_as}
 use Rattle.fl_change.proofs.Worlds.{holds_at, holds_on, same_objects}
 
-abbrev piece_of : List ℕ → Piece
+abbrev pub piece_of : List ℕ → Piece
 piece_of text = record { text = text; op = None }
 
-said_text : (text : List ℕ) (x y : View) → y.printed ≡ x.printed ++ text → Printed (text_answer text) (piece_of text ∷ []) x y
+pub said_text : (text : List ℕ) (x y : View) → y.printed ≡ x.printed ++ text → Printed (text_answer text) (piece_of text ∷ []) x y
 said_text text x y more = record { left = []; pieces = refl; printed = more ∙ ap (λ (t : List ℕ). x.printed ++ t) (sym (append-nil text)) }
 
 telling : (text : List ℕ) (s : State) {x y : View} → Rests s x → Says text x y → Performs (text_answer text) s x y

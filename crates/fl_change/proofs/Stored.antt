@@ -25,7 +25,7 @@ use Rattle.dep_tidy.proofs.RowsKept.{kept_both}
 use Rattle.dep_tidy.proofs.Pruned.{row_keeps, keeps_listed}
 use Rattle.fl_change.specs.World.{kept_commits, is_used, used_of}
 use Rattle.fl_change.specs.Performs.{Rests}
-use Rattle.fl_change.proofs.Same.{now_left}
+use Rattle.dep_tidy.proofs.Views.{now_left}
 use Rattle.fl_change.proofs.Worlds.{in_contains, contains_in, used_place}
 
 -- ---- names say digests

@@ -40,7 +40,7 @@ pub tidying_of : {Q : View → View → Type 0} (s : State) (result : Result Sta
     → IsCaused (result ≡ Err host.Fault) u.told (Opens s) u.host_faults v.host_faults → v.holdings ≡ u.holdings → v.remote_faults ≡ u.remote_faults → Tidying Q s result u v
 tidying_of s result moments success state cause holdings remote = record { moments = moments; success = success; state = state; host = cause; holdings = holdings; remote_faults = remote }
 
-first_moved : {a : Answer} {said : List Piece} {u v w : View} → v.printed ≡ u.printed → Printed a said v w → Printed a said u w
+pub first_moved : {a : Answer} {said : List Piece} {u v w : View} → v.printed ≡ u.printed → Printed a said v w → Printed a said u w
 first_moved {said = said} same printed = record { left = printed.left; pieces = printed.pieces; printed = printed.printed ∙ ap (λ (p : List ℕ). p ++ pieces_text said) same }
 
 module _ (s : State) {u v : View} (tidies : Tidies s u v) (opens : Opens s u) where

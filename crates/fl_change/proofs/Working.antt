@@ -15,7 +15,7 @@ use Rattle.dep_states.specs.Sound.{Opens}
 use Rattle.op_change.specs.Bringing.{AreTold}
 use Rattle.fl_change.specs.Performs.{AsksBy, OpensBy, ChangesFrom, Works}
 use Rattle.fl_change.specs.declared.end.RunEnd.{RunEnd}
-use Rattle.fl_change.specs.declared.end.RunEnd.TheVariants.{Fault, RemoteFault}
+use Rattle.fl_change.specs.declared.end.RunEnd.TheVariants.{Refused, Fault, RemoteFault, NoMemory}
 use Rattle.fl_change.proofs.Changing.{change_on, change_to, change_not, change_same}
 
 -- the error of a `?`
@@ -43,7 +43,7 @@ stays_at {a = a} {R = R} {Q = Q} told step last =
 
 -- ---- work
 
-asks_to : {A B : Op → Type 0} → ((op : Op) → A op → B op) → AsksBy A → AsksBy B
+pub asks_to : {A B : Op → Type 0} → ((op : Op) → A op → B op) → AsksBy A → AsksBy B
 asks_to wider asks = (asks.0, wider asks.0 asks.1, asks.2)
 
 -- of more operations
@@ -80,6 +80,13 @@ works_as step last works = record {
 pub works_err : {May : Op → Type 0} {s : State} {R : View → View → Type 0} (Q : Result State RunEnd → View → View → Type 0) {u w : Outside} (r : Result State RunEnd) (e : RunEnd) → IsErrAnd r (λ end. end ≡ e) → Works May s R (Q (Err e)) (Err e) u w → Works May s R (Q r) r u w
 works_err {May = May} {s = s} {R = R} Q {u = u} {w = w} r e is works = subst (λ (x : Result State RunEnd). Works May s R (Q x) x u w) (sym (is_err r e is)) works
 
+-- where it failed, the state stayed
+pub opens_stayed : (s : State) (e : RunEnd) {x y : View} → (Opens s x → Opens s y) → OpensBy s (Err e) x y
+opens_stayed s (Refused refusal) stays = λ opens. (s, stays opens)
+opens_stayed s Fault stays = tt
+opens_stayed s RemoteFault stays = tt
+opens_stayed s NoMemory stays = tt
+
 -- nothing is called
 pub works_stays : {May : Op → Type 0} {s : State} {R Q : View → View → Type 0} {o : Outside} (r : Result State RunEnd) → IsTold o.told → ((x : View) → IsFirst o.told x → R x x) → ((x : View) → IsFirst o.told x → Q x x) → ((x : View) → OpensBy s r x x)
     → (IsErrOf r Fault → ⊥) → (IsErrOf r RemoteFault → ⊥) → Works May s R Q r o o
@@ -97,7 +104,10 @@ works_stays {May = May} {s = s} r told step last opens no_fault no_remote = reco
 
 opens_both : (s t : State) (r : Result State RunEnd) (x y z : View) → (Opens s x → Opens t y) → OpensBy t r y z → OpensBy s r x z
 opens_both s t (Ok t') x y z first second = λ opens. second (first opens)
-opens_both s t (Err e) x y z first second = tt
+opens_both s t (Err (Refused refusal)) x y z first second = λ opens. second (first opens)
+opens_both s t (Err Fault) x y z first second = tt
+opens_both s t (Err RemoteFault) x y z first second = tt
+opens_both s t (Err NoMemory) x y z first second = tt
 
 pub works_on : {May : Op → Type 0} {s t : State} {R Q S T Q' : View → View → Type 0} {r : Result State RunEnd} {u v w : Outside} → IsTold v.told → Works May s R Q (Ok t) u v → Works May t S T r v w
     → ((x y z : View) → R x y → Q x y → S y z → R x z) → ((x y z : View) → R x y → Q x y → S y z → T y z → Q' x z) → Works May s R Q' r u w

@@ -27,7 +27,7 @@ use Rattle.dep_tidy.proofs.Pruned.{row_keeps}
 use Rattle.fl_change.specs.World.{World, world_at, world_after, worlds_after, is_at, kept_commits, is_used, used_of}
 use Rattle.fp_base.specs.Objects.{is_kind}
 use Rattle.fl_change.specs.Performs.{Holds}
-use Rattle.fl_change.proofs.Same.{now_left}
+use Rattle.dep_tidy.proofs.Views.{now_left}
 
 -- ---- what a list has
 

@@ -115,10 +115,13 @@ pub record PerformedOver (Ready : View → Type 0) (holds : Option Holdings)
 abbrev pub AsksBy : (Op → Type 0) → Type 0
 AsksBy May = (op : Op) × May op × Brings op
 
--- where it was done, every stop leaves the state that was answered
+-- where it was done, every stop leaves the state that was answered; where it was refused, some state
 abbrev pub OpensBy : State → Result State RunEnd → View → View → Type 0
 OpensBy s (Ok t) v w = Opens s v → Opens t w
-OpensBy s (Err e) v w = Unit {0}
+OpensBy s (Err (Refused refusal)) v w = Opens s v → (t : State) × Opens t w
+OpensBy s (Err Fault) v w = Unit {0}
+OpensBy s (Err RemoteFault) v w = Unit {0}
+OpensBy s (Err NoMemory) v w = Unit {0}
 
 -- so much changes; where a commit is brought, over an installation that every stop leaves in this
 -- state and Sound

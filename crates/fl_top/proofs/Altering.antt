@@ -1,5 +1,5 @@
 -- Which names the parts of a run change, a refresh of the exported files among them.
-use Rattle.std.proofs.Common.{◌≡◌, inl, inr, None, sym, ◌∙◌, subst}
+use Rattle.std.proofs.Common.{◌≡◌, inl, inr, sym, ◌∙◌, subst}
 use Rattle.fp_host.specs.Paths.{Elements, Slot}
 use Rattle.fp_host.specs.View.{View}
 use Rattle.fp_small.specs.Files.{KeepsFiles}
@@ -9,10 +9,10 @@ use Rattle.fp_small.specs.declared.state.State.{State}
 use Rattle.dep_states.proofs.Linked.{links_still, links_on}
 use Rattle.fl_export.specs.Steps.{Refreshes}
 use Rattle.fl_change.specs.Answer.{Answer}
-use Rattle.fl_change.specs.Changes.{MayHold, operated, tidied, Changes, OnlyTidied, IsUntouched}
-use Rattle.fl_change.proofs.Changing.{keeps_files, not_touched}
+use Rattle.fl_change.specs.Changes.{Changes, OnlyTidied, IsUntouched}
+use Rattle.fl_change.proofs.Changing.{keeps_files, may_hold, not_touched}
 use Rattle.fp_host.specs.Frame.{NoName}
-use Rattle.fl_top.specs.Exports.{MayCome, changed, refreshed, made_by, Alters, MayRest, tidied_at, refreshed_at, OnlyRests}
+use Rattle.fl_top.specs.Exports.{MayCome, changed, refreshed, made_by, Alters, MayRest, tidied_at, refreshed_at, OnlyRests, RefreshesShown}
 
 pub alter_none : {May : Op → Type 0} {Make : Elements → Slot → Type 0} {u w : View} → ((q : Elements) → w.names q ≡ u.names q) → KeepsFiles u w → Alters May Make u w
 alter_none names files = record { names = λ q. inl (names q); files = files; links = links_still names }
@@ -34,12 +34,8 @@ alter_on {May = May} {Make = Make} u v w first second = record {
   links = links_on first.links second.links second.files;
 }
 
-hold_to : {A B : Op → Type 0} {q : Elements} {e : Slot} → ((op : Op) → A op → B op) → MayHold A q e → MayHold B q e
-hold_to wider (operated s op v may put) = operated s op v (wider op may) put
-hold_to wider (tidied s may) = tidied s may
-
 come_to : {A B : Op → Type 0} {Make : Elements → Slot → Type 0} {q : Elements} {e : Slot} → ((op : Op) → A op → B op) → MayCome A NoName q e → MayCome B Make q e
-come_to wider (changed may) = changed (hold_to wider may)
+come_to wider (changed may) = changed (may_hold wider may)
 come_to wider (refreshed may) = refreshed may
 come_to wider (made_by none) = absurd none
 
@@ -52,6 +48,9 @@ alter_changes changes = record { names = λ q. elim (changes.names q) [ inl same
 
 pub alter_refreshes : {May : Op → Type 0} {Make : Elements → Slot → Type 0} {s : State} {u w : View} → Refreshes s u w → Alters May Make u w
 alter_refreshes refreshes = record { names = λ q. elim (refreshes.names q) [ inl same ↦ inl same | inr may ↦ inr (refreshed may) ]; files = refreshes.files; links = refreshes.links }
+
+pub alter_refreshed : {May : Op → Type 0} {Make : Elements → Slot → Type 0} {u w : View} → RefreshesShown u w → Alters May Make u w
+alter_refreshed step = record { names = λ q. elim (step.names q) [ inl same ↦ inl same | inr may ↦ inr (refreshed may) ]; files = step.files; links = step.links }
 
 -- ---- where no operation is done
 
@@ -69,6 +68,5 @@ rest_on {a = a} {s = s} first second = record {
 pub rest_tidied : {a : Answer} {s : State} {u w : View} → OnlyTidied s u w → OnlyRests a s u w
 rest_tidied only = record { names = λ q. elim (only.names q) [ inl same ↦ inl same | inr may ↦ inr (tidied_at may) ] }
 
--- where nothing is refused
-pub rest_refreshes : {a : Answer} {s t : State} {u w : View} → a.refusal ≡ None → Refreshes t u w → OnlyRests a s u w
-rest_refreshes none refreshes = record { names = λ q. elim (refreshes.names q) [ inl same ↦ inl same | inr may ↦ inr (refreshed_at none may) ] }
+pub rest_refreshes : {a : Answer} {s t : State} {u w : View} → Refreshes t u w → OnlyRests a s u w
+rest_refreshes refreshes = record { names = λ q. elim (refreshes.names q) [ inl same ↦ inl same | inr may ↦ inr (refreshed_at may) ] }

@@ -7,15 +7,12 @@ use Rattle.fp_small.specs.declared.state.State.{State}
 use Rattle.ost_walk.specs.Ends.{Outside}
 use Rattle.fl_words.specs.declared.command.Command.{Command}
 use Rattle.fl_words.specs.declared.command.Command.TheVariants.{Change as Changing, List as Listed, Show as Showing, Filter as Filtering, Batch, Fsck, Export as Exporting, Exercise as Exercising}
-use Rattle.fl_change.specs.Performs.{AsksBy, Works}
+use Rattle.fl_change.specs.Performs.{Works}
 use Rattle.fl_change.specs.declared.end.RunEnd.{RunEnd}
 use Rattle.fl_change.specs.declared.end.RunEnd.TheVariants.{RemoteFault}
+use Rattle.fl_change.proofs.Working.{asks_to}
 use Rattle.fl_top.specs.Asked.{OpsBy, AsksRemotes}
 use Rattle.fl_top.specs.Status.{changes_state}
-
--- one of them brings a commit
-pub asks_to : {A B : Op → Type 0} → ((op : Op) → A op → B op) → AsksBy A → AsksBy B
-asks_to wider asks = (asks.0, wider asks.0 asks.1, asks.2)
 
 -- they aren't asked
 pub not_asked : (May : Op → Type 0) (failed : Type 0) (holds : Option Holdings) (n : ℕ) → (failed → ⊥) → AsksRemotes May failed holds holds n n

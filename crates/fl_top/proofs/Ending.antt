@@ -41,7 +41,7 @@ use Rattle.fl_change.specs.World.{World, world_at}
 use Rattle.fl_change.specs.Answer.{Answer, Piece, lines_of, last_of, pieces_text, ops_in, ops_of, text_answer, refusal_answer}
 use Rattle.fl_export.specs.Exported.{exported}
 use Rattle.fl_top.specs.Fsck.{report_text}
-use Rattle.fl_top.specs.Exports.{exports_text}
+use Rattle.fl_top.specs.Exports.{exports_text, HasExports, LeavesExports}
 use Rattle.fl_top.specs.Answer.{Given, listing_answer, checked, override_text, shown_by, shown_answer, of_batch, answer_over, by_read, by_value, by_type, commit_shown, tree_shown, meta_shown, value_shown, over_input, launch_over, of_launch, on_session, on_system, rules_over, by_rules, of_recording, filtered_by, filter_by, of_description, commit_made}
 use Rattle.fl_change.specs.Turns.{changing}
 use Rattle.fl_top.specs.Objects.{commit_lines, tree_lines, meta_lines}
@@ -57,7 +57,7 @@ use Rattle.ost_model.specs.Readers.{commit_read, tree_read, meta_read}
 use Rattle.fl_top.specs.Input.{input_most}
 use Rattle.fl_top.specs.Runs.{ShowsAfter, IsPrefix, IsJust, Runs, Stands, Answers, Ran}
 use Rattle.fl_change.specs.Performs.{Printed}
-use Rattle.fl_top.specs.RunsOver.{Completes, Ended}
+use Rattle.fl_top.specs.RunsOver.{Completes, Finishes, Ended}
 use Rattle.fl_change.specs.Says.{Says, WasSaid, Refuses}
 use Rattle.fl_change.specs.Changes.{IsUntouched}
 use Rattle.dep_states.specs.Names.{config}
@@ -134,6 +134,12 @@ with_last a r u v w is first more =
     last_text : (a : Answer) (r : Refusal) → a.refusal ≡ Some r → refusal_text r ≡ pieces_text (last_of a.refusal)
     last_text a r is = sym (append-nil (refusal_text r)) ∙ ap (λ (o : Option Refusal). pieces_text (last_of o)) (sym is)
 
+-- the exported files stand as they stood
+exports_on : {v w : View} → Follows Nothing v w → LeavesExports v → LeavesExports w
+exports_on follows exports disk left =
+    let from = follows.from disk left in
+    subst HasExports (λ k p. (sym (unmoved from.2 p)) k) (exports from.0 from.1)
+
 pub untouched_on : {text : List ℕ} {u v w : View} → IsUntouched u v → Says text v w → IsUntouched u w
 untouched_on is says = untouched_both is says.untouched
 
@@ -167,29 +173,34 @@ stands_all held a r {u = u} {v = v} {w = w} is done said = record {
   just = λ sound disk left. subst (λ (ops : List Done). IsJust ops u disk) (sym (ops_lines a)) (just_on (ops_of a) said.follows (done.just sound) disk left);
 }
 
-answers_all : (held : Holdings) (a : Answer) (r : Refusal) (status : ℕ) {u v w : View} → a.refusal ≡ Some r → status ≡ status_of r → Completes held a u v → WasSaid (refusal_text r) v w → Answers held a status u w
-answers_all held a r status {u = u} {v = v} {w = w} is status_is done said = record {
+answers_all : (held : Holdings) (a : Answer) (r : Refusal) (status : ℕ) {u v w : View} → a.refusal ≡ Some r → status ≡ status_of r → Finishes held a u v → WasSaid (refusal_text r) v w → Answers held a status u w
+answers_all held a r status {u = u} {v = v} {w = w} is status_is finished said = record {
   status_is = status_is ∙ ap status_by (sym is);
   printed = with_last a r u v w is done.printed said.printed;
   shown = λ sound s at. same_shown said.shown (done.shown sound s at);
   tidied = λ sound why. same_settled said.shown (done.tidied sound why);
+  exports = λ some sound. exports_on said.follows (finished.exports some sound);
   text = λ some s at. text_on (said.untouched.names config) (keeps_files said.untouched) (done.text some s at);
   shares = λ unpulled. shares_on (done.shares unpulled) (none_made said.untouched) (keeps_files said.untouched);
   creates = λ unpulled s at. created_on held (world_at s u) (ops_of a) (done.creates unpulled s at) (none_created said.untouched) done.files (keeps_files said.untouched);
 }
+  where
+    done : Completes held a u v
+    done = finished.completes
 
 pub ran_done : (held : Holdings) (a : Answer) {u w : View} → Runs a u w → Ended held a (Ok tt) u w → Ran held a 0 u w
 ran_done held a {u = u} runs ended = record {
   answers = λ answered. record {
     status_is = ap status_by (sym ended.0);
-    printed = ended.1.printed ∙ ap (λ (t : List Piece). u.printed ++ pieces_text t) (sym (append-nil a.pieces) ∙ ap (λ (o : Option Refusal). a.pieces ++ last_of o) (sym ended.0));
-    shown = ended.1.shown;
-    tidied = ended.1.tidied;
-    text = ended.1.text;
-    shares = ended.1.shares;
-    creates = ended.1.creates;
+    printed = ended.1.completes.printed ∙ ap (λ (t : List Piece). u.printed ++ pieces_text t) (sym (append-nil a.pieces) ∙ ap (λ (o : Option Refusal). a.pieces ++ last_of o) (sym ended.0));
+    shown = ended.1.completes.shown;
+    tidied = ended.1.completes.tidied;
+    exports = ended.1.exports;
+    text = ended.1.completes.text;
+    shares = ended.1.completes.shares;
+    creates = ended.1.completes.creates;
   };
-  stands = λ three. stands_before held a ended.1;
+  stands = λ three. stands_before held a ended.1.completes;
   sound = runs_sound runs;
 }
 
@@ -210,16 +221,16 @@ ran_input held a {u = u} runs same = record { answers = λ answered. absurd (not
 pub ran_halted : (held : Holdings) (a : Answer) (status : ℕ) {u w : View} → 4 ≤ status → Runs a u w → Stands a u w → Ran held a status u w
 ran_halted held a status high runs stands = record { answers = λ answered. absurd (not_answered status (omega (arith, high)) answered); stands = λ three. stands; sound = runs_sound runs }
 
-pub ran_refused : (held : Holdings) (a : Answer) (r : Refusal) (status result : ℕ) {u v w : View} → a.refusal ≡ Some r → status ≡ status_of r → Completes held a u v → Runs a u w → Refuses (refusal_text r) status result v w → Ran held a result u w
+pub ran_refused : (held : Holdings) (a : Answer) (r : Refusal) (status result : ℕ) {u v w : View} → a.refusal ≡ Some r → status ≡ status_of r → Finishes held a u v → Runs a u w → Refuses (refusal_text r) status result v w → Ran held a result u w
 ran_refused held a r status result {u = u} {w = w} is status_is done runs refuses = elim refuses [
   | inl said ↦ subst (λ (n : ℕ). Ran held a n u w) (sym said.0) (record {
     answers = λ answered. answers_all held a r status is status_is done said.1;
-    stands = λ three. stands_all held a r is done said.1;
+    stands = λ three. stands_all held a r is done.completes said.1;
     sound = runs_sound runs;
   })
   | inr other ↦ elim other [
     | inl three ↦ subst (λ (n : ℕ). Ran held a n u w) (sym three) (ran_fault held a runs)
-    | inr six ↦ subst (λ (n : ℕ). Ran held a n u w) (sym six.0) (ran_halted held a 6 (omega arith) runs (subst (λ (x : View). Stands a u x) (sym six.1) (stands_before held a done)))
+    | inr six ↦ subst (λ (n : ℕ). Ran held a n u w) (sym six.0) (ran_halted held a 6 (omega arith) runs (subst (λ (x : View). Stands a u x) (sym six.1) (stands_before held a done.completes)))
   ]
 ]
 

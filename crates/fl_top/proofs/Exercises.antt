@@ -19,7 +19,8 @@ use Rattle.fl_top.specs.Fsck.{HasReport}
 use Rattle.fl_top.specs.Runs.{RunsBy, RanBy, Checks, HasCauses, WasTaken, told_start}
 use Rattle.fl_top.specs.RunsOver.{RunsOn, RanOn}
 use Rattle.fl_top.specs.Status.{IsOfCommand, IsOfWords, IsAnswered}
-use Rattle.fl_top.proofs.Asked.{asks_to, asks_more}
+use Rattle.fl_change.proofs.Working.{asks_to}
+use Rattle.fl_top.proofs.Asked.{asks_more}
 use Rattle.fl_top.proofs.Finishing.{goes_command, goes_unread}
 
 -- ---- every command but an exercise

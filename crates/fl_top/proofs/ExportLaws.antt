@@ -21,7 +21,8 @@ use Rattle.fl_export.specs.Sample as sample
 use Rattle.fl_export.specs.declared.rows.ExportRow.{ExportRow}
 use Rattle.fl_export.proofs.Samples.{stable_exported}
 use Rattle.fl_change.specs.Answer.{text_answer}
-use Rattle.fl_change.proofs.Same.{same_settled, now_left}
+use Rattle.dep_tidy.proofs.Views.{now_left}
+use Rattle.fl_change.proofs.Same.{same_settled}
 use Rattle.fl_top.specs.Answer.{listing_answer}
 use Rattle.fl_top.specs.Exports.{exports_text, LeavesExports, IsInStep}
 use Rattle.fl_top.specs.ExportSample.{desktop_text, desktop_place, icon_place, placed_rows, placed_disk, stale_place, stale_disk, listed_text}

@@ -46,7 +46,7 @@ use Rattle.fl_top.specs.Exports.{Alters, StaysAtRest}
 use Rattle.fl_top.specs.Kinds.{Work, work_of, is_altering, is_looking, altering, looking, checking, making}
 use Rattle.fl_top.specs.Remotes.{MakesFor, MadeBy, MadeAs, MadeFor}
 use Rattle.fl_top.proofs.Altering.{alter_on, alter_to, alter_not, alter_untouched}
-use Rattle.fl_top.proofs.Asked.{asks_to}
+use Rattle.fl_change.proofs.Working.{asks_to}
 use Rattle.fl_top.proofs.Over.{IsConstant, over_same, counts_same, counts_constant}
 use Rattle.fl_top.proofs.Starting.{begun, stood, unchanged, refused_at_once, IsLate, over_late}
 use Rattle.fl_gen.specs.Exercise.{exercise_changes}
@@ -189,7 +189,7 @@ runs_look : (command : Command) (t : Told) (f : World → Answer) (u w : View) �
 runs_look command t f u w is p = record {
   runs = λ given gave shown counts may. subst (λ (x : Answer). Runs x u w) (is given shown) (p.runs shown (counts_for command f given u shown (is given) counts));
   changes = λ known. alter_untouched p.untouched;
-  rests = λ change given gave shown counts may rest idle none. still_untouched p.untouched;
+  rests = λ change given gave shown counts may rest idle. still_untouched p.untouched;
   untouched = λ why. p.untouched;
 }
 
@@ -284,7 +284,7 @@ pub not_begun : (command : Command) (t : Told) (u : View) → RunsOn command t u
 not_begun command t u = record {
   runs = λ given gave shown counts may. begun (answer_over command given shown) unchanged (λ why. not_touched);
   changes = λ known. alter_not;
-  rests = λ change given gave shown counts may rest idle none. still_not;
+  rests = λ change given gave shown counts may rest idle. still_not;
   untouched = λ why. not_touched;
 }
 
@@ -472,16 +472,16 @@ pub goes_refused : {a b c : Option Moments} (command : Command) (t : Told) (r : 
 goes_refused command t r result known_b first second =
     goes_on known_b first second
     (λ u v w tree p q s. record {
-      runs = λ given gave shown counts may. let e = q.ended given gave shown counts may in refusing given.held (answer_over command given shown) r e.0 (p.runs given gave shown counts may) e.1 s;
+      runs = λ given gave shown counts may. let e = q.ended given gave shown counts may in refusing given.held (answer_over command given shown) r e.0 (p.runs given gave shown counts may) e.1.completes s;
       changes = λ known. alter_on u v w (p.changes known) (alter_untouched s.untouched);
-      rests = λ change given gave shown counts may rest idle none. still_on (p.rests change given gave shown counts may rest idle none) (still_untouched s.untouched) (keeps_files s.untouched);
+      rests = λ change given gave shown counts may rest idle. still_on (p.rests change given gave shown counts may rest idle) (still_untouched s.untouched) (keeps_files s.untouched);
       untouched = λ why. untouched_on (p.untouched why) s;
     })
     (λ u v w tree p q s last. record {
       ran = λ given gave shown counts may.
           let e = q.ended given gave shown counts may in
           let a = answer_over command given shown in
-          ran_refused given.held a r 1 result e.0 (command_plain command given shown r e.0) e.1 (refusing given.held a r e.0 (p.runs given gave shown counts may) e.1 s) last;
+          ran_refused given.held a r 1 result e.0 (command_plain command given shown r e.0) e.1 (refusing given.held a r e.0 (p.runs given gave shown counts may) e.1.completes s) last;
       given = λ given gave answered. q.given given gave tt;
       made = λ done. absurd (not_refused (refusal_text r) 1 result (omega arith) v w last done);
     })
@@ -535,7 +535,7 @@ goes_no_command words t index result known none is goes = begins known goes
     })
   where
     runs : (held : Holdings) (u w : View) → Says (refusal_text (BadWords index)) u w → Runs (refusal_answer (BadWords index)) u w
-    runs held u w s = refusing held (refusal_answer (BadWords index)) (BadWords index) refl (begun (refusal_answer (BadWords index)) unchanged (λ why. not_touched)) (refused_at_once held (BadWords index) u) s
+    runs held u w s = refusing held (refusal_answer (BadWords index)) (BadWords index) refl (begun (refusal_answer (BadWords index)) unchanged (λ why. not_touched)) (refused_at_once held (BadWords index) u).completes s
 
 -- out of memory for the words
 pub goes_unread : {a : Option Moments} (words : List (List ℕ)) (t : Told) → IsTold a → Goes a a (RunsBy words t) (RanBy words t 6)
@@ -543,7 +543,7 @@ goes_unread words t known = stays known
     (λ u. record {
       runs = λ given gave shown counts may. begun (answer words given shown) unchanged (λ why. not_touched);
       changes = λ known. alter_not;
-      rests = λ change given gave shown counts may rest idle none. still_not;
+      rests = λ change given gave shown counts may rest idle. still_not;
       untouched = λ why. not_touched;
     })
     (λ u tree. record {

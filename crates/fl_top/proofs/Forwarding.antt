@@ -44,7 +44,7 @@ use Rattle.fl_top.specs.RunsOver.{Completes, Ended, RunsOn, EndedOn, Closed, IsG
 use Rattle.fl_top.specs.Telling.{Tells, IsRecording, IsFound, Finds, LooksBy, LookedBy, end_of_filter}
 use Rattle.fl_top.specs.declared.command_end.CommandEnd.{CommandEnd}
 use Rattle.fl_top.proofs.Over.{Counts, counts_constant, over_given, over_same, counts_same}
-use Rattle.fl_top.proofs.Starting.{begun, unchanged, stood, refused_at_once, shows_before}
+use Rattle.fl_top.proofs.Starting.{begun, unchanged, stood, finishes_none, refused_at_once, shows_before}
 use Rattle.fl_top.proofs.Finishing.{is_end, closed, given_by, ByInput, read_is, made_where, look_made}
 use Rattle.fp_host.specs.Remote.{Holdings}
 use Rattle.fl_change.proofs.Created.{none_created, no_ops_created}
@@ -125,8 +125,8 @@ module _ (f : Filtered) where
   ended_as (Err e) = Err (end_of_filter e)
 
   ended : (r : Result (Unit {0}) FilterEnd) (u w : View) → Printed f r u w → EndsAnyway a (ended_as r) u w
-  ended (Ok t) u w p held = (p.0, completes_all held p.1)
-  ended (Err (filter.Refused refusal)) u w p held = (p.0, completes_all held p.1)
+  ended (Ok t) u w p held = (p.0, finishes_none held a (ops_none f.lines) (completes_all held p.1))
+  ended (Err (filter.Refused refusal)) u w p held = (p.0, finishes_none held a (ops_none f.lines) (completes_all held p.1))
   ended (Err filter.Fault) u w p held = tt
   ended (Err filter.NoMemory) u w p held = stands_first p
 
@@ -278,7 +278,7 @@ runs_told : (command : Command) (t : Told) (by : Result World Elements → Answe
 runs_told command t by is u w looks = record {
   runs = λ given gave shown counts may. subst (λ (x : Answer). Runs x u w) (is given gave shown) (looks.runs shown (over_same by (answer_over command given) (shows u) shown (is given gave) counts));
   changes = λ known. alter_untouched looks.untouched;
-  rests = λ change given gave shown counts may rest idle none. still_untouched looks.untouched;
+  rests = λ change given gave shown counts may rest idle. still_untouched looks.untouched;
   untouched = λ why. looks.untouched;
 }
 

@@ -20,7 +20,7 @@ use Rattle.fl_change.specs.Answer.{Answer, IsIdle, ops_of}
 use Rattle.fl_change.specs.Changes.{IsStill}
 use Rattle.fl_change.specs.Turns.{changing}
 use Rattle.fl_change.specs.World.{World, world_in}
-use Rattle.fl_change.proofs.Same.{now_left}
+use Rattle.dep_tidy.proofs.Views.{now_left}
 use Rattle.fl_change.proofs.Updates.{second_is_idle}
 use Rattle.fl_top.specs.Answer.{Given, answer, answer_to, shown_answer, IsOver}
 use Rattle.fl_top.specs.Exports.{IsInStep}
@@ -109,8 +109,7 @@ module _ (words : List (List ℕ)) (is : command_of words ≡ Some (Changing Upd
         let counts : IsOver (answer words (given_of held)) (shows v) shown = inl (gives_world (shows v) left.state left.shown) in
         let there = answers_world (given_of held) (shows v) shown left.state left.shown counts in
         let idle : IsIdle (answer words (given_of held) shown) = subst IsIdle (sym there) left.idle in
-        let none : (answer words (given_of held) shown).refusal ≡ None = subst (λ (z : Answer). z.refusal ≡ None) (sym there) left.unrefused in
         let change : IsChange (command_of words) = subst IsChange (sym is) refl in (
-          runs.rests change (given_of held) (is_given second (given_of held) again) shown counts (inl (inr (inl left.sound))) (step.rests held told) idle none,
+          runs.rests change (given_of held) (is_given second (given_of held) again) shown counts (inl (inr (inl left.sound))) (step.rests held told) idle,
           (runs.changes (λ asks. ((held, again), inl left.sound))).files,
         )

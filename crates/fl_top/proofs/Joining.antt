@@ -14,7 +14,8 @@ use Rattle.fl_top.specs.Answer.{answer, Given}
 use Rattle.fl_change.specs.Answer.{ops_in, ops_of}
 use Rattle.fl_top.specs.Runs.{Runs, ShowsAfter}
 use Rattle.fl_top.specs.History.{Stretch, Reopens, History, begins, runs, stops, IsReached}
-use Rattle.fl_change.proofs.Same.{same_shown, same_sound, now_left}
+use Rattle.dep_tidy.proofs.Views.{now_left}
+use Rattle.fl_change.proofs.Same.{same_shown, same_sound}
 use Rattle.fl_top.proofs.Ending.{runs_sound}
 
 -- a reopened view has one outcome: what the stop left

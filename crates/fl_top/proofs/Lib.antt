@@ -9,6 +9,7 @@ pub mod Finishing
 pub mod Joining
 pub mod Ending
 pub mod Refreshed
+pub mod InStep
 pub mod ExportLaws
 pub mod Refusing
 pub mod Reading

@@ -1,6 +1,5 @@
 -- A command that only looks, and prints.
-use Rattle.std.proofs.Common.{◌≡◌, inl, inr, ℕ, List, [], ◌∷◌, ◌++◌, Option, None, Result, Ok, Err, IsErrAnd, refl, sym, ◌∙◌, ap, subst}
-use Rattle.std.proofs.lemmas.List.{append-nil}
+use Rattle.std.proofs.Common.{◌≡◌, inl, inr, ℕ, List, [], ◌∷◌, Option, Result, Ok, Err, IsErrAnd, refl, sym, ◌∙◌, subst}
 use Rattle.fp_host.specs.View.{View}
 use Rattle.fp_host.specs.Outcome.{shows}
 use Rattle.fp_host.specs.Calls.{says, Step}
@@ -22,13 +21,12 @@ use Rattle.dep_open.specs.declared.open_end.OpenEnd.{OpenEnd}
 use Rattle.dep_open.specs.declared.open_end.OpenEnd.TheVariants as open_end
 use Rattle.fl_change.specs.World.{World, world_in, world_at}
 use Rattle.fl_words.specs.declared.command.Listing.{Listing}
-use Rattle.fl_change.specs.Answer.{Answer, Piece, text_answer, refusal_answer}
+use Rattle.fl_change.specs.Answer.{Answer, text_answer, refusal_answer}
 use Rattle.fl_top.specs.Answer.{shown_answer, listing_answer}
 use Rattle.fl_top.specs.Ends.{PrintsOf}
 use Rattle.fl_change.specs.Ends.{end_of_host, end_of_open}
 use Rattle.fl_top.specs.Runs.{Runs}
-use Rattle.fl_change.specs.Performs.{Printed}
-use Rattle.fl_top.specs.RunsOver.{LooksOver, Ended, LookedOver, Completes}
+use Rattle.fl_top.specs.RunsOver.{LooksOver, Ended, LookedOver, Completes, Finishes}
 use Rattle.fl_change.specs.Says.{Says, WasSaid}
 use Rattle.fl_change.specs.declared.end.RunEnd.{RunEnd}
 use Rattle.fl_change.specs.declared.end.RunEnd.TheVariants as run
@@ -36,36 +34,31 @@ use Rattle.fl_change.proofs.Saying.{says_step, was_said}
 use Rattle.fl_change.proofs.Same.{same_shown, same_settled}
 use Rattle.fl_change.proofs.Changing.{keeps_files, none_made, same_untouched}
 use Rattle.fl_top.proofs.Altering.{rest_none}
-use Rattle.fl_top.proofs.Starting.{Keeping, begun, unchanged, look_not_open, halted_look, shows_before, refused_at_once}
+use Rattle.fl_top.proofs.Starting.{Keeping, begun, unchanged, look_not_open, halted_look, shows_before, finishes_none, refused_at_once}
 use Rattle.fl_top.proofs.Described.{listed_world}
 use Rattle.fl_top.proofs.Over.{over_is, counts_shown}
 use Rattle.fl_change.proofs.Working.{is_err}
 use Rattle.fp_host.specs.Remote.{Holdings}
 use Rattle.fl_change.proofs.Created.{none_created, no_ops_created}
+use Rattle.fl_change.proofs.Skipping.{piece_of, said_text}
 
 -- ---- a text that acknowledges nothing
-
-abbrev piece_of : List ℕ → Piece
-piece_of text = record { text = text; op = None }
-
-told_printed : (text : List ℕ) (u w : View) → w.printed ≡ u.printed ++ text → Printed (text_answer text) (piece_of text ∷ []) u w
-told_printed text u w more = record { left = []; pieces = refl; printed = more ∙ ap (λ (t : List ℕ). u.printed ++ t) (sym (append-nil text)) }
 
 pub telling : (text : List ℕ) {u w : View} → Says text u w → Runs (text_answer text) u w
 telling text {u = u} {w = w} says_it = elim (says_it.printed) [
   | inl none ↦ begun (text_answer text) (record { printed = none; follows = says_it.follows; names = says_it.untouched.names; files = keeps_files says_it.untouched; empty = none_made says_it.untouched; creates = none_created says_it.untouched }) (λ why. says_it.untouched)
   | inr more ↦ record {
     said = piece_of text ∷ [];
-    so_far = told_printed text u w more;
+    so_far = said_text text u w more;
     prefix = λ sound disk left. let just = shows_before says_it.follows sound disk left in record { done = []; undone = []; prefix = refl; more = []; holds = refl; shown = just.shown; sound = just.sound };
     only_rests = λ none s at. rest_none says_it.untouched.names;
     untouched = λ why. says_it.untouched;
   }
 ]
 
-pub tells : (held : Holdings) (text : List ℕ) {u w : View} → WasSaid text u w → Completes held (text_answer text) u w
-tells held text {u = u} {w = w} said_it = record {
-  printed = (told_printed text u w said_it.printed).printed;
+all_told : (held : Holdings) (text : List ℕ) {u w : View} → WasSaid text u w → Completes held (text_answer text) u w
+all_told held text {u = u} {w = w} said_it = record {
+  printed = (said_text text u w said_it.printed).printed;
   just = λ sound disk left. shows_before said_it.follows sound disk left;
   shown = λ sound s at. same_shown said_it.shown at;
   tidied = λ sound why. elim why [ inl settled ↦ same_settled said_it.shown settled | inr some ↦ absurd (some refl) ];
@@ -74,6 +67,9 @@ tells held text {u = u} {w = w} said_it = record {
   shares = λ no. none_made said_it.untouched;
   creates = λ no s at. no_ops_created held (world_at s u) [] refl (none_created said_it.untouched);
 }
+
+pub tells : (held : Holdings) (text : List ℕ) {u w : View} → WasSaid text u w → Finishes held (text_answer text) u w
+tells held text said_it = finishes_none held (text_answer text) refl (all_told held text said_it)
 
 -- ---- what was read
 
@@ -134,7 +130,7 @@ module _ (listing : Listing) (s : State) where
   no_text : (e : RunEnd) {u w : View} → HasTold listing s (Err e) u w → LookedOver f (Err e) u w
   no_text (run.Refused refusal) {u = u} {w = w} q = record {
     ended = λ shown counts held. subst (λ (a : Answer). Ended held a (Err (run.Refused refusal)) u w) (sym q.tells ∙ sym (over_is f (shows u) shown s q.shown counts))
-        (refl, subst (Completes held (refusal_answer refusal) u) (sym q.same) (refused_at_once held refusal u));
+        (refl, subst (Finishes held (refusal_answer refusal) u) (sym q.same) (refused_at_once held refusal u));
     given = λ by. counts_shown (shown_answer f) (shows u) s q.shown;
   }
   no_text run.Fault q = record { ended = λ shown counts held. tt; given = λ by. absurd by }

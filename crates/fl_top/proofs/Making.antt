@@ -1,6 +1,5 @@
 -- A command that makes a remote.
-use Rattle.std.proofs.Common.{◌≡◌, inl, inr, ℕ, List, [], ◌∷◌, ◌++◌, codes, Option, None, Result, Ok, Err, IsErrAnd, IsErrOf, refl, sym, ◌∙◌, ap, subst}
-use Rattle.std.proofs.lemmas.List.{append-nil}
+use Rattle.std.proofs.Common.{◌≡◌, inl, inr, ℕ, List, [], ◌∷◌, ◌++◌, codes, Option, Result, Ok, Err, IsErrAnd, IsErrOf, refl, sym, ◌∙◌, ap, subst}
 use Rattle.fp_host.specs.Paths.{Elements}
 use Rattle.fp_host.specs.View.{View}
 use Rattle.fp_host.specs.Outcome.{Disk, Leaves, shows}
@@ -29,13 +28,13 @@ use Rattle.fl_make.specs.Making.{remote_store, Makes, WasMade, IsMakeFault}
 use Rattle.fl_make.specs.declared.end.MakeEnd.{MakeEnd}
 use Rattle.fl_make.specs.declared.end.MakeEnd.TheVariants as make
 use Rattle.fl_change.specs.World.{World, world_at}
-use Rattle.fl_change.specs.Answer.{Answer, Piece, text_answer, refusal_answer}
+use Rattle.fl_change.specs.Answer.{Answer, text_answer, refusal_answer}
 use Rattle.fl_change.specs.Ends.{end_of_host}
-use Rattle.fl_change.specs.Performs.{Printed}
 use Rattle.fl_change.specs.Says.{Says, WasSaid, SaidBy}
 use Rattle.fl_change.proofs.Changing.{keeps_files, none_made, same_untouched}
 use Rattle.fl_change.proofs.Doing.{none_yet}
-use Rattle.fl_change.proofs.Same.{unmoved, same_shown, same_settled, now_left}
+use Rattle.dep_tidy.proofs.Views.{now_left}
+use Rattle.fl_change.proofs.Same.{unmoved, same_shown, same_settled}
 use Rattle.fl_top.specs.Answer.{Given, of_description, commit_made, answer_over}
 use Rattle.fl_top.specs.Asked.{OpsBy}
 use Rattle.fl_top.specs.Ends.{end_of_run, end_of_make}
@@ -51,9 +50,10 @@ use Rattle.fl_top.proofs.Ending.{just_on}
 use Rattle.fl_top.proofs.Finishing.{is_end, ByInput, read_is, given_all}
 use Rattle.fl_top.proofs.Listed.{keeping}
 use Rattle.fl_top.proofs.Over.{counts_constant}
-use Rattle.fl_top.proofs.Starting.{begun, refused_at_once}
+use Rattle.fl_top.proofs.Starting.{begun, finishes_none, refused_at_once}
 use Rattle.fp_host.specs.Remote.{Holdings}
 use Rattle.fl_change.proofs.Created.{none_created, no_ops_created}
+use Rattle.fl_change.proofs.Skipping.{piece_of, said_text}
 use Rattle.ost_store.proofs.Creating.{creates_on}
 use Rattle.fp_small.proofs.Keeping.{files_on}
 
@@ -72,12 +72,6 @@ good_answer commit bytes read = sym (ap (of_description commit) read.is)
 bad_answer : (commit bytes : List ℕ) (line : ℕ) → described bytes ≡ Err line → refusal_answer (BadRecord line) ≡ commit_made commit bytes
 unfolding commit_made
 bad_answer commit bytes line is = sym (ap (of_description commit) is)
-
-abbrev piece_of : List ℕ → Piece
-piece_of text = record { text = text; op = None }
-
-said_line : (text : List ℕ) (u w : View) → w.printed ≡ u.printed ++ text → Printed (text_answer text) (piece_of text ∷ []) u w
-said_line text u w more = record { left = []; pieces = refl; printed = more ∙ ap (λ (t : List ℕ). u.printed ++ t) (sym (append-nil text)) }
 
 module _ (remote : List ℕ) (r : Ref) (t : Told) (bytes : List ℕ) (whole : IsWhole t.left bytes) where
   answer_is : (given : Given) → IsGivenTo (Exporting remote r) t given → (shown : Result World Elements) → commit_made given.commit bytes ≡ answer_over (Exporting remote r) given shown
@@ -192,7 +186,7 @@ module _ (remote : List ℕ) (r : Ref) (t : Told) (bytes : List ℕ) (whole : Is
       }
       | inr more ↦ record {
         said = piece_of line ∷ [];
-        so_far = said_line line u w (more ∙ ap (λ (p : List ℕ). p ++ line) h.makes.printed);
+        so_far = said_text line u w (more ∙ ap (λ (p : List ℕ). p ++ line) h.makes.printed);
         prefix = λ sound disk left. let just = just_on [] says.follows (just_made h.makes sound) disk left in record { done = []; undone = []; prefix = refl; more = []; holds = refl; shown = just.shown; sound = just.sound };
         only_rests = λ idle s at. rests s;
         untouched = λ why. absurd why;
@@ -218,7 +212,7 @@ module _ (remote : List ℕ) (r : Ref) (t : Told) (bytes : List ℕ) (whole : Is
 
     completes_said : (held : Holdings) {u v w : View} → HasMade u v → WasSaid line v w → Completes held (text_answer line) u w
     completes_said held {u = u} {v = v} {w = w} h said = record {
-      printed = (said_line line u w (said.printed ∙ ap (λ (p : List ℕ). p ++ line) h.makes.printed)).printed;
+      printed = (said_text line u w (said.printed ∙ ap (λ (p : List ℕ). p ++ line) h.makes.printed)).printed;
       just = λ sound disk left. just_on [] said.follows (just_made h.makes sound) disk left;
       shown = λ sound s at. same_shown said.shown (shown_made h sound s at);
       tidied = λ sound why. elim why [ inl settled ↦ same_settled said.shown (h.was.settled settled) | inr some ↦ absurd (some refl) ];
@@ -247,7 +241,7 @@ module _ (remote : List ℕ) (r : Ref) (t : Told) (bytes : List ℕ) (whole : Is
     goes_made known known_b makes was says = goes_on known_b (first known makes was) says
         (λ u v w tree p h s. said_on h s)
         (λ u v w tree p h s said. record {
-          ended = λ given gave shown counts may. subst (λ (a : Answer). Closed given.held a (Ok tt) u w) (said_answer h given gave shown) (refl, completes_said given.held h said);
+          ended = λ given gave shown counts may. subst (λ (a : Answer). Closed given.held a (Ok tt) u w) (said_answer h given gave shown) (refl, finishes_none given.held (text_answer line) refl (completes_said given.held h said));
           given = λ given gave by. counts_constant (answer_over (Exporting remote r) given) (shows u) (λ shown other. refl);
           made = leaves h said;
         })

@@ -1,5 +1,5 @@
 -- An installation that is opened, and what goes on from there.
-use Rattle.std.proofs.Common.{◌≡◌, ◌≤◌, ℕ, List, [], ◌∷◌, Option, Some, Result, Ok, Err, IsErrAnd, IsErrOf, refl, sym, ◌∙◌, ap, subst, arith}
+use Rattle.std.proofs.Common.{◌≡◌, ℕ, List, [], ◌∷◌, Option, Some, None, Result, Ok, Err, IsErrAnd, IsErrOf, refl, sym, ◌∙◌, ap, subst}
 use Rattle.std.specs.List.{AllByRecursion}
 use Rattle.std.proofs.lemmas.List.{append_cancel_right}
 use Rattle.fp_host.specs.Causes.{IsCaused}
@@ -8,11 +8,11 @@ use Rattle.fp_host.specs.View.{View, IsTree}
 use Rattle.fp_host.specs.Outcome.{Nothing, shows}
 use Rattle.fp_host.specs.Moments.{Moments, Since, Goes, Always, views}
 use Rattle.fp_host.specs.Frame.{Frame, AtEnd, NoPath, NoName}
-use Rattle.fp_host.proofs.Cause.{Rose-later}
 use Rattle.fp_host.proofs.Framed.{IsTold}
 use Rattle.fp_host.proofs.Goes.{begins, goes_on}
 use Rattle.fp_host.proofs.Ending.{goes_known}
 use Rattle.fp_small.specs.declared.op.Op.{Op}
+use Rattle.fp_small.specs.declared.refusal.Refusal.{Refusal}
 use Rattle.fp_small.specs.declared.state.State.{State}
 use Rattle.ost_walk.specs.Ends.{Outside}
 use Rattle.dep_states.specs.Sound.{IsSound, Opens}
@@ -32,19 +32,19 @@ use Rattle.fl_change.proofs.Both.{goes_both}
 use Rattle.fl_change.proofs.Working.{is_err}
 use Rattle.fl_top.specs.Asked.{AreToldFor}
 use Rattle.fl_top.specs.Runs.{IsReady}
-use Rattle.fl_top.specs.RunsOver.{OverView, RunsOver, EndedOver}
-use Rattle.fl_top.proofs.Starting.{Keeping, kept, IsLate, Begun, Working, begun_over, begun_world, ready_sound, runs_over, done_over, failed_over, ended_open}
+use Rattle.fl_top.specs.RunsOver.{OverView, RunsOver, Completes, EndedOver}
+use Rattle.fl_top.proofs.Starting.{Keeping, kept, IsLate, IsNoRefusal, Begun, Working, begun_over, begun_world, ready_sound, runs_over, done_over, refused_over, failed_over, ended_open}
 use Rattle.fl_top.proofs.Over.{over_is}
 
 -- it was looked at, and perhaps synced
 abbrev Looked : (View → View → Type 0) → View → View → Type 0
 Looked Q u w = IsTree u × Keeping u w × Q u w
 
+pub goes_keeping : {a b : Option Moments} → IsTold a → Frame Nothing NoName NoPath a b → Goes a b Keeping Keeping
+goes_keeping known frame = begins known frame.goes (λ u w t r. kept r) (λ u w t r q. kept q)
+
 opening : {a b : Option Moments} {Q : View → View → Type 0} (holds : Option Holdings) (May : Op → Type 0) (f : Holdings → World → Answer) → IsLate f → IsTold a → Frame Nothing NoName NoPath a b → Goes a b StaysUnread StaysUnread → AtEnd Q a b → Goes a b (RunsOver holds May f) (Looked Q)
-opening holds May f late known frame unread tells = begins known (goes_known (goes_both (keeping known frame) unread) tells) (λ u w t r. begun_over holds May f late r.0 r.1) (λ u w t r q. (t, q.0.0, q.1))
-  where
-    keeping : {a b : Option Moments} → IsTold a → Frame Nothing NoName NoPath a b → Goes a b Keeping Keeping
-    keeping known frame = begins known frame.goes (λ u w t r. kept r) (λ u w t r q. kept q)
+opening holds May f late known frame unread tells = begins known (goes_known (goes_both (goes_keeping known frame) unread) tells) (λ u w t r. begun_over holds May f late r.0 r.1) (λ u w t r q. (t, q.0.0, q.1))
 
 pub goes_not_opened : {a b : Option Moments} (holds : Option Holdings) (May : Op → Type 0) (f : Holdings → World → Answer) (e : OpenEnd) (r : Result (Unit {0}) RunEnd) → IsLate f → IsTold a → Frame Nothing NoName NoPath a b → Goes a b StaysUnread StaysUnread → AtEnd (Opened (Err e)) a b → IsErrAnd r (λ end. end ≡ end_of_open e) → Goes a b (RunsOver holds May f) (EndedOver holds f r)
 goes_not_opened {a = a} {b = b} holds May f e r late known frame unread tells is =
@@ -110,11 +110,10 @@ module _ (May : Op → Type 0) (f : Holdings → World → Answer) (s : State) {
       each_as x [] all = tt
       each_as x (v ∷ vs) all = (record { performs = all.0.0; changes = all.0.1 }, each_as x vs all.1)
 
-pub goes_failed : {a : Option Moments} (May : Op → Type 0) (f : Holdings → World → Answer) (s : State) (e : RunEnd) (r : Result (Unit {0}) RunEnd) {u w : Outside} → IsLate f → IsTold a → IsTold u.told → Frame Nothing NoName NoPath a u.told → Goes a u.told StaysUnread StaysUnread → AtEnd (IsOpened s) a u.told
-    → Acts (Opens s) May f s (Err e) u w → IsErrAnd r (λ end. end ≡ e) → Goes a w.told (RunsOver u.holdings May f) (EndedOver u.holdings f r)
-goes_failed {a = a} May f s e r {u = u} {w = w} late known known_b frame unread tells works is =
-    subst (λ (x : Result (Unit {0}) RunEnd). Goes a w.told (RunsOver u.holdings May f) (EndedOver u.holdings f x)) (sym (is_err r e is))
-    (goes_on known_b (opening u.holdings May f late known frame unread tells) (worked May f s works) (λ x y z t p q step. runs_over u.holdings May f s late (begun q) t step) (λ x y z t p q step last. failed_over u.holdings f s e z (begun q) t step.performs last.0))
+pub goes_failed : {a : Option Moments} (May : Op → Type 0) (f : Holdings → World → Answer) (s : State) (e : RunEnd) {u w : Outside} → IsNoRefusal e → IsLate f → IsTold a → IsTold u.told → Frame Nothing NoName NoPath a u.told → Goes a u.told StaysUnread StaysUnread → AtEnd (IsOpened s) a u.told
+    → Acts (Opens s) May f s (Err e) u w → Goes a w.told (RunsOver u.holdings May f) (EndedOver u.holdings f (Err e))
+goes_failed May f s e {u = u} other late known known_b frame unread tells works =
+    goes_on known_b (opening u.holdings May f late known frame unread tells) (worked May f s works) (λ x y z t p q step. runs_over u.holdings May f s late (begun q) t step) (λ x y z t p q step last. failed_over u.holdings f s e z other (begun q) t last.0)
 
 -- ---- what the changes left
 
@@ -124,7 +123,7 @@ goes_failed {a = a} May f s e r {u = u} {w = w} late known known_b frame unread 
 pub record Changed (holds : Option Holdings) (May : Op → Type 0) (f : Holdings → World → Answer) (t : State) (u w : View) : Type 0 where
   pub before : State
   pub at : Shows (shows u) before
-  pub ended : EndedOver holds f (Ok tt) u w
+  pub done : IsReady u → (held : Holdings) → holds ≡ Some held → OverView (f held) u (λ a. (a.refusal ≡ None) × Completes held a u w)
   pub after : IsReady u → (held : Holdings) → holds ≡ Some held → OverView (f held) u (λ a. t ≡ after_all before (ops_of a))
   pub opens : AreToldFor May holds → IsSound u → Opens t w
   pub tree : IsTree u
@@ -153,7 +152,7 @@ changed_over : (holds : Option Holdings) (May : Op → Type 0) (f : Holdings →
 changed_over holds May f s t {u = u} {v = v} w begun tree work is opens = record {
   before = s;
   at = begun.opened.shown;
-  ended = done_over holds f s t w begun tree work is;
+  done = done_over holds f s t w begun tree work is;
   after = λ ready held told shown counts.
       let opened = begun.opened.opens (ready_sound begun.opened.shown ready) in
       subst (λ (a : Answer). t ≡ after_all s (ops_of a)) (ap (f held) (begun_world s begun tree) ∙ sym (over_is (f held) (shows u) shown s begun.opened.shown counts)) (is.performed held told opened).1;
@@ -169,21 +168,39 @@ goes_changed May f s t {u = u} late known known_b frame unread tells works =
     (λ x y z tree p q step. runs_over u.holdings May f s late (begun q) tree step)
     (λ x y z tree p q step last. changed_over u.holdings May f s t z (begun q) tree step.performs last.0.0 last.1)
 
+-- ---- what they left up to a refusal
+
+-- The changes were made up to a refusal: over an image that showed one state another is left, which
+-- is that state after the operations of each answer that counts. Every stop leaves some state.
+pub record WasRefused (holds : Option Holdings) (May : Op → Type 0) (f : Holdings → World → Answer) (refusal : Refusal) (u w : View) : Type 0 where
+  pub before : State
+  pub at : Shows (shows u) before
+  pub done : IsReady u → (held : Holdings) → holds ≡ Some held → OverView (f held) u (λ a. (a.refusal ≡ Some refusal) × (Completes held a u w × Opens (after_all before (ops_of a)) w))
+  pub opens : AreToldFor May holds → IsSound u → (t : State) × Opens t w
+  pub tree : IsTree u
+
+was_refused : (holds : Option Holdings) (May : Op → Type 0) (f : Holdings → World → Answer) (s : State) (refusal : Refusal) {u v : View} (w : View) → Begun s u v → IsTree v → PerformsOver (Opens s) holds f s v w → PerformedOver (Opens s) holds f s (Err (run.Refused refusal)) v w
+    → (AreToldFor May holds → OpensBy s (Err (run.Refused refusal)) v w) → WasRefused holds May f refusal u w
+was_refused holds May f s refusal w begun tree work is opens = record {
+  before = s;
+  at = begun.opened.shown;
+  done = refused_over holds f s refusal w begun tree work is;
+  opens = λ told sound. opens told (begun.opened.opens sound);
+  tree = begun.before;
+}
+
+pub goes_refused : {a : Option Moments} (May : Op → Type 0) (f : Holdings → World → Answer) (s : State) (refusal : Refusal) {u w : Outside} → IsLate f → IsTold a → IsTold u.told → Frame Nothing NoName NoPath a u.told → Goes a u.told StaysUnread StaysUnread → AtEnd (IsOpened s) a u.told
+    → Acts (Opens s) May f s (Err (run.Refused refusal)) u w → Goes a w.told (RunsOver u.holdings May f) (WasRefused u.holdings May f refusal)
+goes_refused May f s refusal {u = u} late known known_b frame unread tells works =
+    goes_on known_b (opening u.holdings May f late known frame unread tells) (ends_where (AreToldFor May u.holdings) (worked May f s works) works.opens)
+    (λ x y z tree p q step. runs_over u.holdings May f s late (begun q) tree step)
+    (λ x y z tree p q step last. was_refused u.holdings May f s refusal z (begun q) tree step.performs last.0.0 last.1)
+
 -- ---- the cause of a fault
 
 -- it wasn't opened
 pub caused_open : {a : Option Moments} {F G : Type 0} {before now : ℕ} → IsCaused F a (λ v. Unit {0}) before now → (G → F) → IsCaused G a IsReady before now
 caused_open cause passes = record { later = cause.later; fault = λ is m told ready. cause.fault (passes is) m told tt }
-
--- it was opened
-pub caused_work : {a : Option Moments} (May : Op → Type 0) (f : Holdings → World → Answer) (s : State) {r : Result State RunEnd} {u w : Outside} {G : Type 0} (before : ℕ) → before ≤ u.host_faults → AtEnd (IsOpened s) a u.told
-    → Acts (Opens s) May f s r u w → (G → AreToldFor May u.holdings × IsErrOf r run.Fault) → IsCaused G a IsReady before w.host_faults
-caused_work May f s {u = u} {w = w} before later tells works passes = record {
-  later = omega (arith, later, works.host.later);
-  fault = λ is m told ready.
-      let opened = tells.goes.told m told in
-      Rose-later before u.host_faults w.host_faults later (works.host.fault (passes is) opened.0 opened.1 (opened.3.opens (ready_sound opened.3.shown ready)));
-}
 
 -- the fault of what isn't opened is that of the opening
 pub open_fault : {A : Type 0} (o : Result A OpenEnd) (r : Result (Unit {0}) RunEnd) (e : OpenEnd) → o ≡ Err e → IsErrAnd r (λ end. end ≡ end_of_open e) → IsErrOf r run.Fault → IsErrOf o open_ends.Fault
@@ -202,10 +219,3 @@ open_remote r e is fault = of_open e (let both : Err (end_of_open e) ≡ Err run
     of_open (open_ends.Damaged path) same = cc same
     of_open open_ends.Fault same = cc same
     of_open open_ends.NoMemory same = cc same
-
--- an end that is passed on
-abbrev pub stopped : RunEnd → Result State RunEnd
-stopped e = Err e
-
-pub same_end : (e end : RunEnd) (r : Result (Unit {0}) RunEnd) → IsErrAnd r (λ x. x ≡ e) → IsErrOf r end → IsErrOf (stopped e) end
-same_end e end r is fault = let both : Err e ≡ Err end = sym (is_err r e is) ∙ fault in let same : e ≡ end = cc both in ap (λ (x : RunEnd). Err x) same

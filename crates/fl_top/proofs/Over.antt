@@ -18,7 +18,7 @@ use Rattle.fl_words.specs.declared.command.Command.{Command}
 use Rattle.fl_change.specs.World.{World, world_in, used_of}
 use Rattle.fl_change.specs.Answer.{Answer, refusal_answer}
 use Rattle.fl_top.specs.Answer.{Given, answer, answer_to, shown_answer, GivesWorld, IsOver}
-use Rattle.fl_change.proofs.Same.{now_left}
+use Rattle.dep_tidy.proofs.Views.{now_left}
 
 -- ---- what an image gives
 

@@ -1,11 +1,11 @@
 -- The exported files, brought in step with the state that changes left.
-use Rattle.std.proofs.Common.{◌≡◌, ◌≢◌, ◌≤◌, inl, inr, ℕ, List, [], ◌∷◌, ◌++◌, Option, Some, None, Result, Ok, Err, IsErrAnd, IsErrOf, refl, sym, ◌∙◌, ap, subst, codes, arith}
+use Rattle.std.proofs.Common.{◌≡◌, ◌≢◌, ◌≤◌, inl, inr, ℕ, List, [], ◌∷◌, ◌++◌, Option, Some, None, Result, Ok, Err, IsErrOf, OnOk, refl, sym, ◌∙◌, ap, subst, codes, arith}
 use Rattle.fp_host.specs.Paths.{Elements, Slot, IsAbove}
 use Rattle.fp_host.specs.View.{View, IsTree}
-use Rattle.fp_host.specs.Outcome.{Disk, Leaves, gone, shows}
+use Rattle.fp_host.specs.Outcome.{Disk, Leaves, Nothing, gone, shows}
 use Rattle.fp_host.specs.Causes.{IsCaused}
-use Rattle.fp_host.specs.Frame.{AtEnd}
-use Rattle.fp_host.specs.Moments.{Moments, Goes, Always}
+use Rattle.fp_host.specs.Frame.{Frame, AtEnd, NoPath, NoName}
+use Rattle.fp_host.specs.Moments.{Moments, Goes, Always, Rose}
 use Rattle.fp_host.specs.Remote.{Holdings}
 use Rattle.fp_host.specs.declared.host.HostEnd.{HostEnd}
 use Rattle.fp_host.specs.declared.host.HostEnd.TheVariants as host
@@ -22,6 +22,7 @@ use Rattle.fp_small.specs.Places.{repo, tmp}
 use Rattle.fp_small.specs.Clear.{IsWithin}
 use Rattle.fp_small.proofs.Sharing.{shares_on, shares_to}
 use Rattle.fp_small.specs.declared.op.Op.{Op}
+use Rattle.fp_small.specs.declared.refusal.Refusal.{Refusal}
 use Rattle.fp_small.specs.declared.state.State.{State}
 use Rattle.ost_model.specs.Objects.{object_path, object_at, store}
 use Rattle.ost_model.specs.Order.{In, order}
@@ -39,32 +40,33 @@ use Rattle.dep_states.proofs.Rows.{head_of, text_apart}
 use Rattle.dep_states.proofs.Single.{one_state}
 use Rattle.dep_states.proofs.Sparing.{word_apart}
 use Rattle.dep_states.proofs.Switching.{second, word_no_repo}
-use Rattle.dep_open.specs.Open.{IsOpened}
+use Rattle.dep_states.proofs.Usual.{opens_sound}
+use Rattle.dep_tidy.proofs.Apart.{work_second}
+use Rattle.dep_open.specs.Open.{IsOpened, StaysUnread}
 use Rattle.fl_export.specs.Placed.{exports, ExportsAre}
 use Rattle.fl_export.specs.Steps.{exported_in, MayRefresh, some_export, some_work, store_folder, work_folder, Refreshes, WasRefreshed}
 use Rattle.fl_export.proofs.PutRows.{same_shows}
-use Rattle.fl_export.proofs.Spared.{outward_is, exports_top, work_top, no_repo}
+use Rattle.fl_export.proofs.Spared.{exports_top, work_top, no_repo}
 use Rattle.fl_change.specs.World.{World, world_at}
 use Rattle.fl_change.specs.Answer.{Answer, ops_of}
 use Rattle.fl_change.specs.Changes.{IsStill}
 use Rattle.fl_change.specs.Ends.{end_of_host}
-use Rattle.fl_change.specs.Performs.{Acts}
+use Rattle.fl_change.specs.Performs.{OpensBy, Acts}
 use Rattle.fl_change.specs.declared.end.RunEnd.{RunEnd}
 use Rattle.fl_change.specs.declared.end.RunEnd.TheVariants as run
 use Rattle.fl_change.proofs.Changing.{text_on, still_on}
 use Rattle.fl_change.proofs.Created.{created_on}
-use Rattle.fl_change.proofs.Same.{now_left}
-use Rattle.fl_change.proofs.Working.{is_err}
+use Rattle.dep_tidy.proofs.Views.{now_left}
 use Rattle.fl_top.specs.Answer.{shown_answer, IsAtOnce}
 use Rattle.fl_top.specs.Asked.{AreToldFor}
-use Rattle.fl_top.specs.Exports.{HasExports, LeavesExports, IsInStep}
+use Rattle.fl_top.specs.Exports.{HasExports, LeavesExports, IsInStep, RefreshesShown, RefreshedShown, StepsAfter, InStepAfter, StandsAfter, IsHostEnd, PassesOn}
 use Rattle.fl_top.specs.Runs.{IsJust, Runs, Stands, IsReady}
-use Rattle.fl_top.specs.RunsOver.{RunsOver, Completes, EndedOver}
-use Rattle.fl_top.proofs.Altering.{alter_on, alter_refreshes, rest_on, rest_refreshes}
+use Rattle.fl_top.specs.RunsOver.{RunsOver, Completes, EndedOver, IsGivenBy}
+use Rattle.fl_top.proofs.Altering.{alter_on, alter_refreshes, alter_refreshed, rest_on, rest_refreshes}
 use Rattle.fl_top.proofs.Ending.{prefix_all, before_last}
-use Rattle.fl_top.proofs.Opening.{Changed}
+use Rattle.fl_top.proofs.Opening.{Changed, WasRefused, goes_failed, goes_changed, goes_refused}
 use Rattle.fl_top.proofs.Over.{counts_shown}
-use Rattle.fl_top.proofs.Starting.{shown_after, ready_sound}
+use Rattle.fl_top.proofs.Starting.{IsLate, IsNoRefusal, over_late, shown_after, ready_sound}
 use Rattle.fp_small.proofs.Keeping.{files_on}
 use Rattle.fp_small.specs.Files.{KeepsFiles}
 
@@ -80,9 +82,6 @@ place_of (some_export within) = at_exports within
 place_of (some_work above) = at_work (inr above)
 place_of (store_folder is put) = at_repo is
 place_of (work_folder is put) = at_work (inl is)
-
-work_second : (q : Elements) → IsWithin tmp q → second (outward q) ≡ codes "tmp"
-work_second q within = ap second (outward_is tmp q within).1
 
 -- below `repo`, in another folder than work
 in_repo_off : {p : Elements} {x : List ℕ} → top p ≡ codes "repo" → second (outward p) ≡ x → x ≢ [] → x ≢ codes "tmp" → IsExportPlace p → ⊥
@@ -206,7 +205,7 @@ still_refreshed {t = t} {v = v} {w = w} before tree files still right opens step
 
 -- ---- the answer that was given
 
-module _ (held : Holdings) (a : Answer) (before t : State) {u v w : View} (at : Shows (shows u) before) (after : t ≡ after_all before (ops_of a)) (none : a.refusal ≡ None) (done : Completes held a u v) (step : Refreshes t v w) (opens : IsSound u → Opens t w) where
+module _ (held : Holdings) (a : Answer) (before t : State) {u v w : View} (at : Shows (shows u) before) (after : t ≡ after_all before (ops_of a)) (late : IsAtOnce a.refusal → ⊥) (done : Completes held a u v) (step : Refreshes t v w) (opens : IsSound u → Opens t w) where
   just_left : IsSound u → (disk : Disk) → Leaves w disk → IsJust (ops_of a) u disk
   just_left sound disk left = record {
     shown = shown_after u before (ops_of a) disk at (subst (λ (z : State). Shows disk z) after ((opens sound).shown disk left));
@@ -218,8 +217,8 @@ module _ (held : Holdings) (a : Answer) (before t : State) {u v w : View} (at : 
     said = a.pieces;
     so_far = before_last a (step.printed ∙ done.printed);
     prefix = λ sound disk left. prefix_all a a.pieces refl (just_left sound disk left);
-    only_rests = λ idle s is. rest_on (runs.only_rests idle s is) (rest_refreshes none step);
-    untouched = λ at_once. absurd (subst IsAtOnce none at_once);
+    only_rests = λ idle s is. rest_on (runs.only_rests idle s is) (rest_refreshes step);
+    untouched = λ at_once. absurd (late at_once);
   }
 
   stands_left : Stands a u w
@@ -245,24 +244,33 @@ module _ (holds : Option Holdings) (May : Op → Type 0) (f : Holdings → World
   opened : (held : Holdings) → holds ≡ Some held → IsSound u → Opens t w
   opened held is sound = step.opens (changed.opens (λ asks. (held, is)) sound)
 
+  -- nothing was refused
+  not_at_once : {a : Answer} → a.refusal ≡ None → IsAtOnce a.refusal → ⊥
+  not_at_once none at_once = subst IsAtOnce none at_once
+
   runs_on : IsTree v → RunsOver holds May f u v → RunsOver holds May f u w
   runs_on tree runs = record {
     runs = λ ready held is shown counts.
-        let e = changed.ended.ended ready held is shown counts in
-        runs_left held (shown_answer (f held) shown) changed.before t changed.at (changed.after ready held is shown counts) e.0 e.1 step (opened held is) (runs.runs ready held is shown counts);
+        let e = changed.done ready held is shown counts in
+        runs_left held (shown_answer (f held) shown) changed.before t changed.at (changed.after ready held is shown counts) (not_at_once e.0) e.1 step (opened held is) (runs.runs ready held is shown counts);
     changes = λ known. alter_on u v w (runs.changes known) (alter_refreshes step);
-    rests = λ ready held is shown counts rest idle none.
-        let e = changed.ended.ended ready held is shown counts in
+    rests = λ ready held is shown counts rest idle.
+        let e = changed.done ready held is shown counts in
         let opens = changed.opens (λ asks. (held, is)) (ready_sound changed.at ready) in
-        still_refreshed changed.tree tree e.1.files (runs.rests ready held is shown counts rest idle none) rest.exports opens step;
+        still_refreshed changed.tree tree e.1.files (runs.rests ready held is shown counts rest idle) rest.exports opens step;
     untouched = λ none. absurd (none changed.before changed.at);
   }
 
   ended_on : IsTree v → IsTree w → WasRefreshed t v w → EndedOver holds f (Ok tt) u w
   ended_on tree next was = record {
     ended = λ ready held is shown counts.
-        let e = changed.ended.ended ready held is shown counts in
-        (e.0, completes_left held (shown_answer (f held) shown) changed.before t changed.at (changed.after ready held is shown counts) e.0 e.1 step (opened held is) tree next was);
+        let e = changed.done ready held is shown counts in (
+          e.0,
+          record {
+            completes = completes_left held (shown_answer (f held) shown) changed.before t changed.at (changed.after ready held is shown counts) (not_at_once e.0) e.1 step (opened held is) tree next was;
+            exports = λ some sound. exports_left next (opened held is sound) was;
+          },
+        );
     given = λ held by. counts_shown (shown_answer (f held)) (shows u) changed.before changed.at;
   }
 
@@ -271,10 +279,68 @@ module _ (holds : Option Holdings) (May : Op → Type 0) (f : Holdings → World
   halted_on host.Fault = record { ended = λ ready held is shown counts. tt; given = λ held by. absurd by }
   halted_on host.NoMemory = record {
     ended = λ ready held is shown counts.
-        let e = changed.ended.ended ready held is shown counts in
-        stands_left held (shown_answer (f held) shown) changed.before t changed.at (changed.after ready held is shown counts) e.0 e.1 step (opened held is);
+        let e = changed.done ready held is shown counts in
+        stands_left held (shown_answer (f held) shown) changed.before t changed.at (changed.after ready held is shown counts) (not_at_once e.0) e.1 step (opened held is);
     given = λ held by. absurd by;
   }
+
+-- ---- the same after a refusal, by the state that is shown
+
+module _ (holds : Option Holdings) (May : Op → Type 0) (f : Holdings → World → Answer) (late : IsLate f) (refusal : Refusal) {u v w : View} (was : WasRefused holds May f refusal u v) (step : RefreshesShown v w) where
+  -- where the answer's operations lead is what is shown
+  moves : {a : Answer} → Opens (after_all was.before (ops_of a)) v → Refreshes (after_all was.before (ops_of a)) v w
+  moves opens = step.refreshes _ (opens.shown (shows v) (now_left v))
+
+  runs_refused : IsTree v → RunsOver holds May f u v → RunsOver holds May f u w
+  runs_refused tree runs = record {
+    runs = λ ready held is shown counts.
+        let a = shown_answer (f held) shown in
+        let e = was.done ready held is shown counts in
+        runs_left held a was.before (after_all was.before (ops_of a)) was.at refl (over_late (f held) (late held) shown) e.1 (moves {a = a} e.2) (λ sound. (moves {a = a} e.2).opens e.2) (runs.runs ready held is shown counts);
+    changes = λ known. alter_on u v w (runs.changes known) (alter_refreshed step);
+    rests = λ ready held is shown counts rest idle.
+        let a = shown_answer (f held) shown in
+        let e = was.done ready held is shown counts in
+        still_refreshed was.tree tree e.1.files (runs.rests ready held is shown counts rest idle) rest.exports e.2 (moves {a = a} e.2);
+    untouched = λ none. absurd (none was.before was.at);
+  }
+
+  ended_refused : IsTree v → IsTree w → RefreshedShown v w → EndedOver holds f (Err (run.Refused refusal)) u w
+  ended_refused tree next end = record {
+    ended = λ ready held is shown counts.
+        let a = shown_answer (f held) shown in
+        let e = was.done ready held is shown counts in
+        let opens : Opens (after_all was.before (ops_of a)) w = (moves {a = a} e.2).opens e.2 in
+        let refreshed = end (after_all was.before (ops_of a)) (e.2.shown (shows v) (now_left v)) in (
+          e.0,
+          record {
+            completes = completes_left held a was.before (after_all was.before (ops_of a)) was.at refl (over_late (f held) (late held) shown) e.1 (moves {a = a} e.2) (λ sound. opens) tree next refreshed;
+            exports = λ some sound. exports_left next opens refreshed;
+          },
+        );
+    given = λ held by. counts_shown (shown_answer (f held)) (shows u) was.before was.at;
+  }
+
+  -- the host failed, or there was no memory: all that was acknowledged stands
+  halted_refused : (e : HostEnd) → EndedOver holds f (Err (end_of_host e)) u w
+  halted_refused host.Fault = record { ended = λ ready held is shown counts. tt; given = λ held by. absurd by }
+  halted_refused host.NoMemory = record {
+    ended = λ ready held is shown counts.
+        let a = shown_answer (f held) shown in
+        let e = was.done ready held is shown counts in
+        stands_left held a was.before (after_all was.before (ops_of a)) was.at refl (over_late (f held) (late held) shown) e.1 (moves {a = a} e.2) (λ sound. (moves {a = a} e.2).opens e.2);
+    given = λ held by. absurd by;
+  }
+
+module _ {a b c : Option Moments} (holds : Option Holdings) (May : Op → Type 0) (f : Holdings → World → Answer) (late : IsLate f) (refusal : Refusal) (known_b : IsTold b) (known_c : IsTold c)
+    (first : Goes a b (RunsOver holds May f) (WasRefused holds May f refusal)) (second : Always RefreshesShown b c) where
+  goes_refused_on : AtEnd RefreshedShown b c → Goes a c (RunsOver holds May f) (EndedOver holds f (Err (run.Refused refusal)))
+  goes_refused_on end = goes_on known_b first (ends_tree known_c (goes_known second end) (λ v w tree q. (tree, q)))
+      (λ u v w tree r q step. runs_refused holds May f late refusal q step tree r)
+      (λ u v w tree r q step last. ended_refused holds May f late refusal q step tree last.0 last.1.1)
+
+  goes_refused_off : (e : HostEnd) → Goes a c (RunsOver holds May f) (EndedOver holds f (Err (end_of_host e)))
+  goes_refused_off e = goes_on known_b first second (λ u v w tree r q step. runs_refused holds May f late refusal q step tree r) (λ u v w tree r q step last. halted_refused holds May f late refusal q step e)
 
 -- ---- the refresh as the last part of a change
 
@@ -283,42 +349,120 @@ module _ {a b c : Option Moments} (holds : Option Holdings) (May : Op → Type 0
   in_trees : AtEnd (WasRefreshed t) b c → Goes b c (Refreshes t) (λ v w. IsTree w × (Refreshes t v w × WasRefreshed t v w))
   in_trees end = ends_tree known_c (goes_known second end) (λ v w tree q. (tree, q))
 
-  pub goes_refreshed : AtEnd (WasRefreshed t) b c → Goes a c (RunsOver holds May f) (EndedOver holds f (Ok tt))
+  goes_refreshed : AtEnd (WasRefreshed t) b c → Goes a c (RunsOver holds May f) (EndedOver holds f (Ok tt))
   goes_refreshed end = goes_on known_b first (in_trees end) (λ u v w tree r q step. runs_on holds May f t q step tree r) (λ u v w tree r q step last. ended_on holds May f t q step tree last.0 last.1.1)
 
-  pub goes_not_refreshed : (e : HostEnd) (r : Result (Unit {0}) RunEnd) → IsErrAnd r (λ end. end ≡ end_of_host e) → Goes a c (RunsOver holds May f) (EndedOver holds f r)
-  goes_not_refreshed e r is = subst (λ (x : Result (Unit {0}) RunEnd). Goes a c (RunsOver holds May f) (EndedOver holds f x)) (sym (is_err r (end_of_host e) is))
-      (goes_on known_b first second (λ u v w tree q k step. runs_on holds May f t k step tree q) (λ u v w tree q k step last. halted_on holds May f t k step e))
+  goes_not_refreshed : (e : HostEnd) → Goes a c (RunsOver holds May f) (EndedOver holds f (Err (end_of_host e)))
+  goes_not_refreshed e = goes_on known_b first second (λ u v w tree q k step. runs_on holds May f t k step tree q) (λ u v w tree q k step last. halted_on holds May f t k step e)
 
-  pub exports_stand : IsTold a → AtEnd (WasRefreshed t) b c → AreToldFor May holds → AtEnd (λ u w. IsSound u → IsInStep holds w) a c
+  exports_stand : IsTold a → AtEnd (WasRefreshed t) b c → AreToldFor May holds → AtEnd (λ u w. IsSound u → IsInStep holds w) a c
   exports_stand known_a end told = ends_on (ends_goes known_b (in_trees end)) (ends_goes known_a first) known_b
       (λ u v w tree q last sound. in_step holds tree last.0 (last.1.0.opens (q.opens told sound)) last.1.0 last.1.1 (q.settled (inl sound)))
 
--- ---- the cause of its fault
+-- ---- however the changes ended
 
--- the end of a `?`
-fault_of : (e : HostEnd) → end_of_host e ≡ run.Fault → e ≡ host.Fault
-fault_of host.Fault same = refl
-fault_of host.NoMemory same = absurd (cc same)
+module _ {a c : Option Moments} (May : Op → Type 0) (f : Holdings → World → Answer) (s : State) (result : Result (Unit {0}) RunEnd) {u w : Outside}
+    (late : IsLate f) (known : IsTold a) (known_u : IsTold u.told) (known_w : IsTold w.told) (known_c : IsTold c)
+    (frame : Frame Nothing NoName NoPath a u.told) (unread : Goes a u.told StaysUnread StaysUnread) (tells : AtEnd (IsOpened s) a u.told) where
+  abbrev Whole : Result (Unit {0}) RunEnd → Type 0
+  Whole x = Goes a c (RunsOver u.holdings May f) (EndedOver u.holdings f x)
 
-pub refresh_fault : {A : Type 0} (o : Result A HostEnd) (r : Result (Unit {0}) RunEnd) (e : HostEnd) → o ≡ Err e → IsErrAnd r (λ end. end ≡ end_of_host e) → IsErrOf r run.Fault → IsErrOf o host.Fault
-refresh_fault o r e was is fault = was ∙ ap (λ (x : HostEnd). Err x) (fault_of e (let both : Err (end_of_host e) ≡ Err run.Fault = sym (is_err r (end_of_host e) is) ∙ fault in cc both))
+  goes_passed : (e : RunEnd) → IsNoRefusal e → Acts (Opens s) May f s (Err e) u w → Always (λ x y. y ≡ x) w.told c → Whole (Err e)
+  goes_passed e other works same = goes_on known_w (goes_failed May f s e other late known known_u frame unread tells works) same
+      (λ x y z tree p q is. subst (RunsOver u.holdings May f x) (sym is) p)
+      (λ x y z tree p q is last. subst (EndedOver u.holdings f (Err e) x) (sym last) q)
 
--- and it is none of the remotes
-pub refresh_remote : (r : Result (Unit {0}) RunEnd) (e : HostEnd) → IsErrAnd r (λ end. end ≡ end_of_host e) → IsErrOf r run.RemoteFault → ⊥
-refresh_remote r e is fault = of_host e (let both : Err (end_of_host e) ≡ Err run.RemoteFault = sym (is_err r (end_of_host e) is) ∙ fault in cc both)
+  pub goes_in_step : (r : Result State RunEnd) → Acts (Opens s) May f s r u w → Always (StepsAfter r) w.told c → (IsGivenBy result → AtEnd (InStepAfter r) w.told c) → PassesOn r result → Whole result
+  goes_in_step (Ok t) works steps end passes =
+      let first = goes_changed May f s t late known known_u frame unread tells works in
+      elim passes [
+        | inl is ↦ subst Whole (sym is) (goes_refreshed u.holdings May f t known_w known_c first steps (end (subst IsGivenBy (sym is) tt)))
+        | inr failed ↦ elim failed [
+          | inl is ↦ subst Whole (sym is) (goes_not_refreshed u.holdings May f t known_w known_c first steps host.Fault)
+          | inr is ↦ subst Whole (sym is) (goes_not_refreshed u.holdings May f t known_w known_c first steps host.NoMemory)
+        ]
+      ]
+  goes_in_step (Err (run.Refused refusal)) works steps end passes =
+      let first = goes_refused May f s refusal late known known_u frame unread tells works in
+      elim passes [
+        | inl is ↦ subst Whole (sym is) (goes_refused_on u.holdings May f late refusal known_w known_c first steps (end (subst IsGivenBy (sym is) tt)))
+        | inr failed ↦ elim failed [
+          | inl is ↦ subst Whole (sym is) (goes_refused_off u.holdings May f late refusal known_w known_c first steps host.Fault)
+          | inr is ↦ subst Whole (sym is) (goes_refused_off u.holdings May f late refusal known_w known_c first steps host.NoMemory)
+        ]
+      ]
+  goes_in_step (Err run.Fault) works steps end passes = subst Whole (sym passes) (goes_passed run.Fault (λ refusal is. cc is) works steps)
+  goes_in_step (Err run.RemoteFault) works steps end passes = subst Whole (sym passes) (goes_passed run.RemoteFault (λ refusal is. cc is) works steps)
+  goes_in_step (Err run.NoMemory) works steps end passes = subst Whole (sym passes) (goes_passed run.NoMemory (λ refusal is. cc is) works steps)
+
+  -- what is exported stands, where all was done
+  abbrev Stand : Result (Unit {0}) RunEnd → Type 0
+  Stand x = OnOk x (AreToldFor May u.holdings → AtEnd (λ x y. IsSound x → IsInStep u.holdings y) a c)
+
+  pub exports_in_step : (r : Result State RunEnd) → Acts (Opens s) May f s r u w → Always (StepsAfter r) w.told c → (IsGivenBy result → AtEnd (InStepAfter r) w.told c) → PassesOn r result → Stand result
+  exports_in_step (Ok t) works steps end passes =
+      let first = goes_changed May f s t late known known_u frame unread tells works in
+      elim passes [
+        | inl is ↦ subst Stand (sym is) (exports_stand u.holdings May f t known_w known_c first steps known (end (subst IsGivenBy (sym is) tt)))
+        | inr failed ↦ elim failed [ inl is ↦ subst Stand (sym is) tt | inr is ↦ subst Stand (sym is) tt ]
+      ]
+  exports_in_step (Err (run.Refused refusal)) works steps end passes = elim passes [
+    | inl is ↦ subst Stand (sym is) tt
+    | inr failed ↦ elim failed [ inl is ↦ subst Stand (sym is) tt | inr is ↦ subst Stand (sym is) tt ]
+  ]
+  exports_in_step (Err run.Fault) works steps end passes = subst Stand (sym passes) tt
+  exports_in_step (Err run.RemoteFault) works steps end passes = subst Stand (sym passes) tt
+  exports_in_step (Err run.NoMemory) works steps end passes = subst Stand (sym passes) tt
+
+-- ---- the cause of a fault
+
+-- two ends are one
+clash_ends : {e d : RunEnd} {result : Result (Unit {0}) RunEnd} → result ≡ Err e → result ≡ Err d → e ≡ d
+clash_ends {e = e} {d = d} first second = let both : Err e ≡ Err d = sym first ∙ second in cc both
+
+-- a fault is the changes' own, or it came behind them
+fault_passed : (r : Result State RunEnd) (result : Result (Unit {0}) RunEnd) → PassesOn r result → IsErrOf result run.Fault → IsErrOf r run.Fault ⊎ ((r ≢ Err run.Fault) × IsErrOf result run.Fault)
+fault_passed (Ok t) result passes is = inr ((λ e. cc e), is)
+fault_passed (Err (run.Refused refusal)) result passes is = inr ((λ e. cc e), is)
+fault_passed (Err run.Fault) result passes is = inl refl
+fault_passed (Err run.RemoteFault) result passes is = inr ((λ e. cc e), is)
+fault_passed (Err run.NoMemory) result passes is = inr ((λ e. cc e), is)
+
+-- and a fault of the remotes is the changes' own
+pub remote_passed : (r : Result State RunEnd) (result : Result (Unit {0}) RunEnd) → PassesOn r result → IsErrOf result run.RemoteFault → IsErrOf r run.RemoteFault
+remote_passed r result passes is = by r passes
   where
-    of_host : (e : HostEnd) → end_of_host e ≡ run.RemoteFault → ⊥
-    of_host host.Fault same = cc same
-    of_host host.NoMemory same = cc same
+    none : IsHostEnd result → ⊥
+    none failed = elim failed [ inl was ↦ cc (clash_ends was is) | inr was ↦ cc (clash_ends was is) ]
 
-pub caused_refresh : {a : Option Moments} {G : Type 0} (May : Op → Type 0) (f : Holdings → World → Answer) (s t : State) (o : Result (Unit {0}) HostEnd) {u w : Outside} (before now : ℕ) → before ≤ u.host_faults → AtEnd (IsOpened s) a u.told
-    → Acts (Opens s) May f s (Ok t) u w → IsCaused (IsErrOf o host.Fault) w.told (Opens t) w.host_faults now → (G → AreToldFor May u.holdings × IsErrOf o host.Fault) → IsCaused G a IsReady before now
-caused_refresh May f s t o {u = u} {w = w} before now later tells works cause passes = record {
+    by : (r : Result State RunEnd) → PassesOn r result → IsErrOf r run.RemoteFault
+    by (Ok t) passes = elim passes [ inl was ↦ absurd (let both : Ok tt ≡ Err run.RemoteFault = sym was ∙ is in cc both) | inr failed ↦ absurd (none failed) ]
+    by (Err (run.Refused refusal)) passes = elim passes [ inl was ↦ absurd (let both : run.Refused refusal ≡ run.RemoteFault = clash_ends was is in cc both) | inr failed ↦ absurd (none failed) ]
+    by (Err run.Fault) passes = absurd (let both : run.Fault ≡ run.RemoteFault = clash_ends passes is in cc both)
+    by (Err run.RemoteFault) passes = refl
+    by (Err run.NoMemory) passes = absurd (let both : run.NoMemory ≡ run.RemoteFault = clash_ends passes is in cc both)
+
+stands_after : (s : State) (r : Result State RunEnd) {v w : View} → OpensBy s r v w → Opens s v → StandsAfter r w
+stands_after s (Ok t) by opens = by opens
+stands_after s (Err (run.Refused refusal)) by opens = opens_sound (by opens).1
+stands_after s (Err run.Fault) by opens = tt
+stands_after s (Err run.RemoteFault) by opens = tt
+stands_after s (Err run.NoMemory) by opens = tt
+
+rose_on : (a b c : ℕ) → b ≤ c → Rose a b → Rose a c
+rose_on a b c le rose = omega arith
+
+pub caused_in_step : {a : Option Moments} (May : Op → Type 0) (f : Holdings → World → Answer) (s : State) (r : Result State RunEnd) (result : Result (Unit {0}) RunEnd) {u w : Outside} (before now : ℕ) → before ≤ u.host_faults → AtEnd (IsOpened s) a u.told
+    → Acts (Opens s) May f s r u w → PassesOn r result → IsCaused ((r ≢ Err run.Fault) × IsErrOf result run.Fault) w.told (StandsAfter r) w.host_faults now → IsCaused (AreToldFor May u.holdings × IsErrOf result run.Fault) a IsReady before now
+caused_in_step May f s r result {u = u} {w = w} before now later tells works passes cause = record {
   later = omega (arith, later, works.host.later, cause.later);
   fault = λ is m told ready.
-      let was = passes is in
       let opened = tells.goes.told m told in
-      let changed = (works.opens was.0).goes.told opened.0 opened.1 in
-      Rose-later before w.host_faults now (omega (arith, later, works.host.later)) (cause.fault was.1 changed.0 changed.1 (changed.3 (opened.3.opens (ready_sound opened.3.shown ready))));
+      let opens = opened.3.opens (ready_sound opened.3.shown ready) in
+      elim (fault_passed r result passes is.1) [
+        | inl first ↦ Rose-later before u.host_faults now later (rose_on u.host_faults w.host_faults now cause.later (works.host.fault (is.0, first) opened.0 opened.1 opens))
+        | inr here ↦
+            let changed = (works.opens is.0).goes.told opened.0 opened.1 in
+            Rose-later before w.host_faults now (omega (arith, later, works.host.later)) (cause.fault here changed.0 changed.1 (stands_after s r changed.3 opens))
+      ];
 }

@@ -1,15 +1,15 @@
 -- What the texts of objects are.
-use Rattle.std.proofs.Common.{◌≡◌, ℕ, ◌<◌, ◌≤◌, List, [], ◌∷◌, ◌++◌, Bool, true, false, leb, length, Option, Some, None, Result, Ok, Err, refl, sym, ◌∙◌, ap, subst, rules, arith}
-use Rattle.std.specs.Prelude.{codes, IsSome, ◌&&◌, if◌then◌else◌}
+use Rattle.std.proofs.Common.{◌≡◌, ℕ, ◌<◌, ◌≤◌, List, [], ◌∷◌, ◌++◌, Bool, true, false, leb, length, Option, Some, None, Result, Ok, Err, refl, sym, ◌∙◌, ap, subst, rules}
+use Rattle.std.specs.Prelude.{codes, IsSome}
 use Rattle.std.specs.Option.{is_some}
 use Rattle.std.proofs.lemmas.Bool.{false≢true, leb-true, leb-false}
 use Rattle.fp_name.specs.Hex.{hex, is_digest}
 use Rattle.fp_small.specs.declared.refusal.Refusal.TheVariants.{MalformedValue}
-use Rattle.gv_value.specs.declared.limits.TheConstants.{MOST_BYTES, MOST_DEPTH}
-use Rattle.gv_value.specs.Shape.{Shape, is_type}
+use Rattle.gv_value.specs.declared.limits.TheConstants.{MOST_BYTES}
+use Rattle.gv_value.specs.Shape.{Shape}
 use Rattle.gv_value.specs.Tree.{Tree}
 use Rattle.gv_value.specs.TypeText.{type_of}
-use Rattle.gv_value.specs.Reading.{value_at, value_of}
+use Rattle.gv_value.specs.Reading.{value_of}
 use Rattle.gv_decode.specs.Decoded.{Passes}
 use Rattle.gv_decode.specs.declared.error.DecodeError.{DecodeError}
 use Rattle.gv_decode.specs.declared.error.DecodeError.TheVariants.{TooLong}
@@ -83,26 +83,6 @@ value_told type bytes text of is normal said = ap (λ (o : Option Shape). by_typ
 pub value_bad : (type bytes : List ℕ) (of : Shape) → type_of type ≡ Some of → is_some (value_of of bytes) ≡ false → value_shown type bytes ≡ refusal_answer (MalformedValue (meta_digest bytes))
 unfolding value_shown
 value_bad type bytes of is normal = ap (λ (o : Option Shape). by_type o bytes) is ∙ no_value (value_of of bytes) bytes normal
-
-none_if_not : {A : Type 0} (a b : Bool) (r : Option A) → b ≡ false → if a && b then r else None ≡ None
-none_if_not true b r is = ap (λ (t : Bool). if t then r else None) is
-none_if_not false b r is = refl
-
--- bytes that are too long are no value
-pub long_is_none : (t : Shape) (bytes : List ℕ) → MOST_BYTES < length bytes → value_of t bytes ≡ None
-long_is_none t bytes long = none_if_not (is_type t) (leb (length bytes) MOST_BYTES) (value_at MOST_DEPTH t bytes) (go (leb (length bytes) MOST_BYTES) refl)
-  where
-    go : (b : Bool) → leb (length bytes) MOST_BYTES ≡ b → leb (length bytes) MOST_BYTES ≡ false
-    go false is = is
-    go true is = absurd (omega (arith, leb-true (length bytes) MOST_BYTES is, long))
-
--- nor are those of which it is known where they aren't
-pub short_is_none : (t : Shape) (bytes : List ℕ) → (length bytes ≤ MOST_BYTES → value_of t bytes ≡ None) → value_of t bytes ≡ None
-short_is_none t bytes short = go (leb (length bytes) MOST_BYTES) refl
-  where
-    go : (b : Bool) → leb (length bytes) MOST_BYTES ≡ b → value_of t bytes ≡ None
-    go false is = none_if_not (is_type t) (leb (length bytes) MOST_BYTES) (value_at MOST_DEPTH t bytes) is
-    go true is = short (leb-true (length bytes) MOST_BYTES is)
 
 -- where something is read there is a value
 is_there : (o : Option Tree) → IsSome o → true ≡ is_some o

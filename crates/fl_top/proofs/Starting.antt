@@ -25,22 +25,24 @@ use Rattle.dep_open.specs.Open.{NotShown, IsOpened, Opened, StaysUnread}
 use Rattle.dep_open.specs.declared.open_end.OpenEnd.{OpenEnd}
 use Rattle.dep_open.specs.declared.open_end.OpenEnd.TheVariants as open_end
 use Rattle.fl_change.specs.World.{World, world, world_at}
-use Rattle.fl_change.specs.Answer.{Answer, Piece, pieces_text, ops_in, ops_of, refusal_answer}
+use Rattle.fl_change.specs.Answer.{Answer, pieces_text, ops_in, ops_of, refusal_answer}
 use Rattle.fl_top.specs.Answer.{shown_answer, IsAtOnce}
 use Rattle.fl_change.specs.Ends.{end_of_open}
 use Rattle.fl_top.specs.Asked.{AreToldFor}
 use Rattle.fl_top.specs.Runs.{ShowsAfter, IsPrefix, IsJust, Runs, Stands, IsReady}
-use Rattle.fl_change.specs.Performs.{Printed, Performs, IsDone, IsHalted, Performed, PerformsOver, PerformedOver, ChangesFrom}
-use Rattle.fl_top.specs.RunsOver.{RunsOver, Completes, Ended, EndedOver, LookedOver}
+use Rattle.fl_change.specs.Performs.{Performs, IsDone, IsHalted, Performed, PerformsOver, PerformedOver, ChangesFrom}
+use Rattle.fl_top.specs.RunsOver.{OverView, RunsOver, Completes, Finishes, Ended, EndedOver, LookedOver}
 use Rattle.fl_change.specs.declared.end.RunEnd.{RunEnd}
 use Rattle.fl_change.specs.declared.end.RunEnd.TheVariants.{Refused, Fault, RemoteFault, NoMemory}
 use Rattle.fl_change.specs.Changes.{IsUntouched, HasText, OnlyTidied, IsStill}
 use Rattle.fl_change.proofs.Changing.{change_on, change_none, tidied_on, tidied_none, still_on, same_untouched}
-use Rattle.fl_change.proofs.Same.{unmoved, same_shown, same_sound, same_settled, now_left}
+use Rattle.dep_tidy.proofs.Views.{now_left}
+use Rattle.fl_change.proofs.Same.{unmoved, same_shown, same_sound, same_settled}
 use Rattle.fl_top.proofs.Altering.{alter_none, alter_changes, rest_none, rest_tidied}
 use Rattle.fl_top.proofs.Over.{over_is, over_damaged, not_shown, counts_shown, counts_damaged}
 use Rattle.fl_change.proofs.Worlds.{store_same, shows_same, worlds_state}
 use Rattle.fl_change.proofs.Doing.{none_yet}
+use Rattle.fl_change.proofs.Tidying.{first_moved}
 use Rattle.ost_store.specs.Created.{Creates, NoObject}
 use Rattle.ost_store.proofs.Creating.{creates_refl, creates_frame}
 use Rattle.fl_change.specs.Created.{CreatesInTurn}
@@ -98,7 +100,7 @@ pub begun_over : (holds : Option Holdings) (May : Op → Type 0) (f : Holdings �
 begun_over holds May f late {u = u} keeping unread = record {
   runs = λ ready held is shown counts. begun (shown_answer (f held) shown) keeping (λ at_once. absurd (over_late (f held) (late held) shown at_once));
   changes = λ known. alter_none keeping.names keeping.files;
-  rests = λ ready held is shown counts rest idle none. still_keeping keeping;
+  rests = λ ready held is shown counts rest idle. still_keeping keeping;
   untouched = λ none. same_untouched (unread none);
 }
 
@@ -110,9 +112,6 @@ stood a keeping = record { said = []; so_far = none_yet a keeping.printed; just 
 pub shown_after : (u : View) (s : State) (done : List Done) (disk : Disk) → Shows (shows u) s → Shows disk (after_all s done) → ShowsAfter u done disk
 shown_after u s [] disk at shown = (shows u, now_left u, s, at, shown)
 shown_after u s (op ∷ ops) disk at shown = (s, at, shown)
-
-moved : {a : Answer} {said : List Piece} {u v w : View} → v.printed ≡ u.printed → Printed a said v w → Printed a said u w
-moved {said = said} same printed = record { left = printed.left; pieces = printed.pieces; printed = printed.printed ∙ ap (λ (p : List ℕ). p ++ pieces_text said) same }
 
 -- an installation that was opened, with the trees before and after
 pub record Begun (s : State) (u v : View) : Type 0 where
@@ -136,7 +135,7 @@ runs_opened : (a : Answer) (s : State) {u v w : View} → (IsAtOnce a.refusal �
 runs_opened a s {u = u} {w = w} late opened keeping performs = record {
   only_rests = λ none t at. rest_tidied (subst (λ (z : State). OnlyTidied z u w) (one_state (shows u) s t opened.shown at) (tidied_on (tidied_none keeping.names) (performs.only_tidied none)));
   said = performs.said;
-  so_far = moved keeping.printed performs.so_far;
+  so_far = first_moved keeping.printed performs.so_far;
   prefix = λ sound disk left.
       let some = performs.some disk left in
       record {
@@ -153,7 +152,7 @@ runs_opened a s {u = u} {w = w} late opened keeping performs = record {
 
 -- where all is at rest and nothing is done
 stays_opened : (a : Answer) (s : State) {u v w : View} → ((q : Elements) → shows v q ≡ shows u q) → Keeping u v → Performs a s v w → StaysAtRest a u w
-stays_opened a s seen keeping performs = λ rest idle none.
+stays_opened a s seen keeping performs = λ rest idle.
     still_on (still_keeping keeping) (performs.still idle (same_settled seen rest.settled)) performs.files
 
 -- what is known at each moment of work that may do these operations
@@ -175,7 +174,7 @@ runs_over holds May f s {u = u} {v = v} {w = w} late begun tree work = record {
   untouched = λ none. absurd (none s begun.opened.shown);
 }
 
-completes : (held : Holdings) (a : Answer) (s : State) (x : World) {u v w : View} → x.state ≡ s → IsOpened s u v → Keeping u v → KeepsFiles v w → world_at s u ≡ x → IsDone held a x v w → Completes held a u w
+pub completes : (held : Holdings) (a : Answer) (s : State) (x : World) {u v w : View} → x.state ≡ s → IsOpened s u v → Keeping u v → KeepsFiles v w → world_at s u ≡ x → IsDone held a x v w → Completes held a u w
 completes held a s x {u = u} {w = w} same opened keeping files here is = record {
   printed = is.printed ∙ ap (λ (p : List ℕ). p ++ pieces_text a.pieces) keeping.printed;
   just = λ sound disk left. record { shown = shown_after u s (ops_of a) disk opened.shown (opens.shown disk left); sound = opens.sound disk left };
@@ -200,36 +199,57 @@ completes held a s x {u = u} {w = w} same opened keeping files here is = record 
 stands : (a : Answer) (s : State) {u v w : View} → IsOpened s u v → Keeping u v → IsHalted a s v w → Stands a u w
 stands a s {u = u} opened keeping is = record {
   said = is.said;
-  so_far = moved keeping.printed is.so_far;
+  so_far = first_moved keeping.printed is.so_far;
   just = λ sound disk left. record { shown = shown_after u s (ops_in is.said) disk opened.shown (is.opens.shown disk left); sound = is.opens.sound disk left };
 }
 
-ended : (held : Holdings) (a : Answer) (s : State) (e : RunEnd) {u v : View} (w : View) → Begun s u v → IsTree v → KeepsFiles v w → Performed held a (world_at s v) (Err e) v w → Ended held a (Err e) u w
-ended held a s (Refused refusal) {v = v} w begun tree files is = (is.0, completes held a s (world_at s v) refl begun.opened begun.keeping files (sym (begun_world s begun tree)) is.1)
-ended held a s Fault w begun tree files is = tt
-ended held a s RemoteFault {v = v} w begun tree files is = stands a s begun.opened begun.keeping is
-ended held a s NoMemory w begun tree files is = stands a s begun.opened begun.keeping is
+-- it isn't a refusal
+abbrev pub IsNoRefusal : RunEnd → Type 0
+IsNoRefusal e = (refusal : Refusal) → e ≡ Refused refusal → ⊥
 
-pub failed_over : (holds : Option Holdings) (f : Holdings → World → Answer) (s : State) (e : RunEnd) {u v : View} (w : View) → Begun s u v → IsTree v → PerformsOver (Opens s) holds f s v w → PerformedOver (Opens s) holds f s (Err e) v w → EndedOver holds f (Err e) u w
-failed_over holds f s e {u = u} {v = v} w begun tree work is = record {
+ended : (held : Holdings) (a : Answer) (s : State) (e : RunEnd) {u v : View} (w : View) → IsNoRefusal e → Begun s u v → Performed held a (world_at s v) (Err e) v w → Ended held a (Err e) u w
+ended held a s (Refused refusal) w other begun is = absurd (other refusal refl)
+ended held a s Fault w other begun is = tt
+ended held a s RemoteFault w other begun is = stands a s begun.opened begun.keeping is
+ended held a s NoMemory w other begun is = stands a s begun.opened begun.keeping is
+
+pub failed_over : (holds : Option Holdings) (f : Holdings → World → Answer) (s : State) (e : RunEnd) {u v : View} (w : View) → IsNoRefusal e → Begun s u v → IsTree v → PerformedOver (Opens s) holds f s (Err e) v w → EndedOver holds f (Err e) u w
+failed_over holds f s e {u = u} {v = v} w other begun tree is = record {
   ended = λ ready held told shown counts.
       let opens = begun.opened.opens (ready_sound begun.opened.shown ready) in
       subst (λ (a : Answer). Ended held a (Err e) u w) (ap (f held) (begun_world s begun tree) ∙ sym (over_is (f held) (shows u) shown s begun.opened.shown counts))
-      (ended held (f held (world_at s v)) s e w begun tree (work.performs held told opens).files (is.performed held told opens));
+      (ended held (f held (world_at s v)) s e w other begun (is.performed held told opens));
   given = λ held by. counts_shown (shown_answer (f held)) (shows u) s begun.opened.shown;
 }
 
-pub done_over : (holds : Option Holdings) (f : Holdings → World → Answer) (s t : State) {u v : View} (w : View) → Begun s u v → IsTree v → PerformsOver (Opens s) holds f s v w → PerformedOver (Opens s) holds f s (Ok t) v w → EndedOver holds f (Ok tt) u w
-done_over holds f s t {u = u} {v = v} w begun tree work is = record {
-  ended = λ ready held told shown counts.
-      let opens = begun.opened.opens (ready_sound begun.opened.shown ready) in
-      let done = is.performed held told opens in
-      subst (λ (a : Answer). Ended held a (Ok tt) u w) (ap (f held) (begun_world s begun tree) ∙ sym (over_is (f held) (shows u) shown s begun.opened.shown counts))
-      (done.0, completes held (f held (world_at s v)) s (world_at s v) refl begun.opened begun.keeping (work.performs held told opens).files (sym (begun_world s begun tree)) done.2);
-  given = λ held by. counts_shown (shown_answer (f held)) (shows u) s begun.opened.shown;
-}
+-- the changes were made
+pub done_over : (holds : Option Holdings) (f : Holdings → World → Answer) (s t : State) {u v : View} (w : View) → Begun s u v → IsTree v → PerformsOver (Opens s) holds f s v w → PerformedOver (Opens s) holds f s (Ok t) v w
+    → IsReady u → (held : Holdings) → holds ≡ Some held → OverView (f held) u (λ a. (a.refusal ≡ None) × Completes held a u w)
+done_over holds f s t {u = u} {v = v} w begun tree work is ready held told shown counts =
+    let opens = begun.opened.opens (ready_sound begun.opened.shown ready) in
+    let done = is.performed held told opens in
+    subst (λ (a : Answer). (a.refusal ≡ None) × Completes held a u w) (ap (f held) (begun_world s begun tree) ∙ sym (over_is (f held) (shows u) shown s begun.opened.shown counts))
+    (done.0, completes held (f held (world_at s v)) s (world_at s v) refl begun.opened begun.keeping (work.performs held told opens).files (sym (begun_world s begun tree)) done.2)
+
+-- they were made up to a refusal
+pub refused_over : (holds : Option Holdings) (f : Holdings → World → Answer) (s : State) (refusal : Refusal) {u v : View} (w : View) → Begun s u v → IsTree v → PerformsOver (Opens s) holds f s v w → PerformedOver (Opens s) holds f s (Err (Refused refusal)) v w
+    → IsReady u → (held : Holdings) → holds ≡ Some held → OverView (f held) u (λ a. (a.refusal ≡ Some refusal) × (Completes held a u w × Opens (after_all s (ops_of a)) w))
+refused_over holds f s refusal {u = u} {v = v} w begun tree work is ready held told shown counts =
+    let opens = begun.opened.opens (ready_sound begun.opened.shown ready) in
+    let done = is.performed held told opens in
+    let a = f held (world_at s v) in
+    subst (λ (a : Answer). (a.refusal ≡ Some refusal) × (Completes held a u w × Opens (after_all s (ops_of a)) w)) (ap (f held) (begun_world s begun tree) ∙ sym (over_is (f held) (shows u) shown s begun.opened.shown counts))
+    (
+      done.0,
+      completes held a s (world_at s v) refl begun.opened begun.keeping (work.performs held told opens).files (sym (begun_world s begun tree)) done.1,
+      subst (λ (z : State). Opens z w) (worlds_state held (world_at s v) (ops_of a)) done.1.holds.opens,
+    )
 
 -- ---- where it wasn't opened
+
+-- where no operation is done nothing is owed to the exported files
+pub finishes_none : (held : Holdings) (a : Answer) {u w : View} → ops_of a ≡ [] → Completes held a u w → Finishes held a u w
+finishes_none held a none done = record { completes = done; exports = λ some. absurd (some none) }
 
 damaged : (held : Holdings) (path : Elements) {u w : View} → Keeping u w → NotShown (shows u) → Completes held (refusal_answer (Damaged path)) u w
 damaged held path {u = u} keeping none = record {
@@ -249,7 +269,7 @@ halted_look f keeping = record { ended = λ shown counts held. stood (shown_answ
 
 pub look_not_open : (f : World → Answer) (e : OpenEnd) {u w : View} → Keeping u w → Opened (Err e) u w → LookedOver f (Err (end_of_open e)) u w
 look_not_open f (open_end.Damaged path) {u = u} {w = w} keeping is = record {
-  ended = λ shown counts held. subst (λ (a : Answer). Ended held a (Err (Refused (Damaged path))) u w) (sym (over_damaged f (shows u) shown path is counts)) (refl, damaged held path keeping (not_shown is));
+  ended = λ shown counts held. subst (λ (a : Answer). Ended held a (Err (Refused (Damaged path))) u w) (sym (over_damaged f (shows u) shown path is counts)) (refl, finishes_none held (refusal_answer (Damaged path)) refl (damaged held path keeping (not_shown is)));
   given = λ by. counts_damaged (shown_answer f) (shows u) path is;
 }
 look_not_open f open_end.Fault keeping is = record { ended = λ shown counts held. tt; given = λ by. absurd by }
@@ -267,8 +287,8 @@ pub unchanged : {u : View} → Keeping u u
 unchanged = record { printed = refl; follows = follows_refl; names = λ q. refl; files = files_stay; empty = shares_refl; creates = creates_refl }
 
 -- a refusal without a look at the installation
-pub refused_at_once : (held : Holdings) (refusal : Refusal) (u : View) → Completes held (refusal_answer refusal) u u
-refused_at_once held refusal u = record {
+at_once : (held : Holdings) (refusal : Refusal) (u : View) → Completes held (refusal_answer refusal) u u
+at_once held refusal u = record {
   printed = sym (append-nil u.printed);
   just = shows_before follows_refl;
   shown = λ sound s at. at;
@@ -278,3 +298,6 @@ refused_at_once held refusal u = record {
   shares = λ unpulled. shares_refl;
   creates = λ unpulled s at. no_ops_created held (world_at s u) [] refl creates_refl;
 }
+
+pub refused_at_once : (held : Holdings) (refusal : Refusal) (u : View) → Finishes held (refusal_answer refusal) u u
+refused_at_once held refusal u = finishes_none held (refusal_answer refusal) refl (at_once held refusal u)

@@ -1,5 +1,5 @@
 -- What is exported: as it is listed, as it stands, and which names a run changes for it.
-use Rattle.std.specs.Prelude.{◌≡◌, ◌⊎◌, ℕ, List, Option, Some, None, flat_map}
+use Rattle.std.specs.Prelude.{◌≡◌, ◌⊎◌, ℕ, List, Option, Some, Result, Ok, Err, flat_map}
 use Rattle.fp_host.specs.Paths.{Elements, Slot}
 use Rattle.fp_host.specs.View.{View}
 use Rattle.fp_host.specs.Outcome.{Disk, Leaves, shows}
@@ -12,16 +12,19 @@ use Rattle.ost_model.specs.Objects.{store}
 use Rattle.dep_states.specs.Links.{Links}
 use Rattle.dep_states.specs.Settled.{Settled}
 use Rattle.dep_states.specs.Shown.{Shows}
+use Rattle.dep_states.specs.Sound.{IsSound, Opens}
 use Rattle.dep_tidy.specs.Tidy.{MayTidy}
 use Rattle.fl_export.specs.Exported.{exported}
 use Rattle.fl_export.specs.Placed.{ExportsAre}
-use Rattle.fl_export.specs.Steps.{MayRefresh}
+use Rattle.fl_export.specs.Steps.{MayRefresh, Refreshes, WasRefreshed}
 use Rattle.fl_export.specs.declared.rows.ExportRow.{ExportRow}
 use Rattle.fp_name.specs.Refs.{Ref}
 use Rattle.fl_lines.specs.Lines.{export_line, made_text}
 use Rattle.fl_make.specs.Making.{MayMake}
 use Rattle.fl_change.specs.Answer.{Answer, text_answer, IsIdle}
 use Rattle.fl_change.specs.Changes.{MayHold, IsStill}
+use Rattle.fl_change.specs.declared.end.RunEnd.{RunEnd}
+use Rattle.fl_change.specs.declared.end.RunEnd.TheVariants as ends
 
 -- ---- what is listed
 
@@ -56,10 +59,61 @@ pub record IsInStep (holds : Option Holdings) (v : View) : Type 0 where
   pub exports : LeavesExports v
   pub rests : (held : Holdings) → holds ≡ Some held → IsAtRest v
 
--- Where all is at rest and nothing is done, pulled or refused, no name changes and no new file has
--- a byte.
+-- Where all is at rest and nothing is done or pulled, no name changes and no new file has a byte.
 abbrev pub StaysAtRest : Answer → View → View → Type 0
-StaysAtRest a u w = IsAtRest u → IsIdle a → a.refusal ≡ None → IsStill u w
+StaysAtRest a u w = IsAtRest u → IsIdle a → IsStill u w
+
+-- A refresh of the exported files for the state that is shown, if one is. Whether one is or not, only
+-- names of exports and of work change, each file that was there keeps its mode and its bytes, nothing
+-- is printed, and no file comes to a commit's folder.
+pub record RefreshesShown (u w : View) : Type 0 where
+  pub names : (q : Elements) → (w.names q ≡ u.names q) ⊎ MayRefresh q (w.names q)
+  pub files : KeepsFiles u w
+  pub links : Links u w
+  pub printed : w.printed ≡ u.printed
+  pub refreshes : (s : State) → Shows (shows u) s → Refreshes s u w
+
+-- In the end it was refreshed.
+abbrev pub RefreshedShown : View → View → Type 0
+RefreshedShown u w = (s : State) → Shows (shows u) s → WasRefreshed s u w
+
+-- How exported files are brought in step with what changes left: by a refresh for the state that
+-- these answered, or, where one was refused, for the state that is shown. Where they came to no end,
+-- nothing is done.
+abbrev pub StepsAfter : Result State RunEnd → View → View → Type 0
+StepsAfter (Ok s) u w = Refreshes s u w
+StepsAfter (Err (ends.Refused refusal)) u w = RefreshesShown u w
+StepsAfter (Err ends.Fault) u w = w ≡ u
+StepsAfter (Err ends.RemoteFault) u w = w ≡ u
+StepsAfter (Err ends.NoMemory) u w = w ≡ u
+
+abbrev pub InStepAfter : Result State RunEnd → View → View → Type 0
+InStepAfter (Ok s) u w = WasRefreshed s u w
+InStepAfter (Err (ends.Refused refusal)) u w = RefreshedShown u w
+InStepAfter (Err ends.Fault) u w = Unit {0}
+InStepAfter (Err ends.RemoteFault) u w = Unit {0}
+InStepAfter (Err ends.NoMemory) u w = Unit {0}
+
+-- over what a fault in it has a cause
+abbrev pub StandsAfter : Result State RunEnd → View → Type 0
+StandsAfter (Ok s) v = Opens s v
+StandsAfter (Err (ends.Refused refusal)) v = IsSound v
+StandsAfter (Err ends.Fault) v = Unit {0}
+StandsAfter (Err ends.RemoteFault) v = Unit {0}
+StandsAfter (Err ends.NoMemory) v = Unit {0}
+
+-- the host failed, or there was no memory
+abbrev pub IsHostEnd : Result (Unit {0}) RunEnd → Type 0
+IsHostEnd result = (result ≡ Err ends.Fault) ⊎ (result ≡ Err ends.NoMemory)
+
+-- How the changes ended is passed on, unless the host fails or there is no memory.
+abbrev pub PassesOn : Result State RunEnd → Result (Unit {0}) RunEnd → Type 0
+PassesOn (Ok s) result = (result ≡ Ok tt) ⊎ IsHostEnd result
+PassesOn (Err (ends.Refused refusal)) result =
+    (result ≡ Err (ends.Refused refusal)) ⊎ IsHostEnd result
+PassesOn (Err ends.Fault) result = result ≡ Err ends.Fault
+PassesOn (Err ends.RemoteFault) result = result ≡ Err ends.RemoteFault
+PassesOn (Err ends.NoMemory) result = result ≡ Err ends.NoMemory
 
 -- ---- what changes
 
@@ -84,11 +138,11 @@ pub record IsMadeLine (a : Answer) : Type 0 where
   pub commit : List ℕ
   pub is : a ≡ text_answer (made_text commit)
 
--- Where nothing is done, names may come to hold what tidying makes of them; where nothing is
--- refused, what a refresh does; and where a remote is made, what that does.
+-- Where nothing is done, names may come to hold what tidying and a refresh make of them, and where a
+-- remote is made what that does.
 pub data MayRest (a : Answer) (s : State) (q : Elements) (e : Slot) : Type 0 where
   tidied_at : MayTidy s q e → MayRest a s q e
-  refreshed_at : a.refusal ≡ None → MayRefresh q e → MayRest a s q e
+  refreshed_at : MayRefresh q e → MayRest a s q e
   made_at : (remote : List ℕ) (r : Ref) → IsMadeLine a → MayMake remote r q e → MayRest a s q e
 
 pub record OnlyRests (a : Answer) (s : State) (u w : View) : Type 0 where

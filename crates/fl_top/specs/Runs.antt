@@ -24,7 +24,7 @@ use Rattle.fl_top.specs.Kinds.{Work, work_of, making}
 use Rattle.fl_change.specs.Changes.{IsUntouched, HasText}
 use Rattle.fl_change.specs.Created.{CreatesInTurn}
 use Rattle.fl_top.specs.Fsck.{Finds, IsListable}
-use Rattle.fl_top.specs.Exports.{Alters, OnlyRests, StaysAtRest}
+use Rattle.fl_top.specs.Exports.{Alters, OnlyRests, StaysAtRest, LeavesExports}
 use Rattle.fl_top.specs.Status.{status_at, IsAnswered, only_looks, changes_state, makes_remote, reads_input, checks_store}
 use Rattle.fl_change.specs.Performs.{Printed, AsksBy}
 use Rattle.fp_small.specs.declared.op.Op.{Op}
@@ -62,8 +62,8 @@ pub record IsJust (acknowledged : List Done) (u : View) (disk : Disk) : Type 0 w
 -- At every moment: the bytes printed since the start are the first pieces of the answer; every stop
 -- leaves the installation after a prefix of its operations that holds those that these pieces
 -- acknowledge. Where the answer has no operation and nothing is pulled, names only changed by
--- tidying, and where nothing is refused by a refresh of the exported files. Where the words or the
--- input are refused, no name changed, and no file.
+-- tidying and by a refresh of the exported files. Where the words or the input are refused, no name
+-- changed, and no file.
 pub record Runs (a : Answer) (u w : View) : Type 0 where
   pub said : List Piece
   pub so_far : Printed a said u w
@@ -78,15 +78,17 @@ pub record Stands (a : Answer) (u w : View) : Type 0 where
   pub just : IsSound u → (disk : Disk) → Leaves w disk → IsJust (ops_in said) u disk
 
 -- The whole answer was printed; what stands now is the state after its operations. Where one was
--- done, or all was settled before, all is settled. Where one of them set it, `config` has exactly
--- its text, and the permission bits 0644. Where nothing was pulled before a refusal, each new file
--- that has bytes came to a lasting name, and each operation in turn made just the objects that it
--- lacked, by what the remotes hold.
+-- done, or all was settled before, all is settled. Where one was done, every stop leaves the exported
+-- files of the state, whether the rest was refused or not. Where one of them set it, `config` has
+-- exactly its text, and the permission bits 0644. Where nothing was pulled before a refusal, each new
+-- file that has bytes came to a lasting name, and each operation in turn made just the objects that
+-- it lacked, by what the remotes hold.
 pub record Answers (held : Holdings) (a : Answer) (status : ℕ) (u w : View) : Type 0 where
   pub status_is : status ≡ status_at a
   pub printed : w.printed ≡ u.printed ++ pieces_text (lines_of a)
   pub shown : IsSound u → (s : State) → Shows (shows u) s → Shows (shows w) (after_all s (ops_of a))
   pub tidied : IsSound u → Settled (shows u) ⊎ (ops_of a ≢ []) → Settled (shows w)
+  pub exports : ops_of a ≢ [] → IsSound u → LeavesExports w
   pub text : set_config (ops_of a) ≡ true → (s : State) → Shows (shows u) s
       → HasText (after_all s (ops_of a)) w
   pub shares : IsUnpulled a.refusal → Shares IsLasting u w

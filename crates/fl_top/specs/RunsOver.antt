@@ -25,7 +25,7 @@ use Rattle.fl_top.specs.Runs.{Runs, Ran, Stands, IsJust, Told, IsGivenTo, IsRead
 use Rattle.fl_change.specs.Changes.{IsUntouched, HasText}
 use Rattle.fl_change.specs.Created.{CreatesInTurn}
 use Rattle.fp_host.specs.Frame.{NoName}
-use Rattle.fl_top.specs.Exports.{Alters, StaysAtRest}
+use Rattle.fl_top.specs.Exports.{Alters, StaysAtRest, LeavesExports}
 use Rattle.fl_top.specs.Remotes.{MakesBy, MadeBy}
 use Rattle.fl_top.specs.Input.{IsDrained}
 use Rattle.fl_top.specs.Status.{IsAnswered, only_looks, changes_state, makes_remote, reads_input}
@@ -71,9 +71,14 @@ pub record Completes (held : Holdings) (a : Answer) (u w : View) : Type 0 where
   pub creates : IsUnpulled a.refusal → (s : State) → Shows (shows u) s
       → CreatesInTurn held (world_at s u) (ops_of a) u w
 
+-- And where an operation was done, every stop leaves the exported files of the state.
+pub record Finishes (held : Holdings) (a : Answer) (u w : View) : Type 0 where
+  pub completes : Completes held a u w
+  pub exports : ops_of a ≢ [] → IsSound u → LeavesExports w
+
 abbrev pub Ended : Holdings → Answer → Result (Unit {0}) RunEnd → View → View → Type 0
-Ended held a (Ok t) u w = (a.refusal ≡ None) × Completes held a u w
-Ended held a (Err (Refused refusal)) u w = (a.refusal ≡ Some refusal) × Completes held a u w
+Ended held a (Ok t) u w = (a.refusal ≡ None) × Finishes held a u w
+Ended held a (Err (Refused refusal)) u w = (a.refusal ≡ Some refusal) × Finishes held a u w
 Ended held a (Err Fault) u w = Unit {0}
 Ended held a (Err RemoteFault) u w = Stands a u w
 Ended held a (Err NoMemory) u w = Stands a u w
@@ -150,9 +155,9 @@ pub record RunsOn (asked : Command) (t : Told) (u w : View) : Type 0 where
 
 -- so a command ends; where the input failed, nothing was done
 abbrev pub Closed : Holdings → Answer → Result (Unit {0}) CommandEnd → View → View → Type 0
-Closed held a (Ok t) u w = (a.refusal ≡ None) × Completes held a u w
+Closed held a (Ok t) u w = (a.refusal ≡ None) × Finishes held a u w
 Closed held a (Err (command.Refused refusal)) u w =
-    (a.refusal ≡ Some refusal) × Completes held a u w
+    (a.refusal ≡ Some refusal) × Finishes held a u w
 Closed held a (Err command.Fault) u w = Unit {0}
 Closed held a (Err command.RemoteFault) u w = Stands a u w
 Closed held a (Err command.InputFault) u w = w ≡ u

@@ -16,10 +16,10 @@ ghost use Rattle.fl_top.specs.RunsOver.{RunsOver, EndedOver};
 ghost use Rattle.fl_top.specs.Status.{IsOfCommand};
 
 use crate::make_exercise;
+use crate::refresh::bring_in_step;
 use crate::running::run_command;
 use dep_open::open;
 use fl_change::RunEnd;
-use fl_export::refresh;
 use fl_gen::GenRemotes;
 use fl_words::{AppCount, Command};
 use fp_host::{Host, Remotes, Source};
@@ -75,8 +75,8 @@ pub(crate) fn run_exercise<T: Threads + Sync, H: Host, I: Source, G: Gate + Sync
 }
 
 /// Opens the installation and makes the changes of an exercise, one after another up to the first
-/// refusal. Where none is refused, its last line is printed, and the exported files are brought in
-/// step with the state.
+/// refusal. Where none is refused, its last line is printed. Then the exported files are brought in
+/// step with the state, also where one was refused.
 pub(crate) fn exercise<T: Threads + Sync, H: Host, R: Remotes>(
     rt: &T,
     alloc: Global,
@@ -98,6 +98,6 @@ pub(crate) fn exercise<T: Threads + Sync, H: Host, R: Remotes>(
         (R.holds remotes.old) (R.holds remotes.new) (R.faults remotes.old) (R.faults remotes.new) }
 {
     let opened = open(alloc, host)?;
-    let changed = make_exercise(rt, alloc, host, remotes, opened, apps)?;
-    Ok(refresh(alloc, host, changed.state())?)
+    let changed = make_exercise(rt, alloc, host, remotes, opened, apps);
+    bring_in_step(alloc, host, changed)
 }

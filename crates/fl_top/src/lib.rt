@@ -8,6 +8,7 @@ mod exporting;
 mod filtering;
 mod input;
 mod listing;
+mod refresh;
 mod running;
 mod showing;
 mod trials;

@@ -26,10 +26,10 @@ use crate::exporting::export;
 use crate::filtering::filter_bytes;
 use crate::input::read_input;
 use crate::listing::list;
+use crate::refresh::bring_in_step;
 use crate::showing::shown_text;
 use dep_open::open;
 use fl_change::{RunEnd, change_all};
-use fl_export::refresh;
 use fl_lines::refusal_line;
 use fl_words::{Change, Command, PolicySource, Shown, WordsError, read_batch, read_words};
 use fp_base::Text;
@@ -298,8 +298,8 @@ fn batch<T: Threads + Sync, H: Host, R: Remotes, I: Source>(
     Ok(make_changes(rt, alloc, host, remotes, changes.as_slice())?)
 }
 
-/// Opens the installation and makes the changes, one after another up to the first refusal. Where
-/// none is refused, the exported files are brought in step with the state after them.
+/// Opens the installation and makes the changes, one after another up to the first refusal. Then the
+/// exported files are brought in step with the state, also where one was refused.
 fn make_changes<T: Threads + Sync, H: Host, R: Remotes>(
     rt: &T,
     alloc: Global,
@@ -319,8 +319,8 @@ fn make_changes<T: Threads + Sync, H: Host, R: Remotes>(
         (R.holds remotes.old) (R.holds remotes.new) (R.faults remotes.old) (R.faults remotes.new) }
 {
     let opened = open(alloc, host)?;
-    let changed = change_all(rt, alloc, host, remotes, opened, changes)?;
-    Ok(refresh(alloc, host, changed.state())?)
+    let changed = change_all(rt, alloc, host, remotes, opened, changes);
+    bring_in_step(alloc, host, changed)
 }
 
 /// Prints the line of words that are no command.

@@ -14,7 +14,8 @@ use Rattle.fl_top.specs.Runs.{told_start, IsReady}
 use Rattle.fl_top.specs.Ends.{end_of_input, end_of_batch}
 use Rattle.fl_top.specs.RunsOver.{RunsOver, EndedOver}
 use Rattle.fl_top.specs.declared.command_end.CommandEnd.TheVariants.{RemoteFault}
-use Rattle.fl_top.proofs.Asked.{asks_to, not_asked, asks_more}
+use Rattle.fl_change.proofs.Working.{asks_to}
+use Rattle.fl_top.proofs.Asked.{not_asked, asks_more}
 use Rattle.fl_top.proofs.Finishing.{IsChanging, goes_none, input_failed, input_ends, batch_by, batch_input, batch_ends, batch_changes, goes_change, goes_not_changed, run_fault, run_remote, input_remote, batch_remote, drained_by, not_taken}
 use Rattle.fl_top.proofs.running.batch.Goals as goal
 

@@ -3,7 +3,8 @@ use Rattle.std.specs.Option.{is_some}
 use Rattle.gv_value.specs.Reading.{value_of}
 use Rattle.gv_value.specs.Views.{shape_of}
 use Rattle.gv_decode.specs.Decoded.{Passes}
-use Rattle.fl_top.proofs.Shown.{some_checked, long_is_none, short_is_none}
+use Rattle.dep_states.proofs.DeployShapes.{long_is_none, short_is_none}
+use Rattle.fl_top.proofs.Shown.{some_checked}
 use Rattle.fl_top.proofs.showing.is_normal.Goals as goal
 
 pub returns-in-Err-TooLong : goal.returns-in-Err-TooLong
