@@ -8,8 +8,8 @@ stands for any lines. A command that shows none has to end with status 0. A bloc
 by it, and a line of a crontab is run. Other blocks are only shown.
 
 A section begins with a shell of its own, in the folder of the clone, after what PREPARED has for it. Words that stand for
-something are what STANDS_FOR says. `rt` is PROGRAM here, a built fpk: `rt run -- WORDS` and `rt try -- WORDS` run it. With
-`--rt` it is the kit's, which takes an hour and more. The status is 0 where all came as shown.
+something are what STANDS_FOR says. `rt` stands for the kit's here: `rt ci` puts PROGRAM, a built fpk, where the kit builds it,
+and `rt try -- WORDS` runs it. With `--rt` it is the kit's, which takes an hour and more. The status is 0 where all came as shown.
 """
 
 import os
@@ -77,9 +77,11 @@ PREPARED = {
 # What of the run's folder stands where.
 PLACES = {"srv": "/srv", "tmp": "/tmp", "lib": "/var/lib"}
 SHIM = """#!/bin/sh
-case $1 in run | try) ;; *) echo "rt $*: not run here" >&2; exit 1 ;; esac
-shift 2
-mkdir -p out && cp /srv/bin/fpk out/fpk && exec out/fpk "$@"
+case $1 in
+    ci) mkdir -p crates/fpk/out && cp /srv/bin/fpk crates/fpk/out/fpk ;;
+    try) shift 2 && cd "$(mktemp -d)" && exec /srv/bin/fpk "$@" ;;
+    *) echo "rt $*: not run here" >&2 && exit 1 ;;
+esac
 """
 
 
