@@ -4,7 +4,8 @@
 A runtime and an application are built with `flatpak build-init`, `build-finish` and `build-export` into an OSTree repository of
 mode `bare-user-only`, in a folder of its own. Then fpk adds it as a remote, installs, updates, rolls back and uninstalls. After each
 step the real `ostree fsck` passes over fpk's store, every deployed file but `deploy` is a link of the store, and what is deployed
-equals what `ostree checkout` makes of the same commit.
+equals what `ostree checkout` makes of the same commit. As root it then has flatpak install the two for all users, in a folder of
+its own, and brings them into a repository that fpk reads, as docs/GUIDE.md says.
 
 usage: real_flatpak.py FPK
 
@@ -163,6 +164,7 @@ def main():
         bench.tool("flatpak", "--user", "install", "-y", "--noninteractive", "local", RUNTIME)
         bench.export_application("hello")
         play(bench)
+        bring_in(bench)
         print("amiss:", bench.faults)
         sys.exit(1 if bench.faults else 0)
 
@@ -192,6 +194,26 @@ def play(bench):
     left = [p for p in walk(objects) if not os.path.isdir(p)]
     if left:
         bench.fault(f"objects are left: {left}")
+
+
+def bring_in(bench):
+    """What an installed Flatpak has, by the words of docs/GUIDE.md."""
+    if os.geteuid():
+        print("skipped, for flatpak installs for all users only as root: applications of an installed Flatpak")
+        return
+    system, ours = (os.path.join(bench.folder, name) for name in ("system", "ours"))
+    bench.env["FLATPAK_SYSTEM_DIR"] = system
+    bench.tool("flatpak", "--system", "remote-add", "--no-gpg-verify", "flathub", "file://" + bench.repo)
+    bench.tool("flatpak", "--system", "install", "-y", "--noninteractive", "flathub", APP)
+    bench.tool("ostree", "init", "--mode=bare-user-only", "--repo=" + ours)
+    for ref in (APP, RUNTIME):
+        commit = bench.tool("ostree", "rev-parse", f"--repo={system}/repo", "flathub:" + ref).strip()
+        bench.tool("ostree", "pull-local", "--repo=" + ours, f"{system}/repo", commit)
+        bench.tool("ostree", "refs", "--repo=" + ours, "--create=" + ref, commit)
+    commits = {ref: bench.commit(ref) for ref in (RUNTIME, APP)}
+    bench.want(bench.run("remote-add", "ours", "file://" + ours), ["remote added ours"])
+    bench.want(bench.run("install", "ours", APP), [f"installed {ref} {commit}" for ref, commit in commits.items()])
+    bench.check(commits)
 
 
 if __name__ == "__main__":
