@@ -5,17 +5,22 @@ usage: kill_loop.py PROGRAM ROUNDS SEED
 
 PROGRAM is a built fpk, which runs on a folder of its own; Debian's package ostree is needed. `ostree commit` makes a repository with a
 runtime and two applications of several commits each. Each round offers random commits of them, gives `batch` a random list of commands
-that all can be done (pins, remotes, installs, updates, rollbacks, uninstalls), kills the run by SIGKILL after a random time, and then
+that all can be done (pins, remotes, installs, updates, rollbacks, uninstalls), kills the run by SIGKILL at a random moment, and then
 asks for all three lists. They must read, and show the installation as it is after the commands whose lines were printed, or after one
 more. Then the folder is read without fpk: each path of each shown commit, and of the one before it, is as `ostree checkout` lays it
-out; each of its files is a hard link of its object; all that stands below `repo/objects` has the digest of its name. Once in ten rounds
-`ostree fsck` looks at what the kill left, and has to pass. One round in eight begins anew with an installation of layout 1, which the
-batch migrates. In one round of three, and on each full file system, looks run beside the batch, one after another: each of `list`,
-`list --pins`, `list --remotes`, `info` and `launch` has to show the installation as it is after the commands whose lines were printed
-at some moment of the look, or after one more, and with no error. Where it may mount, once in five rounds a batch of its own runs on a
-new tmpfs that is too small for it: what fails for want of room has to leave the same, and the status is 3. At the end it prints what it
-counted; the status is 0 where nothing was amiss. A killed process loses nothing that it wrote: what a power cut leaves isn't tried
-here.
+out; each of its files is a hard link of its object; all that stands below `repo/objects` has the digest of its name; what stands below
+`repo/refs` names commits that are there. Once in ten rounds `ostree fsck` looks at what the kill left, and has to pass. One round in
+eight begins anew with an installation of layout 1, which the batch migrates. In one round of three, and on each full file system, looks
+run beside the batch, one after another: each of `list`, `list --pins`, `list --remotes`, `info` and `launch` has to show the
+installation as it is after the commands whose lines were printed at some moment of the look, or after one more, and with no error.
+Where it may mount, once in five rounds a batch of its own runs on a new tmpfs that is too small for it: what fails for want of room has
+to leave the same, and the status is 3. A killed process loses nothing that it wrote: what a power cut leaves isn't tried here.
+
+The moment is even over the time that the batch should take, by what each kind of operation took before: the time of the processor, so
+that a busy machine shifts it little, and plain time where looks run beside. Loops with seeds of their own can run side by side.
+
+At the end it prints what it counted; SIGTERM asks for that after the present round. The status is 0 where nothing was amiss. Else the
+folders stay, and are named. kill_loop_faults.py tries whether faults are told.
 """
 
 import collections
@@ -24,6 +29,7 @@ import os
 import random
 import re
 import shutil
+import signal
 import struct
 import subprocess
 import sys
@@ -42,6 +48,11 @@ LOOKS = [["list"], ["list", "--pins"], ["list", "--remotes"]]
 LOOKS += [["info", ref] for ref in [RUNTIME] + APPS] + [["launch", ref] for ref in APPS]
 COMMITS = 3
 FILES = 12
+# How many commands a batch has.
+LENGTHS = [1, 2, 3, 5, 8, 15]
+# What is taken to be the seconds of an operation before one of its kind was seen, and of a run that hangs.
+GUESS = 0.02
+LIMIT = 600
 
 
 class Remote:
@@ -255,8 +266,13 @@ def previous_of(deploy, commits):
     return [commit for commit in commits if commit.encode() in deploy]
 
 
-def amiss(installation, model, remote):
-    """What isn't whole in the folder of an installation; None where all is."""
+def is_commit(text, objects):
+    """Whether the text of a ref names a commit that stands among the objects."""
+    return re.fullmatch("[0-9a-f]{64}\n", text) and f"{text[:2]}/{text[2:-1]}.commit" in objects
+
+
+def amiss(installation, model, remote, linked=True):
+    """What isn't whole in the folder of an installation; None where all is. A file may be no link of its object where that is said."""
     objects = entries(os.path.join(installation, "repo/objects"))
     inodes = set()
     for path, (what, inode) in objects.items():
@@ -264,6 +280,9 @@ def amiss(installation, model, remote):
             inodes.add(inode)
             if digest(path, what) != path.replace("/", "").rpartition(".")[0]:
                 return f"{path} has another digest"
+    for path, (what, _) in entries(os.path.join(installation, "repo/refs")).items():
+        if what[0] == "file" and not is_commit(what[2].decode("ascii", "replace"), objects):
+            return f"{path} names no commit"
     for ref, (commit, previous) in model.refs.items():
         home = os.path.join(installation, ref)
         if os.readlink(os.path.join(home, "active")) != commit:
@@ -272,7 +291,7 @@ def amiss(installation, model, remote):
         if named != {commit, previous or commit}:
             return f"{ref}: deploy names {sorted(named)}"
         for one in named:
-            text = amiss_commit(os.path.join(home, one), remote.trees[one], inodes)
+            text = amiss_commit(os.path.join(home, one), remote.trees[one], inodes if linked else None)
             if text:
                 return f"{ref} at {one}: {text}"
     return None
@@ -287,7 +306,7 @@ def amiss_commit(folder, tree, inodes):
     for path, (what, inode) in found.items():
         if what != tree[path]:
             return f"{path} is another"
-        if what[0] == "file" and inode not in inodes:
+        if what[0] == "file" and inodes is not None and inode not in inodes:
             return f"{path} is no link of the store"
     return None
 
@@ -332,20 +351,68 @@ def old_layout(folder, model):
     write(os.path.join(folder, "pins"), "".join(pin + "\n" for pin in sorted(model.pins)))
 
 
-def run_killed(program, text, seconds, looks=None):
-    """What a batch printed up to the moment when it was killed, and its status. Looks may run beside it."""
+def kinds(lines, beside):
+    """What tells how long each operation takes: its line's first word, whether it is the first of its batch, and whether looks run."""
+    return [(line.split()[0], number == 0, beside) for number, line in enumerate(lines)]
+
+
+def moment(rng, lines, beside, costs):
+    """A random moment of a batch: after how many lines, and how many seconds later."""
+    each = [costs.get(kind, GUESS) for kind in kinds(lines, beside)] or [GUESS]
+    rest = rng.random() * sum(each)
+    for place, cost in enumerate(each):
+        if rest < cost:
+            break
+        rest -= cost
+    return place, min(rest, cost)
+
+
+def learn(lines, times, beside, costs):
+    """Takes note of how long the operations took whose lines were seen at these times."""
+    for kind, before, after in zip(kinds(lines, beside), times, times[1:]):
+        costs[kind] = (costs.get(kind, after - before) * 7 + after - before) / 8
+
+
+def watch(process, printed, at, clock, times):
+    """Notes when each line of a process is seen, and kills it at a moment, where one is given."""
+    end = time.monotonic() + LIMIT
+    while process.poll() is None:
+        now, lines = clock(), printed()
+        times += [now] * (lines + 1 - len(times))
+        if at and (lines > at[0] or lines == at[0] and now - times[lines] >= at[1]):
+            process.kill()
+            break
+        if time.monotonic() > end:
+            process.send_signal(signal.SIGABRT)
+        time.sleep(0.001)
+    process.wait()
+
+
+def run_killed(program, text, at=None, looks=None):
+    """What a batch printed up to the moment when it was killed, its status, and when its lines were seen. Looks may run beside it."""
     with tempfile.TemporaryFile() as source, tempfile.TemporaryFile() as sink:
         source.write(text.encode("ascii"))
         source.seek(0)
         process = subprocess.Popen([program, "batch"], stdin=source, stdout=sink)
-        killer = threading.Timer(seconds, process.kill)
-        killer.start()
+        begun, worked, times = time.monotonic(), ~process.pid << 3 | 2, [0.0]
+
+        def clock():
+            """The seconds that passed, or those that the process worked, which Linux tells by a clock of its own."""
+            try:
+                return time.monotonic() - begun if looks else time.clock_gettime(worked)
+            except OSError:
+                return times[-1]
+
+        def printed():
+            return os.pread(sink.fileno(), 1 << 20, 0).count(b"\n")
+
+        watcher = threading.Thread(target=watch, args=(process, printed, at, clock, times))
+        watcher.start()
         while looks and process.poll() is None:
-            looks.look(lambda: os.pread(sink.fileno(), 1 << 20, 0).count(b"\n"))
-        process.wait()
-        killer.cancel()
+            looks.look(printed)
+        watcher.join()
         sink.seek(0)
-        return sink.read().decode("ascii"), process.returncode
+        return sink.read().decode("ascii"), process.returncode, times
 
 
 def listed(program):
@@ -360,14 +427,6 @@ def listed(program):
     return text
 
 
-def seconds_each(program, remote, rng):
-    """About how long an install takes."""
-    remote.offer(rng)
-    begun = time.monotonic()
-    run_killed(program, f"remote-add hub file://{remote.repo}\n" + "".join(f"install hub {ref}\n" for ref in APPS), 600)
-    return (time.monotonic() - begun) / 2
-
-
 def batch(model, rng, remote, count):
     """The lines of a batch, what it prints, and the models at first and after each line."""
     words, lines, models = [], [], [model]
@@ -379,7 +438,7 @@ def batch(model, rng, remote, count):
     return words, lines, models
 
 
-def one_round(program, folder, rng, model, remote, counts):
+def one_round(program, folder, rng, model, remote, counts, costs):
     """One batch that is killed. What is shown now, or None where something isn't as it must be."""
     if rng.random() < 0.125:
         old_layout(folder, model)
@@ -387,17 +446,21 @@ def one_round(program, folder, rng, model, remote, counts):
     is_old = os.path.exists(os.path.join(folder, "pins")) and not os.path.exists(os.path.join(folder, "config"))
     counts["of layout 1"] += is_old
     remote.offer(rng)
-    words, lines, models = batch(model, rng, remote, rng.randrange(1, 16))
+    words, lines, models = batch(model, rng, remote, rng.choice(LENGTHS))
     if is_old:
         lines.insert(0, "migrated layout 2")
         models.insert(0, model)
     looks = Looks(program, folder, rng) if rng.random() < 1 / 3 else None
-    printed, status = run_killed(program, "".join(words), rng.random() * len(words) * counts["seconds"] / 2, looks)
+    at = moment(rng, lines, looks is not None, costs)
+    printed, status, times = run_killed(program, "".join(words), at, looks)
+    learn(lines, times, looks is not None, costs)
     if is_amiss_beside(looks, models, counts):
         return None
     counts["killed" if status < 0 else "ended"] += 1
     whole = printed.split("\n")[:-1]
     counts["acknowledged"] += len(whole)
+    if status < 0 and len(whole) < len(lines):
+        counts["killed before " + lines[len(whole)].split()[0]] += 1
     if whole != lines[: len(whole)] or status not in (0, -9):
         print(f"status {status}, printed {printed!r} for {words!r}")
         return None
@@ -459,7 +522,10 @@ def full_round(program, home, rng, remote, counts):
     folder, before = os.path.join(place, "installation"), os.environ["FPK_INSTALLATION"]
     os.environ["FPK_INSTALLATION"] = folder
     try:
-        return full_batch(program, folder, rng, remote, counts)
+        is_whole = full_batch(program, folder, rng, remote, counts)
+        if not is_whole:
+            kept(home, folder, f"{counts['begun']}.full")
+        return is_whole
     finally:
         os.environ["FPK_INSTALLATION"] = before
         tool("umount", place)
@@ -469,7 +535,7 @@ def full_batch(program, folder, rng, remote, counts):
     remote.offer(rng)
     words, lines, models = batch(Model(), rng, remote, rng.randrange(2, 10))
     looks = Looks(program, folder, rng)
-    printed, status = run_killed(program, "".join(words), 600, looks)
+    printed, status, _ = run_killed(program, "".join(words), looks=looks)
     if is_amiss_beside(looks, models, counts):
         return False
     whole = printed.split("\n")[:-1]
@@ -488,36 +554,49 @@ def full_batch(program, folder, rng, remote, counts):
     return False
 
 
+def kept(home, folder, number):
+    """Sets a folder aside in which something is amiss."""
+    aside = os.path.join(home, f"amiss.{number}")
+    if os.path.isdir(folder):
+        tool("cp", "-a", folder, aside)
+    print(f"round {number}: {aside}", flush=True)
+
+
 def main():
     """Runs the rounds, and prints the counts."""
     if len(sys.argv) != 4:
         sys.exit(__doc__)
     program, rounds, seed = os.path.abspath(sys.argv[1]), int(sys.argv[2]), int(sys.argv[3])
     os.umask(0o022)
-    rng = random.Random(seed)
-    with tempfile.TemporaryDirectory(prefix="kill_loop") as home:
-        folder = os.path.join(home, "installation")
-        os.mkdir(folder)
-        os.environ["FPK_INSTALLATION"] = folder
-        remote = Remote(home)
-        counts = collections.Counter(seconds=seconds_each(program, remote, rng))
-        shutil.rmtree(folder)
-        os.mkdir(folder)
-        model, faults, mounts = Model(), 0, may_mount()
-        for number in range(rounds):
-            if mounts and number % 5 == 0:
-                faults += not full_round(program, home, rng, remote, counts)
-            model = one_round(program, folder, rng, model, remote, counts)
-            if model is None:
-                faults += 1
-                shutil.rmtree(folder, ignore_errors=True)
-                os.mkdir(folder)
-                model = Model()
-    print(f"rounds {rounds}, amiss {faults}")
+    rng, asked = random.Random(seed), []
+    signal.signal(signal.SIGTERM, lambda *_: asked.append(True))
+    home = tempfile.mkdtemp(prefix="kill_loop")
+    folder = os.path.join(home, "installation")
+    os.mkdir(folder)
+    os.environ["FPK_INSTALLATION"] = folder
+    remote, model, mounts = Remote(home), Model(), may_mount()
+    counts, costs = collections.Counter(), {}
+    while counts["begun"] < rounds and not asked:
+        if mounts and counts["begun"] % 5 == 0:
+            counts["amiss"] += not full_round(program, home, rng, remote, counts)
+        counts["begun"] += 1
+        model = one_round(program, folder, rng, model, remote, counts, costs)
+        if model is None:
+            counts["amiss"] += 1
+            kept(home, folder, counts["begun"])
+            shutil.rmtree(folder, ignore_errors=True)
+            os.mkdir(folder)
+            model = Model()
+        if counts["begun"] % 100 == 0:
+            print(f"round {counts['begun']}: killed {counts['killed']}, amiss {counts['amiss']}", file=sys.stderr, flush=True)
+    if not counts["amiss"]:
+        shutil.rmtree(home)
+    print(f"rounds {counts['begun']}, amiss {counts['amiss']}")
     names = ["killed", "ended", "of layout 1", "acknowledged", "with one more", "refs looked at", "looked at by ostree fsck"]
-    for name in [*names, "looks beside changes", "on a full disk", "on a small disk"]:
+    names += ["looks beside changes", "on a full disk", "on a small disk"]
+    for name in names + sorted(name for name in counts if name.startswith("killed before")):
         print(f"{name} {counts[name]}")
-    return 1 if faults else 0
+    return 1 if counts["amiss"] else 0
 
 
 if __name__ == "__main__":
