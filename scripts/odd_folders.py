@@ -1,22 +1,25 @@
 #!/usr/bin/env python3
 """Installs, updates, rolls back and uninstalls on file systems that are unlike a plain disk, as a user without rights.
 
-usage: odd_folders.py PROGRAM [FILES]
+usage: odd_folders.py PROGRAM [FILES [PLACE..]]
 
 PROGRAM is a built fpk. Debian's package ostree is needed, and root for what is mounted, in a mount namespace of its own. The places are
 
 - a tmpfs at `/var` of a system whose root is a squashfs (squashfs-tools, a loop device),
 - a FUSE file system, `bindfs` over a folder (bindfs),
-- an overlay of two folders, where the installation stands in the upper one, and where it stands in the lower one,
-- a home that autofs mounts when it is entered (autofs),
+- an overlay of two folders, where the installation stands in the upper one, and where it stands in the lower one, and files may be copies,
+- a home that autofs mounts when it is entered, which no command finds mounted (autofs; where this kernel lacks it, in a User-Mode Linux
+  over the files of this system, by Debian's package user-mode-linux),
 - a plain folder, by a process that may have 64 open files.
 
-What can't be had here is left out, and said. At each place a remote is added, an application of FILES files (400) installed with its runtime,
-updated, rolled back, updated again and uninstalled, by the user nobody. After each command its status has to be 0, the list as it should,
-and what stands there as `ostree checkout` lays it out, with the digests that its names say. The status is 0 where nothing was amiss.
+Each PLACE is a word of `squashfs`, `fuse`, `upper`, `lower`, `autofs` and `few_files`; with none it is all of them. What can't be had
+here is left out, and said. At each place a remote is added, an application of FILES files (400) installed with its runtime, updated,
+rolled back, updated again and uninstalled, by the user nobody. After each command its status has to be 0, the list as it should, and what
+stands there as `ostree checkout` lays it out, with the digests that its names say. The status is 0 where nothing was amiss.
 """
 
 import contextlib
+import glob
 import os
 import resource
 import shutil
@@ -30,6 +33,24 @@ from kill_loop import APPS, RUNTIME, Model, Remote, amiss
 
 USER = 65534
 APP = APPS[0]
+MODULES = "/usr/lib/uml/modules"
+# The first process of a User-Mode Linux, whose root is that of this system and isn't written. What it makes stands on a tmpfs.
+FIRST = """#!/bin/sh
+export PATH="{path}" ODD_FOLDERS="{home}/guest"
+mount -t proc none /proc
+mount -t sysfs none /sys
+mount -t devtmpfs none /dev
+mount -t tmpfs none /run
+mount -t tmpfs none /tmp
+mkdir -p "{home}"
+mount -t hostfs -o "{home}" none "{home}"
+mount -t tmpfs -o mode=755 none "{home}/guest"
+insmod "{module}"
+{{ uname -sr; "{python}" "{home}/odd_folders.py" "{home}/fpk" {files} autofs; echo "status $?"; }} > "{home}/told" 2>&1
+sync
+echo o > /proc/sysrq-trigger
+sleep 60
+"""
 
 
 class Skipped(Exception):
@@ -63,8 +84,9 @@ def owned(*folders):
 class Place:
     """Where fpk runs: the folder of the installation as fpk knows it and as this script does, and what stands before the command."""
 
-    def __init__(self, folder, seen=None, before=None, files=None, remote=None):
+    def __init__(self, folder, seen=None, before=None, files=None, remote=None, ready=None, linked=True):
         self.folder, self.seen, self.files, self.remote = folder, seen or folder, files, remote
+        self.ready, self.linked = ready, linked
         drop = ["setpriv", f"--reuid={USER}", f"--regid={USER}", "--clear-groups", "--no-new-privs"] if os.geteuid() == 0 else []
         self.before = drop if before is None else before
 
@@ -75,6 +97,8 @@ class Place:
             if self.files:
                 resource.setrlimit(resource.RLIMIT_NOFILE, (self.files, self.files))
 
+        if self.ready:
+            self.ready()
         environment = {"PATH": os.environ["PATH"], "FPK_INSTALLATION": self.folder}
         done = subprocess.run([*self.before, program, *words], env=environment, capture_output=True, text=True, timeout=900, preexec_fn=limit,
                               cwd="/", check=False)
@@ -142,32 +166,45 @@ def lower(home, remote, program):
         if status != 0:
             raise Skipped(f"{words}: {said}")
     _, top = overlay(home, "lower")
-    yield Place(os.path.join(top, "installation")), None
+    # what is linked to a file of the lower folder is linked to a copy of it
+    yield Place(os.path.join(top, "installation"), linked=False), None
 
 
 @contextlib.contextmanager
 def autofs(home, *_):
     """A home that is mounted when it is entered."""
     need("automount")
+    if not has_autofs():
+        raise Skipped("this kernel has no autofs")
     homes, top = os.path.join(home, "homes"), os.path.join(home, "auto")
+
+    def unmounted():
+        for _ in range(600):
+            if not mounted(top + "/me"):
+                return
+            time.sleep(0.1)
+        raise Skipped("the home stays mounted")
+
     owned(os.path.join(homes, "me"))
     os.makedirs(top)
-    for name, text in [("master", f"{top} file:{home}/map --timeout=5\n"), ("map", f"* -fstype=bind :{homes}/&\n")]:
+    for name, text in [("master", f"{top} file:{home}/map --timeout=1\n"), ("map", f"* -fstype=bind :{homes}/&\n")]:
         with open(os.path.join(home, name), "w", encoding="ascii") as out:
             out.write(text)
     if os.geteuid() != 0:
         raise Skipped("it needs root")
-    daemon = subprocess.Popen(["automount", "-f", "-p", f"{home}/pid", f"{home}/master"], stdout=subprocess.DEVNULL, stderr=subprocess.PIPE)
+    words = ["automount", "-f", "-p", f"{home}/pid", f"{home}/master"]
+    # in a session of its own: nothing is mounted for a process of the daemon's group
+    daemon = subprocess.Popen(words, stdout=subprocess.DEVNULL, stderr=subprocess.PIPE, start_new_session=True)
     try:
-        for _ in range(50):
+        for _ in range(500):
             if daemon.poll() is not None:
                 raise Skipped(f"automount: {daemon.stderr.read().decode().strip()}")
             if os.path.isdir(os.path.join(top, "me")):
                 break
             time.sleep(0.2)
-        else:
+        if not mounted(top) or not mounted(top + "/me"):
             raise Skipped("nothing is mounted")
-        yield Place(os.path.join(top, "me/fpk")), None
+        yield Place(os.path.join(top, "me/fpk"), ready=unmounted), None
     finally:
         daemon.terminate()
         daemon.wait()
@@ -181,6 +218,37 @@ def few_files(home, *_):
 
 
 PLACES = [squashfs, fuse, upper, lower, autofs, few_files]
+
+
+def has_autofs():
+    return b"autofs" in kill_loop.read("/proc/filesystems").split()
+
+
+def mounted(folder):
+    """Whether something is mounted at a folder, without a look at it."""
+    return f" {folder} ".encode() in kill_loop.read("/proc/self/mounts")
+
+
+def user_mode(home):
+    """What the place `autofs` tells in a User-Mode Linux."""
+    need("automount", "linux.uml")
+    modules = glob.glob(f"{MODULES}/*/kernel/fs/autofs/autofs4.ko")
+    if not modules or os.geteuid() != 0:
+        raise Skipped("it needs root, and the module autofs4 of User-Mode Linux")
+    owned(os.path.join(home, "guest"))
+    first = os.path.join(home, "first")
+    for script in [__file__, kill_loop.__file__]:
+        shutil.copy(script, home)
+    words = {"module": modules[0], "python": sys.executable, "path": os.environ["PATH"], "home": home, "files": kill_loop.FILES}
+    kill_loop.write(first, FIRST.format(**words))
+    os.chmod(first, 0o755)
+    machine = ["linux.uml", "mem=512M", "rootfstype=hostfs", "rootflags=/", "ro", f"init={first}", "con=null", "con0=fd:0,fd:1"]
+    with subprocess.Popen(machine, stdin=subprocess.DEVNULL, stdout=subprocess.PIPE, stderr=subprocess.STDOUT) as running:
+        said = running.communicate(timeout=6 * 3600)[0].decode(errors="replace")
+    told = os.path.join(home, "told")
+    if not os.path.exists(told):
+        raise Skipped(f"User-Mode Linux: {said[-500:]}")
+    return kill_loop.read(told).decode(errors="replace")
 
 
 def begin(remote, place):
@@ -211,7 +279,7 @@ def go(remote, program, place, is_begun):
         status, out, said = place.run(program, "list")
         if (status, out) != (0, model.shown()):
             return f"list after {commands}: status {status}, {out!r}, {said!r}"
-        found = amiss(place.seen, model, remote)
+        found = amiss(place.seen, model, remote, place.linked)
         if found:
             return f"after {commands}: {found}"
     return None
@@ -229,10 +297,15 @@ def go_through(program, home):
     remote = Remote(home)
     own = os.path.join(home, "fpk")
     shutil.copy(program, own)
-    for name in PLACES:
+    for name in [place for place in PLACES if not sys.argv[3:] or place.__name__ in sys.argv[3:]]:
         offer(remote, remote.commits[APP][0])
         begun = time.monotonic()
         try:
+            if name is autofs and not has_autofs() and os.path.basename(home) != "guest":
+                told = user_mode(home)
+                faults += not told.endswith("status 0\n")
+                print(f"autofs, in User-Mode Linux: {told}", end="", flush=True)
+                continue
             with name(home, remote, own) as (place, other):
                 found = go(remote, other or own, place, name is lower)
         except Skipped as why:
@@ -245,10 +318,10 @@ def go_through(program, home):
 
 def main():
     """Runs this script once more in a mount namespace, over a folder that is taken away afterwards."""
-    if len(sys.argv) not in (2, 3):
+    if len(sys.argv) < 2 or {*sys.argv[3:]} - {place.__name__ for place in PLACES}:
         sys.exit(__doc__)
     os.umask(0o022)
-    kill_loop.FILES = int(sys.argv[2]) if len(sys.argv) == 3 else 400
+    kill_loop.FILES = int(sys.argv[2]) if len(sys.argv) > 2 else 400
     program = os.path.abspath(sys.argv[1])
     if "ODD_FOLDERS" in os.environ:
         return go_through(program, os.environ["ODD_FOLDERS"])
