@@ -175,7 +175,7 @@ goes_changed May f s t {u = u} late known known_b frame unread tells works =
 pub record WasRefused (holds : Option Holdings) (May : Op → Type 0) (f : Holdings → World → Answer) (refusal : Refusal) (u w : View) : Type 0 where
   pub before : State
   pub at : Shows (shows u) before
-  pub done : IsReady u → (held : Holdings) → holds ≡ Some held → OverView (f held) u (λ a. (a.refusal ≡ Some refusal) × (Completes held a u w × Opens (after_all before (ops_of a)) w))
+  pub done : IsReady u → (held : Holdings) → holds ≡ Some held → OverView (f held) u (λ a. (a.refusal ≡ Some refusal) × Completes held a u w × Opens (after_all before (ops_of a)) w)
   pub opens : AreToldFor May holds → IsSound u → (t : State) × Opens t w
   pub tree : IsTree u
 

@@ -1,5 +1,5 @@
 -- The exported files, brought in step with the state that changes left.
-use Rattle.std.proofs.Common.{◌≡◌, ◌≢◌, ◌≤◌, inl, inr, ℕ, List, [], ◌∷◌, ◌++◌, Option, Some, None, Result, Ok, Err, IsErrOf, OnOk, refl, sym, ◌∙◌, ap, subst, codes, arith}
+use Rattle.std.proofs.Common.{◌≡◌, ◌≢◌, ◌≤◌, ◌⊎◌, inl, inr, ℕ, List, [], ◌∷◌, ◌++◌, Option, Some, None, Result, Ok, Err, IsErrOf, OnOk, refl, sym, ◌∙◌, ap, subst, codes, arith}
 use Rattle.fp_host.specs.Paths.{Elements, Slot, IsAbove}
 use Rattle.fp_host.specs.View.{View, IsTree}
 use Rattle.fp_host.specs.Outcome.{Disk, Leaves, Nothing, gone, shows}
@@ -245,14 +245,14 @@ module _ (holds : Option Holdings) (May : Op → Type 0) (f : Holdings → World
   opened held is sound = step.opens (changed.opens (λ asks. (held, is)) sound)
 
   -- nothing was refused
-  not_at_once : {a : Answer} → a.refusal ≡ None → IsAtOnce a.refusal → ⊥
-  not_at_once none at_once = subst IsAtOnce none at_once
+  not_at_once : (a : Answer) → a.refusal ≡ None → IsAtOnce a.refusal → ⊥
+  not_at_once a none at_once = subst IsAtOnce none at_once
 
   runs_on : IsTree v → RunsOver holds May f u v → RunsOver holds May f u w
   runs_on tree runs = record {
     runs = λ ready held is shown counts.
         let e = changed.done ready held is shown counts in
-        runs_left held (shown_answer (f held) shown) changed.before t changed.at (changed.after ready held is shown counts) (not_at_once e.0) e.1 step (opened held is) (runs.runs ready held is shown counts);
+        runs_left held (shown_answer (f held) shown) changed.before t changed.at (changed.after ready held is shown counts) (not_at_once (shown_answer (f held) shown) e.0) e.1 step (opened held is) (runs.runs ready held is shown counts);
     changes = λ known. alter_on u v w (runs.changes known) (alter_refreshes step);
     rests = λ ready held is shown counts rest idle.
         let e = changed.done ready held is shown counts in
@@ -267,7 +267,7 @@ module _ (holds : Option Holdings) (May : Op → Type 0) (f : Holdings → World
         let e = changed.done ready held is shown counts in (
           e.0,
           record {
-            completes = completes_left held (shown_answer (f held) shown) changed.before t changed.at (changed.after ready held is shown counts) (not_at_once e.0) e.1 step (opened held is) tree next was;
+            completes = completes_left held (shown_answer (f held) shown) changed.before t changed.at (changed.after ready held is shown counts) (not_at_once (shown_answer (f held) shown) e.0) e.1 step (opened held is) tree next was;
             exports = λ some sound. exports_left next (opened held is sound) was;
           },
         );
@@ -280,7 +280,7 @@ module _ (holds : Option Holdings) (May : Op → Type 0) (f : Holdings → World
   halted_on host.NoMemory = record {
     ended = λ ready held is shown counts.
         let e = changed.done ready held is shown counts in
-        stands_left held (shown_answer (f held) shown) changed.before t changed.at (changed.after ready held is shown counts) (not_at_once e.0) e.1 step (opened held is);
+        stands_left held (shown_answer (f held) shown) changed.before t changed.at (changed.after ready held is shown counts) (not_at_once (shown_answer (f held) shown) e.0) e.1 step (opened held is);
     given = λ held by. absurd by;
   }
 
@@ -288,20 +288,20 @@ module _ (holds : Option Holdings) (May : Op → Type 0) (f : Holdings → World
 
 module _ (holds : Option Holdings) (May : Op → Type 0) (f : Holdings → World → Answer) (late : IsLate f) (refusal : Refusal) {u v w : View} (was : WasRefused holds May f refusal u v) (step : RefreshesShown v w) where
   -- where the answer's operations lead is what is shown
-  moves : {a : Answer} → Opens (after_all was.before (ops_of a)) v → Refreshes (after_all was.before (ops_of a)) v w
-  moves opens = step.refreshes _ (opens.shown (shows v) (now_left v))
+  moves : (a : Answer) → Opens (after_all was.before (ops_of a)) v → Refreshes (after_all was.before (ops_of a)) v w
+  moves a opens = step.refreshes _ (opens.shown (shows v) (now_left v))
 
   runs_refused : IsTree v → RunsOver holds May f u v → RunsOver holds May f u w
   runs_refused tree runs = record {
     runs = λ ready held is shown counts.
         let a = shown_answer (f held) shown in
         let e = was.done ready held is shown counts in
-        runs_left held a was.before (after_all was.before (ops_of a)) was.at refl (over_late (f held) (late held) shown) e.1 (moves {a = a} e.2) (λ sound. (moves {a = a} e.2).opens e.2) (runs.runs ready held is shown counts);
+        runs_left held a was.before (after_all was.before (ops_of a)) was.at refl (over_late (f held) (late held) shown) e.1 (moves a e.2) (λ sound. (moves a e.2).opens e.2) (runs.runs ready held is shown counts);
     changes = λ known. alter_on u v w (runs.changes known) (alter_refreshed step);
     rests = λ ready held is shown counts rest idle.
         let a = shown_answer (f held) shown in
         let e = was.done ready held is shown counts in
-        still_refreshed was.tree tree e.1.files (runs.rests ready held is shown counts rest idle) rest.exports e.2 (moves {a = a} e.2);
+        still_refreshed was.tree tree e.1.files (runs.rests ready held is shown counts rest idle) rest.exports e.2 (moves a e.2);
     untouched = λ none. absurd (none was.before was.at);
   }
 
@@ -310,11 +310,11 @@ module _ (holds : Option Holdings) (May : Op → Type 0) (f : Holdings → World
     ended = λ ready held is shown counts.
         let a = shown_answer (f held) shown in
         let e = was.done ready held is shown counts in
-        let opens : Opens (after_all was.before (ops_of a)) w = (moves {a = a} e.2).opens e.2 in
+        let opens : Opens (after_all was.before (ops_of a)) w = (moves a e.2).opens e.2 in
         let refreshed = end (after_all was.before (ops_of a)) (e.2.shown (shows v) (now_left v)) in (
           e.0,
           record {
-            completes = completes_left held a was.before (after_all was.before (ops_of a)) was.at refl (over_late (f held) (late held) shown) e.1 (moves {a = a} e.2) (λ sound. opens) tree next refreshed;
+            completes = completes_left held a was.before (after_all was.before (ops_of a)) was.at refl (over_late (f held) (late held) shown) e.1 (moves a e.2) (λ sound. opens) tree next refreshed;
             exports = λ some sound. exports_left next opens refreshed;
           },
         );
@@ -328,14 +328,17 @@ module _ (holds : Option Holdings) (May : Op → Type 0) (f : Holdings → World
     ended = λ ready held is shown counts.
         let a = shown_answer (f held) shown in
         let e = was.done ready held is shown counts in
-        stands_left held a was.before (after_all was.before (ops_of a)) was.at refl (over_late (f held) (late held) shown) e.1 (moves {a = a} e.2) (λ sound. (moves {a = a} e.2).opens e.2);
+        stands_left held a was.before (after_all was.before (ops_of a)) was.at refl (over_late (f held) (late held) shown) e.1 (moves a e.2) (λ sound. (moves a e.2).opens e.2);
     given = λ held by. absurd by;
   }
 
 module _ {a b c : Option Moments} (holds : Option Holdings) (May : Op → Type 0) (f : Holdings → World → Answer) (late : IsLate f) (refusal : Refusal) (known_b : IsTold b) (known_c : IsTold c)
     (first : Goes a b (RunsOver holds May f) (WasRefused holds May f refusal)) (second : Always RefreshesShown b c) where
+  seen_trees : AtEnd RefreshedShown b c → Goes b c RefreshesShown (λ v w. IsTree w × (RefreshesShown v w × RefreshedShown v w))
+  seen_trees end = ends_tree known_c (goes_known second end) (λ v w tree q. (tree, q))
+
   goes_refused_on : AtEnd RefreshedShown b c → Goes a c (RunsOver holds May f) (EndedOver holds f (Err (run.Refused refusal)))
-  goes_refused_on end = goes_on known_b first (ends_tree known_c (goes_known second end) (λ v w tree q. (tree, q)))
+  goes_refused_on end = goes_on known_b first (seen_trees end)
       (λ u v w tree r q step. runs_refused holds May f late refusal q step tree r)
       (λ u v w tree r q step last. ended_refused holds May f late refusal q step tree last.0 last.1.1)
 
@@ -361,58 +364,59 @@ module _ {a b c : Option Moments} (holds : Option Holdings) (May : Op → Type 0
 
 -- ---- however the changes ended
 
+-- a change that ends so
+abbrev Whole : Option Moments → Option Moments → Option Holdings → (Op → Type 0) → (Holdings → World → Answer) → Result (Unit {0}) RunEnd → Type 0
+Whole a c holds May f x = Goes a c (RunsOver holds May f) (EndedOver holds f x)
+
+-- what is exported stands, where all was done
+abbrev Stand : Option Moments → Option Moments → Option Holdings → (Op → Type 0) → Result (Unit {0}) RunEnd → Type 0
+Stand a c holds May x = OnOk x (AreToldFor May holds → AtEnd (λ u w. IsSound u → IsInStep holds w) a c)
+
 module _ {a c : Option Moments} (May : Op → Type 0) (f : Holdings → World → Answer) (s : State) (result : Result (Unit {0}) RunEnd) {u w : Outside}
     (late : IsLate f) (known : IsTold a) (known_u : IsTold u.told) (known_w : IsTold w.told) (known_c : IsTold c)
     (frame : Frame Nothing NoName NoPath a u.told) (unread : Goes a u.told StaysUnread StaysUnread) (tells : AtEnd (IsOpened s) a u.told) where
-  abbrev Whole : Result (Unit {0}) RunEnd → Type 0
-  Whole x = Goes a c (RunsOver u.holdings May f) (EndedOver u.holdings f x)
-
-  goes_passed : (e : RunEnd) → IsNoRefusal e → Acts (Opens s) May f s (Err e) u w → Always (λ x y. y ≡ x) w.told c → Whole (Err e)
+  goes_passed : (e : RunEnd) → IsNoRefusal e → Acts (Opens s) May f s (Err e) u w → Always (λ x y. y ≡ x) w.told c → Whole a c u.holdings May f (Err e)
   goes_passed e other works same = goes_on known_w (goes_failed May f s e other late known known_u frame unread tells works) same
       (λ x y z tree p q is. subst (RunsOver u.holdings May f x) (sym is) p)
       (λ x y z tree p q is last. subst (EndedOver u.holdings f (Err e) x) (sym last) q)
 
-  pub goes_in_step : (r : Result State RunEnd) → Acts (Opens s) May f s r u w → Always (StepsAfter r) w.told c → (IsGivenBy result → AtEnd (InStepAfter r) w.told c) → PassesOn r result → Whole result
+  pub goes_in_step : (r : Result State RunEnd) → Acts (Opens s) May f s r u w → Always (StepsAfter r) w.told c → (IsGivenBy result → AtEnd (InStepAfter r) w.told c) → PassesOn r result → Whole a c u.holdings May f result
   goes_in_step (Ok t) works steps end passes =
       let first = goes_changed May f s t late known known_u frame unread tells works in
       elim passes [
-        | inl is ↦ subst Whole (sym is) (goes_refreshed u.holdings May f t known_w known_c first steps (end (subst IsGivenBy (sym is) tt)))
+        | inl is ↦ subst (Whole a c u.holdings May f) (sym is) (goes_refreshed u.holdings May f t known_w known_c first steps (end (subst IsGivenBy (sym is) tt)))
         | inr failed ↦ elim failed [
-          | inl is ↦ subst Whole (sym is) (goes_not_refreshed u.holdings May f t known_w known_c first steps host.Fault)
-          | inr is ↦ subst Whole (sym is) (goes_not_refreshed u.holdings May f t known_w known_c first steps host.NoMemory)
+          | inl is ↦ subst (Whole a c u.holdings May f) (sym is) (goes_not_refreshed u.holdings May f t known_w known_c first steps host.Fault)
+          | inr is ↦ subst (Whole a c u.holdings May f) (sym is) (goes_not_refreshed u.holdings May f t known_w known_c first steps host.NoMemory)
         ]
       ]
   goes_in_step (Err (run.Refused refusal)) works steps end passes =
       let first = goes_refused May f s refusal late known known_u frame unread tells works in
       elim passes [
-        | inl is ↦ subst Whole (sym is) (goes_refused_on u.holdings May f late refusal known_w known_c first steps (end (subst IsGivenBy (sym is) tt)))
+        | inl is ↦ subst (Whole a c u.holdings May f) (sym is) (goes_refused_on u.holdings May f late refusal known_w known_c first steps (end (subst IsGivenBy (sym is) tt)))
         | inr failed ↦ elim failed [
-          | inl is ↦ subst Whole (sym is) (goes_refused_off u.holdings May f late refusal known_w known_c first steps host.Fault)
-          | inr is ↦ subst Whole (sym is) (goes_refused_off u.holdings May f late refusal known_w known_c first steps host.NoMemory)
+          | inl is ↦ subst (Whole a c u.holdings May f) (sym is) (goes_refused_off u.holdings May f late refusal known_w known_c first steps host.Fault)
+          | inr is ↦ subst (Whole a c u.holdings May f) (sym is) (goes_refused_off u.holdings May f late refusal known_w known_c first steps host.NoMemory)
         ]
       ]
-  goes_in_step (Err run.Fault) works steps end passes = subst Whole (sym passes) (goes_passed run.Fault (λ refusal is. cc is) works steps)
-  goes_in_step (Err run.RemoteFault) works steps end passes = subst Whole (sym passes) (goes_passed run.RemoteFault (λ refusal is. cc is) works steps)
-  goes_in_step (Err run.NoMemory) works steps end passes = subst Whole (sym passes) (goes_passed run.NoMemory (λ refusal is. cc is) works steps)
+  goes_in_step (Err run.Fault) works steps end passes = subst (Whole a c u.holdings May f) (sym passes) (goes_passed run.Fault (λ refusal is. cc is) works steps)
+  goes_in_step (Err run.RemoteFault) works steps end passes = subst (Whole a c u.holdings May f) (sym passes) (goes_passed run.RemoteFault (λ refusal is. cc is) works steps)
+  goes_in_step (Err run.NoMemory) works steps end passes = subst (Whole a c u.holdings May f) (sym passes) (goes_passed run.NoMemory (λ refusal is. cc is) works steps)
 
-  -- what is exported stands, where all was done
-  abbrev Stand : Result (Unit {0}) RunEnd → Type 0
-  Stand x = OnOk x (AreToldFor May u.holdings → AtEnd (λ x y. IsSound x → IsInStep u.holdings y) a c)
-
-  pub exports_in_step : (r : Result State RunEnd) → Acts (Opens s) May f s r u w → Always (StepsAfter r) w.told c → (IsGivenBy result → AtEnd (InStepAfter r) w.told c) → PassesOn r result → Stand result
+  pub exports_in_step : (r : Result State RunEnd) → Acts (Opens s) May f s r u w → Always (StepsAfter r) w.told c → (IsGivenBy result → AtEnd (InStepAfter r) w.told c) → PassesOn r result → Stand a c u.holdings May result
   exports_in_step (Ok t) works steps end passes =
       let first = goes_changed May f s t late known known_u frame unread tells works in
       elim passes [
-        | inl is ↦ subst Stand (sym is) (exports_stand u.holdings May f t known_w known_c first steps known (end (subst IsGivenBy (sym is) tt)))
-        | inr failed ↦ elim failed [ inl is ↦ subst Stand (sym is) tt | inr is ↦ subst Stand (sym is) tt ]
+        | inl is ↦ subst (Stand a c u.holdings May) (sym is) (exports_stand u.holdings May f t known_w known_c first steps known (end (subst IsGivenBy (sym is) tt)))
+        | inr failed ↦ elim failed [ inl is ↦ subst (Stand a c u.holdings May) (sym is) tt | inr is ↦ subst (Stand a c u.holdings May) (sym is) tt ]
       ]
   exports_in_step (Err (run.Refused refusal)) works steps end passes = elim passes [
-    | inl is ↦ subst Stand (sym is) tt
-    | inr failed ↦ elim failed [ inl is ↦ subst Stand (sym is) tt | inr is ↦ subst Stand (sym is) tt ]
+    | inl is ↦ subst (Stand a c u.holdings May) (sym is) tt
+    | inr failed ↦ elim failed [ inl is ↦ subst (Stand a c u.holdings May) (sym is) tt | inr is ↦ subst (Stand a c u.holdings May) (sym is) tt ]
   ]
-  exports_in_step (Err run.Fault) works steps end passes = subst Stand (sym passes) tt
-  exports_in_step (Err run.RemoteFault) works steps end passes = subst Stand (sym passes) tt
-  exports_in_step (Err run.NoMemory) works steps end passes = subst Stand (sym passes) tt
+  exports_in_step (Err run.Fault) works steps end passes = subst (Stand a c u.holdings May) (sym passes) tt
+  exports_in_step (Err run.RemoteFault) works steps end passes = subst (Stand a c u.holdings May) (sym passes) tt
+  exports_in_step (Err run.NoMemory) works steps end passes = subst (Stand a c u.holdings May) (sym passes) tt
 
 -- ---- the cause of a fault
 
@@ -442,12 +446,12 @@ remote_passed r result passes is = by r passes
     by (Err run.RemoteFault) passes = refl
     by (Err run.NoMemory) passes = absurd (let both : run.NoMemory ≡ run.RemoteFault = clash_ends passes is in cc both)
 
-stands_after : (s : State) (r : Result State RunEnd) {v w : View} → OpensBy s r v w → Opens s v → StandsAfter r w
-stands_after s (Ok t) by opens = by opens
-stands_after s (Err (run.Refused refusal)) by opens = opens_sound (by opens).1
-stands_after s (Err run.Fault) by opens = tt
-stands_after s (Err run.RemoteFault) by opens = tt
-stands_after s (Err run.NoMemory) by opens = tt
+stands_after : (s : State) (r : Result State RunEnd) (v w : View) → OpensBy s r v w → Opens s v → StandsAfter r w
+stands_after s (Ok t) v w by opens = by opens
+stands_after s (Err (run.Refused refusal)) v w by opens = opens_sound (by opens).1
+stands_after s (Err run.Fault) v w by opens = tt
+stands_after s (Err run.RemoteFault) v w by opens = tt
+stands_after s (Err run.NoMemory) v w by opens = tt
 
 rose_on : (a b c : ℕ) → b ≤ c → Rose a b → Rose a c
 rose_on a b c le rose = omega arith
@@ -463,6 +467,6 @@ caused_in_step May f s r result {u = u} {w = w} before now later tells works pas
         | inl first ↦ Rose-later before u.host_faults now later (rose_on u.host_faults w.host_faults now cause.later (works.host.fault (is.0, first) opened.0 opened.1 opens))
         | inr here ↦
             let changed = (works.opens is.0).goes.told opened.0 opened.1 in
-            Rose-later before w.host_faults now (omega (arith, later, works.host.later)) (cause.fault here changed.0 changed.1 (stands_after s r changed.3 opens))
+            Rose-later before w.host_faults now (omega (arith, later, works.host.later)) (cause.fault here changed.0 changed.1 (stands_after s r opened.0.now changed.0.now changed.3 opens))
       ];
 }

@@ -1,5 +1,5 @@
 -- What a run is before anything is done, and what it is once the installation was opened.
-use Rattle.std.proofs.Common.{◌≡◌, inl, inr, ℕ, List, [], ◌∷◌, ◌++◌, Option, Result, Ok, Err, refl, sym, ◌∙◌, ap, subst}
+use Rattle.std.proofs.Common.{◌≡◌, inl, inr, ℕ, List, [], ◌∷◌, ◌++◌, Option, Some, None, Result, Ok, Err, refl, sym, ◌∙◌, ap, subst}
 use Rattle.std.proofs.lemmas.List.{append-nil}
 use Rattle.fp_host.specs.Paths.{Elements}
 use Rattle.fp_host.specs.Remote.{Holdings}
@@ -233,12 +233,12 @@ done_over holds f s t {u = u} {v = v} w begun tree work is ready held told shown
 
 -- they were made up to a refusal
 pub refused_over : (holds : Option Holdings) (f : Holdings → World → Answer) (s : State) (refusal : Refusal) {u v : View} (w : View) → Begun s u v → IsTree v → PerformsOver (Opens s) holds f s v w → PerformedOver (Opens s) holds f s (Err (Refused refusal)) v w
-    → IsReady u → (held : Holdings) → holds ≡ Some held → OverView (f held) u (λ a. (a.refusal ≡ Some refusal) × (Completes held a u w × Opens (after_all s (ops_of a)) w))
+    → IsReady u → (held : Holdings) → holds ≡ Some held → OverView (f held) u (λ a. (a.refusal ≡ Some refusal) × Completes held a u w × Opens (after_all s (ops_of a)) w)
 refused_over holds f s refusal {u = u} {v = v} w begun tree work is ready held told shown counts =
     let opens = begun.opened.opens (ready_sound begun.opened.shown ready) in
     let done = is.performed held told opens in
     let a = f held (world_at s v) in
-    subst (λ (a : Answer). (a.refusal ≡ Some refusal) × (Completes held a u w × Opens (after_all s (ops_of a)) w)) (ap (f held) (begun_world s begun tree) ∙ sym (over_is (f held) (shows u) shown s begun.opened.shown counts))
+    subst (λ (a : Answer). (a.refusal ≡ Some refusal) × Completes held a u w × Opens (after_all s (ops_of a)) w) (ap (f held) (begun_world s begun tree) ∙ sym (over_is (f held) (shows u) shown s begun.opened.shown counts))
     (
       done.0,
       completes held a s (world_at s v) refl begun.opened begun.keeping (work.performs held told opens).files (sym (begun_world s begun tree)) done.1,

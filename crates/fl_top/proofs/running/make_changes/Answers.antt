@@ -24,20 +24,20 @@ pub returns-clause-any_moment : goal.returns-clause-any_moment
 returns-clause-any_moment g c =
     let t = g.met.H.Host.is_tree in
     let step = c.bring_in_step.ensures in
-    goes_in_step (MayDo c.args.changes.now) (changing c.args.changes.now) c.in_ok-opened.opened c.bring_in_step.result (changing_late c.args.changes.now) (t c.args.host.now) (t c.open.new.host) (t c.change_all.new.host) (t c.bring_in_step.new.host) c.open.ensures.frame c.open.ensures.unread c.in_ok-opened.ensures.tells
-    c.change_all.result c.change_all.ensures.acts step.any_moment step.in_step step.passes
+    goes_in_step (MayDo c.args.changes.now) (changing c.args.changes.now) c.in_ok-opened.opened c.bring_in_step.result (changing_late c.args.changes.now) (t c.args.host.now) (t c.open.new.host) (t c.change_all-changed.new.host) (t c.bring_in_step.new.host) c.open.ensures.frame c.open.ensures.unread c.in_ok-opened.ensures.tells
+    c.change_all-changed.result c.change_all-changed.ensures.acts step.any_moment step.in_step step.passes
 
 pub returns-clause-exports : goal.returns-clause-exports
 returns-clause-exports g c =
     let t = g.met.H.Host.is_tree in
     let step = c.bring_in_step.ensures in
-    exports_in_step (MayDo c.args.changes.now) (changing c.args.changes.now) c.in_ok-opened.opened c.bring_in_step.result (changing_late c.args.changes.now) (t c.args.host.now) (t c.open.new.host) (t c.change_all.new.host) (t c.bring_in_step.new.host) c.open.ensures.frame c.open.ensures.unread c.in_ok-opened.ensures.tells
-    c.change_all.result c.change_all.ensures.acts step.any_moment step.in_step step.passes
+    exports_in_step (MayDo c.args.changes.now) (changing c.args.changes.now) c.in_ok-opened.opened c.bring_in_step.result (changing_late c.args.changes.now) (t c.args.host.now) (t c.open.new.host) (t c.change_all-changed.new.host) (t c.bring_in_step.new.host) c.open.ensures.frame c.open.ensures.unread c.in_ok-opened.ensures.tells
+    c.change_all-changed.result c.change_all-changed.ensures.acts step.any_moment step.in_step step.passes
 
 pub returns-clause-fault_has_cause : goal.returns-clause-fault_has_cause
 returns-clause-fault_has_cause g c =
     let step = c.bring_in_step.ensures in
-    caused_in_step (MayDo c.args.changes.now) (changing c.args.changes.now) c.in_ok-opened.opened c.change_all.result c.bring_in_step.result (g.H.Host.faults c.args.host.now) (g.H.Host.faults c.bring_in_step.new.host) c.open.ensures.fault_has_cause.later c.in_ok-opened.ensures.tells c.change_all.ensures.acts step.passes step.fault_has_cause
+    caused_in_step (MayDo c.args.changes.now) (changing c.args.changes.now) c.in_ok-opened.opened c.change_all-changed.result c.bring_in_step.result (g.H.Host.faults c.args.host.now) (g.H.Host.faults c.bring_in_step.new.host) c.open.ensures.fault_has_cause.later c.in_ok-opened.ensures.tells c.change_all-changed.ensures.acts step.passes step.fault_has_cause
 
 pub returns-clause-remotes : goal.returns-clause-remotes
-returns-clause-remotes g c = asks_work (IsErrOf c.bring_in_step.result run.RemoteFault) (λ is. remote_passed c.change_all.result c.bring_in_step.result c.bring_in_step.ensures.passes is) c.change_all.ensures.acts
+returns-clause-remotes g c = asks_work (IsErrOf c.bring_in_step.result run.RemoteFault) (λ is. remote_passed c.change_all-changed.result c.bring_in_step.result c.bring_in_step.ensures.passes is) c.change_all-changed.ensures.acts
