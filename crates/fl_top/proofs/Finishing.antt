@@ -17,7 +17,7 @@ use Rattle.fp_base.specs.declared.what.What.TheVariants.{Input}
 use Rattle.fl_lines.specs.Lines.{refusal_text}
 use Rattle.fl_words.specs.Forms.{command_of, bad_index}
 use Rattle.fl_words.specs.declared.command.Command.{Command}
-use Rattle.fl_words.specs.declared.command.Command.TheVariants.{Change as Changing, List as Listed, Show as Showing, Filter as Filtering, Batch, Fsck, Export as Exporting, Exercise as Exercising}
+use Rattle.fl_words.specs.declared.command.Command.TheVariants.{Change as Changing, Batch, Exercise as Exercising}
 use Rattle.fl_words.specs.declared.command.Change.{Change}
 use Rattle.fl_words.specs.declared.batch.BatchError.{BatchError}
 use Rattle.fl_words.specs.declared.batch.BatchError.TheVariants as batch

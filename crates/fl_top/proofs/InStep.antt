@@ -115,10 +115,12 @@ module _ {a b : Option Moments} (known : IsTold a) (frame : Frame Nothing NoName
 
 -- no state is shown
 pub ends_damaged : {a b : Option Moments} {path : Elements} → AtEnd (Opened (Err (open_ends.Damaged path))) a b → AtEnd RefreshedShown a b
-ends_damaged tells = record { goes = record {
-  untold = tells.goes.untold;
-  told = λ m is. let one = tells.goes.told m is in (one.0, one.1, one.2, λ s at. absurd (not_shown one.3 s at));
-} }
+ends_damaged tells = record {
+  goes = record {
+    untold = tells.goes.untold;
+    told = λ m is. let one = tells.goes.told m is in (one.0, one.1, one.2, λ s at. absurd (not_shown one.3 s at));
+  };
+}
 
 -- ---- the cause of a fault
 

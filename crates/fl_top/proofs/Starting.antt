@@ -238,8 +238,7 @@ refused_over holds f s refusal {u = u} {v = v} w begun tree work is ready held t
     let opens = begun.opened.opens (ready_sound begun.opened.shown ready) in
     let done = is.performed held told opens in
     let a = f held (world_at s v) in
-    subst (λ (a : Answer). (a.refusal ≡ Some refusal) × Completes held a u w × Opens (after_all s (ops_of a)) w) (ap (f held) (begun_world s begun tree) ∙ sym (over_is (f held) (shows u) shown s begun.opened.shown counts))
-    (
+    subst (λ (a : Answer). (a.refusal ≡ Some refusal) × Completes held a u w × Opens (after_all s (ops_of a)) w) (ap (f held) (begun_world s begun tree) ∙ sym (over_is (f held) (shows u) shown s begun.opened.shown counts)) (
       done.0,
       completes held a s (world_at s v) refl begun.opened begun.keeping (work.performs held told opens).files (sym (begun_world s begun tree)) done.1,
       subst (λ (z : State). Opens z w) (worlds_state held (world_at s v) (ops_of a)) done.1.holds.opens,

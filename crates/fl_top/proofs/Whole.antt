@@ -1,19 +1,16 @@
 -- A run that nothing disturbs gives its whole answer.
-use Rattle.std.proofs.Common.{◌≡◌, ◌⊎◌, inl, inr, ℕ, List, Option, Some, None, Result, arith}
-use Rattle.fp_host.specs.Paths.{Elements}
+use Rattle.std.proofs.Common.{◌≡◌, ◌⊎◌, inl, inr, ℕ, List, Option, Some, None, arith}
 use Rattle.fp_host.specs.View.{View}
-use Rattle.fp_host.specs.Outcome.{shows}
 use Rattle.fp_host.specs.Causes.{IsCaused}
 use Rattle.fp_host.specs.Moments.{Moments, Rose}
 use Rattle.fp_host.specs.Frame.{AtEnd}
 use Rattle.fp_host.specs.Remote.{Holdings}
 use Rattle.fl_words.specs.Forms.{command_of}
 use Rattle.fl_words.specs.declared.command.Command.{Command}
-use Rattle.fl_change.specs.World.{World}
 use Rattle.fl_change.specs.Answer.{Answer}
-use Rattle.fl_top.specs.Answer.{answer, Given, IsOver}
-use Rattle.fl_top.specs.Exercises.{IsRun, IsRunOver, RunsWith}
-use Rattle.fl_top.specs.Runs.{Ran, RanBy, Told, IsGiven, HasCauses, told_start}
+use Rattle.fl_top.specs.Answer.{answer}
+use Rattle.fl_top.specs.Exercises.{IsRun}
+use Rattle.fl_top.specs.Runs.{Ran, RanBy, Told, HasCauses, told_start}
 use Rattle.fl_top.specs.Status.{IsAnswered, IsOfWords}
 use Rattle.fl_top.specs.Whole.{IsFit, StartsFit, IsWhole, WasWhole, EndsWhole}
 use Rattle.fl_top.proofs.Over.{sound_counts}

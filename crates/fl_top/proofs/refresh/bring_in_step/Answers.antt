@@ -2,7 +2,6 @@ use Rattle.std.proofs.Common.{◌∙◌, inl, inr, Result, Ok, Err, IsErrOf, ref
 use Rattle.fp_host.specs.Causes.{IsCaused}
 use Rattle.fp_host.specs.Frame.{AtEnd}
 use Rattle.fp_host.specs.Moments.{Always}
-use Rattle.fp_host.specs.View.{View}
 use Rattle.fp_host.specs.declared.host.HostEnd.TheVariants as host
 use Rattle.fp_host.proofs.Goes.{stays}
 use Rattle.fp_small.specs.declared.state.State.{State}
