@@ -24,6 +24,7 @@ folders stay, and are named. kill_loop_faults.py tries whether faults are told.
 """
 
 import collections
+import contextlib
 import hashlib
 import os
 import random
@@ -50,9 +51,10 @@ COMMITS = 3
 FILES = 12
 # How many commands a batch has.
 LENGTHS = [1, 2, 3, 5, 8, 15]
-# What is taken to be the seconds of an operation before one of its kind was seen, and of a run that hangs.
+# What is taken to be the seconds of an operation before one of its kind was seen, of a run that hangs, and of a look that does.
 GUESS = 0.02
 LIMIT = 600
+PATIENCE = 60
 
 
 class Remote:
@@ -314,20 +316,35 @@ def amiss_commit(folder, tree, inodes):
 # ---- looks beside a batch
 
 
+def standing(process):
+    """What a process does that doesn't end: its state, its time in ticks of the system, and the call and the place that it is at."""
+    with contextlib.suppress(OSError):
+        words = read(f"/proc/{process.pid}/stat").rpartition(b")")[2].split()
+        where = [read(f"/proc/{process.pid}/{name}").strip() for name in ["syscall", "wchan"]]
+        return f"process {process.pid}: {b' '.join([words[0], *words[11:13], *where]).decode()}"
+    return f"process {process.pid} ended"
+
+
 class Looks:
     """Looks that run beside a batch, and what each of them told."""
 
     def __init__(self, program, folder, rng):
         self.program, self.folder, self.rng, self.seen = program, folder, rng, []
 
-    def look(self, acknowledged):
+    def look(self, acknowledged, batch):
         """Runs one. The function tells how many lines the batch has printed."""
         words, before = self.rng.choice(LOOKS), acknowledged()
-        done = subprocess.run([self.program, *words], capture_output=True, text=True, timeout=60, check=False)
-        told = done.stdout
-        if done.returncode == 0 and words[0] in ("info", "launch"):
+        with subprocess.Popen([self.program, *words], stdout=subprocess.PIPE, stderr=subprocess.PIPE, text=True) as process:
+            try:
+                told, said = process.communicate(timeout=PATIENCE)
+            except subprocess.TimeoutExpired:
+                stands = f"{standing(process)}, the batch is {standing(batch)}, locks {read('/proc/locks').decode()}"
+                process.kill()
+                told, said = process.communicate()
+                told += stands
+        if process.returncode == 0 and words[0] in ("info", "launch"):
             told = re.findall(r"\b[0-9a-f]{64}\b", told)
-        self.seen.append((words, before, acknowledged(), (done.returncode, told), done.stderr))
+        self.seen.append((words, before, acknowledged(), (process.returncode, told), said))
 
     def amiss(self, models):
         """The first that is another than each of these models tells between its start and its end."""
@@ -409,7 +426,7 @@ def run_killed(program, text, at=None, looks=None):
         watcher = threading.Thread(target=watch, args=(process, printed, at, clock, times))
         watcher.start()
         while looks and process.poll() is None:
-            looks.look(printed)
+            looks.look(printed, process)
         watcher.join()
         sink.seek(0)
         return sink.read().decode("ascii"), process.returncode, times

@@ -189,8 +189,8 @@ def look_lies(program, home, remote):
     """A look that lacks its last line."""
     done, look = [], Looks.look
 
-    def lying(self, acknowledged):
-        look(self, acknowledged)
+    def lying(self, *words):
+        look(self, *words)
         words, first, last, (status, told), said = self.seen[-1]
         if words[0] == "list" and told:
             self.seen[-1] = (words, first, last, (status, told[: told[:-1].rfind("\n") + 1]), said)
