@@ -338,8 +338,11 @@ class Looks:
             try:
                 told, said = process.communicate(timeout=PATIENCE)
             except subprocess.TimeoutExpired:
-                stands = f"{standing(process)}, the batch is {standing(batch)}, locks {read('/proc/locks').decode()}"
-                process.kill()
+                # one that has ended by now was only not read: this script may have been stopped for a while
+                stands = ""
+                if process.poll() is None:
+                    stands = f"{standing(process)}, the batch is {standing(batch)}, locks {read('/proc/locks').decode()}"
+                    process.kill()
                 told, said = process.communicate()
                 told += stands
         if process.returncode == 0 and words[0] in ("info", "launch"):
