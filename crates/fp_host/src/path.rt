@@ -1,5 +1,5 @@
 //! A path below the host's root, seen as the list of its elements, the innermost first.
-ghost use Rattle.std.specs.Prelude.{◌≡◌, ◌≢◌, ◌↔◌, ◌⊎◌, ℕ, List, ◌∷◌, ◌<◌, ◌≤◌, ◌+◌, [], length, drop, IsTrue, IsOk, IfOk, IfSome, IsNone, IsErrOf, MatchOption, false, count_by, ◌==◌};
+ghost use Rattle.std.specs.Prelude.{◌≡◌, ◌≢◌, ◌↔◌, ◌⊎◌, ℕ, List, ◌∷◌, ◌<◌, ◌≤◌, ◌+◌, [], length, drop, IsTrue, IsOk, IfOk, IfSome, IsNone, IsErrOf, MatchOption, false, count_by, ◌==◌, ◌++◌, string_bytes};
 ghost use Rattle.std.specs.List.{list_all};
 ghost use Rattle.fp_host.specs.Paths.{is_element, is_name_byte, cut, elements_of, path_text, path_eq, IsAbove};
 ghost use Rattle.fp_host.specs.declared.path.PathError.TheVariants.{NoMemory};
@@ -105,6 +105,18 @@ pub fn are_elements(text: &str) -> bool
     is_element(left)
 }
 
+/// The two texts with a slash between them, which takes memory once.
+fn joined(alloc: Global, above: &str, element: &str) -> Result<String, AllocError>
+    ensures { IfOk result (λ text. string_bytes text ≡ above.now ++ 47 ∷ element.now) }
+{
+    let room = above.len().saturating_add(1).saturating_add(element.len());
+    let mut text = String::with_capacity(alloc, room)?;
+    text.push_str(above)?;
+    text.push_str("/")?;
+    text.push_str(element)?;
+    Ok(text)
+}
+
 /// The text without its last element.
 fn front(text: &str) -> &str
     requires { IsTrue (list_all is_element (elements_of text.now)) }
@@ -208,7 +220,7 @@ impl Path {
             });
         }
         Ok(Path {
-            text: format!(in alloc; "{above}/{element}")?,
+            text: joined(alloc, above, element)?,
         })
     }
 

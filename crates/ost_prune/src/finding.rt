@@ -1,6 +1,6 @@
 //! The objects of a store that no commit uses.
 ghost use Rattle.std.specs.Prelude.{◌≡◌, List, ℕ, IfOk, OnOk, IsErrOf};
-ghost use Rattle.std.specs.BTreeSet.{contains_text};
+ghost use Rattle.std.specs.HashSet.{contains_text};
 ghost use Rattle.fp_host.specs.OverHost.{AtReturn, ChangesNothing, FailsAlone, FailsOnly};
 ghost use Rattle.ost_prune.specs.Prune.{ListsUnused};
 ghost use Rattle.ost_prune.specs.Texts.{AreUsedTexts, UnlessFaulty};
@@ -13,14 +13,14 @@ use fp_host::{Host, HostEnd, Path};
 use fp_name::Digest;
 use ost_store::{has, names, object_named};
 use std::alloc::{AllocError, Global};
-use std::collections::BTreeSet;
+use std::collections::HashSet;
 
 /// The object of this name of the store, where it is one that isn't used.
 fn unused_at<H: Host>(
     alloc: Global,
     host: &mut H,
     root: &Path,
-    used: &BTreeSet<String>,
+    used: &HashSet<String>,
     path: &Path,
 ) -> Result<Option<(Digest, ObjKind)>, HostEnd>
     ensures unchanged { ChangesNothing H.Host host.old host.new }
@@ -60,7 +60,7 @@ fn pick_unused<H: Host>(
     alloc: Global,
     host: &mut H,
     root: &Path,
-    used: &BTreeSet<String>,
+    used: &HashSet<String>,
     paths: &[Path],
 ) -> Result<Vec<(Digest, ObjKind)>, HostEnd>
     ensures unchanged { ChangesNothing H.Host host.old host.new }

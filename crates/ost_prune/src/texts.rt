@@ -1,6 +1,6 @@
 //! The objects that commits use, by the texts of their paths.
 ghost use Rattle.std.specs.Prelude.{◌≡◌, IfOk, IsErrOf, string_bytes};
-ghost use Rattle.std.specs.BTreeSet.{contains_text};
+ghost use Rattle.std.specs.HashSet.{contains_text};
 ghost use Rattle.fp_host.specs.OverHost.{AtReturn, ChangesNothing, FailsAlone};
 ghost use Rattle.ost_prune.specs.Texts.{IsTextOf, AreTextsOf, AreUsedTexts, UnlessFaulty};
 
@@ -10,7 +10,7 @@ use fp_name::Digest;
 use ost_store::path_of;
 use ost_walk::{WalkEnd, used};
 use std::alloc::{AllocError, Global};
-use std::collections::BTreeSet;
+use std::collections::HashSet;
 
 /// The text of the object's path in the store in this folder.
 fn text_of(alloc: Global, root: &Path, digest: &Digest, kind: ObjKind) -> Result<String, AllocError>
@@ -26,10 +26,10 @@ fn texts_of(
     alloc: Global,
     root: &Path,
     objects: &[(Digest, ObjKind)],
-) -> Result<BTreeSet<String>, AllocError>
+) -> Result<HashSet<String>, AllocError>
     ensures { IfOk result (λ texts. AreTextsOf root.now objects.now (contains_text texts)) }
 {
-    let mut texts = BTreeSet::new(alloc);
+    let mut texts = HashSet::new(alloc);
     for object in objects {
         let text = text_of(alloc, root, &object.0, object.1)?;
         texts.insert(text)?;
@@ -44,7 +44,7 @@ pub(crate) fn used_texts<H: Host>(
     host: &mut H,
     root: &Path,
     keep: &[Digest],
-) -> Result<Option<BTreeSet<String>>, HostEnd>
+) -> Result<Option<HashSet<String>>, HostEnd>
     ensures unchanged { ChangesNothing H.Host host.old host.new }
     ensures tells { IfOk result (λ texts. AtReturn H.Host host.old host.new
         (λ u w. UnlessFaulty root.now keep.now u

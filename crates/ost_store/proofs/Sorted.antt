@@ -20,7 +20,7 @@ use Rattle.fp_host.specs.Reads.{comes_first, is_ascending}
 use Rattle.ost_model.specs.Stores.{objects_folder}
 use Rattle.ost_store.specs.Names.{ListsNames}
 use Rattle.fp_small.specs.Walks.{IsTextOf}
-use Rattle.ost_store.specs.Walks.{AreKeyed, AreLeavesBelow}
+use Rattle.ost_store.specs.Walks.{AreKeyed, AreLeavesBelow, IsInOrder}
 use Rattle.ost_store.proofs.Lists.{in_none, in_cases, in_first, in_rest}
 
 -- the text is that of the path
@@ -109,9 +109,15 @@ ascending [] all sorted = refl
 ascending (e ∷ es) all sorted =
     and_from (comes_first (path_text e.1) (map path_text (values_of es))) (is_ascending (map path_text (values_of es))) (first_text e es all.0 all.1 sorted.0) (ascending es all.1 sorted.1)
 
-pub lists_names : {Z : Type 0} {v : View} (root : Elements) (found : List Elements) (es : List (String Z × Elements)) (paths : List Elements)
-    → AreLeavesBelow (objects_folder root) v found → AreKeyed found es → paths ≡ values_of es → IsStrictlySortedBy string_cmp (keys_of es) → ListsNames root v paths
-lists_names {v = v} root found es paths leaves keyed same sorted = subst (ListsNames root v) (sym same) (record {
-  leaves = record { each = λ q. (λ has. (leaves.each q).0 ((keyed.each q).0 has), λ is. (keyed.each q).1 ((leaves.each q).1 is)) };
-  ascending = ascending es keyed.keyed sorted;
-})
+pub keyed_in_order : {Z : Type 0} (found : List Elements) (es : List (String Z × Elements)) (paths : List Elements) → AreKeyed found es → paths ≡ values_of es → IsStrictlySortedBy string_cmp (keys_of es) → IsInOrder found paths
+keyed_in_order found es paths keyed same sorted = subst (IsInOrder found) (sym same) (record { each = keyed.each; ascending = ascending es keyed.keyed sorted })
+
+-- paths that ascend as they are
+pub found_in_order : (found paths : List Elements) → paths ≡ found → true ≡ is_ascending (map path_text found) → IsInOrder found paths
+found_in_order found paths same yes = subst (IsInOrder found) (sym same) (record { each = λ q. (λ has. has, λ has. has); ascending = sym yes })
+
+pub lists_names : {v : View} (root : Elements) (found paths : List Elements) → AreLeavesBelow (objects_folder root) v found → IsInOrder found paths → ListsNames root v paths
+lists_names root found paths leaves order = record {
+  leaves = record { each = λ q. (λ has. (leaves.each q).0 ((order.each q).0 has), λ is. (order.each q).1 ((leaves.each q).1 is)) };
+  ascending = order.ascending;
+}

@@ -1,9 +1,10 @@
 -- What is found below a folder, level by level, and put in the order of its texts.
-use Rattle.std.specs.Prelude.{◌≡◌, ◌⊎◌, ◌↔◌, List, [], ◌∷◌, Contains, String, string_bytes}
+use Rattle.std.specs.Prelude.{◌≡◌, ◌⊎◌, ◌↔◌, List, [], ◌∷◌, map, true, Contains, String, string_bytes}
 use Rattle.std.specs.List.{AllByRecursion}
 use Rattle.std.specs.Map.{values_of}
-use Rattle.fp_host.specs.Paths.{Elements, IsAbove}
+use Rattle.fp_host.specs.Paths.{Elements, IsAbove, path_text}
 use Rattle.fp_host.specs.View.{View}
+use Rattle.fp_host.specs.Reads.{is_ascending}
 use Rattle.fp_host.specs.Calls.{IsLeaf}
 use Rattle.fp_small.specs.Clear.{IsWithin}
 use Rattle.fp_small.specs.Walks.{IsBelow, IsTextOf}
@@ -34,3 +35,8 @@ pub record AreKeyed {Z : Type 0} (paths : List Elements) (es : List (String Z ×
   where
     pub keyed : AllByRecursion (λ e. IsTextOf (string_bytes e.0) e.1) es
     pub each : (q : Elements) → Contains (values_of es) q ↔ Contains paths q
+
+-- the same paths, ascending by their texts
+pub record IsInOrder (paths ordered : List Elements) : Type 0 where
+  pub each : (q : Elements) → Contains ordered q ↔ Contains paths q
+  pub ascending : is_ascending (map path_text ordered) ≡ true

@@ -1,11 +1,15 @@
 //! The names of a store in a list.
-ghost use Rattle.std.specs.Prelude.{◌-◌, IfOk, IsErrOf};
+ghost use Rattle.std.specs.Prelude.{◌≡◌, ◌-◌, map, IfOk, IsErrOf};
+ghost use Rattle.std.specs.Ordering.{is_lt, nat_cmp};
+ghost use Rattle.std.specs.Cmp.Lexicographic.{slice_cmp};
+ghost use Rattle.fp_host.specs.Paths.{path_text};
+ghost use Rattle.fp_host.specs.Reads.{is_ascending};
 ghost use Rattle.fp_host.specs.OverHost.{AtReturn, ChangesNothing, FailsOnly};
 ghost use Rattle.fp_small.specs.Clear.{Reaches};
 ghost use Rattle.fp_small.specs.declared.limits.TheConstants.{MOST_ELEMENTS};
 ghost use Rattle.ost_model.specs.Stores.{objects_folder};
 ghost use Rattle.ost_store.specs.Names.{ListsNames, CanList};
-ghost use Rattle.ost_store.specs.Walks.{AreKeyed};
+ghost use Rattle.ost_store.specs.Walks.{AreKeyed, IsInOrder};
 
 use crate::walking::leaves_below;
 use fp_base::Items;
@@ -30,7 +34,36 @@ pub fn names<H: Host>(alloc: Global, host: &mut H, root: &Path) -> Result<Items<
 {
     let objects = root.child("objects")?;
     let found = leaves_below(alloc, host, objects)?;
-    let keyed = by_text(alloc, found)?;
+    Ok(in_order(alloc, found)?)
+}
+
+/// Whether the text of the one path comes before that of the other.
+fn is_before(a: &Path, b: &Path) -> bool
+    ensures { result ≡ is_lt (slice_cmp nat_cmp (path_text a.now) (path_text b.now)) }
+{
+    a.text() < b.text()
+}
+
+/// Whether the texts of the paths ascend.
+fn are_ascending(paths: &[Path]) -> bool
+    ensures { result ≡ is_ascending (map path_text paths.now) }
+{
+    for i in 1..paths.len() {
+        if !is_before(&paths[i - 1], &paths[i]) {
+            return false;
+        }
+    }
+    true
+}
+
+/// The paths, ascending by their texts. A host lists names in order, so most often they are.
+fn in_order(alloc: Global, paths: Vec<Path>) -> Result<Items<Path>, AllocError>
+    ensures { IfOk result (IsInOrder paths.items) }
+{
+    if are_ascending(&paths) {
+        return Ok(Items::from_vec(paths));
+    }
+    let keyed = by_text(alloc, paths)?;
     Ok(Items::from_vec(values_in_order(alloc, keyed)?))
 }
 

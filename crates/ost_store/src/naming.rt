@@ -28,9 +28,10 @@ fn file_name(alloc: Global, digest: &Digest, kind: ObjKind) -> Result<String, Al
     ensures element { IfOk result (λ name. is_element (string_bytes name) ≡ true) }
 {
     let (_, rest) = digest.as_bytes().split_at(1);
-    let digits = hex::encode(alloc, rest)?;
-    let word = kind.word();
-    format!(in alloc; "{digits}.{word}")
+    let mut name = hex::encode(alloc, rest)?;
+    name.push_str(".")?;
+    name.push_str(kind.word())?;
+    Ok(name)
 }
 
 /// The path of the object in the store in this folder: `objects/XX/REST.KIND`, XX the first two

@@ -3,7 +3,7 @@ use Rattle.fp_host.proofs.Cause.{same_fault}
 use Rattle.fp_host.proofs.Ending.{ends_looks, ends_to, fault_caused}
 use Rattle.fp_host.proofs.Looking.{looks_within}
 use Rattle.ost_store.specs.Names.{CanList}
-use Rattle.std.specs.BTreeSet.{contains_text}
+use Rattle.std.specs.HashSet.{contains_text}
 use Rattle.ost_prune.specs.Texts.{AreUsedTexts}
 use Rattle.ost_prune.proofs.Found.{found_all, of_found}
 use Rattle.ost_prune.proofs.finding.find_unused.Goals as goal

@@ -1,5 +1,5 @@
 use Rattle.std.proofs.Common.{◌≤◌, List, ℕ}
-use Rattle.std.specs.BTreeSet.{contains_text}
+use Rattle.std.specs.HashSet.{contains_text}
 use Rattle.fp_host.specs.Frame.{AtEnd, Unchanged}
 use Rattle.ost_prune.specs.Texts.{AreUsedTexts}
 use Rattle.ost_prune.proofs.Found.{PicksSoFar}

@@ -1,5 +1,5 @@
 use Rattle.std.proofs.Common.{sym, ap, ◌∙◌, subst}
-use Rattle.std.specs.BTreeSet.{contains_text}
+use Rattle.std.specs.HashSet.{contains_text}
 use Rattle.fp_host.specs.Paths.{elements_of}
 use Rattle.fp_host.proofs.Ending.{ends_start, ends_to}
 use Rattle.ost_store.specs.Names.{IsNamed}

@@ -1,5 +1,5 @@
 use Rattle.std.proofs.Common.{take}
-use Rattle.std.specs.BTreeSet.{contains_text}
+use Rattle.std.specs.HashSet.{contains_text}
 use Rattle.ost_prune.specs.Texts.{AreTextsOf}
 use Rattle.ost_prune.proofs.texts.texts_of.Given as goal
 

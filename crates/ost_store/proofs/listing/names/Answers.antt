@@ -12,9 +12,8 @@ pub returns-clause-tells : goal.returns-clause-tells
 returns-clause-tells g c =
     let root = c.args.root.now in
     ends_to c.in_ok-found.ensures.tells (λ u w leaves.
-    lists_names root c.in_ok-found.found.items c.in_ok-keyed.keyed.entries c.from_vec.result
-    (subst (λ (p : Elements). AreLeavesBelow p u c.in_ok-found.found.items) c.in_ok-objects.ensures leaves) c.in_ok-keyed.ensures
-    (c.from_vec.ensures ∙ c.in_ok-values_in_order.ensures.items) c.in_ok-values_in_order.ensures.ordered)
+    lists_names root c.in_ok-found.found.items c.in_ok-in_order.value
+    (subst (λ (p : Elements). AreLeavesBelow p u c.in_ok-found.found.items) c.in_ok-objects.ensures leaves) c.in_ok-in_order.ensures)
 
 pub returns-in_err-found-clause-fault_has_cause : goal.returns-in_err-found-clause-fault_has_cause
 returns-in_err-found-clause-fault_has_cause g c =

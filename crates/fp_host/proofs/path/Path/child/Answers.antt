@@ -22,7 +22,7 @@ returns c =
     let text = string_bytes c.self.inside.text in
     let x = c.args.element.now in
     let some = not_empty text (c.if-is_empty.ensures ∙ ap (λ (t : List ℕ). length t == 0) c.as_str-above.ensures.value) in
-    let bytes = c.in_ok-format.ensures.ok ∙ ap (λ (t : List ℕ). t ++ 47 ∷ x) c.as_str-above.ensures.value in
+    let bytes = c.in_ok-joined.ensures ∙ ap (λ (t : List ℕ). t ++ 47 ∷ x) c.as_str-above.ensures.value in
     ap elements_of bytes ∙ child_below text x some c.requires ∙ ap (λ (p : List (List ℕ)). x ∷ p) c.self.view_is
 
 pub invariant_of-result-2 : goal.invariant_of-result-2
@@ -30,5 +30,5 @@ invariant_of-result-2 c =
     let text = string_bytes c.self.inside.text in
     let x = c.args.element.now in
     let some = not_empty text (c.if-is_empty.ensures ∙ ap (λ (t : List ℕ). length t == 0) c.as_str-above.ensures.value) in
-    let bytes = c.in_ok-format.ensures.ok ∙ ap (λ (t : List ℕ). t ++ 47 ∷ x) c.as_str-above.ensures.value in
+    let bytes = c.in_ok-joined.ensures ∙ ap (λ (t : List ℕ). t ++ 47 ∷ x) c.as_str-above.ensures.value in
     subst IsGood (sym (ap elements_of bytes ∙ child_below text x some c.requires)) (good_child x (elements_of text) c.requires c.self.invariant)
