@@ -1,5 +1,5 @@
 -- Objects that were made in a store, step by step.
-use Rattle.std.proofs.Common.{◌≡◌, ◌≢◌, ◌⊎◌, inl, inr, ℕ, List, Option, Some, None, refl, sym, ◌∙◌, subst, Contains}
+use Rattle.std.proofs.Common.{◌≡◌, ◌≢◌, ◌⊎◌, inl, inr, ℕ, List, Option, Some, None, refl, sym, ◌∙◌, Contains}
 use Rattle.std.proofs.lemmas.List.Elements.{Contains-push}
 use Rattle.fp_host.specs.Paths.{Elements, Slot, file, link, IsAbove}
 use Rattle.fp_host.specs.View.{View, Inode}
@@ -10,7 +10,7 @@ use Rattle.fp_small.specs.Files.{KeepsFiles}
 use Rattle.fp_base.specs.declared.object.ObjKind.{ObjKind}
 use Rattle.ost_model.specs.Objects.{object_path}
 use Rattle.ost_model.specs.Stores.{objects_folder}
-use Rattle.ost_store.specs.Created.{MadeFile, WasMade, WasPutSince, Creates, NoObject}
+use Rattle.ost_store.specs.Created.{WasMade, WasPutSince, Creates, NoObject}
 
 pub creates_refl : {root : Elements} {v : View} → Creates root NoObject v v
 creates_refl = record {

@@ -114,7 +114,7 @@ keyed_in_order found es paths keyed same sorted = subst (IsInOrder found) (sym s
 
 -- paths that ascend as they are
 pub found_in_order : (found paths : List Elements) → paths ≡ found → true ≡ is_ascending (map path_text found) → IsInOrder found paths
-found_in_order found paths same yes = subst (IsInOrder found) (sym same) (record { each = λ q. (λ has. has, λ has. has); ascending = sym yes })
+found_in_order found paths same so = subst (IsInOrder found) (sym same) (record { each = λ q. (λ has. has, λ has. has); ascending = sym so })
 
 pub lists_names : {v : View} (root : Elements) (found paths : List Elements) → AreLeavesBelow (objects_folder root) v found → IsInOrder found paths → ListsNames root v paths
 lists_names root found paths leaves order = record {

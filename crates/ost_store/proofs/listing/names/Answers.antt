@@ -1,4 +1,4 @@
-use Rattle.std.proofs.Common.{◌∙◌, subst}
+use Rattle.std.proofs.Common.{subst}
 use Rattle.fp_host.specs.Paths.{Elements}
 use Rattle.fp_host.proofs.Cause.{same_fault}
 use Rattle.fp_host.proofs.Ending.{ends_to}
@@ -12,7 +12,7 @@ pub returns-clause-tells : goal.returns-clause-tells
 returns-clause-tells g c =
     let root = c.args.root.now in
     ends_to c.in_ok-found.ensures.tells (λ u w leaves.
-    lists_names root c.in_ok-found.found.items c.in_ok-in_order.value
+    lists_names root c.in_ok-found.found.items c.in_ok-in_order.field-0
     (subst (λ (p : Elements). AreLeavesBelow p u c.in_ok-found.found.items) c.in_ok-objects.ensures leaves) c.in_ok-in_order.ensures)
 
 pub returns-in_err-found-clause-fault_has_cause : goal.returns-in_err-found-clause-fault_has_cause
