@@ -7,9 +7,10 @@ use crate::tree::Tree;
 use crate::writer::Writer;
 use fp_realnotes::{Appended, Batch, Notes, Waiting};
 use fp_realroot::{OpenFiles, System, Touched, sync_open};
-use fp_system::{Call, Cause, Kind, NewFile, Reader, Share, Unsynced, Work, folder_of, kind_at};
+use fp_system::{
+    Call, Cause, Kind, NewFile, PathMap, Reader, Share, Unsynced, Work, folder_of, kind_at,
+};
 use std::alloc::{AllocError, Global};
-use std::collections::BTreeMap;
 use std::rt::Files;
 use std::thread::Threads;
 
@@ -19,7 +20,7 @@ pub struct Later {
     alloc: Global,
     waiting: Waiting,
     // The paths of those that are being made.
-    at_work: BTreeMap<String, usize>,
+    at_work: PathMap<usize>,
     work: Work,
 }
 
@@ -29,7 +30,7 @@ impl Later {
         Later {
             alloc,
             waiting: Waiting::nothing(alloc),
-            at_work: BTreeMap::new(alloc),
+            at_work: PathMap::new(alloc),
             work: Work::nothing(alloc),
         }
     }
@@ -41,7 +42,7 @@ impl Later {
 
     /// Whether the file at the path waits or is being made.
     pub fn has(&self, at: &str) -> bool {
-        self.waiting.has(at) || self.at_work.contains_key(at)
+        self.waiting.has(at) || self.at_work.has(at)
     }
 
     /// Adds an empty file that is to wait. It errs where there is no memory.

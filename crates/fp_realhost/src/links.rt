@@ -10,7 +10,7 @@ use std::rt::Files;
 /// Gives a file a second name. Where the file system lets the file have no more names, a copy of it
 /// gets the second name, as in OSTree.
 pub fn link<R: Files>(rt: &R, from: &str, to: &str, notes: &mut Notes) -> Result<(), Cause> {
-    match link_file(rt, from, to, &notes.made) {
+    match link_file(rt, from, to, notes) {
         Ok(()) => {
             notes.add_linked(from, to);
             Ok(())
@@ -52,15 +52,16 @@ fn copy_with<R: Files>(rt: &R, from: &str, to: &str, bits: u32) -> Result<(), Ca
     give_bits(&file, bits)
 }
 
-fn link_file<R: Files>(rt: &R, from: &str, to: &str, made: &Made) -> Result<(), Cause> {
-    match check_file(rt, from, made) {
+fn link_file<R: Files>(rt: &R, from: &str, to: &str, notes: &Notes) -> Result<(), Cause> {
+    match check_file(rt, from, notes) {
         Ok(()) => known(fs::hard_link(rt, from, to)),
         Err(e) => Err(e),
     }
 }
 
-fn check_file<R: Files>(rt: &R, at: &str, made: &Made) -> Result<(), Cause> {
-    if made.is_file(at) {
+/// A file that was found or made isn't looked at again.
+fn check_file<R: Files>(rt: &R, at: &str, notes: &Notes) -> Result<(), Cause> {
+    if notes.made.is_file(at) || notes.files.has(at) {
         return Ok(());
     }
     match find_file(rt, at) {
@@ -82,19 +83,21 @@ pub fn symlink<R: Files>(rt: &R, text: &str, at: &str, notes: &mut Notes) -> Res
 
 /// Takes a file or symlink away.
 pub fn unlink<R: Files>(rt: &R, at: &str, notes: &mut Notes) -> Result<(), Cause> {
-    match unlink_leaf(rt, at, &notes.made) {
+    match known(fs::remove_file(rt, at)) {
         Ok(()) => {
             notes.add_gone(at);
             Ok(())
         }
-        Err(e) => Err(e),
+        Err(e) => Err(unlink_refusal(rt, at, &notes.made, e)),
     }
 }
 
-fn unlink_leaf<R: Files>(rt: &R, at: &str, made: &Made) -> Result<(), Cause> {
+/// Why nothing was taken away. Linux takes no folder away so, but doesn't say on each file system
+/// that it is one.
+fn unlink_refusal<R: Files>(rt: &R, at: &str, made: &Made, refused: Cause) -> Cause {
     match leaf_kind(rt, at, made) {
-        Ok(_) => known(fs::remove_file(rt, at)),
-        Err(e) => Err(e),
+        Ok(_) => refused,
+        Err(e) => e,
     }
 }
 

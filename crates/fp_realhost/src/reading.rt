@@ -130,23 +130,24 @@ fn is_file(at: &str, notes: &Notes) -> bool {
     notes.files.has(at) || notes.made.is_file(at)
 }
 
-/// What is remembered of the path, which isn't looked at again.
+/// What is remembered of the path, which isn't looked at again. Most paths that are asked for are
+/// files.
 fn known_stat(at: &str, notes: &Notes) -> Option<Result<Stat, Cause>>
     ensures { IfSome result (λ known. IfOk known HasBits) }
 {
+    if let Some(made) = notes.made.stat(at) {
+        return Some(Ok(made));
+    }
+    if let Some(found) = notes.files.get(at) {
+        return Some(stat_of(found));
+    }
     if notes.folders.has(at) {
         return Some(Ok(Stat::Dir));
     }
     if notes.made.is_absent(at) {
         return Some(Ok(Stat::Absent));
     }
-    if let Some(made) = notes.made.stat(at) {
-        return Some(Ok(made));
-    }
-    match notes.files.get(at) {
-        Some(found) => Some(stat_of(found)),
-        None => None,
-    }
+    None
 }
 
 /// What stands at the path, by the system.

@@ -1,9 +1,8 @@
 //! The file that was written last.
 use crate::below::is_below;
 use fp_realroot::{OpenFiles, open_own, open_to_read};
-use fp_system::{Call, Cause, NewFile, Unsynced, create_new, date, give_bits, known, note};
+use fp_system::{Call, Cause, NewFile, PathMap, Unsynced, create_new, date, give_bits, known};
 use std::alloc::Global;
-use std::collections::BTreeSet;
 use std::fs::{OpenFile, OpenOptions};
 use std::io::Write;
 use std::rt::Files;
@@ -11,19 +10,17 @@ use std::rt::Files;
 /// At most one open file, with its path. An object that waits for the store is dated when it was
 /// written, while it is open.
 pub struct Writer<F> {
-    alloc: Global,
     // The folder below which objects wait.
     waiting: String,
     at: String,
     file: Option<F>,
     // The objects that were dated, and not written since.
-    dated: BTreeSet<String>,
+    dated: PathMap<()>,
 }
 
 impl<F: Drop> Drop for Writer<F> {
     fn drop(self) {
         let Writer {
-            alloc: _,
             waiting: _,
             at: _,
             file: _,
@@ -36,11 +33,10 @@ impl<F: Drop> Writer<F> {
     /// No file is open, and no object was dated. Objects wait below this folder of the system.
     pub fn nothing(alloc: Global, waiting: String) -> Self {
         Writer {
-            alloc,
             waiting,
             at: String::new(alloc),
             file: None,
-            dated: BTreeSet::new(alloc),
+            dated: PathMap::new(alloc),
         }
     }
 
@@ -59,7 +55,7 @@ impl<F: Drop> Writer<F> {
 
     /// The file at the path was dated when it was made.
     pub fn add_dated(&mut self, at: &str) {
-        let _noted = note(self.alloc, &mut self.dated, at);
+        let _noted = self.dated.put(at, ());
     }
 
     fn is_at(&self, at: &str) -> bool {
@@ -102,7 +98,7 @@ impl<F: Write + OpenFile + Drop> Writer<F> {
     pub fn finish(&mut self, open: &mut OpenFiles<F>) {
         if let Some(file) = self.file.take() {
             if is_below(&self.at, &self.waiting) && date(&file).is_ok() {
-                let _noted = note(self.alloc, &mut self.dated, &self.at);
+                let _noted = self.dated.put(&self.at, ());
             }
             open.keep(&self.at, file);
         }
@@ -185,7 +181,7 @@ impl<F: Write + OpenFile + Drop> Writer<F> {
     /// Dates the last change of a file of ours to the beginning of 1970, as OSTree dates what it
     /// stores.
     pub fn date<R: Files<File = F>>(&self, rt: &R, at: &str) -> Result<(), Cause> {
-        if self.dated.contains(at) {
+        if self.dated.has(at) {
             return Ok(());
         }
         match &self.file {

@@ -1,39 +1,36 @@
 //! Permission bits that new files and folders get as they are asked for.
-use fp_system::{FOLDER_BITS, folder_of, note};
+use fp_system::{FOLDER_BITS, PathMap, folder_of};
 use std::alloc::Global;
-use std::collections::BTreeSet;
 
 /// The folders in which the umask, or what the folder says in its place, takes none of a folder's
 /// bits. Where a folder is one, so is each that is made in it.
 #[derive(Drop)]
 pub struct Grants {
-    alloc: Global,
-    folders: BTreeSet<String>,
+    folders: PathMap<()>,
 }
 
 impl Grants {
     /// None is known.
     pub fn nothing(alloc: Global) -> Self {
         Grants {
-            alloc,
-            folders: BTreeSet::new(alloc),
+            folders: PathMap::new(alloc),
         }
     }
 
     /// Whether what is made at the path is known to get all of these bits.
     pub fn has(&self, at: &str, bits: u32) -> bool {
-        bits & !FOLDER_BITS == 0 && self.folders.contains(folder_of(at))
+        bits & !FOLDER_BITS == 0 && self.folders.has(folder_of(at))
     }
 
     /// The folder that was made at the path got its bits as they were asked for.
     pub fn add(&mut self, at: &str) {
-        let _noted = note(self.alloc, &mut self.folders, folder_of(at));
+        let _noted = self.folders.put(folder_of(at), ());
     }
 
     /// A folder was made.
     pub fn add_folder(&mut self, at: &str) {
-        if self.folders.contains(folder_of(at)) {
-            let _noted = note(self.alloc, &mut self.folders, at);
+        if self.folders.has(folder_of(at)) {
+            let _noted = self.folders.put(at, ());
         }
     }
 

@@ -1,9 +1,9 @@
 //! What is remembered of the folder of a host, which needn't be asked of the system.
 #![tactic(auto)]
 
+mod contents;
 mod found_files;
 mod grants;
-mod listed;
 mod made;
 mod notes;
 mod waiting;

@@ -2,45 +2,19 @@
 ghost use Rattle.std.specs.Prelude.{IfSome};
 ghost use Rattle.fp_host.specs.Reads.{HasBits};
 
-use crate::listed::names_in;
+use crate::contents::{Contents, MadeFile};
 use fp_base::Text;
-use fp_host::{PERMISSION_BITS, Stat};
-use fp_system::{folder_of, note};
+use fp_host::Stat;
+use fp_system::{PathMap, split_name};
 use std::alloc::{AllocError, Global};
-use std::collections::{BTreeMap, BTreeSet};
-
-/// A file that was made. Its size is known as long as each write of it succeeded.
-#[derive(Clone, Copy)]
-pub struct MadeFile {
-    id: u64,
-    mode: u32,
-    size: Option<u64>,
-}
-
-impl MadeFile {
-    fn stat(&self) -> Option<Stat>
-        ensures { IfSome result HasBits }
-    {
-        match self.size {
-            Some(size) => Some(Stat::File {
-                id: self.id,
-                mode: self.mode & PERMISSION_BITS,
-                size,
-            }),
-            None => None,
-        }
-    }
-}
 
 /// The folders, files and other things that were made. In a folder that was made nothing stands but
 /// what was made there, as long as no other program puts something there.
 #[derive(Drop)]
 pub struct Made {
     alloc: Global,
-    folders: BTreeSet<String>,
-    files: BTreeMap<String, MadeFile>,
-    // Each other name that came into a folder.
-    others: BTreeSet<String>,
+    // What came into each folder.
+    folders: PathMap<Contents>,
     // Whether there was memory to note all of it, and each folder was made as it was asked for.
     is_whole: bool,
     // Whether no file was written that has a second name: its size is then noted under one of them
@@ -55,18 +29,32 @@ impl Made {
     pub fn nothing(alloc: Global) -> Self {
         Made {
             alloc,
-            folders: BTreeSet::new(alloc),
-            files: BTreeMap::new(alloc),
-            others: BTreeSet::new(alloc),
+            folders: PathMap::new(alloc),
             is_whole: true,
             has_sizes: true,
             count: 0,
         }
     }
 
+    fn file(&self, at: &str) -> Option<&MadeFile> {
+        let (folder, name) = split_name(at);
+        match self.folders.get(folder) {
+            Some(contents) => contents.file(name),
+            None => None,
+        }
+    }
+
+    fn file_mut(&mut self, at: &str) -> Option<&mut MadeFile> {
+        let (folder, name) = split_name(at);
+        match self.folders.get_mut(folder) {
+            Some(contents) => contents.file_mut(name),
+            None => None,
+        }
+    }
+
     /// Whether a regular file that was made stands there.
     pub fn is_file(&self, at: &str) -> bool {
-        self.files.contains_key(at)
+        self.file(at).is_some()
     }
 
     /// What is known of a file that was made. Its id is none that the system gives: they count down
@@ -77,36 +65,51 @@ impl Made {
         if !self.is_whole || !self.has_sizes {
             return None;
         }
-        match self.files.get(at) {
+        match self.file(at) {
             Some(file) => file.stat(),
             None => None,
         }
     }
 
-    /// Whether nothing stands there, or at the folder above.
+    /// Whether nothing stands there, or at the folder above. A folder that was made stands.
     pub fn is_absent(&self, at: &str) -> bool {
-        self.is_whole && (self.lacks(at) || self.lacks(folder_of(at)))
+        if !self.is_whole {
+            return false;
+        }
+        let (folder, name) = split_name(at);
+        match self.folders.get(folder) {
+            Some(contents) if contents.is_made => contents.lacks(name),
+            _ => self.lacks(folder),
+        }
     }
 
     fn lacks(&self, at: &str) -> bool {
-        self.folders.contains(folder_of(at)) && !self.has(at)
+        let (folder, name) = split_name(at);
+        match self.folders.get(folder) {
+            Some(contents) => contents.lacks(name),
+            None => false,
+        }
     }
 
-    fn has(&self, at: &str) -> bool {
-        self.files.contains_key(at) || self.others.contains(at)
+    /// What is in the folder, where it was made.
+    fn made(&self, at: &str) -> Option<&Contents> {
+        match self.folders.get(at) {
+            Some(contents) if self.is_whole && contents.is_made => Some(contents),
+            _ => None,
+        }
     }
 
     /// Whether the names in the folder are known, since it was made.
     pub fn has_names(&self, at: &str) -> bool {
-        self.is_whole && self.folders.contains(at)
+        self.made(at).is_some()
     }
 
     /// The names in a folder that was made, in no order.
     pub fn names(&self, alloc: Global, at: &str) -> Option<Result<Vec<Text>, AllocError>> {
-        if !self.has_names(at) {
-            return None;
+        match self.made(at) {
+            Some(contents) => Some(contents.names(alloc)),
+            None => None,
         }
-        Some(names_in(alloc, at, &self.files, &self.others))
     }
 
     fn keep(&mut self, noted: Result<(), AllocError>) {
@@ -121,24 +124,41 @@ impl Made {
             mode,
             size: Some(0),
         };
-        self.put_file(at, file);
+        self.put(at, Some(file));
     }
 
-    fn put_file(&mut self, at: &str, file: MadeFile) {
-        let noted = insert(self.alloc, &mut self.files, at, file);
+    /// A file or something else came to the path.
+    fn put(&mut self, at: &str, file: Option<MadeFile>) {
+        let (folder, name) = split_name(at);
+        let noted = match self.folders.get_mut(folder) {
+            Some(contents) => contents.put(self.alloc, name, file),
+            None => self.put_first(folder, name, file),
+        };
         self.keep(noted);
+    }
+
+    /// The first name came into a folder that was not made.
+    fn put_first(
+        &mut self,
+        folder: &str,
+        name: &str,
+        file: Option<MadeFile>,
+    ) -> Result<(), AllocError> {
+        let mut contents = Contents::nothing(self.alloc, false);
+        contents.put(self.alloc, name, file)?;
+        self.folders.put(folder, contents)
     }
 
     /// Bytes were written at the end of a file.
     pub fn add_bytes(&mut self, at: &str, count: usize) {
-        if let Some(file) = self.files.get_mut(at) {
-            file.size = grown(file.size, count);
+        if let Some(file) = self.file_mut(at) {
+            file.grow(count);
         }
     }
 
     /// A file may be otherwise than it was asked for.
     pub fn doubt_file(&mut self, at: &str) {
-        if let Some(file) = self.files.get_mut(at) {
+        if let Some(file) = self.file_mut(at) {
             file.size = None;
         }
     }
@@ -155,24 +175,21 @@ impl Made {
 
     /// A symlink was made, or what else isn't known.
     pub fn add_other(&mut self, at: &str) {
-        let noted = note(self.alloc, &mut self.others, at);
-        self.keep(noted);
+        self.put(at, None);
     }
 
     /// A folder was made.
     pub fn add_folder(&mut self, at: &str) {
-        let noted = note(self.alloc, &mut self.folders, at);
+        let contents = Contents::nothing(self.alloc, true);
+        let noted = self.folders.put(at, contents);
         self.keep(noted);
         self.add_other(at);
     }
 
     /// The second path became another name of the first one's file.
     pub fn add_linked(&mut self, from: &str, to: &str) {
-        let found = self.files.get(from).copied();
-        match found {
-            Some(file) => self.put_file(to, file),
-            None => self.add_other(to),
-        }
+        let file = self.file(from).copied();
+        self.put(to, file);
     }
 
     /// The file or symlink went to the second path.
@@ -184,31 +201,15 @@ impl Made {
 
     /// The file or symlink was taken away.
     pub fn add_gone(&mut self, at: &str) {
-        self.files.remove(at);
-        self.others.remove(at);
+        let (folder, name) = split_name(at);
+        if let Some(contents) = self.folders.get_mut(folder) {
+            contents.remove(name);
+        }
     }
 
     /// The folder was taken away.
     pub fn add_gone_folder(&mut self, at: &str) {
         self.folders.remove(at);
-        self.others.remove(at);
-    }
-}
-
-fn insert(
-    alloc: Global,
-    files: &mut BTreeMap<String, MadeFile>,
-    at: &str,
-    file: MadeFile,
-) -> Result<(), AllocError> {
-    let at = at.to_string(alloc)?;
-    files.insert(at, file)?;
-    Ok(())
-}
-
-fn grown(size: Option<u64>, count: usize) -> Option<u64> {
-    match size {
-        Some(size) => size.checked_add(count as u64),
-        None => None,
+        self.add_gone(at);
     }
 }

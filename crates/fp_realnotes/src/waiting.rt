@@ -1,9 +1,8 @@
 //! New files that wait until they are made.
 ghost use Rattle.std.specs.Prelude.{◌≤◌, length, IfSome};
 
-use fp_system::NewFile;
+use fp_system::{NewFile, PathMap};
 use std::alloc::{AllocError, Global};
-use std::collections::BTreeMap;
 use std::mem::replace;
 
 /// The most files that wait, and the most bytes that they have: once there are more, no other one
@@ -20,7 +19,7 @@ const LARGEST: usize = 256 * 1024;
 pub struct Waiting {
     alloc: Global,
     // The place of each in the list, by its path.
-    places: BTreeMap<String, usize>,
+    places: PathMap<usize>,
     files: Vec<NewFile>,
     // How many bytes they have.
     size: usize,
@@ -30,7 +29,7 @@ pub struct Waiting {
 #[derive(Drop)]
 pub struct Batch {
     /// Their paths.
-    pub paths: BTreeMap<String, usize>,
+    pub paths: PathMap<usize>,
     /// The files.
     pub files: Vec<NewFile>,
 }
@@ -49,7 +48,7 @@ impl Waiting {
     pub fn nothing(alloc: Global) -> Self {
         Waiting {
             alloc,
-            places: BTreeMap::new(alloc),
+            places: PathMap::new(alloc),
             files: Vec::new(alloc),
             size: 0,
         }
@@ -81,8 +80,7 @@ impl Waiting {
 
     /// Adds a file that is still empty. It errs where there is no memory; then it doesn't wait.
     pub fn add(&mut self, file: NewFile) -> Result<(), AllocError> {
-        let at = file.at.as_str().to_string(self.alloc)?;
-        self.places.insert(at, self.files.len())?;
+        self.places.put(&file.at, self.files.len())?;
         match self.files.push(file) {
             Ok(()) => Ok(()),
             Err(refused) => {
@@ -134,7 +132,7 @@ impl Waiting {
     pub fn take(&mut self) -> Batch {
         self.size = 0;
         Batch {
-            paths: replace(&mut self.places, BTreeMap::new(self.alloc)),
+            paths: replace(&mut self.places, PathMap::new(self.alloc)),
             files: replace(&mut self.files, Vec::new(self.alloc)),
         }
     }

@@ -1,39 +1,35 @@
 //! Sets of paths that are made to last.
 use crate::system::System;
-use fp_system::{Failure, Unsynced, is_denied, sync_at, sync_own};
+use fp_system::{Failure, PathMap, Unsynced, is_denied, sync_each, sync_own};
 use std::alloc::{AllocError, Global};
-use std::collections::BTreeSet;
 use std::thread::Threads;
 
-/// Makes all of a set last but what is synced already, by several threads where the system has
-/// them. The path of a failure is kept where there is memory. What may not be opened is spared
-/// where others may own it.
-pub fn sync_set<R: System, T: Threads + Sync>(
+/// Makes all of a set last but the files that are synced already, by several threads where the
+/// system has them. The path of a failure is kept where there is memory. What may not be opened is
+/// spared where others may own it.
+pub fn sync_set<R: System, T: Threads + Sync, V>(
     rt: &R,
     threads: &T,
     alloc: Global,
-    set: &BTreeSet<String>,
-    synced: &BTreeSet<String>,
+    set: &PathMap<V>,
+    files: &PathMap<bool>,
     spares: bool,
     refused: &mut String,
 ) -> Result<(), Unsynced> {
-    match list_of(alloc, set, synced) {
+    match list_of(alloc, set, files) {
         Ok(paths) => answer(sync_list(rt, threads, &paths, spares), &paths, refused),
-        Err(_) => sync_each(rt, set, spares, refused),
+        Err(_) => sync_in_turn(rt, set, spares, refused),
     }
 }
 
-fn list_of<'a>(
+/// The paths of the set, ascending, without the files that are synced.
+fn list_of<'a, V>(
     alloc: Global,
-    set: &'a BTreeSet<String>,
-    synced: &BTreeSet<String>,
+    set: &'a PathMap<V>,
+    files: &PathMap<bool>,
 ) -> Result<Vec<&'a str>, AllocError> {
-    let mut list = Vec::new(alloc);
-    for at in set {
-        if !synced.contains(at.as_str()) {
-            list.push(at.as_str())?;
-        }
-    }
+    let mut list = set.paths(alloc)?;
+    list.retain(|at| files.get(*at) != Some(&true));
     Ok(list)
 }
 
@@ -80,17 +76,17 @@ fn keep(at: &str, refused: &mut String) {
 }
 
 /// One after another, where there is no memory for a list.
-fn sync_each<R: System>(
+fn sync_in_turn<R: System, V>(
     rt: &R,
-    set: &BTreeSet<String>,
+    set: &PathMap<V>,
     spares: bool,
     refused: &mut String,
 ) -> Result<(), Unsynced> {
-    for at in set {
-        if let Some(unsynced) = sync_at(rt, at.as_str(), spares) {
-            keep(at.as_str(), refused);
-            return Err(unsynced);
+    match sync_each(rt, set, spares) {
+        Some((at, unsynced)) => {
+            keep(at, refused);
+            Err(unsynced)
         }
+        None => Ok(()),
     }
-    Ok(())
 }

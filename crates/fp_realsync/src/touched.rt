@@ -3,9 +3,8 @@ ghost use Rattle.std.specs.Prelude.{◌≡◌, Bool, true, OnOk};
 
 use crate::sets::sync_set;
 use crate::system::System;
-use fp_system::{Call, Cause, Unsynced, folder_of, note};
+use fp_system::{Call, Cause, PathMap, Unsynced, folder_of};
 use std::alloc::{AllocError, Global};
-use std::collections::BTreeSet;
 use std::marker::Model;
 use std::thread::Threads;
 
@@ -16,11 +15,10 @@ use std::thread::Threads;
 pub struct Touched {
     alloc: Global,
     // What an earlier run may have left.
-    left: BTreeSet<String>,
-    files: BTreeSet<String>,
-    // Those of the files that were synced, and not written since.
-    synced: BTreeSet<String>,
-    folders: BTreeSet<String>,
+    left: PathMap<()>,
+    // The files, and whether each was synced, and not written since.
+    files: PathMap<bool>,
+    folders: PathMap<()>,
     is_settled: bool,
     // A change could not be noted, or a sync of it failed, after which the system forgets it: no
     // later sync succeeds.
@@ -43,10 +41,9 @@ impl Touched {
     pub fn nothing(alloc: Global) -> Self {
         Touched {
             alloc,
-            left: BTreeSet::new(alloc),
-            files: BTreeSet::new(alloc),
-            synced: BTreeSet::new(alloc),
-            folders: BTreeSet::new(alloc),
+            left: PathMap::new(alloc),
+            files: PathMap::new(alloc),
+            folders: PathMap::new(alloc),
             is_settled: true,
             is_lost: false,
             met: None,
@@ -61,22 +58,22 @@ impl Touched {
 
     /// Whether the file was created since the last sync.
     pub fn has_file(&self, at: &str) -> bool {
-        self.files.contains(at)
+        self.files.has(at)
     }
 
     /// An earlier run may have left this file or folder.
     pub fn add_left(&mut self, at: &str) {
-        let noted = note(self.alloc, &mut self.left, at);
+        let noted = self.left.put(at, ());
         self.keep(noted);
     }
 
     fn add_file(&mut self, at: &str) {
-        let noted = note(self.alloc, &mut self.files, at);
+        let noted = self.files.put(at, false);
         self.keep(noted);
     }
 
     fn add_folder(&mut self, at: &str) {
-        let noted = note(self.alloc, &mut self.folders, at);
+        let noted = self.folders.put(at, ());
         self.keep(noted);
     }
 
@@ -104,13 +101,18 @@ impl Touched {
 
     /// Bytes are written to a file that was created.
     pub fn add_written(&mut self, at: &str) {
-        self.synced.remove(at);
+        self.mark(at, false);
     }
 
-    /// The file is synced before the next sync of all. Where there is no memory to note it, it is
-    /// synced again.
+    /// The file is synced before the next sync of all.
     pub fn add_synced(&mut self, at: &str) {
-        let _noted = note(self.alloc, &mut self.synced, at);
+        self.mark(at, true);
+    }
+
+    fn mark(&mut self, at: &str, is_synced: bool) {
+        if let Some(file) = self.files.get_mut(at) {
+            *file = is_synced;
+        }
     }
 
     /// A file could not be synced, which the next sync answers.
@@ -133,10 +135,8 @@ impl Touched {
 
     /// The file or symlink went to the second path.
     pub fn add_moved(&mut self, from: &str, to: &str) {
-        self.synced.remove(from);
-        self.synced.remove(to);
         self.files.remove(to);
-        if self.files.remove(from) {
+        if self.files.remove(from).is_some() {
             self.add_file(to);
         }
         self.add_name(from);
@@ -145,7 +145,6 @@ impl Touched {
 
     /// The file or symlink was taken away.
     pub fn add_gone(&mut self, at: &str) {
-        self.synced.remove(at);
         self.files.remove(at);
         self.add_name(at);
     }
@@ -187,7 +186,6 @@ impl Touched {
     {
         self.left.clear();
         self.files.clear();
-        self.synced.clear();
         self.folders.clear();
         self.is_settled = true;
     }
@@ -201,10 +199,10 @@ impl Touched {
         if self.is_lost {
             return Err(told(self.met, &self.met_at, at));
         }
-        let synced = &self.synced;
-        sync_set(rt, threads, self.alloc, &self.left, synced, true, at)?;
-        sync_set(rt, threads, self.alloc, &self.files, synced, false, at)?;
-        sync_set(rt, threads, self.alloc, &self.folders, synced, false, at)
+        let files = &self.files;
+        sync_set(rt, threads, self.alloc, &self.left, files, true, at)?;
+        sync_set(rt, threads, self.alloc, files, files, false, at)?;
+        sync_set(rt, threads, self.alloc, &self.folders, files, false, at)
     }
 }
 

@@ -222,8 +222,8 @@ const BARE: [Act<'static>; 2] = [
 ];
 
 /// What is looked at: the root, and what isn't known to be there or absent. A file that was written
-/// while it had two names is looked at again.
-const LOOKS: [(Step<'static>, &str); 27] = [
+/// while it had two names is looked at again. What goes away isn't looked at before.
+const LOOKS: [(Step<'static>, &str); 29] = [
     (
         Step::Stat("none"),
         "look looks/root\nmake looks\nmake looks/root\ncreate looks/root/.lock\n\
@@ -260,17 +260,32 @@ const LOOKS: [(Step<'static>, &str); 27] = [
     ),
     (Step::Stat("d/e/f"), ""),
     (Step::Unlink("d/y"), "remove looks/root/d/y\n"),
+    (Step::Symlink("text", "d/l"), "link looks/root/d/l\n"),
+    (Step::Unlink("d/l"), "remove looks/root/d/l\n"),
     (Step::Stat("none/x"), "look looks/root/none\n"),
     (Step::Stat("none/y/z"), ""),
     (Step::MakeDir("none"), "make looks/root/none\n"),
     (Step::Stat("none/x"), ""),
 ];
 
-const LOOKING: [Act<'static>; 1] = [Act::Logged(
-    Access::Change,
-    "looks/root",
-    &[Part::Ask(&LOOKS)],
-)];
+/// A file that another run made, and that was looked at, gets a second name without another look.
+const FOUND: [(Step<'static>, &str); 3] = [
+    (
+        Step::Stat("d/z"),
+        "look looks/root\nlook looks/root/.lock\nlock looks/root/.lock\n\
+         look looks/root/.lock\nlook looks/root/d\nlook looks/root/d/z\n",
+    ),
+    (Step::Link("d/z", "d/u"), "link looks/root/d/u\n"),
+    (
+        Step::Unlink("d/u"),
+        "lock looks/root\nremove looks/root/d/u\n",
+    ),
+];
+
+const LOOKING: [Act<'static>; 2] = [
+    Act::Logged(Access::Change, "looks/root", &[Part::Ask(&LOOKS)]),
+    Act::Logged(Access::Change, "looks/root", &[Part::Ask(&FOUND)]),
+];
 
 #[test]
 fn the_system_is_asked_in_order(rt: HostRuntime) {

@@ -1,9 +1,9 @@
 //! The folders above a path, none of which may be a symlink.
 use crate::cause::Cause;
 use crate::found::{Kind, kind_at};
+use crate::path_map::PathMap;
 use crate::paths::folder_of;
-use std::alloc::{AllocError, Global};
-use std::collections::BTreeSet;
+use std::alloc::Global;
 use std::rt::Files;
 
 /// The folders that were looked at, by their paths. Each is looked at once, and remembered until it
@@ -12,36 +12,31 @@ use std::rt::Files;
 /// forgotten or a folder is made there.
 #[derive(Drop)]
 pub struct Folders {
-    alloc: Global,
-    known: BTreeSet<String>,
-    absent: BTreeSet<String>,
+    // Whether a folder is there, or nothing.
+    known: PathMap<bool>,
 }
 
 impl Folders {
     /// None was looked at.
     pub fn none(alloc: Global) -> Self {
         Folders {
-            alloc,
-            known: BTreeSet::new(alloc),
-            absent: BTreeSet::new(alloc),
+            known: PathMap::new(alloc),
         }
     }
 
     /// Whether the folder is remembered.
     pub fn has(&self, at: &str) -> bool {
-        self.known.contains(at)
+        self.known.get(at) == Some(&true)
     }
 
     /// Remembers a folder above which no symlink stands, where there is memory.
     pub fn add(&mut self, at: &str) {
-        self.absent.remove(at);
-        let _noted = note(self.alloc, &mut self.known, at);
+        let _noted = self.known.put(at, true);
     }
 
     /// A folder was removed, or something else came: what stands at the path is not known any more.
     pub fn forget(&mut self, at: &str) {
         self.known.remove(at);
-        self.absent.remove(at);
     }
 
     /// Looks at each folder above the path, from a place in its text on, up to one that isn't
@@ -61,11 +56,8 @@ impl Folders {
 
     /// Whether a folder is there. A symlink is an error.
     pub fn is_folder<R: Files>(&mut self, rt: &R, at: &str) -> Result<bool, Cause> {
-        if self.has(at) {
-            return Ok(true);
-        }
-        if self.absent.contains(at) {
-            return Ok(false);
+        if let Some(is_there) = self.known.get(at) {
+            return Ok(*is_there);
         }
         match kind_at(rt, at) {
             Ok(kind) => self.remember(at, kind),
@@ -78,7 +70,7 @@ impl Folders {
         match kind {
             Kind::Dir => self.add(at),
             Kind::Absent => {
-                let _noted = note(self.alloc, &mut self.absent, at);
+                let _noted = self.known.put(at, false);
             }
             Kind::Link => return Err(Cause::IsSymlink),
             Kind::File | Kind::Other => {}
@@ -92,19 +84,5 @@ fn above_at(at: &str, end: usize) -> Option<&str> {
     match at.split_at_checked(end) {
         Some((above, rest)) if rest.starts_with('/') => Some(above),
         _ => None,
-    }
-}
-
-/// Adds a text to a set that may hold it.
-pub fn note(alloc: Global, set: &mut BTreeSet<String>, at: &str) -> Result<(), AllocError> {
-    if set.contains(at) {
-        return Ok(());
-    }
-    match at.to_string(alloc) {
-        Ok(text) => {
-            set.insert(text)?;
-            Ok(())
-        }
-        Err(e) => Err(e),
     }
 }

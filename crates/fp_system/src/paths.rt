@@ -17,11 +17,17 @@ fn push(folder: &str, below: &str, into: &mut String) -> Result<(), AllocError> 
     into.push_str(below)
 }
 
+/// The folder that a path stands in, and its name there.
+pub fn split_name(at: &str) -> (&str, &str) {
+    match at.rsplit_once('/') {
+        None => (".", at),
+        Some(("", name)) => ("/", name),
+        Some(parts) => parts,
+    }
+}
+
 /// The folder that a path stands in.
 pub fn folder_of(at: &str) -> &str {
-    match at.rsplit_once('/') {
-        None => ".",
-        Some(("", _)) => "/",
-        Some((folder, _)) => folder,
-    }
+    let (folder, _) = split_name(at);
+    folder
 }
