@@ -94,6 +94,59 @@ const REFUSING: [Act<'static>; 1] = [Act::Run(
     ),
 )];
 
+/// What stands where nothing is taken away: folders of an earlier run and of this one, and files.
+const STANDING: [Made<'static>; 2] = [
+    Made::Folder("unlinked/root/folder"),
+    Made::File("unlinked/root/file", ""),
+];
+
+const NO_LEAF: &str = "it is neither a regular file nor a symlink";
+
+/// What is no file or symlink isn't taken away, and why is told.
+const UNLINKING: [Act<'static>; 7] = [
+    Act::Make(&STANDING),
+    Act::Run(
+        Access::Change,
+        "unlinked/root",
+        &[Part::Fail(&[Step::Unlink("folder")])],
+        (1, NO_LEAF),
+    ),
+    Act::Run(
+        Access::Change,
+        "unlinked/root",
+        &[
+            Part::Done(&[Step::MakeDir("new")]),
+            Part::Fail(&[Step::Unlink("new")]),
+        ],
+        (1, NO_LEAF),
+    ),
+    Act::Run(
+        Access::Change,
+        "unlinked/root",
+        &[Part::Fail(&[Step::Unlink("folder/none")])],
+        (
+            1,
+            "cannot remove unlinked/root/folder/none: No such file or directory (os error 2)",
+        ),
+    ),
+    Act::Run(
+        Access::Change,
+        "unlinked/root",
+        &[Part::Fail(&[Step::Unlink("file/below")])],
+        (
+            1,
+            "cannot remove unlinked/root/file/below: No such file or directory (os error 2)",
+        ),
+    ),
+    Act::Run(
+        Access::Change,
+        "unlinked/root",
+        &[Part::Fail(&[Step::Unlink("")])],
+        (1, ""),
+    ),
+    Act::Text("unlinked/root/file", ""),
+];
+
 /// A file in the place of the root is a fault.
 const IN_THE_WAY: [Act<'static>; 2] = [
     Act::Make(&[Made::Folder("above"), Made::File("above/file", "")]),
@@ -153,6 +206,7 @@ const READING: [Act<'static>; 2] = [
 fn folders_do_what_they_are_asked(rt: HostRuntime) {
     assert!(rt; tell(&rt, &rt, "asked", Kind::Plain, &ASKING));
     assert!(rt; tell(&rt, &rt, "refused", Kind::Plain, &REFUSING));
+    assert!(rt; tell(&rt, &rt, "unlinked", Kind::Plain, &UNLINKING));
     assert!(rt; tell(&rt, &rt, "above", Kind::Plain, &IN_THE_WAY));
     assert!(rt; tell(&rt, &rt, "ids", Kind::Plain, &LINKING));
     assert!(rt; tell(&rt, &rt, "pieces", Kind::Plain, &READING));

@@ -29,6 +29,8 @@ mod order;
 #[cfg(test)]
 mod others;
 #[cfg(test)]
+mod paths;
+#[cfg(test)]
 mod remotes;
 #[cfg(test)]
 mod shown;

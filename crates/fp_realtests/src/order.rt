@@ -223,7 +223,7 @@ const BARE: [Act<'static>; 2] = [
 
 /// What is looked at: the root, and what isn't known to be there or absent. A file that was written
 /// while it had two names is looked at again. What goes away isn't looked at before.
-const LOOKS: [(Step<'static>, &str); 29] = [
+const LOOKS: [(Step<'static>, &str); 37] = [
     (
         Step::Stat("none"),
         "look looks/root\nmake looks\nmake looks/root\ncreate looks/root/.lock\n\
@@ -266,6 +266,14 @@ const LOOKS: [(Step<'static>, &str); 29] = [
     (Step::Stat("none/y/z"), ""),
     (Step::MakeDir("none"), "make looks/root/none\n"),
     (Step::Stat("none/x"), ""),
+    (Step::Symlink("text", "e/f/l"), "link looks/root/e/f/l\n"),
+    (Step::List("e/f"), ""),
+    (Step::Unlink("e/f/l"), "remove looks/root/e/f/l\n"),
+    (Step::RemoveDir("e/f"), "remove looks/root/e/f\n"),
+    (Step::Stat("e/f/l"), ""),
+    (Step::MakeDir("e/f"), "make looks/root/e/f\n"),
+    (Step::Stat("e/f/l"), ""),
+    (Step::Create("e/f/l", 0o644), ""),
 ];
 
 /// A file that another run made, and that was looked at, gets a second name without another look.
