@@ -100,7 +100,7 @@ const STANDING: [Made<'static>; 2] = [
     Made::File("unlinked/root/file", ""),
 ];
 
-const NO_LEAF: &str = "it is neither a regular file nor a symlink";
+const NO_LEAF: &str = "..: it is neither a regular file nor a symlink";
 
 /// What is no file or symlink isn't taken away, and why is told.
 const UNLINKING: [Act<'static>; 7] = [
