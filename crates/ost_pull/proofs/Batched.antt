@@ -65,7 +65,7 @@ lacks_later {root = root} {t = t} apart d kind told told' works has = record {
 }
 
 -- what isn't found there is lacking
-none_there : (o : Option Object) → false ≡ is_some o → o ≡ None
+pub none_there : (o : Option Object) → false ≡ is_some o → o ≡ None
 none_there None is = refl
 none_there (Some object) is = absurd (cc is)
 

@@ -14,3 +14,5 @@ mod Samples
 mod Read
 mod Batched
 mod Joined
+mod Trusted
+pub mod TrueFiles

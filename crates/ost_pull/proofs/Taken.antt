@@ -1,7 +1,7 @@
 -- Objects that are taken one by one.
 use Rattle.std.proofs.Common.{◌≡◌, ◌⊎◌, ◌<◌, ◌≤◌, ◌+◌, inl, inr, ℕ, suc, List, [], ◌∷◌, ◌++◌, take, drop, get_or, length, true, Option, Some, None, Result, Ok, Err, refl, sym, ◌∙◌, ap, subst, arith}
 use Rattle.std.specs.Option.{option_or}
-use Rattle.std.specs.Prelude.{IsErrOf, OnOk, option_map}
+use Rattle.std.specs.Prelude.{IsErrOf, OnOk, is_some, option_map}
 use Rattle.std.proofs.Math.Seq.{take-suc, take-length, drop-cons}
 use Rattle.std.proofs.lemmas.List.{take-append-drop}
 use Rattle.fp_host.specs.Paths.{Elements}
@@ -113,13 +113,13 @@ stored_taken {root = root} {t = t} {url = url} {holds = holds} o object kept goo
 }
 
 -- the same of a file or link
-pub content_taken : {root t : Elements} {url : List ℕ} {holds : Option Holdings} {a b : Option Moments} (d : List ℕ) (kept : List Named) → is_digest d ≡ true → Unchanged a b → ((m : Moments) → a ≡ Some m → IsGoodThere d (store root (shows m.now) d kinds.File))
+pub content_taken : {root t : Elements} {url : List ℕ} {holds : Option Holdings} {a b : Option Moments} (d : List ℕ) (kept : List Named) → is_digest d ≡ true → Unchanged a b → ((m : Moments) → a ≡ Some m → is_some (store root (shows m.now) d kinds.File) ≡ true)
     → AtEnd (TakesOne root t url holds (d, kinds.File) kept kept) a b
 content_taken {root = root} {t = t} {url = url} {holds = holds} d kept good still has = record {
-  goes = knowing {P = λ u. IsGoodThere d (store root (shows u) d kinds.File)} has still.goes (λ u w there same. tt) (λ u w there same. record {
+  goes = knowing {P = λ u. is_some (store root (shows u) d kinds.File) ≡ true} has still.goes (λ u w there same. tt) (λ u w there same. record {
     on = λ taken. (
       subst (AreTaken root t url holds kept) (sym same.0) taken,
-      record { digits = good; there = inl (λ none. absurd (cc (sym none ∙ ap (λ (x : View). store root (shows x) d kinds.File) same.0 ∙ there.is))) },
+      record { digits = good; there = inl (λ none. absurd (cc (sym there ∙ sym (ap (λ (x : View). is_some (store root (shows x) d kinds.File)) same.0) ∙ ap is_some none))) },
     );
     gathers = gathered_same same.0;
   });

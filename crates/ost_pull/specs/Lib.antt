@@ -3,3 +3,4 @@ pub mod Takes
 pub mod Pulls
 pub mod Placing
 pub mod Batches
+pub mod Trusts

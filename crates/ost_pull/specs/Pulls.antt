@@ -2,16 +2,19 @@
 use Rattle.std.specs.Prelude.{◌≡◌, ◌≢◌, ◌⊎◌, ℕ, List, ◌≤◌, ◌+◌, length, map, true, Option, Some, None, Result, Ok, Err, option_map}
 use Rattle.fp_host.specs.Paths.{Elements, Slot, absent, dir, IsAbove}
 use Rattle.fp_host.specs.View.{View}
+use Rattle.fp_host.specs.Moments.{Moments}
 use Rattle.fp_host.specs.Outcome.{Spot, folder, Disk, Leaves, IsSettled, shows}
 use Rattle.fp_host.specs.Frame.{Keeps}
 use Rattle.fp_name.specs.Hex.{is_digest}
 use Rattle.fp_base.specs.declared.object.ObjKind.{ObjKind}
+use Rattle.fp_base.specs.declared.object.ObjKind.TheVariants as kinds
 use Rattle.fp_small.specs.Clear.{IsWithin, CanClear}
 use Rattle.fp_small.specs.Files.{KeepsFiles}
 use Rattle.fp_small.specs.Shares.{Shares}
 use Rattle.fp_small.specs.declared.limits.TheConstants.{MOST_ELEMENTS}
 use Rattle.fp_small.specs.declared.refusal.Refusal.{Refusal}
-use Rattle.ost_model.specs.Objects.{Have, Named, object_path, store}
+use Rattle.ost_model.specs.declared.object.Object.{Object}
+use Rattle.ost_model.specs.Objects.{Have, Named, digest_fault, object_path, store}
 use Rattle.ost_model.specs.Order.{Agree, In, order, first_fault}
 use Rattle.ost_model.specs.Stores.{objects_folder}
 use Rattle.ost_store.specs.Created.{Creates}
@@ -27,6 +30,15 @@ use Rattle.ost_pull.specs.Work.{WorksAt, WorksName}
 pub record IsApart (root t : Elements) : Type 0 where
   pub below : (q : Elements) → IsWithin (objects_folder root) q → IsWithin t q → ⊥
   pub above : (q : Elements) → IsWithin (objects_folder root) q → IsAbove q t → ⊥
+
+-- each file and link that the store has is the one of its name's digest
+pub record HasTrueFiles (root : Elements) (v : View) : Type 0 where
+  pub each : (d : List ℕ) (object : Object) → is_digest d ≡ true
+      → store root (shows v) d kinds.File ≡ Some object → digest_fault d object ≡ None
+
+-- so where the host tells what it holds
+pub record HasTrueFilesNow (root : Elements) (told : Option Moments) : Type 0 where
+  pub are : (m : Moments) → told ≡ Some m → HasTrueFiles root m.now
 
 -- an object of the store comes to its name, at which nothing stood at the entry
 pub record IsNewObject (root : Elements) (u : View) (q : Elements) (spot : Spot) : Type 0 where

@@ -9,10 +9,12 @@ ghost use Rattle.ost_walk.specs.Ends.{EndsBy, IsRemotes};
 ghost use Rattle.ost_walk.specs.Surveys.{first_bad, first_named, told_fault};
 ghost use Rattle.ost_pull.specs.Pulls.{IsApart, CanPull};
 ghost use Rattle.ost_pull.specs.Takes.{AddsAmong, AreTaken, AreTakenNow, CoversOrder, StaysTaken, TakesAll};
+ghost use Rattle.ost_pull.specs.Trusts.{MayTrust};
 ghost use Rattle.ost_store.specs.ObjectNames.{AreOpen};
 ghost use Rattle.ost_pull.specs.Work.{Works, GathersAnew};
 
 use crate::taking::walk_end;
+use crate::trusting::Trust;
 use crate::turns::take_all;
 use fp_base::{ObjKind, Text};
 use fp_host::{Host, HostEnd, Path, Remotes};
@@ -43,6 +45,7 @@ fn take_surveyed<H: Host, R: Remotes, G: Gate + Sync>(
     root: &Path,
     url: &str,
     work: &Path,
+    trust: Trust,
     survey: &Survey,
     kept: &mut Vec<(Digest, ObjKind)>,
     gate: &G,
@@ -59,6 +62,7 @@ fn take_surveyed<H: Host, R: Remotes, G: Gate + Sync>(
         (R.holds remotes.old) have
         → AreTakenNow root.now work.now url.now (R.holds remotes.old) kept.old.items
         (H.moments host.old)
+        → MayTrust trust root.now (H.moments host.old)
         → EndsBy (λ _. (first_bad have survey.now.objects ≡ None) × (survey.now.fault ≡ None))
         (λ w. option_or (first_bad have survey.now.objects) (option_map told_fault survey.now.fault)
         ≡ Some (told_fault w)) result }
@@ -75,6 +79,7 @@ fn take_surveyed<H: Host, R: Remotes, G: Gate + Sync>(
         root,
         url,
         work,
+        trust,
         survey.objects.as_slice(),
         kept,
         gate,
@@ -96,6 +101,7 @@ fn take_order<H: Host, R: Remotes, G: Gate + Sync>(
     root: &Path,
     url: &str,
     work: &Path,
+    trust: Trust,
     commit: &Digest,
     kept: &mut Vec<(Digest, ObjKind)>,
     gate: &G,
@@ -114,6 +120,7 @@ fn take_order<H: Host, R: Remotes, G: Gate + Sync>(
         (R.holds remotes.old) have
         → AreTakenNow root.now work.now url.now (R.holds remotes.old) kept.old.items
         (H.moments host.old)
+        → MayTrust trust root.now (H.moments host.old)
         → EndsBy (λ _. first_fault have commit.now ≡ None)
         (λ w. first_named have commit.now ≡ Some (told_fault w)) result }
     ensures fault_has_cause { FailsOnly H.Host host.old host.new
@@ -124,7 +131,7 @@ fn take_order<H: Host, R: Remotes, G: Gate + Sync>(
     let places = places_of(alloc, root, url)?;
     match survey(alloc, host, remotes, &places, commit) {
         Ok(survey) => take_surveyed(
-            rt, alloc, host, remotes, root, url, work, &survey, kept, gate,
+            rt, alloc, host, remotes, root, url, work, trust, &survey, kept, gate,
         ),
         Err(end) => Err(end),
     }
@@ -140,6 +147,7 @@ pub(crate) fn gather<H: Host, R: Remotes, G: Gate + Sync>(
     root: &Path,
     url: &str,
     work: &Path,
+    trust: Trust,
     commit: &Digest,
     kept: &mut Vec<(Digest, ObjKind)>,
     gate: &G,
@@ -156,6 +164,7 @@ pub(crate) fn gather<H: Host, R: Remotes, G: Gate + Sync>(
         (λ u w. CoversOrder root.now have commit.now kept.new.items w)) }
     ensures refuses { (have : Have) → Supplies root.now (Some url.now) (H.moments host.old)
         (R.holds remotes.old) have
+        → MayTrust trust root.now (H.moments host.old)
         → EndsBy (λ _. first_fault have commit.now ≡ None)
         (λ w. first_named have commit.now ≡ Some (told_fault w)) result }
     ensures fault_has_cause { FailsOnly H.Host host.old host.new
@@ -165,7 +174,7 @@ pub(crate) fn gather<H: Host, R: Remotes, G: Gate + Sync>(
 {
     match clear(alloc, host, work) {
         Ok(()) => take_order(
-            rt, alloc, host, remotes, root, url, work, commit, kept, gate,
+            rt, alloc, host, remotes, root, url, work, trust, commit, kept, gate,
         ),
         Err(end) => Err(walk_end(end)),
     }

@@ -10,7 +10,7 @@ ghost use Rattle.ost_model.specs.Objects.{object_path, store};
 ghost use Rattle.ost_model.specs.Order.{first_fault};
 ghost use Rattle.ost_store.specs.Place.{LeavesStore};
 ghost use Rattle.ost_pull.specs.Work.{Works};
-ghost use Rattle.ost_pull.specs.Pulls.{CanPull, HasPulled, IsApart, Pulls};
+ghost use Rattle.ost_pull.specs.Pulls.{CanPull, HasPulled, HasTrueFiles, IsApart, Pulls};
 
 /// Where a pull goes on, a store whose names are true stays one at every stop, and each object's
 /// name that was there at the entry holds what it held.
@@ -45,4 +45,10 @@ pub fn commits_can_be_there()
     ensures { (root : Elements) (commit : List ℕ) (v : View) → IsTree v → IsSettled v
         → first_fault (store root (shows v)) commit ≡ None
         → HasPulled root (store root (shows v)) commit v }
+{}
+
+/// What is asked of the store by `pull_trusting` holds where its names are true at every stop, as
+/// pulls keep them.
+pub fn true_stores_have_true_files()
+    ensures { (root : Elements) (v : View) → LeavesStore root v → HasTrueFiles root v }
 {}

@@ -10,6 +10,7 @@ mod placing;
 mod pulling;
 mod small;
 mod taking;
+mod trusting;
 mod turns;
 
-pub use pulling::{pull, pull_gated};
+pub use pulling::{pull, pull_gated, pull_trusting};

@@ -5,10 +5,12 @@ ghost use Rattle.fp_small.specs.declared.refusal.Refusal.{Refusal};
 ghost use Rattle.ost_model.specs.Objects.{Have};
 ghost use Rattle.ost_model.specs.Remotes.{Supplies};
 ghost use Rattle.ost_walk.specs.Ends.{IsRemotes};
-ghost use Rattle.ost_pull.specs.Pulls.{IsApart, PullsSoundly, WasPulled, WasRefused, Refuses, CanPull, first_refusal};
+ghost use Rattle.ost_pull.specs.Pulls.{IsApart, PullsSoundly, WasPulled, WasRefused, Refuses, CanPull, HasTrueFilesNow, first_refusal};
+ghost use Rattle.ost_pull.specs.Trusts.{MayTrust};
 
 use crate::gathering::gather;
 use crate::placing::store_kept;
+use crate::trusting::Trust;
 use fp_base::ObjKind;
 use fp_host::{Host, HostEnd, Path, Remotes};
 use fp_name::Digest;
@@ -92,9 +94,107 @@ pub fn pull_gated<H: Host, R: Remotes, G: Gate + Sync>(
     ensures remote_fault_has_cause { IsRemotes (IsErrOf result PullEnd.RemoteFault)
         (R.faults remotes.old) (R.faults remotes.new) }
 {
+    pull_by(
+        rt,
+        alloc,
+        host,
+        remotes,
+        root,
+        url,
+        commit,
+        work,
+        Trust::Nothing,
+        gate,
+    )
+}
+
+/// Pulls the commit as `pull` does into a store each of whose files and links is the one of its
+/// name's digest. Such a file that the store has is judged by its permission bits and its size: its
+/// bytes aren't read. Metadata objects are read and checked as ever. Where a name isn't true, the
+/// object that stands there passes for the one that is named.
+pub fn pull_trusting<H: Host, R: Remotes>(
+    rt: &(impl Threads + Sync),
+    alloc: Global,
+    host: &mut H,
+    remotes: &mut R,
+    root: &Path,
+    url: &str,
+    commit: &Digest,
+    work: &Path,
+) -> Result<(), PullEnd>
+    requires { IsApart root.now work.now }
+    ensures same { R.holds remotes.new ≡ R.holds remotes.old }
+    // Where the names of the store are true at every stop before, a stop at any moment leaves a
+    // store whose names are true, with each object that was there.
+    ensures any_moment { AtEachMoment H.Host host.old host.new (PullsSoundly root.now work.now) }
+    ensures on_success { (have : Have) → Supplies root.now (Some url.now) (H.moments host.old)
+        (R.holds remotes.old) have → HasTrueFilesNow root.now (H.moments host.old)
+        → OnOk result (AtReturn H.Host host.old host.new
+        (WasPulled root.now work.now have commit.now)) }
+    ensures refuses { (have : Have) → Supplies root.now (Some url.now) (H.moments host.old)
+        (R.holds remotes.old) have → HasTrueFilesNow root.now (H.moments host.old)
+        → Refuses (first_refusal have commit.now) result }
+    ensures refused_unchanged { (r : Refusal) → IsErrOf result (PullEnd.Refused r)
+        → AtReturn H.Host host.old host.new (WasRefused work.now) }
+    ensures remote_fault_unchanged { IsErrOf result PullEnd.RemoteFault
+        → AtReturn H.Host host.old host.new (WasRefused work.now) }
+    ensures fault_has_cause { FailsOnly H.Host host.old host.new
+        (CanPull root.now work.now) (IsErrOf result PullEnd.HostFault) }
+    ensures remote_fault_has_cause { IsRemotes (IsErrOf result PullEnd.RemoteFault)
+        (R.faults remotes.old) (R.faults remotes.new) }
+{
+    pull_by(
+        rt,
+        alloc,
+        host,
+        remotes,
+        root,
+        url,
+        commit,
+        work,
+        Trust::Names,
+        &NoGate,
+    )
+}
+
+/// Pulls the commit as `pull_gated` does. Where names of the store are trusted, it is for a store
+/// in which they are true.
+fn pull_by<H: Host, R: Remotes, G: Gate + Sync>(
+    rt: &(impl Threads + Sync),
+    alloc: Global,
+    host: &mut H,
+    remotes: &mut R,
+    root: &Path,
+    url: &str,
+    commit: &Digest,
+    work: &Path,
+    trust: Trust,
+    gate: &G,
+) -> Result<(), PullEnd>
+    requires { IsApart root.now work.now }
+    ensures same { R.holds remotes.new ≡ R.holds remotes.old }
+    // Where the names of the store are true at every stop before, a stop at any moment leaves a
+    // store whose names are true, with each object that was there.
+    ensures any_moment { AtEachMoment H.Host host.old host.new (PullsSoundly root.now work.now) }
+    ensures on_success { (have : Have) → Supplies root.now (Some url.now) (H.moments host.old)
+        (R.holds remotes.old) have → MayTrust trust root.now (H.moments host.old)
+        → OnOk result (AtReturn H.Host host.old host.new
+        (WasPulled root.now work.now have commit.now)) }
+    ensures refuses { (have : Have) → Supplies root.now (Some url.now) (H.moments host.old)
+        (R.holds remotes.old) have → MayTrust trust root.now (H.moments host.old)
+        → Refuses (first_refusal have commit.now) result }
+    ensures refused_unchanged { (r : Refusal) → IsErrOf result (PullEnd.Refused r)
+        → AtReturn H.Host host.old host.new (WasRefused work.now) }
+    ensures remote_fault_unchanged { IsErrOf result PullEnd.RemoteFault
+        → AtReturn H.Host host.old host.new (WasRefused work.now) }
+    ensures fault_has_cause { FailsOnly H.Host host.old host.new
+        (CanPull root.now work.now) (IsErrOf result PullEnd.HostFault) }
+    ensures remote_fault_has_cause { IsRemotes (IsErrOf result PullEnd.RemoteFault)
+        (R.faults remotes.old) (R.faults remotes.new) }
+{
     let mut kept = Vec::new(alloc);
     match gather(
-        rt, alloc, host, remotes, root, url, work, commit, &mut kept, gate,
+        rt, alloc, host, remotes, root, url, work, trust, commit, &mut kept, gate,
     ) {
         Ok(()) => match store_kept(alloc, host, root, work, &mut kept) {
             Ok(()) => Ok(()),

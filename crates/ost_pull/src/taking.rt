@@ -8,14 +8,16 @@ ghost use Rattle.ost_walk.specs.Ends.{EndsBy, IsFaultOf, IsRemotes, of_host};
 ghost use Rattle.ost_walk.specs.Steps.{IsGood, own_fault};
 ghost use Rattle.ost_pull.specs.Pulls.{IsApart};
 ghost use Rattle.ost_pull.specs.Takes.{AreTakenNow, TakesOne};
+ghost use Rattle.ost_pull.specs.Trusts.{MayTrust};
 ghost use Rattle.ost_store.specs.ObjectNames.{AreOpen};
 ghost use Rattle.ost_pull.specs.Work.{Works, Adds};
 
 use crate::keeping::{keep, keep_content};
+use crate::trusting::{Trust, check_content};
 use fp_base::ObjKind;
 use fp_host::{Host, HostEnd, Path, Remotes};
 use fp_name::Digest;
-use ost_head::{Found, check_stored, find};
+use ost_head::{Found, find};
 use ost_model::Object;
 use ost_walk::{ObjectFault, WalkEnd, WalkFault};
 use std::alloc::Global;
@@ -81,6 +83,7 @@ fn take_content<H: Host, R: Remotes>(
     root: &Path,
     url: &str,
     work: &Path,
+    trust: Trust,
     digest: &Digest,
     kept: &mut Vec<(Digest, ObjKind)>,
 ) -> Result<(), WalkEnd>
@@ -95,6 +98,7 @@ fn take_content<H: Host, R: Remotes>(
         (R.holds remotes.old) have
         → AreTakenNow root.now work.now url.now (R.holds remotes.old) kept.old.items
         (H.moments host.old)
+        → MayTrust trust root.now (H.moments host.old)
         → EndsBy (λ _. IsGood have digest.now kinds.File)
         (IsFaultOf digest.now kinds.File (own_fault have digest.now kinds.File)) result }
     ensures fault_has_cause { FailsOnly H.Host host.old host.new
@@ -103,7 +107,7 @@ fn take_content<H: Host, R: Remotes>(
         (R.faults remotes.old) (R.faults remotes.new) }
 {
     let _bytes = digest.as_bytes();
-    match check_stored(alloc, host, root, digest) {
+    match check_content(alloc, host, root, digest, trust) {
         Ok(true) => Ok(()),
         Ok(false) => keep_content(alloc, host, remotes, url, work, digest, kept),
         Err(end) => Err(end),
@@ -120,6 +124,7 @@ pub(crate) fn take<H: Host, R: Remotes>(
     root: &Path,
     url: &str,
     work: &Path,
+    trust: Trust,
     digest: &Digest,
     kind: ObjKind,
     kept: &mut Vec<(Digest, ObjKind)>,
@@ -135,6 +140,7 @@ pub(crate) fn take<H: Host, R: Remotes>(
         (R.holds remotes.old) have
         → AreTakenNow root.now work.now url.now (R.holds remotes.old) kept.old.items
         (H.moments host.old)
+        → MayTrust trust root.now (H.moments host.old)
         → EndsBy (λ _. IsGood have digest.now kind)
         (IsFaultOf digest.now kind (own_fault have digest.now kind)) result }
     ensures fault_has_cause { FailsOnly H.Host host.old host.new
@@ -143,7 +149,7 @@ pub(crate) fn take<H: Host, R: Remotes>(
         (R.faults remotes.old) (R.faults remotes.new) }
 {
     match kind {
-        ObjKind::File => take_content(alloc, host, remotes, root, url, work, digest, kept),
+        ObjKind::File => take_content(alloc, host, remotes, root, url, work, trust, digest, kept),
         ObjKind::Commit | ObjKind::DirTree | ObjKind::DirMeta => take_whole(
             alloc, host, remotes, root, url, work, digest, kind, kept,
         ),

@@ -11,6 +11,7 @@ ghost use Rattle.ost_walk.specs.Surveys.{first_bad, told_fault};
 ghost use Rattle.ost_pull.specs.Batches.{AreReady, IsBatched, IsReady};
 ghost use Rattle.ost_pull.specs.Pulls.{IsApart};
 ghost use Rattle.ost_pull.specs.Takes.{AddsAmong, AreTakenNow, StaysNoted, TakesAll, TakesOne};
+ghost use Rattle.ost_pull.specs.Trusts.{MayTrust};
 ghost use Rattle.ost_store.specs.ObjectNames.{AreOpen};
 ghost use Rattle.ost_pull.specs.Work.{Adds, Works};
 
@@ -18,6 +19,7 @@ use crate::batches::{Turn, read_batch};
 use crate::forms::{Form, is_good, whole};
 use crate::keeping::keep;
 use crate::taking::{take, walk_end};
+use crate::trusting::Trust;
 use fp_base::ObjKind;
 use fp_host::{Host, Path, Remotes};
 use fp_name::Digest;
@@ -35,6 +37,7 @@ fn take_read<H: Host, R: Remotes>(
     root: &Path,
     url: &str,
     work: &Path,
+    trust: Trust,
     digest: &Digest,
     kind: ObjKind,
     form: &Form,
@@ -56,6 +59,7 @@ fn take_read<H: Host, R: Remotes>(
         (R.holds remotes.old) have
         → AreTakenNow root.now work.now url.now (R.holds remotes.old) kept.old.items
         (H.moments host.old)
+        → MayTrust trust root.now (H.moments host.old)
         → EndsBy (λ _. IsGood have digest.now kind)
         (IsFaultOf digest.now kind (own_fault have digest.now kind)) result }
     ensures fault_has_cause { FailsOnly H.Host host.old host.new
@@ -71,7 +75,9 @@ fn take_read<H: Host, R: Remotes>(
             Err(end) => Err(walk_end(end)),
         }
     } else {
-        take(alloc, host, remotes, root, url, work, digest, kind, kept)
+        take(
+            alloc, host, remotes, root, url, work, trust, digest, kind, kept,
+        )
     }
 }
 
@@ -83,6 +89,7 @@ fn take_turn<H: Host, R: Remotes>(
     root: &Path,
     url: &str,
     work: &Path,
+    trust: Trust,
     digest: &Digest,
     kind: ObjKind,
     turn: &Turn,
@@ -104,6 +111,7 @@ fn take_turn<H: Host, R: Remotes>(
         (R.holds remotes.old) have
         → AreTakenNow root.now work.now url.now (R.holds remotes.old) kept.old.items
         (H.moments host.old)
+        → MayTrust trust root.now (H.moments host.old)
         → EndsBy (λ _. IsGood have digest.now kind)
         (IsFaultOf digest.now kind (own_fault have digest.now kind)) result }
     ensures fault_has_cause { FailsOnly H.Host host.old host.new
@@ -112,7 +120,9 @@ fn take_turn<H: Host, R: Remotes>(
         (R.faults remotes.old) (R.faults remotes.new) }
 {
     match turn {
-        Turn::Alone => take(alloc, host, remotes, root, url, work, digest, kind, kept),
+        Turn::Alone => take(
+            alloc, host, remotes, root, url, work, trust, digest, kind, kept,
+        ),
         Turn::Batched(form, place) => take_read(
             alloc,
             host,
@@ -120,6 +130,7 @@ fn take_turn<H: Host, R: Remotes>(
             root,
             url,
             work,
+            trust,
             digest,
             kind,
             form,
@@ -139,6 +150,7 @@ fn take_turns<H: Host, R: Remotes>(
     root: &Path,
     url: &str,
     work: &Path,
+    trust: Trust,
     objects: &[(Digest, ObjKind)],
     turns: &[Turn],
     items: &[Item],
@@ -160,6 +172,7 @@ fn take_turns<H: Host, R: Remotes>(
         (R.holds remotes.old) have
         → AreTakenNow root.now work.now url.now (R.holds remotes.old) kept.old.items
         (H.moments host.old)
+        → MayTrust trust root.now (H.moments host.old)
         → EndsBy (λ _. first_bad have objects.now ≡ None)
         (λ w. first_bad have objects.now ≡ Some (told_fault w)) result }
     ensures fault_has_cause { FailsOnly H.Host host.old host.new
@@ -169,8 +182,8 @@ fn take_turns<H: Host, R: Remotes>(
 {
     for (at, object) in objects.iter().enumerate() {
         match take_turn(
-            alloc, host, remotes, root, url, work, &object.0, object.1, &turns[at], items, digests,
-            kept,
+            alloc, host, remotes, root, url, work, trust, &object.0, object.1, &turns[at], items,
+            digests, kept,
         ) {
             Ok(()) => {}
             Err(end) => return Err(end),
@@ -190,6 +203,7 @@ fn take_batch<H: Host, R: Remotes, G: Gate + Sync>(
     root: &Path,
     url: &str,
     work: &Path,
+    trust: Trust,
     objects: &[(Digest, ObjKind)],
     kept: &mut Vec<(Digest, ObjKind)>,
     gate: &G,
@@ -207,6 +221,7 @@ fn take_batch<H: Host, R: Remotes, G: Gate + Sync>(
         (R.holds remotes.old) have
         → AreTakenNow root.now work.now url.now (R.holds remotes.old) kept.old.items
         (H.moments host.old)
+        → MayTrust trust root.now (H.moments host.old)
         → EndsBy (λ _. first_bad have objects.now ≡ None)
         (λ w. first_bad have objects.now ≡ Some (told_fault w)) result }
     ensures fault_has_cause { FailsOnly H.Host host.old host.new
@@ -224,6 +239,7 @@ fn take_batch<H: Host, R: Remotes, G: Gate + Sync>(
                 root,
                 url,
                 work,
+                trust,
                 objects,
                 &batch.turns,
                 &batch.items,
@@ -255,6 +271,7 @@ pub(crate) fn take_all<H: Host, R: Remotes, G: Gate + Sync>(
     root: &Path,
     url: &str,
     work: &Path,
+    trust: Trust,
     objects: &[(Digest, ObjKind)],
     kept: &mut Vec<(Digest, ObjKind)>,
     gate: &G,
@@ -270,6 +287,7 @@ pub(crate) fn take_all<H: Host, R: Remotes, G: Gate + Sync>(
         (R.holds remotes.old) have
         → AreTakenNow root.now work.now url.now (R.holds remotes.old) kept.old.items
         (H.moments host.old)
+        → MayTrust trust root.now (H.moments host.old)
         → EndsBy (λ _. first_bad have objects.now ≡ None)
         (λ w. first_bad have objects.now ≡ Some (told_fault w)) result }
     ensures fault_has_cause { FailsOnly H.Host host.old host.new
@@ -288,6 +306,7 @@ pub(crate) fn take_all<H: Host, R: Remotes, G: Gate + Sync>(
             root,
             url,
             work,
+            trust,
             &objects[at..end],
             kept,
             gate,

@@ -25,4 +25,6 @@ mod rows;
 #[cfg(test)]
 mod sizes;
 #[cfg(test)]
+mod trusting;
+#[cfg(test)]
 mod walks;

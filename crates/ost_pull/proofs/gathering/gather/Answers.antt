@@ -16,6 +16,7 @@ use Rattle.ost_pull.proofs.Apart.{works_supplies}
 use Rattle.ost_pull.proofs.Gathered.{gathered_anew}
 use Rattle.ost_pull.proofs.Kept.{works_clear, works_within}
 use Rattle.ost_pull.proofs.Taken.{passed, host_refuses, host_fault, host_remote, no_remotes, nothing_taken, cleared_open, taken_from}
+use Rattle.ost_pull.proofs.Trusted.{trust_later}
 use Rattle.ost_pull.proofs.gathering.gather.Goals as goal
 
 pub returns-in-Ok-clause-any_moment : goal.returns-in-Ok-clause-any_moment
@@ -47,13 +48,14 @@ returns-in-Ok-clause-covers g c have s =
     on_ok_weaker c.take_order.result (λ covers. ends_on covers c.in-Ok.ensures.on_success (t c.clear.new.host) (λ u v w tree q s. s (nothing_taken q))) (c.take_order.ensures.covers have from c.requires.empty)
 
 pub returns-in-Ok-clause-refuses : goal.returns-in-Ok-clause-refuses
-returns-in-Ok-clause-refuses g c have s =
+returns-in-Ok-clause-refuses g c have s trusted =
     let t = g.met.H.Host.is_tree in
     let root = c.args.root.now in
     let work = c.args.work.now in
     let holds = g.R.Remotes.holds c.args.remotes.now in
     c.take_order.ensures.refuses have (works_supplies root work c.requires.apart (t c.args.host.now) (t c.clear.new.host) (works_clear (t c.args.host.now) c.clear.ensures.frame) refl s)
     (taken_from c.in-Ok.ensures.on_success s.moments s.told_is (λ w q. subst (λ (l : List (List ℕ × ObjKind)). AreTaken root work c.args.url.now holds l w) (sym c.requires.empty) (nothing_taken q)))
+    (trust_later c.requires.apart c.args.trust (t c.args.host.now) (t c.clear.new.host) (works_clear (t c.args.host.now) c.clear.ensures.frame) trusted)
 
 pub returns-in-Ok-clause-fault_has_cause : goal.returns-in-Ok-clause-fault_has_cause
 returns-in-Ok-clause-fault_has_cause g c =
@@ -65,7 +67,7 @@ pub returns-in-Err-clause-any_moment : goal.returns-in-Err-clause-any_moment
 returns-in-Err-clause-any_moment g c = works_clear (g.met.H.Host.is_tree c.args.host.now) c.clear.ensures.frame
 
 pub returns-in-Err-clause-refuses : goal.returns-in-Err-clause-refuses
-returns-in-Err-clause-refuses g c have s = let refused = λ (w : WalkFault). first_named have c.args.commit.now ≡ Some (told_fault w) in subst (λ (e : WalkEnd). RefusesBy refused e) (sym c.walk_end.ensures) (host_refuses refused c.in-Err.end)
+returns-in-Err-clause-refuses g c have s trusted = let refused = λ (w : WalkFault). first_named have c.args.commit.now ≡ Some (told_fault w) in subst (λ (e : WalkEnd). RefusesBy refused e) (sym c.walk_end.ensures) (host_refuses refused c.in-Err.end)
 
 pub returns-in-Err-clause-fault_has_cause : goal.returns-in-Err-clause-fault_has_cause
 returns-in-Err-clause-fault_has_cause g c =

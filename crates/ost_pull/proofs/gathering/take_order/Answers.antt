@@ -11,6 +11,7 @@ use Rattle.ost_store.specs.ObjectNames.{AreOpen}
 use Rattle.ost_pull.specs.Work.{Gathered}
 use Rattle.ost_pull.proofs.Kept.{works_start, works_looks, works_within}
 use Rattle.ost_pull.proofs.Taken.{passed, counted, remotes_pass, survey_judged, covers_order, ok_two, placed_supplies, still_supplied, never_refused, taken_from}
+use Rattle.ost_pull.proofs.Trusted.{trust_later}
 use Rattle.ost_pull.proofs.gathering.take_order.Goals as goal
 
 pub returns-in_err-places-clause-any_moment : goal.returns-in_err-places-clause-any_moment
@@ -61,16 +62,18 @@ returns-in-Ok-clause-covers g c have s empty =
     c.take_surveyed.ensures.only c.take_surveyed.ensures.on_success
 
 pub returns-in-Ok-clause-refuses : goal.returns-in-Ok-clause-refuses
-returns-in-Ok-clause-refuses g c have s now =
+returns-in-Ok-clause-refuses g c have s now trusted =
+    let t = g.met.H.Host.is_tree in
     let from = placed_supplies c.in_ok-places.ensures.0 c.in_ok-places.ensures.1 s in
     let root = c.args.root.now in
     let work = c.args.work.now in
     let url = c.args.url.now in
     let holds = g.R.Remotes.holds c.args.remotes.now in
     let before = c.args.kept.now.items in
-    let there = taken_from (ends_looks (g.met.H.Host.is_tree c.args.host.now) c.in-Ok.ensures.looks.still) s.moments s.told_is (λ w q. subst (AreTaken root work url holds before) (sym q.0) (now.are s.moments s.told_is)) in
+    let there = taken_from (ends_looks (t c.args.host.now) c.in-Ok.ensures.looks.still) s.moments s.told_is (λ w q. subst (AreTaken root work url holds before) (sym q.0) (now.are s.moments s.told_is)) in
     survey_judged c.in-Ok.survey c.take_surveyed.result (c.in-Ok.ensures.tells have from) (c.take_surveyed.ensures.tells have (still_supplied c.in-Ok.ensures.looks.still c.in-Ok.ensures.looks.same s)
-    (subst (λ (h : Option Holdings). AreTakenNow root work url h before (g.H.Host.moments c.survey.new.host)) (sym c.in-Ok.ensures.looks.same) there))
+    (subst (λ (h : Option Holdings). AreTakenNow root work url h before (g.H.Host.moments c.survey.new.host)) (sym c.in-Ok.ensures.looks.same) there)
+    (trust_later c.requires c.args.trust (t c.args.host.now) (t c.survey.new.host) (works_looks (t c.args.host.now) c.in-Ok.ensures.looks.still) trusted))
 
 pub returns-in-Ok-clause-fault_has_cause : goal.returns-in-Ok-clause-fault_has_cause
 returns-in-Ok-clause-fault_has_cause g c =
@@ -89,7 +92,7 @@ pub returns-clause-any_moment : goal.returns-clause-any_moment
 returns-clause-any_moment g c = works_looks (g.met.H.Host.is_tree c.args.host.now) c.in-Err.ensures.looks.still
 
 pub returns-clause-refuses : goal.returns-clause-refuses
-returns-clause-refuses g c have s now = never_refused (λ w. first_named have c.args.commit.now ≡ Some (told_fault w)) c.in-Err.end (c.in-Err.ensures.tells have (placed_supplies c.in_ok-places.ensures.0 c.in_ok-places.ensures.1 s))
+returns-clause-refuses g c have s now trusted = never_refused (λ w. first_named have c.args.commit.now ≡ Some (told_fault w)) c.in-Err.end (c.in-Err.ensures.tells have (placed_supplies c.in_ok-places.ensures.0 c.in_ok-places.ensures.1 s))
 
 pub returns-clause-fault_has_cause : goal.returns-clause-fault_has_cause
 returns-clause-fault_has_cause g c = counted (λ is. cc is) c.in-Err.ensures.looks.host

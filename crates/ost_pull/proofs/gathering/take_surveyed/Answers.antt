@@ -7,5 +7,5 @@ use Rattle.ost_pull.proofs.Taken.{bad_first}
 use Rattle.ost_pull.proofs.gathering.take_surveyed.Goals as goal
 
 pub returns-in-Err-clause-tells : goal.returns-in-Err-clause-tells
-returns-in-Err-clause-tells g c have s now = bad_first (first_bad have c.args.survey.now.objects) (option_map told_fault c.args.survey.now.fault) c.in-Err.end
-    (subst (λ (l : List (List ℕ × ObjKind)). RefusesBy (λ w. first_bad have l ≡ Some (told_fault w)) c.in-Err.end) c.as_slice.ensures (c.in-Err.ensures.tells have s now))
+returns-in-Err-clause-tells g c have s now trusted = bad_first (first_bad have c.args.survey.now.objects) (option_map told_fault c.args.survey.now.fault) c.in-Err.end
+    (subst (λ (l : List (List ℕ × ObjKind)). RefusesBy (λ w. first_bad have l ≡ Some (told_fault w)) c.in-Err.end) c.as_slice.ensures (c.in-Err.ensures.tells have s now trusted))

@@ -12,6 +12,7 @@ use Rattle.ost_pull.proofs.Apart.{works_supplies, works_open}
 use Rattle.ost_pull.proofs.Kept.{works_start, works_within}
 use Rattle.ost_pull.proofs.Joined.{taken_more, added_more, good_more, bad_more}
 use Rattle.ost_pull.proofs.Taken.{none_taken, all_is, passed, ends_to_tree, taken_from}
+use Rattle.ost_pull.proofs.Trusted.{trust_later}
 use Rattle.ost_pull.proofs.turns.take_all.Goals as goal
 
 pub loop-at-init : goal.loop-at-init
@@ -23,7 +24,7 @@ loop-at-init g c =
       same = refl;
       only = λ o has. inl has;
       taken = ends_to (ends_start (t c.args.host.now)) (λ u w same. none_taken c.args.kept.now.items same);
-      good = λ have s now. refl;
+      good = λ have s now trusted. refl;
       later = omega arith;
       remote_later = omega arith;
     }
@@ -46,9 +47,10 @@ loop-at-preserved g c =
           (subst (λ (holds : Option Holdings). AtEnd (TakesAll c.args.root.now c.args.work.now c.args.url.now holds (between i j objects) c.loop-at.kept.items c.take_batch.new.kept.items) (g.H.Host.moments c.loop-at.host) (g.H.Host.moments c.take_batch.new.host)) before.same c.in-Ok.ensures.on_success)))
           before.taken (t c.loop-at.host)
           (λ u v w tree q s. taken_more objects i j (omega (arith, le)) c.args.kept.now.items c.loop-at.kept.items c.take_batch.new.kept.items c.requires tree s.0 c.in-Ok.ensures.noted q s.1.0 s.1.1);
-      good = λ have s now. good_more have objects i j (omega (arith, le)) (before.good have s now) (c.in-Ok.ensures.tells have (works_supplies c.args.root.now c.args.work.now c.requires (t c.args.host.now) (t c.loop-at.host) before.works before.same s)
+      good = λ have s now trusted. good_more have objects i j (omega (arith, le)) (before.good have s now trusted) (c.in-Ok.ensures.tells have (works_supplies c.args.root.now c.args.work.now c.requires (t c.args.host.now) (t c.loop-at.host) before.works before.same s)
           (subst (λ (holds : Option Holdings). AreTakenNow c.args.root.now c.args.work.now c.args.url.now holds c.loop-at.kept.items (g.H.Host.moments c.loop-at.host)) (sym before.same)
-          (taken_from before.taken s.moments s.told_is (λ w q. q.taken (now.are s.moments s.told_is)))));
+          (taken_from before.taken s.moments s.told_is (λ w q. q.taken (now.are s.moments s.told_is))))
+          (trust_later c.requires c.args.trust (t c.args.host.now) (t c.loop-at.host) before.works trusted));
       later = omega (arith, before.later, c.take_batch.ensures.fault_has_cause.later);
       remote_later = omega (arith, before.remote_later, c.take_batch.ensures.remote_fault_has_cause.later);
     }
@@ -60,13 +62,14 @@ pub returns-in-Err-clause-same : goal.returns-in-Err-clause-same
 returns-in-Err-clause-same g c = c.take_batch.ensures.same ∙ c.loop-at.invariant.same
 
 pub returns-in-Err-clause-tells : goal.returns-in-Err-clause-tells
-returns-in-Err-clause-tells g c have s now =
+returns-in-Err-clause-tells g c have s now trusted =
     let t = g.met.H.Host.is_tree in
     let before = c.loop-at.invariant in
-    bad_more have c.args.objects.now c.loop-at.at c.batch_end-end.result (omega (arith, c.batch_end-end.ensures.later)) (before.good have s now) c.in-Err.end
+    bad_more have c.args.objects.now c.loop-at.at c.batch_end-end.result (omega (arith, c.batch_end-end.ensures.later)) (before.good have s now trusted) c.in-Err.end
     (c.in-Err.ensures.tells have (works_supplies c.args.root.now c.args.work.now c.requires (t c.args.host.now) (t c.loop-at.host) before.works before.same s)
     (subst (λ (holds : Option Holdings). AreTakenNow c.args.root.now c.args.work.now c.args.url.now holds c.loop-at.kept.items (g.H.Host.moments c.loop-at.host)) (sym before.same)
-    (taken_from before.taken s.moments s.told_is (λ w q. q.taken (now.are s.moments s.told_is)))))
+    (taken_from before.taken s.moments s.told_is (λ w q. q.taken (now.are s.moments s.told_is))))
+    (trust_later c.requires c.args.trust (t c.args.host.now) (t c.loop-at.host) before.works trusted))
 
 pub returns-in-Err-clause-fault_has_cause : goal.returns-in-Err-clause-fault_has_cause
 returns-in-Err-clause-fault_has_cause g c =
@@ -91,6 +94,6 @@ returns-clause-on_success g c =
     subst (λ (l : List (List ℕ × ObjKind)). AtEnd (TakesAll c.args.root.now c.args.work.now c.args.url.now (g.R.Remotes.holds c.args.remotes.now) l c.args.kept.now.items c.loop-at.kept.items) (g.H.Host.moments c.args.host.now) (g.H.Host.moments c.loop-at.host)) all c.loop-at.invariant.taken
 
 pub returns-clause-tells : goal.returns-clause-tells
-returns-clause-tells g c have s now =
+returns-clause-tells g c have s now trusted =
     let all = all_is c.args.objects.now c.loop-at.at (omega (arith, c.loop-at-test.false, c.loop-at.invariant.low)) in
-    ap (first_bad have) (sym all) ∙ c.loop-at.invariant.good have s now
+    ap (first_bad have) (sym all) ∙ c.loop-at.invariant.good have s now trusted

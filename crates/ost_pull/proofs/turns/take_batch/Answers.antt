@@ -11,6 +11,7 @@ use Rattle.ost_store.specs.ObjectNames.{AreOpen}
 use Rattle.ost_pull.proofs.Batched.{ready_same}
 use Rattle.ost_pull.proofs.Kept.{works_looks, works_within}
 use Rattle.ost_pull.proofs.Taken.{passed, counted, remotes_pass, still_supplied, taken_from, never_named}
+use Rattle.ost_pull.proofs.Trusted.{trust_later}
 use Rattle.ost_pull.proofs.turns.take_batch.Goals as goal
 
 pub returns-in_err-digests-in-Ok-clause-any_moment : goal.returns-in_err-digests-in-Ok-clause-any_moment
@@ -46,15 +47,17 @@ returns-in_ok-digests-in-Ok-clause-on_success g c =
     c.take_turns.ensures.on_success
 
 pub returns-in_ok-digests-in-Ok-clause-tells : goal.returns-in_ok-digests-in-Ok-clause-tells
-returns-in_ok-digests-in-Ok-clause-tells g c have s now =
+returns-in_ok-digests-in-Ok-clause-tells g c have s now trusted =
+    let t = g.met.H.Host.is_tree in
     let root = c.args.root.now in
     let work = c.args.work.now in
     let url = c.args.url.now in
     let holds = g.R.Remotes.holds c.args.remotes.now in
     let before = c.args.kept.now.items in
-    let there = taken_from (ends_looks (g.met.H.Host.is_tree c.args.host.now) c.read_batch.ensures.unchanged) s.moments s.told_is (λ w q. subst (AreTaken root work url holds before) (sym q.0) (now.are s.moments s.told_is)) in
+    let there = taken_from (ends_looks (t c.args.host.now) c.read_batch.ensures.unchanged) s.moments s.told_is (λ w q. subst (AreTaken root work url holds before) (sym q.0) (now.are s.moments s.told_is)) in
     c.take_turns.ensures.tells have (still_supplied c.read_batch.ensures.unchanged c.read_batch.ensures.same s)
     (subst (λ (h : Option Holdings). AreTakenNow root work url h before (g.H.Host.moments c.read_batch.new.host)) (sym c.read_batch.ensures.same) there)
+    (trust_later c.requires.apart c.args.trust (t c.args.host.now) (t c.read_batch.new.host) (works_looks (t c.args.host.now) c.read_batch.ensures.unchanged) trusted)
 
 pub returns-in_ok-digests-in-Ok-clause-fault_has_cause : goal.returns-in_ok-digests-in-Ok-clause-fault_has_cause
 returns-in_ok-digests-in-Ok-clause-fault_has_cause g c =
@@ -72,7 +75,7 @@ pub returns-in-Err-clause-any_moment : goal.returns-in-Err-clause-any_moment
 returns-in-Err-clause-any_moment g c = works_looks (g.met.H.Host.is_tree c.args.host.now) c.read_batch.ensures.unchanged
 
 pub returns-in-Err-clause-tells : goal.returns-in-Err-clause-tells
-returns-in-Err-clause-tells g c have s now = never_named (λ w. first_bad have c.args.objects.now ≡ Some (told_fault w)) c.in-Err.end c.in-Err.ensures.refuses
+returns-in-Err-clause-tells g c have s now trusted = never_named (λ w. first_bad have c.args.objects.now ≡ Some (told_fault w)) c.in-Err.end c.in-Err.ensures.refuses
 
 pub returns-in-Err-clause-fault_has_cause : goal.returns-in-Err-clause-fault_has_cause
 returns-in-Err-clause-fault_has_cause g c = counted (λ is. cc is) c.in-Err.ensures.fault_has_cause

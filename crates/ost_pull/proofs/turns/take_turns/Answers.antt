@@ -13,6 +13,7 @@ use Rattle.ost_pull.proofs.Kept.{works_start, works_within}
 use Rattle.ost_pull.proofs.Taken.{none_taken, next_taken, next_added, next_good, next_bad, all_is, passed, ends_to_tree, taken_from}
 use Rattle.ost_pull.proofs.Batched.{ready_later}
 use Rattle.ost_pull.proofs.Joined.{noted_next}
+use Rattle.ost_pull.proofs.Trusted.{trust_later}
 use Rattle.ost_pull.proofs.turns.take_turns.Goals as goal
 
 pub loop-at-init : goal.loop-at-init
@@ -24,7 +25,7 @@ loop-at-init g c =
       only = λ o has. inl has;
       noted = λ o has. has;
       taken = ends_to (ends_start (t c.args.host.now)) (λ u w same. none_taken c.args.kept.now.items same);
-      good = λ have s now. refl;
+      good = λ have s now trusted. refl;
       later = omega arith;
       remote_later = omega arith;
     }
@@ -48,9 +49,10 @@ loop-at-preserved g c =
           (subst (λ (holds : Option Holdings). AtEnd (TakesOne c.args.root.now c.args.work.now c.args.url.now holds (o.0, o.1) c.loop-at.kept.items c.take_turn.new.kept.items) (g.H.Host.moments c.loop-at.host) (g.H.Host.moments c.take_turn.new.host)) before.same c.in-Ok.ensures.on_success)))
           before.taken (t c.loop-at.host)
           (λ u v w tree q s. next_taken objects i o low is c.args.kept.now.items c.loop-at.kept.items c.take_turn.new.kept.items c.in-Ok.ensures.adds c.requires.apart tree s.0 q s.1.0 s.1.1);
-      good = λ have s now. next_good have objects i o low is (before.good have s now) (c.in-Ok.ensures.tells have (works_supplies c.args.root.now c.args.work.now c.requires.apart (t c.args.host.now) (t c.loop-at.host) before.works before.same s)
+      good = λ have s now trusted. next_good have objects i o low is (before.good have s now trusted) (c.in-Ok.ensures.tells have (works_supplies c.args.root.now c.args.work.now c.requires.apart (t c.args.host.now) (t c.loop-at.host) before.works before.same s)
           (subst (λ (holds : Option Holdings). AreTakenNow c.args.root.now c.args.work.now c.args.url.now holds c.loop-at.kept.items (g.H.Host.moments c.loop-at.host)) (sym before.same)
-          (taken_from before.taken s.moments s.told_is (λ w q. q.taken (now.are s.moments s.told_is)))));
+          (taken_from before.taken s.moments s.told_is (λ w q. q.taken (now.are s.moments s.told_is))))
+          (trust_later c.requires.apart c.args.trust (t c.args.host.now) (t c.loop-at.host) before.works trusted));
       later = omega (arith, before.later, c.take_turn.ensures.fault_has_cause.later);
       remote_later = omega (arith, before.remote_later, c.take_turn.ensures.remote_fault_has_cause.later);
     }
@@ -75,13 +77,14 @@ pub returns-in-Err-clause-same : goal.returns-in-Err-clause-same
 returns-in-Err-clause-same g c = c.take_turn.ensures.same ∙ c.loop-at.invariant.same
 
 pub returns-in-Err-clause-tells : goal.returns-in-Err-clause-tells
-returns-in-Err-clause-tells g c have s now =
+returns-in-Err-clause-tells g c have s now trusted =
     let t = g.met.H.Host.is_tree in
     let before = c.loop-at.invariant in
-    next_bad have c.args.objects.now c.loop-at.at c.index-objects-at.result c.loop-at-test.true c.index-objects-at.is (before.good have s now) c.in-Err.end
+    next_bad have c.args.objects.now c.loop-at.at c.index-objects-at.result c.loop-at-test.true c.index-objects-at.is (before.good have s now trusted) c.in-Err.end
     (c.in-Err.ensures.tells have (works_supplies c.args.root.now c.args.work.now c.requires.apart (t c.args.host.now) (t c.loop-at.host) before.works before.same s)
     (subst (λ (holds : Option Holdings). AreTakenNow c.args.root.now c.args.work.now c.args.url.now holds c.loop-at.kept.items (g.H.Host.moments c.loop-at.host)) (sym before.same)
-    (taken_from before.taken s.moments s.told_is (λ w q. q.taken (now.are s.moments s.told_is)))))
+    (taken_from before.taken s.moments s.told_is (λ w q. q.taken (now.are s.moments s.told_is))))
+    (trust_later c.requires.apart c.args.trust (t c.args.host.now) (t c.loop-at.host) before.works trusted))
 
 pub returns-in-Err-clause-fault_has_cause : goal.returns-in-Err-clause-fault_has_cause
 returns-in-Err-clause-fault_has_cause g c =
@@ -106,6 +109,6 @@ returns-clause-on_success g c =
     subst (λ (l : List (List ℕ × ObjKind)). AtEnd (TakesAll c.args.root.now c.args.work.now c.args.url.now (g.R.Remotes.holds c.args.remotes.now) l c.args.kept.now.items c.loop-at.kept.items) (g.H.Host.moments c.args.host.now) (g.H.Host.moments c.loop-at.host)) all c.loop-at.invariant.taken
 
 pub returns-clause-tells : goal.returns-clause-tells
-returns-clause-tells g c have s now =
+returns-clause-tells g c have s now trusted =
     let all = all_is c.args.objects.now c.loop-at.at (omega (arith, c.loop-at-test.false, c.loop-at.auto.at-end)) in
-    ap (first_bad have) (sym all) ∙ c.loop-at.invariant.good have s now
+    ap (first_bad have) (sym all) ∙ c.loop-at.invariant.good have s now trusted

@@ -1,0 +1,94 @@
+//! Files and links of the store that are checked, or whose names are taken for true.
+ghost use Rattle.std.specs.Prelude.{◌≡◌, List, ℕ, Option, Some, IfOk, IsErrOf, IsTrue, is_some};
+ghost use Rattle.fp_base.specs.declared.object.ObjKind.TheVariants as kinds;
+ghost use Rattle.fp_host.specs.Moments.{Moments};
+ghost use Rattle.fp_host.specs.Outcome.{shows};
+ghost use Rattle.fp_host.specs.OverHost.{ChangesNothing, FailsAlone};
+ghost use Rattle.ost_model.specs.declared.limits.TheConstants.{MOST_FILE_BYTES};
+ghost use Rattle.ost_model.specs.declared.object.Object.{Object};
+ghost use Rattle.ost_model.specs.Objects.{store};
+ghost use Rattle.ost_store.specs.Reads.{got_of};
+ghost use Rattle.ost_head.specs.Contents.{ChecksIfThere};
+ghost use Rattle.ost_pull.specs.Pulls.{HasTrueFiles};
+ghost use Rattle.ost_pull.specs.Trusts.{IsGoodIfTrue, MayTrust};
+
+use fp_base::ObjKind;
+use fp_host::{Host, Path};
+use fp_name::Digest;
+use ost_content::is_permission;
+use ost_head::check_stored;
+use ost_model::MOST_FILE_BYTES;
+use ost_store::{Got, get};
+use ost_walk::WalkEnd;
+use std::alloc::Global;
+
+/// What is trusted of the files and links that the store has.
+#[derive(Clone, Copy)]
+pub(crate) enum Trust {
+    /// Nothing: each is read, and its digest taken.
+    Nothing,
+    /// That each is the one of its name's digest: no file is read.
+    Names,
+}
+
+/// Whether what the store has at a file's or link's name has no fault where the name is true.
+fn is_good_if_true(got: &Got) -> bool
+    ensures { IsTrue result → (d : List ℕ) (there : Option Object)
+        → got.now ≡ got_of MOST_FILE_BYTES there → IsGoodIfTrue d there }
+{
+    match got {
+        Got::File { mode, .. } => is_permission(*mode),
+        Got::Link(_) => true,
+        _ => false,
+    }
+}
+
+/// Whether the store in this folder has the file or link, which is checked but for its digest where
+/// nothing else is wrong: then no bytes of a file are read.
+fn check_named<H: Host>(
+    alloc: Global,
+    host: &mut H,
+    root: &Path,
+    digest: &Digest,
+) -> Result<bool, WalkEnd>
+    ensures unchanged { ChangesNothing H.Host host.old host.new }
+    ensures there { (m : Moments) → H.moments host.old ≡ Some m → IfOk result (λ there.
+        there ≡ is_some (store root.now (shows m.now) digest.now kinds.File)) }
+    ensures tells { (m : Moments) → H.moments host.old ≡ Some m → HasTrueFiles root.now m.now
+        → ChecksIfThere digest.now (store root.now (shows m.now) digest.now kinds.File) result }
+    ensures fault_has_cause { FailsAlone H.Host host.old host.new
+        (IsErrOf result WalkEnd.HostFault) }
+    ensures remote { IsErrOf result WalkEnd.RemoteFault → ⊥ }
+{
+    let _bytes = digest.as_bytes();
+    let got = get(alloc, host, root, digest, ObjKind::File, MOST_FILE_BYTES)?;
+    if is_good_if_true(&got) {
+        return Ok(true);
+    }
+    check_stored(alloc, host, root, digest)
+}
+
+/// Whether the store in this folder has the file or link, which is checked as far as it isn't
+/// trusted.
+pub(crate) fn check_content<H: Host>(
+    alloc: Global,
+    host: &mut H,
+    root: &Path,
+    digest: &Digest,
+    trust: Trust,
+) -> Result<bool, WalkEnd>
+    ensures unchanged { ChangesNothing H.Host host.old host.new }
+    ensures there { (m : Moments) → H.moments host.old ≡ Some m → IfOk result (λ there.
+        there ≡ is_some (store root.now (shows m.now) digest.now kinds.File)) }
+    ensures tells { (m : Moments) → H.moments host.old ≡ Some m
+        → MayTrust trust root.now (H.moments host.old)
+        → ChecksIfThere digest.now (store root.now (shows m.now) digest.now kinds.File) result }
+    ensures fault_has_cause { FailsAlone H.Host host.old host.new
+        (IsErrOf result WalkEnd.HostFault) }
+    ensures remote { IsErrOf result WalkEnd.RemoteFault → ⊥ }
+{
+    match trust {
+        Trust::Nothing => check_stored(alloc, host, root, digest),
+        Trust::Names => check_named(alloc, host, root, digest),
+    }
+}
