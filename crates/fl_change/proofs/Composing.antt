@@ -1,5 +1,5 @@
 -- The parts of one operation.
-use Rattle.std.proofs.Common.{◌≡◌, ◌⊎◌, inl, inr, ℕ, List, Some, Result, Ok, Err, IsErrOf, OnOk, refl, sym, ◌∙◌, ap, subst, arith}
+use Rattle.std.proofs.Common.{◌≡◌, ◌⊎◌, inl, inr, ℕ, List, Bool, true, Option, Some, None, Result, Ok, Err, IsErrOf, OnOk, refl, sym, ◌∙◌, ap, subst, arith}
 use Rattle.fp_host.specs.Calls.{says, Step}
 use Rattle.fp_host.specs.Causes.{IsCaused, end_of}
 use Rattle.fp_host.specs.Frame.{AtEnd}
@@ -22,25 +22,27 @@ use Rattle.fp_small.specs.declared.refusal.Refusal.{Refusal}
 use Rattle.ost_model.specs.Objects.{Have}
 use Rattle.ost_model.specs.Remotes.{Supplies}
 use Rattle.ost_walk.specs.Ends.{IsRemotes, Outside}
-use Rattle.dep_states.specs.After.{May, plain, state_after}
+use Rattle.dep_states.specs.After.{Done, May, plain, state_after}
 use Rattle.dep_states.specs.Effects.{Effect, effect_of, BringsCommit, brings, writes}
 use Rattle.dep_states.specs.Sound.{Opens}
 use Rattle.dep_tidy.specs.Tidy.{Tidies}
 use Rattle.op_change.specs.Bringing.{AreTold, WasLeft}
-use Rattle.op_change.specs.Applied.{Brings, have_for, AppliesWith, Applies, WasApplied}
+use Rattle.op_change.specs.Applied.{Brings, have_for, op_refusal, AppliesWith, Applies, WasApplied}
 use Rattle.op_change.specs.Attempts.{Attempts}
 use Rattle.op_change.specs.declared.ending.ApplyEnd.{ApplyEnd}
 use Rattle.op_change.specs.declared.ending.ApplyEnd.TheVariants as applies
 use Rattle.fl_lines.specs.Lines.{op_text}
+use Rattle.fl_change.specs.World.{world_at, supplied}
+use Rattle.fl_change.specs.Answer.{ops_of, done_answer, unless, has_acted}
 use Rattle.fl_change.specs.Ends.{end_of_host, end_of_apply}
-use Rattle.fl_change.specs.Performs.{PerformsOver, PerformedOver, AsksBy, OpensBy, ChangesFrom, Works, Acts, Rests, Just, DoneOver, WasTidiedAfter}
+use Rattle.fl_change.specs.Performs.{Acted, PerformsOver, PerformedOver, AsksBy, OpensBy, ChangesFrom, Works, Acts, Rests, Just, done_of, WasDoneBy, DoneOver, WasTidiedAfter}
 use Rattle.fl_change.specs.Refs.{op_over}
 use Rattle.fl_change.specs.Says.{Says, WasSaid}
 use Rattle.fl_change.specs.declared.end.RunEnd.{RunEnd}
 use Rattle.fl_change.specs.declared.end.RunEnd.TheVariants.{Refused, Fault, RemoteFault, NoMemory}
 use Rattle.fl_change.proofs.Brought.{plainly}
 use Rattle.fl_change.proofs.Changing.{applied_changes, tidied_changes, change_untouched}
-use Rattle.fl_change.proofs.Doing.{Applied, applying, apply_refused, apply_halted, applied, saying, said, tidying, tidied, untidied}
+use Rattle.fl_change.proofs.Doing.{Applied, applying, apply_refused, apply_halted, applied, saying, said, tidying, tidied, was_acted, untidied}
 use Rattle.fl_change.proofs.Saying.{says_step, was_said}
 use Rattle.fl_change.proofs.Same.{same_opens}
 use Rattle.fl_change.proofs.Working.{goes_to, goes_first, IsFirst, works_as, works_on, opens_stayed}
@@ -281,23 +283,42 @@ works_untidied s e call = record {
 
 -- ---- one operation, wholly
 
-pub acts_not_done : (op : Op) (s : State) (e : RunEnd) {u v : Outside} → Works (Just op) s (PerformsOver (Rests s) u.holdings (op_over op) s) (DoneOver u.holdings op s (Err e)) (Err e) u v → Acts (Rests s) (Just op) (op_over op) s (Err e) u v
-acts_not_done op s e works = works_as (λ x y first p. p) (λ x y first p q. record { performed = λ held told rests. q.done held told rests }) works
+-- what is refused was not done
+none_acted : (o : Option Refusal) (done : Done) (r : Refusal) (before : Bool) → (unless o (done_answer done)).refusal ≡ Some r → before ≡ has_acted before (ops_of (unless o (done_answer done)))
+none_acted None done r before is = absurd (cc is)
+none_acted (Some refusal) done r before is = refl
+
+not_acted : (held : Holdings) (op : Op) (s : State) (e : RunEnd) (before : Bool) (v w : View) → WasDoneBy held op s (Err e) v w → Acted (op_over op held (world_at s v)) (Err e) before before
+not_acted held op s (Refused r) before v w is = none_acted (op_refusal (supplied held (world_at s v) op) op) (done_of op held (world_at s v)) r before is.0
+not_acted held op s Fault before v w is = tt
+not_acted held op s RemoteFault before v w is = tt
+not_acted held op s NoMemory before v w is = tt
+
+pub acts_not_done : (op : Op) (s : State) (e : RunEnd) {before : Bool} {u v : Outside} → Works (Just op) s (PerformsOver (Rests s) u.holdings (op_over op) s) (DoneOver u.holdings op s (Err e)) (Err e) u v → Acts (Rests s) (Just op) (op_over op) s before before (Err e) u v
+acts_not_done op s e {before = before} works = works_as (λ x y first p. p)
+    (λ x y first p q. record {
+      performed = λ held told rests. q.done held told rests;
+      acted = λ held told rests. not_acted held op s e before x y (q.done held told rests);
+    })
+    works
 
 module _ (op : Op) (s t : State) (u v w : Outside) (told : IsTold v.told) (works : Works (Just op) s (PerformsOver (Rests s) u.holdings (op_over op) s) (DoneOver u.holdings op s (Ok t)) (Ok t) u v) where
   while_tidied : (x y z : View) → DoneOver u.holdings op s (Ok t) x y → Tidies t y z → PerformsOver (Rests s) u.holdings (op_over op) s x z
   while_tidied x y z q n = record { performs = λ held known rests. tidying held op s t x (q.done held known rests) n }
 
-  pub acts_done : (t' : State) → Tidying (WasTidiedAfter op t) t (Ok t') v w → Acts (Rests s) (Just op) (op_over op) s (Ok t') u w
-  acts_done t' call = works_on told works (works_tidied t t' call)
+  pub acts_done : (t' : State) {before : Bool} → Tidying (WasTidiedAfter op t) t (Ok t') v w → Acts (Rests s) (Just op) (op_over op) s before true (Ok t') u w
+  acts_done t' {before = before} call = works_on told works (works_tidied t t' call)
       (λ x y z p q n. while_tidied x y z q n)
-      (λ x y z p q n l. record { performed = λ held known rests. tidied held op s t x t' (call.state t' refl) (q.done held known rests) l.0 l.1 })
+      (λ x y z p q n l. record {
+        performed = λ held known rests. tidied held op s t x t' (call.state t' refl) (q.done held known rests) l.0 l.1;
+        acted = λ held known rests. was_acted held op s t x t' before (q.done held known rests);
+      })
 
-  pub acts_untidied : (e : HostEnd) → Tidying (WasTidiedAfter op t) t (Err e) v w → Acts (Rests s) (Just op) (op_over op) s (Err (end_of_host e)) u w
-  acts_untidied e call = works_on told works (works_untidied t e call)
+  pub acts_untidied : (e : HostEnd) {before now : Bool} → Tidying (WasTidiedAfter op t) t (Err e) v w → Acts (Rests s) (Just op) (op_over op) s before now (Err (end_of_host e)) u w
+  acts_untidied e {before = before} {now = now} call = works_on told works (works_untidied t e call)
       (λ x y z p q n. while_tidied x y z q n)
       (λ x y z p q n l. by e x y z q n)
     where
-      by : (e : HostEnd) (x y z : View) → DoneOver u.holdings op s (Ok t) x y → Tidies t y z → PerformedOver (Rests s) u.holdings (op_over op) s (Err (end_of_host e)) x z
-      by host.Fault x y z q n = record { performed = λ held known rests. tt }
-      by host.NoMemory x y z q n = record { performed = λ held known rests. untidied held op s t x (q.done held known rests) n }
+      by : (e : HostEnd) (x y z : View) → DoneOver u.holdings op s (Ok t) x y → Tidies t y z → PerformedOver (Rests s) u.holdings (op_over op) s before now (Err (end_of_host e)) x z
+      by host.Fault x y z q n = record { performed = λ held known rests. tt; acted = λ held known rests. tt }
+      by host.NoMemory x y z q n = record { performed = λ held known rests. untidied held op s t x (q.done held known rests) n; acted = λ held known rests. tt }

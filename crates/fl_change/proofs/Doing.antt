@@ -36,7 +36,7 @@ use Rattle.fl_change.specs.Answer.{Answer, Piece, lines_of, pieces_text, ops_in,
 use Rattle.fl_change.specs.Refs.{op_over}
 use Rattle.fl_change.specs.Changes.{HasText}
 use Rattle.fl_change.specs.Created.{LacksFor}
-use Rattle.fl_change.specs.Performs.{Printed, IsSome, Performs, Holds, IsDone, IsHalted, Performed, Rests, done_of, IsNearlySettled, WasDone, WasDoneBy, WasTidiedAfter}
+use Rattle.fl_change.specs.Performs.{Printed, IsSome, Performs, Holds, IsDone, IsHalted, Performed, Acted, Rests, done_of, IsNearlySettled, WasDone, WasDoneBy, WasTidiedAfter}
 use Rattle.fl_change.specs.declared.end.RunEnd.TheVariants.{Refused}
 use Rattle.fl_change.specs.Says.{Says, WasSaid}
 use Rattle.fl_change.proofs.Brought.{plainly, done_is, supplied_is, world_is, same_world}
@@ -374,6 +374,10 @@ module _ (held : Holdings) (op : Op) (s t : State) (v : View) where
           (creates_on done.creates was.creates done.files tidies.files);
     },
   )
+
+  -- an operation was done
+  pub was_acted : (t' : State) (before : Bool) {w : View} → WasDone held op s t v w → Acted (op_over op held x) (Ok t') before true
+  was_acted t' before done = subst (λ (q : Answer). Acted q (Ok t') before true) (allowed_is done.allowed) refl
 
   -- the ends of a tidying that isn't done
   pub untidied : {w z : View} → WasDone held op s t v w → Tidies t w z → IsHalted (op_over op held x) s v z

@@ -1,5 +1,5 @@
 -- What is looked up in the store before anything is done.
-use Rattle.std.proofs.Common.{◌≡◌, ℕ, List, Option, Some, None, option_map, Result, Ok, Err, refl, sym, ◌∙◌, ap, subst}
+use Rattle.std.proofs.Common.{◌≡◌, Bool, ℕ, List, Option, Some, None, option_map, Result, Ok, Err, refl, sym, ◌∙◌, ap, subst}
 use Rattle.fp_host.specs.Frame.{Unchanged}
 use Rattle.fp_host.specs.Moments.{Moments}
 use Rattle.fp_host.specs.Outcome.{shows}
@@ -44,12 +44,12 @@ pub told_known : {A : Type 0} (s : State) (a : A) (f : Have → A) (u : Outside)
 told_known s a f u tells x first held known rests = ap f (world_have s x rests) ∙ sym (tells (store repo (shows x)) (stores_at u x first))
 
 -- it is refused by what is known at the entry
-pub refused_looked : {May : Op → Type 0} {s : State} (f : Holdings → World → Answer) (r : Refusal) {u v : Outside} → IsTold v.told → Looked May u v → Known (Rests s) u s (λ held x. f held (world_at s x) ≡ refusal_answer r) → Acts (Rests s) May f s (Err (Refused r)) u v
+pub refused_looked : {May : Op → Type 0} {s : State} (f : Holdings → World → Answer) (r : Refusal) {before : Bool} {u v : Outside} → IsTold v.told → Looked May u v → Known (Rests s) u s (λ held x. f held (world_at s x) ≡ refusal_answer r) → Acts (Rests s) May f s before before (Err (Refused r)) u v
 refused_looked f r told looked known = acts_same f (λ held x. refusal_answer r) known
     (acts_looked (λ held x. refusal_answer r) told looked (acts_refused (λ held x. refusal_answer r) r told (λ x first held k rests. refl)))
 
 -- it is another answer, by what is known at the entry
-pub same_looked : {May : Op → Type 0} {s : State} (f g : Holdings → World → Answer) (r : Result State RunEnd) {u v w : Outside} → IsTold v.told → Looked May u v → Known (Rests s) u s (λ held x. f held (world_at s x) ≡ g held (world_at s x)) → Acts (Rests s) May g s r v w → Acts (Rests s) May f s r u w
+pub same_looked : {May : Op → Type 0} {s : State} (f g : Holdings → World → Answer) (r : Result State RunEnd) {before now : Bool} {u v w : Outside} → IsTold v.told → Looked May u v → Known (Rests s) u s (λ held x. f held (world_at s x) ≡ g held (world_at s x)) → Acts (Rests s) May g s before now r v w → Acts (Rests s) May f s before now r u w
 same_looked f g r told looked known acts = acts_same f g known (acts_looked g told looked acts)
 
 module _ (s : State) (n : Ref) where
@@ -58,13 +58,13 @@ module _ (s : State) (n : Ref) where
   abbrev pub Deployed : List ℕ → Type 0
   Deployed origin = or_refuse (refusals.NotInstalled n) (option_map (λ row. row.origin) (row_at s n)) ≡ Ok origin
 
-  pub used_by : (origin : List ℕ) (app copy : Ref) (user : Option Ref) {u v : Outside} → IsTold v.told → Looked (Just (Uninstall n)) u v → Deployed origin → TellsOf u.told user (λ have. first_user have n s.refs) → user ≡ Some app → copy ≡ n → Acts (Rests s) (Just (Uninstall n)) (uninstall_over n) s (Err (Refused (refusals.RuntimeInUse copy app))) u v
-  used_by origin app copy user {u = u} {v = v} told looked deployed tells is same =
-      subst (λ (c : Ref). Acts (Rests s) (Just (Uninstall n)) (uninstall_over n) s (Err (Refused (refusals.RuntimeInUse c app))) u v) (sym same)
+  pub used_by : (origin : List ℕ) (app copy : Ref) (user : Option Ref) {before : Bool} {u v : Outside} → IsTold v.told → Looked (Just (Uninstall n)) u v → Deployed origin → TellsOf u.told user (λ have. first_user have n s.refs) → user ≡ Some app → copy ≡ n → Acts (Rests s) (Just (Uninstall n)) (uninstall_over n) s before before (Err (Refused (refusals.RuntimeInUse copy app))) u v
+  used_by origin app copy user {before = before} {u = u} {v = v} told looked deployed tells is same =
+      subst (λ (c : Ref). Acts (Rests s) (Just (Uninstall n)) (uninstall_over n) s before before (Err (Refused (refusals.RuntimeInUse c app))) u v) (sym same)
       (refused_looked (uninstall_over n) (refusals.RuntimeInUse n app) told looked (λ x first held known rests.
       uninstall_used held (world_at s x) n app origin deployed (told_known s user (λ have. first_user have n s.refs) u tells x first held known rests ∙ is)))
 
-  pub used_by_none : (origin : List ℕ) (user : Option Ref) (r : Result State RunEnd) {u v w : Outside} → IsTold v.told → Looked (Just (Uninstall n)) u v → Deployed origin → TellsOf u.told user (λ have. first_user have n s.refs) → user ≡ None → Acts (Rests s) (Just (Uninstall n)) (op_over (Uninstall n)) s r v w → Acts (Rests s) (Just (Uninstall n)) (uninstall_over n) s r u w
+  pub used_by_none : (origin : List ℕ) (user : Option Ref) (r : Result State RunEnd) {before now : Bool} {u v w : Outside} → IsTold v.told → Looked (Just (Uninstall n)) u v → Deployed origin → TellsOf u.told user (λ have. first_user have n s.refs) → user ≡ None → Acts (Rests s) (Just (Uninstall n)) (op_over (Uninstall n)) s before now r v w → Acts (Rests s) (Just (Uninstall n)) (uninstall_over n) s before now r u w
   used_by_none origin user r {u = u} told looked deployed tells is acts = same_looked (uninstall_over n) (op_over (Uninstall n)) r told looked (λ x first held known rests.
       uninstall_free held (world_at s x) n origin deployed (told_known s user (λ have. first_user have n s.refs) u tells x first held known rests ∙ is)) acts
 
@@ -73,22 +73,22 @@ module _ (s : State) (n : Ref) where
   abbrev pub WasAt : List ℕ → Type 0
   WasAt commit = previous_in n (row_at s n) ≡ Ok commit
 
-  pub not_described : (commit : List ℕ) (refusal : Refusal) (said : Result Meta Refusal) {u v : Outside} → IsTold v.told → Looked (IsRollback n) u v → WasAt commit → TellsOf u.told said (λ have. described have n commit) → said ≡ Err refusal → Acts (Rests s) (IsRollback n) (rollback_over n) s (Err (Refused refusal)) u v
+  pub not_described : (commit : List ℕ) (refusal : Refusal) (said : Result Meta Refusal) {before : Bool} {u v : Outside} → IsTold v.told → Looked (IsRollback n) u v → WasAt commit → TellsOf u.told said (λ have. described have n commit) → said ≡ Err refusal → Acts (Rests s) (IsRollback n) (rollback_over n) s before before (Err (Refused refusal)) u v
   not_described commit refusal said {u = u} told looked was tells is = refused_looked (rollback_over n) refusal told looked (λ x first held known rests.
       rollback_at held (world_at s x) n commit (Err refusal) was (told_known s said (λ have. described have n commit) u tells x first held known rests ∙ is))
 
   abbrev goes : List ℕ → Meta → Holdings → World → Answer
   goes commit meta held x = unless (missing_refusal s meta.runtime) (op_over (Rollback n commit) held x)
 
-  pub runtime_missing : (commit : List ℕ) (meta : Meta) (said : Result Meta Refusal) (e : RunEnd) {u v : Outside} → IsTold v.told → Looked (IsRollback n) u v → WasAt commit → TellsOf u.told said (λ have. described have n commit) → said ≡ Ok meta → IsTried (missing_refusal s meta.runtime) (Err e) → Acts (Rests s) (IsRollback n) (rollback_over n) s (Err e) u v
+  pub runtime_missing : (commit : List ℕ) (meta : Meta) (said : Result Meta Refusal) (e : RunEnd) {before : Bool} {u v : Outside} → IsTold v.told → Looked (IsRollback n) u v → WasAt commit → TellsOf u.told said (λ have. described have n commit) → said ≡ Ok meta → IsTried (missing_refusal s meta.runtime) (Err e) → Acts (Rests s) (IsRollback n) (rollback_over n) s before before (Err e) u v
   runtime_missing commit meta said e {u = u} told looked was tells is tried = same_looked (rollback_over n) (goes commit meta) (Err e) told looked
       (λ x first held known rests. rollback_at held (world_at s x) n commit (Ok meta) was (told_known s said (λ have. described have n commit) u tells x first held known rests ∙ is))
       (acts_tried (goes commit meta) told (missing_refusal s meta.runtime) e tried (λ q there x first held known rests. ap (λ (o : Option Refusal). unless o (op_over (Rollback n commit) held (world_at s x))) there))
 
-  pub runtime_there : (commit : List ℕ) (copy : Ref) (meta : Meta) (said : Result Meta Refusal) (r : Result State RunEnd) {u v w : Outside} → IsTold v.told → Looked (IsRollback n) u v → WasAt commit → TellsOf u.told said (λ have. described have n commit) → said ≡ Ok meta → missing_refusal s meta.runtime ≡ None → copy ≡ n → Acts (Rests s) (Just (Rollback copy commit)) (op_over (Rollback copy commit)) s r v w → Acts (Rests s) (IsRollback n) (rollback_over n) s r u w
-  runtime_there commit copy meta said r {u = u} {v = v} {w = w} told looked was tells is there same acts = same_looked (rollback_over n) (op_over (Rollback n commit)) r told looked
+  pub runtime_there : (commit : List ℕ) (copy : Ref) (meta : Meta) (said : Result Meta Refusal) (r : Result State RunEnd) {before now : Bool} {u v w : Outside} → IsTold v.told → Looked (IsRollback n) u v → WasAt commit → TellsOf u.told said (λ have. described have n commit) → said ≡ Ok meta → missing_refusal s meta.runtime ≡ None → copy ≡ n → Acts (Rests s) (Just (Rollback copy commit)) (op_over (Rollback copy commit)) s before now r v w → Acts (Rests s) (IsRollback n) (rollback_over n) s before now r u w
+  runtime_there commit copy meta said r {before = before} {now = now} {u = u} {v = v} {w = w} told looked was tells is there same acts = same_looked (rollback_over n) (op_over (Rollback n commit)) r told looked
       (λ x first held known rests. rollback_there held (world_at s x) n commit meta was (told_known s said (λ have. described have n commit) u tells x first held known rests ∙ is) there)
-      (works_to (λ op may. (commit, may)) (subst (λ (c : Ref). Acts (Rests s) (Just (Rollback c commit)) (op_over (Rollback c commit)) s r v w) same acts))
+      (works_to (λ op may. (commit, may)) (subst (λ (c : Ref). Acts (Rests s) (Just (Rollback c commit)) (op_over (Rollback c commit)) s before now r v w) same acts))
 
 -- ---- the runtimes that nothing keeps
 

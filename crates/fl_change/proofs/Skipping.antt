@@ -1,5 +1,5 @@
 -- A text that acknowledges nothing.
-use Rattle.std.proofs.Common.{◌≡◌, inl, inr, ℕ, List, [], ◌∷◌, ◌++◌, Option, None, Ok, Err, refl, sym, ◌∙◌, ap, subst}
+use Rattle.std.proofs.Common.{◌≡◌, Bool, inl, inr, ℕ, List, [], ◌∷◌, ◌++◌, Option, None, Ok, Err, refl, sym, ◌∙◌, ap, subst}
 use Rattle.std.proofs.lemmas.List.{append-nil}
 use Rattle.fp_host.specs.Causes.{end_of}
 use Rattle.fp_host.specs.Remote.{Holdings}
@@ -65,12 +65,12 @@ while_told : (text : List ℕ) (s : State) (holds : Option Holdings) (x y : View
 while_told text s holds x y says = record { performs = λ held known rests. telling text s rests says }
 
 module _ {May : Op → Type 0} (text piece : List ℕ) (s : State) {u v : Outside} (same : piece ≡ text) where
-  pub acts_told : Saying piece (Ok tt) u v → Acts (Rests s) May (λ held x. text_answer text) s (Ok s) u v
+  pub acts_told : {before : Bool} → Saying piece (Ok tt) u v → Acts (Rests s) May (λ held x. text_answer text) s before before (Ok s) u v
   acts_told call = works_as (λ x y first p. while_told text s u.holdings x y p)
-      (λ x y first p q. record { performed = λ held known rests. (refl, refl, told held text s rests q) })
+      (λ x y first p q. record { performed = λ held known rests. (refl, refl, told held text s rests q); acted = λ held known rests. refl })
       (works_said text s piece same call)
 
-  pub acts_not_told : (e : HostError) → Saying piece (Err e) u v → Acts (Rests s) May (λ held x. text_answer text) s (Err (end_of_host (end_of e))) u v
-  acts_not_told e call = works_as (λ x y first p. while_told text s u.holdings x y p)
-      (λ x y first p q. subst (λ (r : RunEnd). PerformedOver (Rests s) u.holdings (λ held w. text_answer text) s (Err r) x y) (sym q) (record { performed = λ held known rests. tt }))
+  pub acts_not_told : (e : HostError) {before now : Bool} → Saying piece (Err e) u v → Acts (Rests s) May (λ held x. text_answer text) s before now (Err (end_of_host (end_of e))) u v
+  acts_not_told e {before = before} {now = now} call = works_as (λ x y first p. while_told text s u.holdings x y p)
+      (λ x y first p q. subst (λ (r : RunEnd). PerformedOver (Rests s) u.holdings (λ held w. text_answer text) s before now (Err r) x y) (sym q) (record { performed = λ held known rests. tt; acted = λ held known rests. tt }))
       (works_not_said text s piece e same call)

@@ -55,7 +55,7 @@ world_have s x rests = settled_store s rests
 pub host_looked : {May : Op → Type 0} {u v : Outside} → Unchanged u.told v.told → v.holdings ≡ u.holdings → u.host_faults ≤ v.host_faults → v.remote_faults ≡ u.remote_faults → Looked May u v
 host_looked still same later remote = record { still = still; same = same; host = later; remote = omega (arith, remote); unasked = λ none. remote }
 
-pub acts_not_looked : {May : Op → Type 0} {s : State} (f : Holdings → World → Answer) (e : HostEnd) {u v : Outside} → IsTold v.told → Looked May u v → (e ≡ host.Fault → (m : Moments) → u.told ≡ Some m → Rose u.host_faults v.host_faults) → Acts (Rests s) May f s (Err (end_of_host e)) u v
+pub acts_not_looked : {May : Op → Type 0} {s : State} (f : Holdings → World → Answer) (e : HostEnd) {before now : Bool} {u v : Outside} → IsTold v.told → Looked May u v → (e ≡ host.Fault → (m : Moments) → u.told ≡ Some m → Rose u.host_faults v.host_faults) → Acts (Rests s) May f s before now (Err (end_of_host e)) u v
 acts_not_looked f host.Fault told looked rose = acts_host_failed f told looked (rose refl)
 acts_not_looked f host.NoMemory told looked rose = acts_looked f told looked (acts_halted f told)
 
@@ -76,7 +76,7 @@ module _ (s : State) (remote : RemoteRow) (name : Ref) where
   looked_at looks = record { still = looks.unchanged; same = looks.same; host = looks.host.later; remote = looks.remote.later; unasked = λ none. absurd (none (may_bring name)) }
 
   -- it fails
-  not_planned : (f : Holdings → World → Answer) (e : PullEnd) {u v : Outside} → IsTold v.told → Plans answer (Err e) u v → ((r : Refusal) → e ≡ pulls.Refused r → Known (Rests s) u s (λ held x. f held (world_at s x) ≡ refusal_answer r)) → Acts (Rests s) Brings f s (Err (end_of_pull e)) u v
+  not_planned : (f : Holdings → World → Answer) (e : PullEnd) {before : Bool} {u v : Outside} → IsTold v.told → Plans answer (Err e) u v → ((r : Refusal) → e ≡ pulls.Refused r → Known (Rests s) u s (λ held x. f held (world_at s x) ≡ refusal_answer r)) → Acts (Rests s) Brings f s before before (Err (end_of_pull e)) u v
   not_planned f (pulls.Refused r) told plans known = acts_same f (λ held x. refusal_answer r) (known r refl)
       (acts_looked (λ held x. refusal_answer r) told (looked_at plans.looks) (acts_refused (λ held x. refusal_answer r) r told (λ x first held k rests. refl)))
   not_planned f pulls.HostFault told plans known = acts_host_failed f told (looked_at plans.looks) (λ m is. plans.looks.host.fault refl m is tt)
@@ -87,7 +87,7 @@ module _ (s : State) (remote : RemoteRow) (name : Ref) where
   refused_plan : (r : Refusal) {u v : Outside} → Plans answer (Err (pulls.Refused r)) u v → Known (Rests s) u s (λ held x. plan_of held (world_at s x).have s remote name ≡ Err r)
   refused_plan r {u = u} plans x first held told rests = plan_is held x rests ∙ plans.tells held (store repo (shows x)) told (stores_at u x first)
 
-  pub planned_err : (e : PullEnd) {u v : Outside} → IsTold v.told → Plans answer (Err e) u v → Acts (Rests s) Brings (from_remote remote name) s (Err (end_of_pull e)) u v
+  pub planned_err : (e : PullEnd) {before : Bool} {u v : Outside} → IsTold v.told → Plans answer (Err e) u v → Acts (Rests s) Brings (from_remote remote name) s before before (Err (end_of_pull e)) u v
   planned_err e {u = u} {v = v} told plans = not_planned (from_remote remote name) e told plans (λ r is x first held known rests.
       ap (λ (p : Result (List Op) Refusal). planned p held (world_at s x)) (refused_plan r (subst (λ (q : PullEnd). Plans answer (Err q) u v) is plans) x first held known rests))
 
@@ -95,14 +95,14 @@ module _ (s : State) (remote : RemoteRow) (name : Ref) where
   ops_known : (ops : List Op) {u v : Outside} → Plans answer (Ok ops) u v → Known (Rests s) u s (λ held x. plan_of held (world_at s x).have s remote name ≡ Ok ops)
   ops_known ops {u = u} plans x first held told rests = plan_is held x rests ∙ plans.tells held (store repo (shows x)) told (stores_at u x first)
 
-  pub planned_ok : (ops : List Op) (r : Result State RunEnd) {u v w : Outside} → IsTold v.told → Plans answer (Ok ops) u v → Acts (Rests s) Brings (ops_over ops) s r v w → Acts (Rests s) Brings (from_remote remote name) s r u w
+  pub planned_ok : (ops : List Op) (r : Result State RunEnd) {before now : Bool} {u v w : Outside} → IsTold v.told → Plans answer (Ok ops) u v → Acts (Rests s) Brings (ops_over ops) s before now r v w → Acts (Rests s) Brings (from_remote remote name) s before now r u w
   planned_ok ops r told plans acts = acts_same (from_remote remote name) (ops_over ops)
       (λ x first held known rests. ap (λ (p : Result (List Op) Refusal). planned p held (world_at s x)) (ops_known ops plans x first held known rests))
       (acts_looked (ops_over ops) told (looked_at plans.looks) acts)
 
   -- ---- of an update of all
 
-  pub updated_ok : (ops : List Op) (r : Result State RunEnd) {u v w : Outside} → IsTold v.told → Plans answer (Ok ops) u v → Acts (Rests s) Brings (ops_over ops) s r v w → Acts (Rests s) Brings (updated_from remote name) s r u w
+  pub updated_ok : (ops : List Op) (r : Result State RunEnd) {before now : Bool} {u v w : Outside} → IsTold v.told → Plans answer (Ok ops) u v → Acts (Rests s) Brings (ops_over ops) s before now r v w → Acts (Rests s) Brings (updated_from remote name) s before now r u w
   updated_ok ops r told plans acts = acts_same (updated_from remote name) (ops_over ops)
       (λ x first held known rests. ap (λ (p : Result (List Op) Refusal). unless_skipped name p held (world_at s x)) (ops_known ops plans x first held known rests))
       (acts_looked (ops_over ops) told (looked_at plans.looks) acts)
@@ -112,11 +112,11 @@ module _ (s : State) (remote : RemoteRow) (name : Ref) where
       ap (λ (p : Result (List Op) Refusal). unless_skipped name p held (world_at s x)) (refused_plan r plans x first held known rests)
       ∙ ap (λ (c : Bool). if c then skipped name else refusal_answer r) is
 
-  pub updated_skipped : (r : Refusal) (result : Result State RunEnd) {u v w : Outside} → is_no_offer r ≡ true → IsTold v.told → Plans answer (Err (pulls.Refused r)) u v → Acts (Rests s) Brings (λ held x. skipped name) s result v w → Acts (Rests s) Brings (updated_from remote name) s result u w
+  pub updated_skipped : (r : Refusal) (result : Result State RunEnd) {before now : Bool} {u v w : Outside} → is_no_offer r ≡ true → IsTold v.told → Plans answer (Err (pulls.Refused r)) u v → Acts (Rests s) Brings (λ held x. skipped name) s before now result v w → Acts (Rests s) Brings (updated_from remote name) s before now result u w
   updated_skipped r result is told plans acts = acts_same (updated_from remote name) (λ held x. skipped name) (refusal_known r true is plans)
       (acts_looked (λ held x. skipped name) told (looked_at plans.looks) acts)
 
-  pub updated_err : (e : PullEnd) {u v : Outside} → IsTold v.told → Plans answer (Err e) u v → ((r : Refusal) → e ≡ pulls.Refused r → is_no_offer r ≡ false) → Acts (Rests s) Brings (updated_from remote name) s (Err (end_of_pull e)) u v
+  pub updated_err : (e : PullEnd) {before : Bool} {u v : Outside} → IsTold v.told → Plans answer (Err e) u v → ((r : Refusal) → e ≡ pulls.Refused r → is_no_offer r ≡ false) → Acts (Rests s) Brings (updated_from remote name) s before before (Err (end_of_pull e)) u v
   updated_err e {u = u} {v = v} told plans offered = not_planned (updated_from remote name) e told plans (λ r is.
       refusal_known r false (offered r is) (subst (λ (q : PullEnd). Plans answer (Err q) u v) is plans))
 

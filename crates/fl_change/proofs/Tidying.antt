@@ -1,5 +1,5 @@
 -- An installation that is tidied before anything else is done with it.
-use Rattle.std.proofs.Common.{◌≡◌, List, [], ◌++◌, ℕ, Option, Result, Ok, Err, OnOk, refl, ◌∙◌, ap, subst}
+use Rattle.std.proofs.Common.{◌≡◌, Bool, List, [], ◌++◌, ℕ, Option, Result, Ok, Err, OnOk, refl, ◌∙◌, ap, subst}
 use Rattle.fp_host.specs.Causes.{IsCaused}
 use Rattle.fp_host.specs.Frame.{AtEnd}
 use Rattle.fp_host.specs.Moments.{Always}
@@ -25,7 +25,7 @@ use Rattle.dep_tidy.specs.Tidy.{Tidies, WasTidied}
 use Rattle.fl_change.specs.World.{World, world_at}
 use Rattle.fl_change.specs.Answer.{Answer, Piece, pieces_text, ops_of}
 use Rattle.fl_change.specs.Ends.{end_of_host}
-use Rattle.fl_change.specs.Performs.{Printed, Performs, IsDone, IsHalted, Performed, PerformsOver, PerformedOver, Works, Acts, Rests}
+use Rattle.fl_change.specs.Performs.{Printed, Performs, IsDone, IsHalted, Performed, Acted, PerformsOver, PerformedOver, Works, Acts, Rests}
 use Rattle.fl_change.specs.declared.end.RunEnd.{RunEnd}
 use Rattle.fl_change.specs.declared.end.RunEnd.TheVariants.{Refused, Fault, RemoteFault, NoMemory}
 use Rattle.fl_change.proofs.Changing.{tidied_on, tidies_only, still_on, tidies_still, config_tidied}
@@ -101,16 +101,16 @@ module _ (s : State) {u v : View} (tidies : Tidies s u v) (opens : Opens s u) wh
 first_over : (f : Holdings → World → Answer) (s : State) (holds : Option Holdings) (x y : View) → Tidies s x y → PerformsOver (Opens s) holds f s x y
 first_over f s holds x y tidies = record { performs = λ held told opens. tidied_first s tidies opens (f held (world_at s x)) }
 
-pub acts_untidied_first : {May : Op → Type 0} (f : Holdings → World → Answer) (s : State) (e : HostEnd) {u v : Outside} → Tidying (WasTidied s) s (Err e) u v → Acts (Opens s) May f s (Err (end_of_host e)) u v
-acts_untidied_first f s e {u = u} call = works_as (λ x y first p. first_over f s u.holdings x y p) (λ x y first p q. by e x y q) (works_untidied s e call)
+pub acts_untidied_first : {May : Op → Type 0} (f : Holdings → World → Answer) (s : State) (e : HostEnd) {before now : Bool} {u v : Outside} → Tidying (WasTidied s) s (Err e) u v → Acts (Opens s) May f s before now (Err (end_of_host e)) u v
+acts_untidied_first f s e {before = before} {now = now} {u = u} call = works_as (λ x y first p. first_over f s u.holdings x y p) (λ x y first p q. by e x y q) (works_untidied s e call)
   where
-    by : (e : HostEnd) (x y : View) → Tidies s x y → PerformedOver (Opens s) u.holdings f s (Err (end_of_host e)) x y
-    by host.Fault x y tidies = record { performed = λ held told opens. tt }
-    by host.NoMemory x y tidies = record { performed = λ held told opens. halted_first s tidies opens (f held (world_at s x)) }
+    by : (e : HostEnd) (x y : View) → Tidies s x y → PerformedOver (Opens s) u.holdings f s before now (Err (end_of_host e)) x y
+    by host.Fault x y tidies = record { performed = λ held told opens. tt; acted = λ held told opens. tt }
+    by host.NoMemory x y tidies = record { performed = λ held told opens. halted_first s tidies opens (f held (world_at s x)); acted = λ held told opens. tt }
 
-pub acts_tidied_first : {May : Op → Type 0} (f : Holdings → World → Answer) (s t : State) (r : Result State RunEnd) {u v w : Outside} → IsTold v.told → Tidying (WasTidied s) s (Ok t) u v → Acts (Rests s) May f s r v w → Acts (Opens s) May f s r u w
-acts_tidied_first {May = May} f s t r {u = u} {v = v} {w = w} told call acts = works_on told first
-    (subst (λ (h : Option Holdings). Works May s (PerformsOver (Rests s) h f s) (PerformedOver (Rests s) h f s r) r v w) call.holdings acts)
+pub acts_tidied_first : {May : Op → Type 0} (f : Holdings → World → Answer) (s t : State) (r : Result State RunEnd) {before now : Bool} {u v w : Outside} → IsTold v.told → Tidying (WasTidied s) s (Ok t) u v → Acts (Rests s) May f s before now r v w → Acts (Opens s) May f s before now r u w
+acts_tidied_first {May = May} f s t r {before = before} {now = now} {u = u} {v = v} {w = w} told call acts = works_on told first
+    (subst (λ (h : Option Holdings). Works May s (PerformsOver (Rests s) h f s) (PerformedOver (Rests s) h f s before now r) r v w) call.holdings acts)
     (λ x y z p q n. record {
       performs = λ held known opens.
           let rests : Rests s y = record { opens = q.0.opens opens; settled = q.1.settled opens } in
@@ -120,6 +120,9 @@ acts_tidied_first {May = May} f s t r {u = u} {v = v} {w = w} told call acts = w
       performed = λ held known opens.
           let rests : Rests s y = record { opens = q.0.opens opens; settled = q.1.settled opens } in
           subst (λ (a : World). Performed held (f held a) a r x z) (tidied_world s q.0 opens) (performed_moved s q.0 opens held rests.settled q.1.shares q.1.creates (f held (world_at s y)) r z (n.performs held known rests).files (l.performed held known rests));
+      acted = λ held known opens.
+          let rests : Rests s y = record { opens = q.0.opens opens; settled = q.1.settled opens } in
+          subst (λ (a : World). Acted (f held a) r before now) (tidied_world s q.0 opens) (l.acted held known rests);
     })
   where
     first : Works May s (PerformsOver (Opens s) u.holdings f s) (λ x y. Tidies s x y × WasTidied s x y) (Ok s) u v

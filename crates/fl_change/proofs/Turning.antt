@@ -22,9 +22,9 @@ use Rattle.dep_states.specs.Shown.{Shows, settings_of}
 use Rattle.dep_states.specs.Sound.{Opens}
 use Rattle.dep_states.specs.After.{Done, row_at, state_after, after_all, after_op, updated, rolled_back, back}
 use Rattle.fl_change.specs.World.{World, world_at, world_after, worlds_after}
-use Rattle.fl_change.specs.Answer.{Answer, Piece, lines_of, last_of, pieces_text, ops_in, ops_of, nothing, continued, followed, then_over, each_over, sets_config, set_config, IsUnpulled}
+use Rattle.fl_change.specs.Answer.{Answer, Piece, lines_of, last_of, pieces_text, ops_in, ops_of, nothing, continued, followed, then_over, each_over, sets_config, set_config, has_acted, IsUnpulled}
 use Rattle.fl_change.specs.Changes.{HasText, OnlyTidied}
-use Rattle.fl_change.specs.Performs.{Printed, IsSome, Performs, Holds, IsDone, Performed, Rests}
+use Rattle.fl_change.specs.Performs.{Printed, IsSome, Performs, Holds, IsDone, Performed, Acted, Rests}
 use Rattle.fl_change.specs.declared.end.RunEnd.{RunEnd}
 use Rattle.fl_change.specs.declared.end.RunEnd.TheVariants.{Refused, Fault, RemoteFault, NoMemory}
 use Rattle.fl_change.proofs.Changing.{tidied_on, still_on, text_on}
@@ -66,6 +66,28 @@ after_pieces s t pieces ops is = after-append (ops_in pieces) ops s ∙ ap (λ (
 
 worlds_pieces : (held : Holdings) (x y : World) (pieces more : List Piece) → y ≡ worlds_after held x (ops_in pieces) → worlds_after held y (ops_in more) ≡ worlds_after held x (ops_in (pieces ++ more))
 worlds_pieces held x y pieces more is = ap (λ (z : World). worlds_after held z (ops_in more)) is ∙ sym (worlds-append held (ops_in pieces) (ops_in more) x) ∙ ap (worlds_after held x) (sym (ops-append pieces more))
+
+-- ---- whether an operation was done
+
+acted_stays : (ops : List Done) → true ≡ has_acted true ops
+acted_stays [] = refl
+acted_stays (op ∷ ops) = refl
+
+acted-append : (before : Bool) (xs ys : List Done) → has_acted before (xs ++ ys) ≡ has_acted (has_acted before xs) ys
+acted-append before [] ys = refl
+acted-append before (op ∷ xs) ys = acted_stays ys
+
+acted_both : (pieces : List Piece) (b : Answer) (before now after : Bool) → now ≡ has_acted before (ops_in pieces) → after ≡ has_acted now (ops_of b) → after ≡ has_acted before (ops_of (continued pieces None b))
+acted_both pieces b before now after first next =
+    next ∙ ap (λ (x : Bool). has_acted x (ops_of b)) first ∙ sym (acted-append before (ops_in pieces) (ops_of b)) ∙ ap (λ (l : List Done). has_acted before l) (sym (ops-append pieces b.pieces))
+
+-- it is told of both
+acted_onto : (pieces : List Piece) (b : Answer) (r : Result State RunEnd) (before now after : Bool) → now ≡ has_acted before (ops_in pieces) → Acted b r now after → Acted (continued pieces None b) r before after
+acted_onto pieces b (Ok t) before now after first next = acted_both pieces b before now after first next
+acted_onto pieces b (Err (Refused refusal)) before now after first next = acted_both pieces b before now after first next
+acted_onto pieces b (Err Fault) before now after first next = tt
+acted_onto pieces b (Err RemoteFault) before now after first next = tt
+acted_onto pieces b (Err NoMemory) before now after first next = tt
 
 -- ---- the first of two
 
@@ -113,6 +135,16 @@ failed_continued held pieces (Some refusal) b x e v w failed = failed
 -- where the first fails, the two do
 failed_followed : (held : Holdings) (a b : Answer) (x : World) (e : RunEnd) (v w : View) → Performed held a x (Err e) v w → Performed held (followed a b) x (Err e) v w
 failed_followed held a b x e v w failed = failed_continued held a.pieces a.refusal b x e v w failed
+
+acted_continued : (held : Holdings) (pieces : List Piece) (o : Option Refusal) (b : Answer) (x : World) (e : RunEnd) (v w : View) (before after : Bool) → Performed held (record { pieces = pieces; refusal = o }) x (Err e) v w → Acted (record { pieces = pieces; refusal = o }) (Err e) before after → Acted (continued pieces o b) (Err e) before after
+acted_continued held pieces None b x (Refused refusal) v w before after failed acted = absurd (cc failed.0)
+acted_continued held pieces None b x Fault v w before after failed acted = tt
+acted_continued held pieces None b x RemoteFault v w before after failed acted = tt
+acted_continued held pieces None b x NoMemory v w before after failed acted = tt
+acted_continued held pieces (Some refusal) b x e v w before after failed acted = acted
+
+acted_followed : (held : Holdings) (a b : Answer) (x : World) (e : RunEnd) (v w : View) (before after : Bool) → Performed held a x (Err e) v w → Acted a (Err e) before after → Acted (followed a b) (Err e) before after
+acted_followed held a b x e v w before after failed acted = acted_continued held a.pieces a.refusal b x e v w before after failed acted
 
 -- ---- the second of two
 
@@ -298,6 +330,9 @@ module _ (held : Holdings) (f g : Holdings → World → Answer) (s : State) whe
   pub failed_first : (e : RunEnd) (v w : View) → Performed held (f held (world_at s v)) (world_at s v) (Err e) v w → Performed held (Both f g held (world_at s v)) (world_at s v) (Err e) v w
   failed_first e v w failed = failed_followed held (f held (world_at s v)) (g held (worlds_after held (world_at s v) (ops_of (f held (world_at s v))))) (world_at s v) e v w failed
 
+  pub acted_first : (e : RunEnd) (v w : View) (before after : Bool) → Performed held (f held (world_at s v)) (world_at s v) (Err e) v w → Acted (f held (world_at s v)) (Err e) before after → Acted (Both f g held (world_at s v)) (Err e) before after
+  acted_first e v w before after failed acted = acted_followed held (f held (world_at s v)) (g held (worlds_after held (world_at s v) (ops_of (f held (world_at s v))))) (world_at s v) e v w before after failed acted
+
   pub performs_second : (t : State) (v w z : View) → Performed held (f held (world_at s v)) (world_at s v) (Ok t) v w → KeepsFiles v w → Performs (g held (world_at t w)) t w z → Performs (Both f g held (world_at s v)) s v z
   performs_second t v w z d files performs =
       let a = f held (world_at s v) in
@@ -314,28 +349,38 @@ module _ (held : Holdings) (f g : Holdings → World → Answer) (s : State) whe
       (subst (λ (q : Answer). Performed held q (world_at s v) r v z) (then_is a (g held (world_at t w)) d.0)
       (performed_onto held a.pieces (g held (world_at t w)) (world_at s v) (world_at t w) r v w z y (done_plain held a (world_at s v) d.2 d.0) before files next))
 
+  pub acted_second : (t : State) (r : Result State RunEnd) (v w : View) (before now after : Bool) → Performed held (f held (world_at s v)) (world_at s v) (Ok t) v w → Acted (f held (world_at s v)) (Ok t) before now → Acted (g held (world_at t w)) r now after → Acted (Both f g held (world_at s v)) r before after
+  acted_second t r v w before now after d first next =
+      let a = f held (world_at s v) in
+      let y = left_world held a s t v w d in
+      subst (λ (q : World). Acted (followed a (g held q)) r before after) y
+      (subst (λ (q : Answer). Acted q r before after) (then_is a (g held (world_at t w)) d.0)
+      (acted_onto a.pieces (g held (world_at t w)) r before now after first next))
+
 -- ---- each of a list, in turn
 
 module _ {A : Type 0} (item : A → Holdings → World → Answer) (held : Holdings) where
   -- So many of the list are done: these pieces were said, and the others lead on from the state t.
-  pub record StageOver (all left : List A) (s t : State) (v w : View) : Type 0 where
+  pub record StageOver (all left : List A) (s t : State) (before now : Bool) (v w : View) : Type 0 where
     pub pieces : List Piece
     pub same : each_over item all held (world_at s v) ≡ continued pieces None (each_over item left held (world_at t w))
     pub state : t ≡ after_all s (ops_in pieces)
     pub files : KeepsFiles v w
     pub done : IsDone held (unrefused pieces) (world_at s v) v w
+    pub acted : now ≡ has_acted before (ops_in pieces)
 
   -- none is done
-  pub first_stage : (all : List A) (s : State) {v : View} → Rests s v → StageOver all all s s v v
+  pub first_stage : (all : List A) (s : State) {before : Bool} {v : View} → Rests s v → StageOver all all s s before before v v
   first_stage all s {v = v} rests = record {
     pieces = [];
     same = refl;
     state = refl;
     files = files_stay;
     done = none_done held (unrefused []) (world_at s v) v refl (holds_at s v rests.opens) rests.settled;
+    acted = refl;
   }
 
-  module _ (all : List A) (a : A) (left : List A) (s t : State) {v w : View} (stage : StageOver all (a ∷ left) s t v w) where
+  module _ (all : List A) (a : A) (left : List A) (s t : State) {before now : Bool} {v w : View} (stage : StageOver all (a ∷ left) s t before now v w) where
     -- the world that was reached
     stage_world : world_at t w ≡ worlds_after held (world_at s v) (ops_in stage.pieces)
     stage_world = world_held t (stage.state ∙ sym (worlds_state held (world_at s v) (ops_in stage.pieces))) stage.done.holds
@@ -351,13 +396,14 @@ module _ {A : Type 0} (item : A → Holdings → World → Answer) (held : Holdi
     pieces_both xs ys b = ap (λ (l : List Piece). record { pieces = l; refusal = b.refusal }) (sym (append_assoc xs ys b.pieces))
 
     -- one more
-    pub next_stage : (t' : State) {z : View} → KeepsFiles w z → Performed held next_answer (world_at t w) (Ok t') w z → StageOver all left s t' v z
-    next_stage t' {z = z} kept done = record {
+    pub next_stage : (t' : State) {after : Bool} {z : View} → KeepsFiles w z → Performed held next_answer (world_at t w) (Ok t') w z → Acted next_answer (Ok t') now after → StageOver all left s t' before after v z
+    next_stage t' {after = after} {z = z} kept done acted = record {
       pieces = stage.pieces ++ next_answer.pieces;
       same = stage.same ∙ ap (continued stage.pieces None) (sym (then_is next_answer later_answer done.0)) ∙ pieces_both stage.pieces next_answer.pieces later_answer ∙ ap (λ (q : World). continued (stage.pieces ++ next_answer.pieces) None (each_over item left held q)) (sym (left_world held next_answer t t' w z done));
       state = done.1 ∙ sym (after_pieces s t stage.pieces (ops_of next_answer) stage.state) ∙ ap (after_all s) (sym (ops-append stage.pieces next_answer.pieces));
       files = files_on stage.files kept;
       done = done_onto held stage.pieces (unrefused next_answer.pieces) (world_at s v) (world_at t w) stage_world stage.done (done_plain held next_answer (world_at t w) done.2 done.0) stage.files kept;
+      acted = acted_onto stage.pieces next_answer (Ok t') before now after stage.acted acted;
     }
 
     -- at every moment of the next
@@ -373,18 +419,28 @@ module _ {A : Type 0} (item : A → Holdings → World → Answer) (held : Holdi
         (performed_onto held stage.pieces (each_over item (a ∷ left) held (world_at t w)) (world_at s v) (world_at t w) (Err e) v w z stage_world stage.done stage.files kept
         (failed_followed held next_answer later_answer (world_at t w) e w z failed))
 
+    pub stage_acted : (e : RunEnd) {after : Bool} (z : View) → Performed held next_answer (world_at t w) (Err e) w z → Acted next_answer (Err e) now after → Acted (each_over item all held (world_at s v)) (Err e) before after
+    stage_acted e {after = after} z failed acted =
+        subst (λ (q : Answer). Acted q (Err e) before after) (sym stage.same)
+        (acted_onto stage.pieces (each_over item (a ∷ left) held (world_at t w)) (Err e) before now after stage.acted
+        (acted_followed held next_answer later_answer (world_at t w) e w z now after failed acted))
+
   -- what was reached is at rest
-  pub stage_rests : (all left : List A) (s t : State) {v w : View} → StageOver all left s t v w → Rests t w
+  pub stage_rests : (all left : List A) (s t : State) {before now : Bool} {v w : View} → StageOver all left s t before now v w → Rests t w
   stage_rests all left s t {v = v} {w = w} stage = record {
     opens = subst (λ (q : State). Opens q w) (worlds_state held (world_at s v) (ops_in stage.pieces) ∙ sym stage.state) stage.done.holds.opens;
     settled = stage.done.tidied;
   }
 
   -- all are done
-  pub last_stage : (all : List A) (s t : State) {v w : View} → StageOver all [] s t v w → Performed held (each_over item all held (world_at s v)) (world_at s v) (Ok t) v w
+  pub last_stage : (all : List A) (s t : State) {before now : Bool} {v w : View} → StageOver all [] s t before now v w → Performed held (each_over item all held (world_at s v)) (world_at s v) (Ok t) v w
   last_stage all s t {v = v} {w = w} stage =
       let x = world_held t (stage.state ∙ sym (worlds_state held (world_at s v) (ops_in stage.pieces))) stage.done.holds in
       let opens = subst (λ (q : State). Opens q w) (worlds_state held (world_at s v) (ops_in stage.pieces) ∙ sym stage.state) stage.done.holds.opens in
       subst (λ (q : Answer). Performed held q (world_at s v) (Ok t) v w) (sym stage.same)
       (performed_onto held stage.pieces nothing (world_at s v) (world_at t w) (Ok t) v w w x stage.done stage.files files_stay
       (refl, refl, none_done held nothing (world_at t w) w refl (holds_at t w opens) stage.done.tidied))
+
+  pub last_acted : (all : List A) (s t : State) {before now : Bool} {v w : View} → StageOver all [] s t before now v w → Acted (each_over item all held (world_at s v)) (Ok t) before now
+  last_acted all s t {before = before} {now = now} {v = v} {w = w} stage =
+      subst (λ (q : Answer). Acted q (Ok t) before now) (sym stage.same) (acted_onto stage.pieces nothing (Ok t) before now now stage.acted refl)

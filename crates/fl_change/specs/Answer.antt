@@ -8,7 +8,7 @@ use Rattle.dep_states.specs.Effects.{effect_of, writes_config, keeps_refs}
 use Rattle.fl_change.specs.World.{World, worlds_after}
 use Rattle.fl_lines.specs.Lines.{op_text, refusal_text}
 use Rattle.std.specs.List.{list_any}
-use Rattle.std.specs.Prelude.{◌≡◌, Bool}
+use Rattle.std.specs.Prelude.{◌≡◌, Bool, true}
 use Rattle.fp_base.specs.declared.what.What.TheVariants as whats
 use Rattle.fp_small.specs.declared.refusal.Refusal.TheVariants as refusals
 
@@ -54,6 +54,11 @@ keeps_commits op = keeps_refs (effect_of op)
 -- one of these is such
 abbrev pub set_config : List Done → Bool
 set_config ops = list_any (λ done. sets_config done.op) ops
+
+-- what tells whether an operation was done: it told so before, or there are such operations
+abbrev pub has_acted : Bool → List Done → Bool
+has_acted before [] = before
+has_acted before (done ∷ more) = true
 
 -- Nothing is pulled before this refusal: it isn't one of an object or of a head.
 abbrev pub IsUnpulled : Option Refusal → Type 0

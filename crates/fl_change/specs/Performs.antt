@@ -1,5 +1,5 @@
 -- What a command does over an installation that was opened.
-use Rattle.std.specs.Prelude.{◌≡◌, true, false, Option, ◌++◌, List, Some, None, Result, Ok, Err, IsErrOf}
+use Rattle.std.specs.Prelude.{◌≡◌, Bool, true, false, Option, ◌++◌, List, Some, None, Result, Ok, Err, IsErrOf}
 use Rattle.fp_host.specs.Causes.{IsCaused}
 use Rattle.fp_host.specs.Frame.{AtEnd}
 use Rattle.fp_host.specs.Moments.{Goes, Always}
@@ -27,7 +27,7 @@ use Rattle.op_change.specs.Bringing.{AreTold}
 use Rattle.op_change.specs.Applied.{Brings, op_refusal, done_with}
 use Rattle.fl_lines.specs.Lines.{op_text}
 use Rattle.fl_change.specs.World.{World, world_at, used_of, supplied, world_after, worlds_after}
-use Rattle.fl_change.specs.Answer.{Answer, Piece, pieces_text, ops_in, ops_of, lines_of, sets_config, set_config, keeps_commits, IsUnpulled, IsIdle}
+use Rattle.fl_change.specs.Answer.{Answer, Piece, pieces_text, ops_in, ops_of, lines_of, sets_config, set_config, has_acted, keeps_commits, IsUnpulled, IsIdle}
 use Rattle.fl_change.specs.Refs.{op_over}
 use Rattle.fl_change.specs.Changes.{Changes, OnlyTidied, IsStill, HasText}
 use Rattle.fl_change.specs.Created.{LacksFor, CreatesInTurn}
@@ -97,6 +97,14 @@ Performed held a x (Err Fault) v w = Unit {0}
 Performed held a x (Err RemoteFault) v w = IsHalted a x.state v w
 Performed held a x (Err NoMemory) v w = IsHalted a x.state v w
 
+-- What tells whether an operation was done tells it besides of those of an answer that was given.
+abbrev pub Acted : Answer → Result State RunEnd → Bool → Bool → Type 0
+Acted a (Ok t) before after = after ≡ has_acted before (ops_of a)
+Acted a (Err (Refused refusal)) before after = after ≡ has_acted before (ops_of a)
+Acted a (Err Fault) before after = Unit {0}
+Acted a (Err RemoteFault) before after = Unit {0}
+Acted a (Err NoMemory) before after = Unit {0}
+
 -- So it is over an installation that is ready, by what the remotes hold, where they tell it.
 pub record PerformsOver (Ready : View → Type 0) (holds : Option Holdings)
     (f : Holdings → World → Answer) (s : State) (v w : View) : Type 0 where
@@ -104,10 +112,12 @@ pub record PerformsOver (Ready : View → Type 0) (holds : Option Holdings)
       → Performs (f held (world_at s v)) s v w
 
 pub record PerformedOver (Ready : View → Type 0) (holds : Option Holdings)
-    (f : Holdings → World → Answer) (s : State) (r : Result State RunEnd) (v w : View) : Type 0
-  where
-    pub performed : (held : Holdings) → holds ≡ Some held → Ready v
-        → Performed held (f held (world_at s v)) (world_at s v) r v w
+    (f : Holdings → World → Answer) (s : State) (before after : Bool)
+    (r : Result State RunEnd) (v w : View) : Type 0 where
+  pub performed : (held : Holdings) → holds ≡ Some held → Ready v
+      → Performed held (f held (world_at s v)) (world_at s v) r v w
+  pub acted : (held : Holdings) → holds ≡ Some held → Ready v
+      → Acted (f held (world_at s v)) r before after
 
 -- ---- what is outside
 
@@ -144,11 +154,11 @@ pub record Works (May : Op → Type 0) (s : State) (R Q : View → View → Type
   pub unasked : (AsksBy May → ⊥) → (w.remote_faults ≡ u.remote_faults)
       × (IsErrOf result RemoteFault → ⊥)
 
--- work with this answer
+-- work with this answer, and what tells before and after it whether an operation was done
 abbrev pub Acts : (View → Type 0) → (Op → Type 0) → (Holdings → World → Answer) → State
-    → Result State RunEnd → Outside → Outside → Type 0
-Acts Ready May f s result u w = Works May s (PerformsOver Ready u.holdings f s)
-    (PerformedOver Ready u.holdings f s result) result u w
+    → Bool → Bool → Result State RunEnd → Outside → Outside → Type 0
+Acts Ready May f s before after result u w = Works May s (PerformsOver Ready u.holdings f s)
+    (PerformedOver Ready u.holdings f s before after result) result u w
 
 -- every stop leaves this state and Sound, and all is settled
 pub record Rests (s : State) (v : View) : Type 0 where

@@ -29,28 +29,31 @@ use std::alloc::Global;
 use std::thread::Threads;
 
 /// Makes the changes on an opened installation, one after another up to the first refusal. It is
-/// tidied and migrated before. Whatever the end but Ok, the installation is opened again before
-/// anything else is done with it.
+/// tidied and migrated before. `acted` is set once an operation was done. Whatever the end but Ok,
+/// the installation is opened again before anything else is done with it.
 pub fn change_all<H: Host, R: Remotes>(
     rt: &(impl Threads + Sync),
     alloc: Global,
     host: &mut H,
     remotes: &mut R,
+    acted: &mut bool,
     opened: Opened,
     changes: &[Change],
 ) -> Result<Opened, RunEnd>
     requires good { IsGood opened }
     // At every moment the first pieces of the answer were printed, and a stop leaves the state
-    // after a prefix of its operations that holds those that these pieces acknowledge.
-    ensures acts { Acts (Opens opened) (MayDo changes.now) (changing changes.now) opened result
+    // after a prefix of its operations that holds those that these pieces acknowledge. Where all but
+    // the line of a refusal was printed, `acted` tells whether there are such operations.
+    ensures acts { Acts (Opens opened) (MayDo changes.now) (changing changes.now)
+        opened acted.old acted.new result
         (outside (H.moments host.old) (H.faults host.old) (R.holds remotes.old)
         (R.faults remotes.old))
         (outside (H.moments host.new) (H.faults host.new) (R.holds remotes.new)
         (R.faults remotes.new)) }
 {
     let tidied = tidy(alloc, host, opened)?;
-    let current = migrate(rt, alloc, host, remotes, tidied)?;
-    do_each(rt, alloc, host, remotes, current, changes)
+    let current = migrate(rt, alloc, host, remotes, acted, tidied)?;
+    do_each(rt, alloc, host, remotes, acted, current, changes)
 }
 
 /// Migrates an installation of layout 1.
@@ -59,19 +62,21 @@ fn migrate<H: Host, R: Remotes>(
     alloc: Global,
     host: &mut H,
     remotes: &mut R,
+    acted: &mut bool,
     opened: Opened,
 ) -> Result<Opened, RunEnd>
     requires good { IsGood opened }
     ensures good { IfOk result IsGood }
     ensures layout { IfOk result (λ o. o.layout ≡ Two) }
-    ensures acts { Acts (Rests opened) (Just ops.Migrate) migrating opened result
+    ensures acts { Acts (Rests opened) (Just ops.Migrate) migrating
+        opened acted.old acted.new result
         (outside (H.moments host.old) (H.faults host.old) (R.holds remotes.old)
         (R.faults remotes.old))
         (outside (H.moments host.new) (H.faults host.new) (R.holds remotes.new)
         (R.faults remotes.new)) }
 {
     match opened.state().layout {
-        Layout::One => do_op(rt, alloc, host, remotes, opened, &Op::Migrate),
+        Layout::One => do_op(rt, alloc, host, remotes, acted, opened, &Op::Migrate),
         Layout::Two => Ok(opened),
     }
 }
@@ -82,12 +87,14 @@ fn do_each<H: Host, R: Remotes>(
     alloc: Global,
     host: &mut H,
     remotes: &mut R,
+    acted: &mut bool,
     opened: Opened,
     changes: &[Change],
 ) -> Result<Opened, RunEnd>
     requires good { IsGood opened }
     requires layout { opened.layout ≡ Two }
-    ensures acts { Acts (Rests opened) (OpsOfAny changes.now) (in_turn changes.now) opened result
+    ensures acts { Acts (Rests opened) (OpsOfAny changes.now) (in_turn changes.now)
+        opened acted.old acted.new result
         (outside (H.moments host.old) (H.faults host.old) (R.holds remotes.old)
         (R.faults remotes.old))
         (outside (H.moments host.new) (H.faults host.new) (R.holds remotes.new)
@@ -95,7 +102,7 @@ fn do_each<H: Host, R: Remotes>(
 {
     let mut current = opened;
     for change in changes {
-        current = do_change(rt, alloc, host, remotes, current, change)?;
+        current = do_change(rt, alloc, host, remotes, acted, current, change)?;
     }
     Ok(current)
 }
@@ -106,6 +113,7 @@ fn do_change<H: Host, R: Remotes>(
     alloc: Global,
     host: &mut H,
     remotes: &mut R,
+    acted: &mut bool,
     opened: Opened,
     change: &Change,
 ) -> Result<Opened, RunEnd>
@@ -113,43 +121,54 @@ fn do_change<H: Host, R: Remotes>(
     requires layout { opened.layout ≡ Two }
     ensures good { IfOk result IsGood }
     ensures layout { IfOk result (λ o. o.layout ≡ Two) }
-    ensures acts { Acts (Rests opened) (OpsOf change.now) (change_over change.now) opened result
+    ensures acts { Acts (Rests opened) (OpsOf change.now) (change_over change.now)
+        opened acted.old acted.new result
         (outside (H.moments host.old) (H.faults host.old) (R.holds remotes.old)
         (R.faults remotes.old))
         (outside (H.moments host.new) (H.faults host.new) (R.holds remotes.new)
         (R.faults remotes.new)) }
 {
     match change {
-        Change::Install { remote, name } => install(rt, alloc, host, remotes, opened, remote, name),
-        Change::UpdateAll => update_all(rt, alloc, host, remotes, opened),
-        Change::UpdateOne(name) => update_one(rt, alloc, host, remotes, opened, name),
-        Change::Uninstall(name) => uninstall(rt, alloc, host, remotes, opened, name),
-        Change::UninstallUnused => uninstall_unused(rt, alloc, host, remotes, opened),
-        Change::Rollback(name) => roll_back(rt, alloc, host, remotes, opened, name),
-        Change::OverrideReset { name } => reset(rt, alloc, host, remotes, opened, name.as_text()),
+        Change::Install { remote, name } => install(
+            rt, alloc, host, remotes, acted, opened, remote, name,
+        ),
+        Change::UpdateAll => update_all(rt, alloc, host, remotes, acted, opened),
+        Change::UpdateOne(name) => update_one(rt, alloc, host, remotes, acted, opened, name),
+        Change::Uninstall(name) => uninstall(rt, alloc, host, remotes, acted, opened, name),
+        Change::UninstallUnused => uninstall_unused(rt, alloc, host, remotes, acted, opened),
+        Change::Rollback(name) => roll_back(rt, alloc, host, remotes, acted, opened, name),
+        Change::OverrideReset { name } => reset(
+            rt,
+            alloc,
+            host,
+            remotes,
+            acted,
+            opened,
+            name.as_text(),
+        ),
         Change::Pin(pin) => {
             let asked = add_pin(opened.state(), pin);
-            do_asked(rt, alloc, host, remotes, opened, asked)
+            do_asked(rt, alloc, host, remotes, acted, opened, asked)
         }
         Change::Unpin(pin) => {
             let asked = drop_pin(opened.state(), pin);
-            do_asked(rt, alloc, host, remotes, opened, asked)
+            do_asked(rt, alloc, host, remotes, acted, opened, asked)
         }
         Change::RemoteAdd(row) => {
             let asked = add_remote(opened.state(), row);
-            do_asked(rt, alloc, host, remotes, opened, asked)
+            do_asked(rt, alloc, host, remotes, acted, opened, asked)
         }
         Change::RemoteModify(row) => {
             let asked = modify_remote(opened.state(), row);
-            do_asked(rt, alloc, host, remotes, opened, asked)
+            do_asked(rt, alloc, host, remotes, acted, opened, asked)
         }
         Change::OverrideChange { name, options } => {
             let asked = change_override(alloc, opened.state(), name, options);
-            do_asked(rt, alloc, host, remotes, opened, asked)
+            do_asked(rt, alloc, host, remotes, acted, opened, asked)
         }
         Change::RemoteDelete(name) => {
             let asked = drop_remote(opened.state(), name);
-            do_asked(rt, alloc, host, remotes, opened, asked)
+            do_asked(rt, alloc, host, remotes, acted, opened, asked)
         }
     }
 }
@@ -160,6 +179,7 @@ fn do_asked<H: Host, R: Remotes>(
     alloc: Global,
     host: &mut H,
     remotes: &mut R,
+    acted: &mut bool,
     opened: Opened,
     asked: Result<Op, RunEnd>,
 ) -> Result<Opened, RunEnd>
@@ -169,12 +189,13 @@ fn do_asked<H: Host, R: Remotes>(
     ensures good { IfOk result IsGood }
     ensures layout { IfOk result (λ o. o.layout ≡ Two) }
     ensures acts { (refusal : Option SomeRefusal) (op : SomeOp) → IsAsked refusal op asked
-        → Acts (Rests opened) (Just op) (λ held x. unless refusal (op_answer op)) opened result
+        → Acts (Rests opened) (Just op) (λ held x. unless refusal (op_answer op))
+        opened acted.old acted.new result
         (outside (H.moments host.old) (H.faults host.old) (R.holds remotes.old)
         (R.faults remotes.old))
         (outside (H.moments host.new) (H.faults host.new) (R.holds remotes.new)
         (R.faults remotes.new)) }
 {
     let op = asked?;
-    do_op(rt, alloc, host, remotes, opened, &op)
+    do_op(rt, alloc, host, remotes, acted, opened, &op)
 }

@@ -24,6 +24,7 @@ pub(crate) fn roll_back<H: Host, R: Remotes>(
     alloc: Global,
     host: &mut H,
     remotes: &mut R,
+    acted: &mut bool,
     opened: Opened,
     name: &RefName,
 ) -> Result<Opened, RunEnd>
@@ -31,7 +32,8 @@ pub(crate) fn roll_back<H: Host, R: Remotes>(
     requires layout { opened.layout ≡ Two }
     ensures good { IfOk result IsGood }
     ensures layout { IfOk result (λ o. o.layout ≡ Two) }
-    ensures acts { Acts (Rests opened) (IsRollback name.now) (rollback_over name.now) opened result
+    ensures acts { Acts (Rests opened) (IsRollback name.now) (rollback_over name.now)
+        opened acted.old acted.new result
         (outside (H.moments host.old) (H.faults host.old) (R.holds remotes.old)
         (R.faults remotes.old))
         (outside (H.moments host.new) (H.faults host.new) (R.holds remotes.new)
@@ -45,7 +47,7 @@ pub(crate) fn roll_back<H: Host, R: Remotes>(
                 name: name.copy()?,
                 commit,
             };
-            do_op(rt, alloc, host, remotes, opened, &op)
+            do_op(rt, alloc, host, remotes, acted, opened, &op)
         }
         Err(refusal) => Err(RunEnd::Refused(refusal)),
     }

@@ -28,6 +28,7 @@ pub(crate) fn do_ops<H: Host, R: Remotes>(
     alloc: Global,
     host: &mut H,
     remotes: &mut R,
+    acted: &mut bool,
     opened: Opened,
     ops: &[Op],
 ) -> Result<Opened, RunEnd>
@@ -37,7 +38,7 @@ pub(crate) fn do_ops<H: Host, R: Remotes>(
     requires coming { AllByRecursion IsComing ops.now }
     ensures good { IfOk result IsGood }
     ensures layout { IfOk result (λ o. o.layout ≡ Two) }
-    ensures acts { Acts (Rests opened) Brings (ops_over ops.now) opened result
+    ensures acts { Acts (Rests opened) Brings (ops_over ops.now) opened acted.old acted.new result
         (outside (H.moments host.old) (H.faults host.old) (R.holds remotes.old)
         (R.faults remotes.old))
         (outside (H.moments host.new) (H.faults host.new) (R.holds remotes.new)
@@ -45,7 +46,7 @@ pub(crate) fn do_ops<H: Host, R: Remotes>(
 {
     let mut current = opened;
     for op in ops {
-        current = do_op(rt, alloc, host, remotes, current, op)?;
+        current = do_op(rt, alloc, host, remotes, acted, current, op)?;
     }
     Ok(current)
 }
@@ -56,6 +57,7 @@ pub(crate) fn bring_target<H: Host, R: Remotes>(
     alloc: Global,
     host: &mut H,
     remotes: &mut R,
+    acted: &mut bool,
     opened: Opened,
     remote: &RemoteRow,
     name: &RefName,
@@ -65,14 +67,15 @@ pub(crate) fn bring_target<H: Host, R: Remotes>(
     requires remote { has_name name_of opened.remotes remote.now.name ≡ true }
     ensures good { IfOk result IsGood }
     ensures layout { IfOk result (λ o. o.layout ≡ Two) }
-    ensures acts { Acts (Rests opened) Brings (from_remote remote.now name.now) opened result
+    ensures acts { Acts (Rests opened) Brings (from_remote remote.now name.now)
+        opened acted.old acted.new result
         (outside (H.moments host.old) (H.faults host.old) (R.holds remotes.old)
         (R.faults remotes.old))
         (outside (H.moments host.new) (H.faults host.new) (R.holds remotes.new)
         (R.faults remotes.new)) }
 {
     let plan = ops(alloc, host, remotes, opened.state(), remote, name)?;
-    do_ops(rt, alloc, host, remotes, opened, plan.as_slice())
+    do_ops(rt, alloc, host, remotes, acted, opened, plan.as_slice())
 }
 
 /// Installs a ref from the remote of this name.
@@ -81,6 +84,7 @@ pub(crate) fn install<H: Host, R: Remotes>(
     alloc: Global,
     host: &mut H,
     remotes: &mut R,
+    acted: &mut bool,
     opened: Opened,
     remote: &RemoteName,
     name: &RefName,
@@ -89,7 +93,8 @@ pub(crate) fn install<H: Host, R: Remotes>(
     requires layout { opened.layout ≡ Two }
     ensures good { IfOk result IsGood }
     ensures layout { IfOk result (λ o. o.layout ≡ Two) }
-    ensures acts { Acts (Rests opened) Brings (install_over remote.now name.now) opened result
+    ensures acts { Acts (Rests opened) Brings (install_over remote.now name.now)
+        opened acted.old acted.new result
         (outside (H.moments host.old) (H.faults host.old) (R.holds remotes.old)
         (R.faults remotes.old))
         (outside (H.moments host.new) (H.faults host.new) (R.holds remotes.new)
@@ -97,5 +102,5 @@ pub(crate) fn install<H: Host, R: Remotes>(
 {
     let row = known_remote(opened.state(), remote)?;
     try_new(opened.state(), name)?;
-    bring_target(rt, alloc, host, remotes, opened, &row, name)
+    bring_target(rt, alloc, host, remotes, acted, opened, &row, name)
 }

@@ -23,11 +23,13 @@ use std::alloc::Global;
 use std::thread::Threads;
 
 /// Does one operation, says its line once it is done, and tidies after it. The line is made before.
+/// `acted` is set once all that is done.
 pub(crate) fn do_op<H: Host, R: Remotes>(
     rt: &(impl Threads + Sync),
     alloc: Global,
     host: &mut H,
     remotes: &mut R,
+    acted: &mut bool,
     opened: Opened,
     op: &Op,
 ) -> Result<Opened, RunEnd>
@@ -37,7 +39,8 @@ pub(crate) fn do_op<H: Host, R: Remotes>(
     ensures good { IfOk result IsGood }
     ensures layout { IfOk result (λ o. o.layout ≡ Two) }
     ensures made { IfOk result (λ o. (timestamp : ℕ) × (o ≡ after_op opened timestamp op.now)) }
-    ensures acts { Acts (Rests opened) (Just op.now) (op_over op.now) opened result
+    ensures acts { Acts (Rests opened) (Just op.now) (op_over op.now)
+        opened acted.old acted.new result
         (outside (H.moments host.old) (H.faults host.old) (R.holds remotes.old)
         (R.faults remotes.old))
         (outside (H.moments host.new) (H.faults host.new) (R.holds remotes.new)
@@ -53,7 +56,9 @@ pub(crate) fn do_op<H: Host, R: Remotes>(
         op,
         line.as_str().as_bytes(),
     )?;
-    Ok(tidy_after(alloc, host, done, op)?)
+    let tidied = tidy_after(alloc, host, done, op)?;
+    *acted = true;
+    Ok(tidied)
 }
 
 /// Does one operation, and says its line once it is done.

@@ -113,6 +113,7 @@ pub(crate) fn reset<H: Host, R: Remotes>(
     alloc: Global,
     host: &mut H,
     remotes: &mut R,
+    acted: &mut bool,
     opened: Opened,
     name: &Text,
 ) -> Result<Opened, RunEnd>
@@ -121,7 +122,7 @@ pub(crate) fn reset<H: Host, R: Remotes>(
     ensures good { IfOk result IsGood }
     ensures layout { IfOk result (λ o. o.layout ≡ Two) }
     ensures acts { Acts (Rests opened) (Just (ops.DropOverride name.now))
-        (reset_over name.now) opened result
+        (reset_over name.now) opened acted.old acted.new result
         (outside (H.moments host.old) (H.faults host.old) (R.holds remotes.old)
         (R.faults remotes.old))
         (outside (H.moments host.new) (H.faults host.new) (R.holds remotes.new)
@@ -130,7 +131,7 @@ pub(crate) fn reset<H: Host, R: Remotes>(
     match find_override(opened.state().overrides.as_slice(), name) {
         Some(_) => {
             let op = Op::DropOverride(name.copy()?);
-            do_op(rt, alloc, host, remotes, opened, &op)
+            do_op(rt, alloc, host, remotes, acted, opened, &op)
         }
         None => Ok(opened),
     }

@@ -28,6 +28,7 @@ pub(crate) fn uninstall<H: Host, R: Remotes>(
     alloc: Global,
     host: &mut H,
     remotes: &mut R,
+    acted: &mut bool,
     opened: Opened,
     name: &RefName,
 ) -> Result<Opened, RunEnd>
@@ -36,7 +37,7 @@ pub(crate) fn uninstall<H: Host, R: Remotes>(
     ensures good { IfOk result IsGood }
     ensures layout { IfOk result (λ o. o.layout ≡ Two) }
     ensures acts { Acts (Rests opened) (Just (ops.Uninstall name.now))
-        (uninstall_over name.now) opened result
+        (uninstall_over name.now) opened acted.old acted.new result
         (outside (H.moments host.old) (H.faults host.old) (R.holds remotes.old)
         (R.faults remotes.old))
         (outside (H.moments host.new) (H.faults host.new) (R.holds remotes.new)
@@ -48,7 +49,7 @@ pub(crate) fn uninstall<H: Host, R: Remotes>(
             runtime: name.copy()?,
             app,
         })),
-        None => take_away(rt, alloc, host, remotes, opened, name),
+        None => take_away(rt, alloc, host, remotes, acted, opened, name),
     }
 }
 
@@ -58,6 +59,7 @@ fn take_away<H: Host, R: Remotes>(
     alloc: Global,
     host: &mut H,
     remotes: &mut R,
+    acted: &mut bool,
     opened: Opened,
     name: &RefName,
 ) -> Result<Opened, RunEnd>
@@ -67,14 +69,14 @@ fn take_away<H: Host, R: Remotes>(
     ensures good { IfOk result IsGood }
     ensures layout { IfOk result (λ o. o.layout ≡ Two) }
     ensures acts { Acts (Rests opened) (Just (ops.Uninstall name.now))
-        (op_over (ops.Uninstall name.now)) opened result
+        (op_over (ops.Uninstall name.now)) opened acted.old acted.new result
         (outside (H.moments host.old) (H.faults host.old) (R.holds remotes.old)
         (R.faults remotes.old))
         (outside (H.moments host.new) (H.faults host.new) (R.holds remotes.new)
         (R.faults remotes.new)) }
 {
     let op = Op::Uninstall { name: name.copy()? };
-    do_op(rt, alloc, host, remotes, opened, &op)
+    do_op(rt, alloc, host, remotes, acted, opened, &op)
 }
 
 /// Takes the runtimes away that nothing keeps.
@@ -83,13 +85,14 @@ pub(crate) fn uninstall_unused<H: Host, R: Remotes>(
     alloc: Global,
     host: &mut H,
     remotes: &mut R,
+    acted: &mut bool,
     opened: Opened,
 ) -> Result<Opened, RunEnd>
     requires good { IsGood opened }
     requires layout { opened.layout ≡ Two }
     ensures good { IfOk result IsGood }
     ensures layout { IfOk result (λ o. o.layout ≡ Two) }
-    ensures acts { Acts (Rests opened) IsUninstall unused_over opened result
+    ensures acts { Acts (Rests opened) IsUninstall unused_over opened acted.old acted.new result
         (outside (H.moments host.old) (H.faults host.old) (R.holds remotes.old)
         (R.faults remotes.old))
         (outside (H.moments host.new) (H.faults host.new) (R.holds remotes.new)
@@ -98,7 +101,7 @@ pub(crate) fn uninstall_unused<H: Host, R: Remotes>(
     let metas = metas(alloc, host, opened.state())?;
     let points = points(alloc, host, opened.state())?;
     let names = unused_extended(alloc, opened.state(), metas.as_slice(), points.as_slice())?;
-    drop_each(rt, alloc, host, remotes, opened, names.as_slice())
+    drop_each(rt, alloc, host, remotes, acted, opened, names.as_slice())
 }
 
 /// Takes these refs away, one after another.
@@ -107,6 +110,7 @@ fn drop_each<H: Host, R: Remotes>(
     alloc: Global,
     host: &mut H,
     remotes: &mut R,
+    acted: &mut bool,
     opened: Opened,
     names: &[RefName],
 ) -> Result<Opened, RunEnd>
@@ -114,7 +118,8 @@ fn drop_each<H: Host, R: Remotes>(
     requires layout { opened.layout ≡ Two }
     ensures good { IfOk result IsGood }
     ensures layout { IfOk result (λ o. o.layout ≡ Two) }
-    ensures acts { Acts (Rests opened) IsUninstall (each_over drop_over names.now) opened result
+    ensures acts { Acts (Rests opened) IsUninstall (each_over drop_over names.now)
+        opened acted.old acted.new result
         (outside (H.moments host.old) (H.faults host.old) (R.holds remotes.old)
         (R.faults remotes.old))
         (outside (H.moments host.new) (H.faults host.new) (R.holds remotes.new)
@@ -122,7 +127,7 @@ fn drop_each<H: Host, R: Remotes>(
 {
     let mut current = opened;
     for name in names {
-        current = drop_one(rt, alloc, host, remotes, current, name)?;
+        current = drop_one(rt, alloc, host, remotes, acted, current, name)?;
     }
     Ok(current)
 }
@@ -133,6 +138,7 @@ fn drop_one<H: Host, R: Remotes>(
     alloc: Global,
     host: &mut H,
     remotes: &mut R,
+    acted: &mut bool,
     opened: Opened,
     name: &RefName,
 ) -> Result<Opened, RunEnd>
@@ -140,14 +146,15 @@ fn drop_one<H: Host, R: Remotes>(
     requires layout { opened.layout ≡ Two }
     ensures good { IfOk result IsGood }
     ensures layout { IfOk result (λ o. o.layout ≡ Two) }
-    ensures acts { Acts (Rests opened) IsUninstall (drop_over name.now) opened result
+    ensures acts { Acts (Rests opened) IsUninstall (drop_over name.now)
+        opened acted.old acted.new result
         (outside (H.moments host.old) (H.faults host.old) (R.holds remotes.old)
         (R.faults remotes.old))
         (outside (H.moments host.new) (H.faults host.new) (R.holds remotes.new)
         (R.faults remotes.new)) }
 {
     match find_ref(opened.state().refs.as_slice(), name) {
-        Some(_) => take_away(rt, alloc, host, remotes, opened, name),
+        Some(_) => take_away(rt, alloc, host, remotes, acted, opened, name),
         None => Ok(opened),
     }
 }

@@ -1,5 +1,5 @@
 //! Updates.
-ghost use Rattle.std.specs.Prelude.{◌≡◌, true, IfOk};
+ghost use Rattle.std.specs.Prelude.{◌≡◌, Bool, true, IfOk};
 ghost use Rattle.fp_small.specs.Config.{name_of};
 ghost use Rattle.fp_small.specs.Order.{has_name};
 ghost use Rattle.fp_small.specs.declared.state.Layout.TheVariants.{Two};
@@ -30,6 +30,7 @@ pub(crate) fn update_one<H: Host, R: Remotes>(
     alloc: Global,
     host: &mut H,
     remotes: &mut R,
+    acted: &mut bool,
     opened: Opened,
     name: &RefName,
 ) -> Result<Opened, RunEnd>
@@ -37,7 +38,8 @@ pub(crate) fn update_one<H: Host, R: Remotes>(
     requires layout { opened.layout ≡ Two }
     ensures good { IfOk result IsGood }
     ensures layout { IfOk result (λ o. o.layout ≡ Two) }
-    ensures acts { Acts (Rests opened) Brings (update_over name.now) opened result
+    ensures acts { Acts (Rests opened) Brings (update_over name.now)
+        opened acted.old acted.new result
         (outside (H.moments host.old) (H.faults host.old) (R.holds remotes.old)
         (R.faults remotes.old))
         (outside (H.moments host.new) (H.faults host.new) (R.holds remotes.new)
@@ -45,7 +47,7 @@ pub(crate) fn update_one<H: Host, R: Remotes>(
 {
     let origin = origin_of(opened.state(), name)?;
     let remote = known_remote(opened.state(), &origin)?;
-    bring_target(rt, alloc, host, remotes, opened, &remote, name)
+    bring_target(rt, alloc, host, remotes, acted, opened, &remote, name)
 }
 
 /// Updates all that is installed: the runtimes, and then the applications.
@@ -54,20 +56,21 @@ pub(crate) fn update_all<H: Host, R: Remotes>(
     alloc: Global,
     host: &mut H,
     remotes: &mut R,
+    acted: &mut bool,
     opened: Opened,
 ) -> Result<Opened, RunEnd>
     requires good { IsGood opened }
     requires layout { opened.layout ≡ Two }
     ensures good { IfOk result IsGood }
     ensures layout { IfOk result (λ o. o.layout ≡ Two) }
-    ensures acts { Acts (Rests opened) Brings update_all_over opened result
+    ensures acts { Acts (Rests opened) Brings update_all_over opened acted.old acted.new result
         (outside (H.moments host.old) (H.faults host.old) (R.holds remotes.old)
         (R.faults remotes.old))
         (outside (H.moments host.new) (H.faults host.new) (R.holds remotes.new)
         (R.faults remotes.new)) }
 {
     let names = targets(alloc, opened.state(), None)?;
-    update_each(rt, alloc, host, remotes, opened, names.as_slice())
+    update_each(rt, alloc, host, remotes, acted, opened, names.as_slice())
 }
 
 /// Updates these refs, one after another up to the first that is refused.
@@ -76,6 +79,7 @@ fn update_each<H: Host, R: Remotes>(
     alloc: Global,
     host: &mut H,
     remotes: &mut R,
+    acted: &mut bool,
     opened: Opened,
     names: &[RefName],
 ) -> Result<Opened, RunEnd>
@@ -83,7 +87,8 @@ fn update_each<H: Host, R: Remotes>(
     requires layout { opened.layout ≡ Two }
     ensures good { IfOk result IsGood }
     ensures layout { IfOk result (λ o. o.layout ≡ Two) }
-    ensures acts { Acts (Rests opened) Brings (each_over target_over names.now) opened result
+    ensures acts { Acts (Rests opened) Brings (each_over target_over names.now)
+        opened acted.old acted.new result
         (outside (H.moments host.old) (H.faults host.old) (R.holds remotes.old)
         (R.faults remotes.old))
         (outside (H.moments host.new) (H.faults host.new) (R.holds remotes.new)
@@ -91,7 +96,7 @@ fn update_each<H: Host, R: Remotes>(
 {
     let mut current = opened;
     for name in names {
-        current = update_target(rt, alloc, host, remotes, current, name)?;
+        current = update_target(rt, alloc, host, remotes, acted, current, name)?;
     }
     Ok(current)
 }
@@ -102,6 +107,7 @@ fn update_target<H: Host, R: Remotes>(
     alloc: Global,
     host: &mut H,
     remotes: &mut R,
+    acted: &mut bool,
     opened: Opened,
     name: &RefName,
 ) -> Result<Opened, RunEnd>
@@ -109,7 +115,8 @@ fn update_target<H: Host, R: Remotes>(
     requires layout { opened.layout ≡ Two }
     ensures good { IfOk result IsGood }
     ensures layout { IfOk result (λ o. o.layout ≡ Two) }
-    ensures acts { Acts (Rests opened) Brings (target_over name.now) opened result
+    ensures acts { Acts (Rests opened) Brings (target_over name.now)
+        opened acted.old acted.new result
         (outside (H.moments host.old) (H.faults host.old) (R.holds remotes.old)
         (R.faults remotes.old))
         (outside (H.moments host.new) (H.faults host.new) (R.holds remotes.new)
@@ -120,7 +127,7 @@ fn update_target<H: Host, R: Remotes>(
         None => return Ok(opened),
     };
     match copy_remote(opened.state(), &origin)? {
-        Some(remote) => update_from(rt, alloc, host, remotes, opened, &remote, name),
+        Some(remote) => update_from(rt, alloc, host, remotes, acted, opened, &remote, name),
         None => skip(alloc, host, remotes, opened, name),
     }
 }
@@ -138,6 +145,7 @@ fn update_from<H: Host, R: Remotes>(
     alloc: Global,
     host: &mut H,
     remotes: &mut R,
+    acted: &mut bool,
     opened: Opened,
     remote: &RemoteRow,
     name: &RefName,
@@ -147,14 +155,15 @@ fn update_from<H: Host, R: Remotes>(
     requires remote { has_name name_of opened.remotes remote.now.name ≡ true }
     ensures good { IfOk result IsGood }
     ensures layout { IfOk result (λ o. o.layout ≡ Two) }
-    ensures acts { Acts (Rests opened) Brings (updated_from remote.now name.now) opened result
+    ensures acts { Acts (Rests opened) Brings (updated_from remote.now name.now)
+        opened acted.old acted.new result
         (outside (H.moments host.old) (H.faults host.old) (R.holds remotes.old)
         (R.faults remotes.old))
         (outside (H.moments host.new) (H.faults host.new) (R.holds remotes.new)
         (R.faults remotes.new)) }
 {
     match ops(alloc, host, remotes, opened.state(), remote, name) {
-        Ok(plan) => do_ops(rt, alloc, host, remotes, opened, plan.as_slice()),
+        Ok(plan) => do_ops(rt, alloc, host, remotes, acted, opened, plan.as_slice()),
         Err(PullEnd::Refused(refusal)) => {
             if is_no_offer(&refusal) {
                 skip(alloc, host, remotes, opened, name)
@@ -168,7 +177,7 @@ fn update_from<H: Host, R: Remotes>(
     }
 }
 
-/// Says that a ref is passed over.
+/// Says that a ref is passed over. No operation is done.
 fn skip<H: Host, R: Remotes>(
     alloc: Global,
     host: &mut H,
@@ -180,7 +189,8 @@ fn skip<H: Host, R: Remotes>(
     requires layout { opened.layout ≡ Two }
     ensures good { IfOk result IsGood }
     ensures layout { IfOk result (λ o. o.layout ≡ Two) }
-    ensures acts { Acts (Rests opened) Brings (λ held x. skipped name.now) opened result
+    ensures acts { (acted : Bool) → Acts (Rests opened) Brings (λ held x. skipped name.now)
+        opened acted acted result
         (outside (H.moments host.old) (H.faults host.old) (R.holds remotes.old)
         (R.faults remotes.old))
         (outside (H.moments host.new) (H.faults host.new) (R.holds remotes.new)

@@ -32,7 +32,7 @@ returns-in_err-current g c =
     let t = g.met.H.Host.is_tree in
     let tidying : Tidying (WasTidied s) s c.tidy.result u v = tidying_of s c.tidy.result c.tidy.ensures.any_moment c.tidy.ensures.on_success (λ x is. subst (λ (r : Result State HostEnd). IfOk r (λ o. o ≡ s)) is c.tidy.ensures.state) c.tidy.ensures.fault_has_cause refl refl in
     let w = outside (g.H.Host.moments c.migrate.new.host) (g.H.Host.faults c.migrate.new.host) (g.R.Remotes.holds c.migrate.new.remotes) (g.R.Remotes.faults c.migrate.new.remotes) in
-    let migrated : Acts (Rests s) (MayDo c.args.changes.now) migrating s (Err c.in_err-current.field-0.0) v w = works_to (λ op is. inl is) (subst (λ (x : State). Acts (Rests x) _ migrating x (Err c.in_err-current.field-0.0) v w) c.in_ok-tidied.ensures.state c.in_err-current.ensures.acts) in
+    let migrated : Acts (Rests s) (MayDo c.args.changes.now) migrating s c.args.acted.now c.migrate.new.acted (Err c.in_err-current.field-0.0) v w = works_to (λ op is. inl is) (subst (λ (x : State). Acts (Rests x) _ migrating x c.args.acted.now c.migrate.new.acted (Err c.in_err-current.field-0.0) v w) c.in_ok-tidied.ensures.state c.in_err-current.ensures.acts) in
     record {
       acts = acts_err c.from_residual-in_err-current.result c.in_err-current.field-0.0 c.from_residual-in_err-current.ensures.1
           (acts_tidied_first (changing c.args.changes.now) s c.in_ok-tidied.tidied (Err c.in_err-current.field-0.0) (t c.tidy.new.host) (subst (λ (r : Result State HostEnd). Tidying (WasTidied s) s r u v) c.in_ok-tidied.was tidying)
@@ -47,7 +47,7 @@ returns g c =
     let t = g.met.H.Host.is_tree in
     let tidying : Tidying (WasTidied s) s c.tidy.result u v = tidying_of s c.tidy.result c.tidy.ensures.any_moment c.tidy.ensures.on_success (λ x is. subst (λ (r : Result State HostEnd). IfOk r (λ o. o ≡ s)) is c.tidy.ensures.state) c.tidy.ensures.fault_has_cause refl refl in
     let w = outside (g.H.Host.moments c.migrate.new.host) (g.H.Host.faults c.migrate.new.host) (g.R.Remotes.holds c.migrate.new.remotes) (g.R.Remotes.faults c.migrate.new.remotes) in
-    let migrated : Acts (Rests s) (MayDo c.args.changes.now) migrating s (Ok c.in_ok-current.current) v w = works_to (λ op is. inl is) (subst (λ (x : State). Acts (Rests x) _ migrating x (Ok c.in_ok-current.current) v w) c.in_ok-tidied.ensures.state c.in_ok-current.ensures.acts) in
+    let migrated : Acts (Rests s) (MayDo c.args.changes.now) migrating s c.args.acted.now c.migrate.new.acted (Ok c.in_ok-current.current) v w = works_to (λ op is. inl is) (subst (λ (x : State). Acts (Rests x) _ migrating x c.args.acted.now c.migrate.new.acted (Ok c.in_ok-current.current) v w) c.in_ok-tidied.ensures.state c.in_ok-current.ensures.acts) in
     record {
       acts = acts_tidied_first (changing c.args.changes.now) s c.in_ok-tidied.tidied c.do_each.result (t c.tidy.new.host) (subst (λ (r : Result State HostEnd). Tidying (WasTidied s) s r u v) c.in_ok-tidied.was tidying)
           (acts_second migrating (in_turn c.args.changes.now) c.in_ok-current.current c.do_each.result (t c.migrate.new.host) migrated (works_to (λ op may. inr may) c.do_each.ensures.acts));

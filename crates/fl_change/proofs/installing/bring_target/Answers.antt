@@ -22,4 +22,4 @@ returns-clause-acts g c =
     let u = outside (g.H.Host.moments c.ops.new.host) (g.H.Host.faults c.ops.new.host) (g.R.Remotes.holds c.ops.new.remotes) (g.R.Remotes.faults c.ops.new.remotes) in
     let v = outside (g.H.Host.moments c.do_ops.new.host) (g.H.Host.faults c.do_ops.new.host) (g.R.Remotes.holds c.do_ops.new.remotes) (g.R.Remotes.faults c.do_ops.new.remotes) in
     planned_ok s c.args.remote.now c.args.name.now c.in_ok-plan.plan c.do_ops.result (g.met.H.Host.is_tree c.ops.new.host) (subst (λ (x : State). Plans (λ held stored. plan_of held stored x c.args.remote.now c.args.name.now) (Ok c.in_ok-plan.plan) (outside (g.H.Host.moments c.args.host.now) (g.H.Host.faults c.args.host.now) (g.R.Remotes.holds c.args.remotes.now) (g.R.Remotes.faults c.args.remotes.now)) (outside (g.H.Host.moments c.ops.new.host) (g.H.Host.faults c.ops.new.host) (g.R.Remotes.holds c.ops.new.remotes) (g.R.Remotes.faults c.ops.new.remotes))) c.state.ensures c.in_ok-plan.ensures.plans)
-    (subst (λ (l : List Op). Acts (Rests s) Brings (ops_over l) s c.do_ops.result u v) c.as_slice.ensures c.do_ops.ensures.acts)
+    (subst (λ (l : List Op). Acts (Rests s) Brings (ops_over l) s c.args.acted.now c.do_ops.new.acted c.do_ops.result u v) c.as_slice.ensures c.do_ops.ensures.acts)

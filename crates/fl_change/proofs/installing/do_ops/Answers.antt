@@ -42,8 +42,8 @@ returns-in_err-current-clause-acts g c =
     let next : drop i all ≡ c.op-item.result ∷ drop (i + 1) all = drop_more all i c.op-item.result c.loop-op-test.true ∙ ap (λ (x : Op). x ∷ drop (i + 1) all) (sym c.op-item.is) in
     let u = (outside (g.H.Host.moments c.args.host.now) (g.H.Host.faults c.args.host.now) (g.R.Remotes.holds c.args.remotes.now) (g.R.Remotes.faults c.args.remotes.now)) in
     let v = (outside (g.H.Host.moments c.loop-op.host) (g.H.Host.faults c.loop-op.host) (g.R.Remotes.holds c.loop-op.remotes) (g.R.Remotes.faults c.loop-op.remotes)) in
-    let before : Turned op_over all Brings c.args.opened (c.op-item.result ∷ drop (i + 1) all) c.loop-op.current u v =
-    subst (λ (l : List Op). Turned op_over all Brings c.args.opened l c.loop-op.current u v) next c.loop-op.invariant.turned in
+    let before : Turned op_over all Brings c.args.opened (c.op-item.result ∷ drop (i + 1) all) c.loop-op.current c.args.acted.now c.loop-op.acted u v =
+    subst (λ (l : List Op). Turned op_over all Brings c.args.opened l c.loop-op.current c.args.acted.now c.loop-op.acted u v) next c.loop-op.invariant.turned in
     acts_err c.from_residual.result c.in_err-current.field-0.0 c.from_residual.ensures.1
     (turn_fails op_over all Brings c.args.opened c.op-item.result (drop (i + 1) all) c.loop-op.current c.in_err-current.field-0.0 (g.met.H.Host.is_tree c.loop-op.host) before (works_to (λ o is. subst Brings (sym is) (comes c.op-item.result (subst (AllByRecursion IsComing) next c.loop-op.invariant.coming).0)) c.in_err-current.ensures.acts))
 
@@ -54,8 +54,8 @@ loop-op-preserved g c =
     let next : drop i all ≡ c.op-item.result ∷ drop (i + 1) all = drop_more all i c.op-item.result c.loop-op-test.true ∙ ap (λ (x : Op). x ∷ drop (i + 1) all) (sym c.op-item.is) in
     let u = (outside (g.H.Host.moments c.args.host.now) (g.H.Host.faults c.args.host.now) (g.R.Remotes.holds c.args.remotes.now) (g.R.Remotes.faults c.args.remotes.now)) in
     let v = (outside (g.H.Host.moments c.loop-op.host) (g.H.Host.faults c.loop-op.host) (g.R.Remotes.holds c.loop-op.remotes) (g.R.Remotes.faults c.loop-op.remotes)) in
-    let before : Turned op_over all Brings c.args.opened (c.op-item.result ∷ drop (i + 1) all) c.loop-op.current u v =
-    subst (λ (l : List Op). Turned op_over all Brings c.args.opened l c.loop-op.current u v) next c.loop-op.invariant.turned in
+    let before : Turned op_over all Brings c.args.opened (c.op-item.result ∷ drop (i + 1) all) c.loop-op.current c.args.acted.now c.loop-op.acted u v =
+    subst (λ (l : List Op). Turned op_over all Brings c.args.opened l c.loop-op.current c.args.acted.now c.loop-op.acted u v) next c.loop-op.invariant.turned in
     let head = subst (AllByRecursion IsComing) next c.loop-op.invariant.coming in
     let allowed = subst (AreAllowed c.loop-op.current) next c.loop-op.invariant.allowed in
     record {
@@ -72,4 +72,4 @@ returns-clause-acts g c =
     let u = (outside (g.H.Host.moments c.args.host.now) (g.H.Host.faults c.args.host.now) (g.R.Remotes.holds c.args.remotes.now) (g.R.Remotes.faults c.args.remotes.now)) in
     let v = (outside (g.H.Host.moments c.loop-op.host) (g.H.Host.faults c.loop-op.host) (g.R.Remotes.holds c.loop-op.remotes) (g.R.Remotes.faults c.loop-op.remotes)) in
     turn_ends op_over all Brings c.args.opened c.loop-op.current
-    (subst (λ (l : List Op). Turned op_over all Brings c.args.opened l c.loop-op.current u v) (drop_all c.loop-op.op-index all (omega (arith, c.loop-op-test.false))) c.loop-op.invariant.turned)
+    (subst (λ (l : List Op). Turned op_over all Brings c.args.opened l c.loop-op.current c.args.acted.now c.loop-op.acted u v) (drop_all c.loop-op.op-index all (omega (arith, c.loop-op-test.false))) c.loop-op.invariant.turned)

@@ -15,5 +15,5 @@ invariant-loop-op g l = record {
   layout : l.current.layout ≡ Two;
   allowed : AreAllowed l.current (drop l.op-index l.ops);
   coming : AllByRecursion IsComing (drop l.op-index l.ops);
-  turned : Turned op_over l.ops Brings l.fn.opened (drop l.op-index l.ops) l.current (outside (g.H.Host.moments l.fn.host) (g.H.Host.faults l.fn.host) (g.R.Remotes.holds l.fn.remotes) (g.R.Remotes.faults l.fn.remotes)) (outside (g.H.Host.moments l.host) (g.H.Host.faults l.host) (g.R.Remotes.holds l.remotes) (g.R.Remotes.faults l.remotes));
+  turned : Turned op_over l.ops Brings l.fn.opened (drop l.op-index l.ops) l.current l.fn.acted l.acted (outside (g.H.Host.moments l.fn.host) (g.H.Host.faults l.fn.host) (g.R.Remotes.holds l.fn.remotes) (g.R.Remotes.faults l.fn.remotes)) (outside (g.H.Host.moments l.host) (g.H.Host.faults l.host) (g.R.Remotes.holds l.remotes) (g.R.Remotes.faults l.remotes));
 }

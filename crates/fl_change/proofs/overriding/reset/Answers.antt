@@ -25,7 +25,7 @@ returns-in_ok-copy-in-Some-clause-acts g c =
     let n = c.args.name.now in
     let row = override_found c.state.result.now c.args.opened c.args.name.now _ _ _ c.state.ensures c.as_slice.ensures c.find_override.ensures (ap option_copied c.in-Some.is) in
     acts_same (reset_over n) (op_over (DropOverride n)) (λ x first held known rests. reset_there held (world_at s x) n _ row)
-    (subst (λ (x : List ℕ). Acts (Rests s) (Just (DropOverride x)) (op_over (DropOverride x)) s c.do_op.result (outside (g.H.Host.moments c.args.host.now) (g.H.Host.faults c.args.host.now) (g.R.Remotes.holds c.args.remotes.now) (g.R.Remotes.faults c.args.remotes.now)) (outside (g.H.Host.moments c.do_op.new.host) (g.H.Host.faults c.do_op.new.host) (g.R.Remotes.holds c.do_op.new.remotes) (g.R.Remotes.faults c.do_op.new.remotes))) c.in_ok-copy-in-Some.ensures c.do_op.ensures.acts)
+    (subst (λ (x : List ℕ). Acts (Rests s) (Just (DropOverride x)) (op_over (DropOverride x)) s c.args.acted.now c.do_op.new.acted c.do_op.result (outside (g.H.Host.moments c.args.host.now) (g.H.Host.faults c.args.host.now) (g.R.Remotes.holds c.args.remotes.now) (g.R.Remotes.faults c.args.remotes.now)) (outside (g.H.Host.moments c.do_op.new.host) (g.H.Host.faults c.do_op.new.host) (g.R.Remotes.holds c.do_op.new.remotes) (g.R.Remotes.faults c.do_op.new.remotes))) c.in_ok-copy-in-Some.ensures c.do_op.ensures.acts)
 
 pub returns-in-None-clause-acts : goal.returns-in-None-clause-acts
 returns-in-None-clause-acts g c =

@@ -52,4 +52,4 @@ returns-clause-acts g c =
     acts_same unused_over (each_over drop_over names) (unused_known s metas points names (outside (g.H.Host.moments c.args.host.now) (g.H.Host.faults c.args.host.now) (g.R.Remotes.holds c.args.remotes.now) (g.R.Remotes.faults c.args.remotes.now)) (outside (g.H.Host.moments c.metas.new.host) (g.H.Host.faults c.metas.new.host) (g.R.Remotes.holds c.args.remotes.now) (g.R.Remotes.faults c.args.remotes.now)) c.metas.ensures.unchanged of_metas of_points are)
     (acts_looked (each_over drop_over names) (g.met.H.Host.is_tree c.metas.new.host) one
     (acts_looked (each_over drop_over names) (g.met.H.Host.is_tree c.points.new.host) two
-    (subst (λ (l : List Ref). Acts (Rests s) IsUninstall (each_over drop_over l) s c.drop_each.result (outside (g.H.Host.moments c.points.new.host) (g.H.Host.faults c.points.new.host) (g.R.Remotes.holds c.args.remotes.now) (g.R.Remotes.faults c.args.remotes.now)) (outside (g.H.Host.moments c.drop_each.new.host) (g.H.Host.faults c.drop_each.new.host) (g.R.Remotes.holds c.drop_each.new.remotes) (g.R.Remotes.faults c.drop_each.new.remotes))) c.as_slice-3.ensures c.drop_each.ensures.acts)))
+    (subst (λ (l : List Ref). Acts (Rests s) IsUninstall (each_over drop_over l) s c.args.acted.now c.drop_each.new.acted c.drop_each.result (outside (g.H.Host.moments c.points.new.host) (g.H.Host.faults c.points.new.host) (g.R.Remotes.holds c.args.remotes.now) (g.R.Remotes.faults c.args.remotes.now)) (outside (g.H.Host.moments c.drop_each.new.host) (g.H.Host.faults c.drop_each.new.host) (g.R.Remotes.holds c.drop_each.new.remotes) (g.R.Remotes.faults c.drop_each.new.remotes))) c.as_slice-3.ensures c.drop_each.ensures.acts)))

@@ -11,10 +11,10 @@ use Rattle.fl_change.proofs.Skipping.{acts_told, acts_not_told}
 use Rattle.fl_change.proofs.updating.skip.Goals as goal
 
 pub returns-in_err-line-clause-acts : goal.returns-in_err-line-clause-acts
-returns-in_err-line-clause-acts g c = acts_err c.from_residual.result NoMemory c.from_residual.ensures.1 (acts_halted (λ held x. skipped c.args.name.now) (g.met.H.Host.is_tree c.args.host.now))
+returns-in_err-line-clause-acts g c acted = acts_err c.from_residual.result NoMemory c.from_residual.ensures.1 (acts_halted (λ held x. skipped c.args.name.now) (g.met.H.Host.is_tree c.args.host.now))
 
 pub returns-in_err-say-clause-acts : goal.returns-in_err-say-clause-acts
-returns-in_err-say-clause-acts g c =
+returns-in_err-say-clause-acts g c acted =
     let u = outside (g.H.Host.moments c.args.host.now) (g.H.Host.faults c.args.host.now) (g.R.Remotes.holds c.args.remotes.now) (g.R.Remotes.faults c.args.remotes.now) in
     let v = outside (g.H.Host.moments c.say.new.self) (g.H.Host.faults c.say.new.self) (g.R.Remotes.holds c.args.remotes.now) (g.R.Remotes.faults c.args.remotes.now) in
     let said : c.as_bytes.result.now ≡ c.in_ok-line.line = search rules in
@@ -23,7 +23,7 @@ returns-in_err-say-clause-acts g c =
     (acts_not_told (skipped_text c.args.name.now) c.as_bytes.result.now c.args.opened (said ∙ c.in_ok-line.ensures) c.in_err-say.field-0.0 call)
 
 pub returns-clause-acts : goal.returns-clause-acts
-returns-clause-acts g c =
+returns-clause-acts g c acted =
     let u = outside (g.H.Host.moments c.args.host.now) (g.H.Host.faults c.args.host.now) (g.R.Remotes.holds c.args.remotes.now) (g.R.Remotes.faults c.args.remotes.now) in
     let v = outside (g.H.Host.moments c.say.new.self) (g.H.Host.faults c.say.new.self) (g.R.Remotes.holds c.args.remotes.now) (g.R.Remotes.faults c.args.remotes.now) in
     let said : c.as_bytes.result.now ≡ c.in_ok-line.line = search rules in

@@ -34,4 +34,4 @@ returns-clause-acts g c =
     let n = c.args.name.now in
     let row = row_found c.state.result.now c.args.opened c.args.name.now _ _ _ c.state.ensures c.as_slice.ensures c.find_ref.ensures.row (ap option_copied c.in-Some.is) in
     let remote = remote_at c.state-2.result.now c.args.opened _ _ _ c.state-2.ensures c.in_ok-remote.ensures c.in-None-2.is in
-    acts_same (target_over n) (λ held x. skipped n) (λ x first held known rests. target_passed held (world_at c.args.opened x) n _ _ row c.in_ok-origin-in-Some.ensures remote) c.skip.ensures.acts
+    acts_same (target_over n) (λ held x. skipped n) (λ x first held known rests. target_passed held (world_at c.args.opened x) n _ _ row c.in_ok-origin-in-Some.ensures remote) (c.skip.ensures.acts c.args.acted.now)
