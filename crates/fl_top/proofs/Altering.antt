@@ -1,5 +1,5 @@
 -- Which names the parts of a run change, a refresh of the exported files among them.
-use Rattle.std.proofs.Common.{◌≡◌, inl, inr, sym, ◌∙◌, subst}
+use Rattle.std.proofs.Common.{◌≡◌, inl, inr, None, sym, ◌∙◌, subst}
 use Rattle.fp_host.specs.Paths.{Elements, Slot}
 use Rattle.fp_host.specs.View.{View}
 use Rattle.fp_small.specs.Files.{KeepsFiles}
@@ -68,5 +68,6 @@ rest_on {a = a} {s = s} first second = record {
 pub rest_tidied : {a : Answer} {s : State} {u w : View} → OnlyTidied s u w → OnlyRests a s u w
 rest_tidied only = record { names = λ q. elim (only.names q) [ inl same ↦ inl same | inr may ↦ inr (tidied_at may) ] }
 
-pub rest_refreshes : {a : Answer} {s t : State} {u w : View} → Refreshes t u w → OnlyRests a s u w
-rest_refreshes refreshes = record { names = λ q. elim (refreshes.names q) [ inl same ↦ inl same | inr may ↦ inr (refreshed_at may) ] }
+-- where nothing is refused
+pub rest_refreshes : {a : Answer} {s t : State} {u w : View} → a.refusal ≡ None → Refreshes t u w → OnlyRests a s u w
+rest_refreshes none refreshes = record { names = λ q. elim (refreshes.names q) [ inl same ↦ inl same | inr may ↦ inr (refreshed_at none may) ] }

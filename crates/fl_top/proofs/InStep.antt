@@ -12,7 +12,7 @@ use Rattle.fp_host.specs.declared.host.HostEnd.TheVariants as host
 use Rattle.fp_host.proofs.Cause.{Rose-later}
 use Rattle.fp_host.proofs.Ending.{ends_goes, ends_on, goes_known}
 use Rattle.fp_host.proofs.Framed.{IsTold}
-use Rattle.fp_host.proofs.Goes.{begins, goes_on}
+use Rattle.fp_host.proofs.Goes.{begins, goes_on, stays}
 use Rattle.fp_small.specs.Places.{repo}
 use Rattle.fp_small.specs.declared.state.State.{State}
 use Rattle.fp_small.proofs.Keeping.{files_on}
@@ -121,6 +121,10 @@ ends_damaged tells = record {
     told = λ m is. let one = tells.goes.told m is in (one.0, one.1, one.2, λ s at. absurd (not_shown one.3 s at));
   };
 }
+
+-- no call is made
+pub ends_still : {a : Option Moments} → IsTold a → AtEnd (λ u w. w ≡ u) a a
+ends_still told = record { goes = stays told (λ u. tt) (λ u tree. refl) }
 
 -- ---- the cause of a fault
 

@@ -1,5 +1,5 @@
 -- A line after changes, over an installation that every stop leaves in a state.
-use Rattle.std.proofs.Common.{◌≡◌, ℕ, List, Option, Result, Ok, Err, subst}
+use Rattle.std.proofs.Common.{◌≡◌, Bool, ℕ, List, Option, Result, Ok, Err, subst}
 use Rattle.fp_host.specs.Causes.{end_of}
 use Rattle.fp_host.specs.Remote.{Holdings}
 use Rattle.fp_host.specs.View.{View}
@@ -19,15 +19,15 @@ use Rattle.fl_change.proofs.Acting.{acts_same}
 use Rattle.fl_change.proofs.Composing.{Saying}
 use Rattle.fl_change.proofs.Doing.{not_yet, halted}
 use Rattle.fl_change.proofs.Skipping.{acts_told as text_told, acts_not_told as text_not_told}
-use Rattle.fl_change.proofs.Turning.{Both, left_rests, performs_first, failed_first, performs_second, performed_second}
+use Rattle.fl_change.proofs.Turning.{Both, left_rests, performs_first, failed_first, acted_first, performs_second, performed_second, acted_second}
 use Rattle.fl_change.proofs.Working.{works_as, works_on, works_stays}
 
 -- out of memory
-pub acts_halted : {May : Op → Type 0} (f : Holdings → World → Answer) (s : State) {o : Outside}
-    → IsTold o.told → Acts (Opens s) May f s (Err NoMemory) o o
+pub acts_halted : {May : Op → Type 0} (f : Holdings → World → Answer) (s : State) {before now : Bool} {o : Outside}
+    → IsTold o.told → Acts (Opens s) May f s before now (Err NoMemory) o o
 acts_halted f s {o = o} known = works_stays (Err NoMemory) known
     (λ x first. record { performs = λ held is opens. not_yet (f held (world_at s x)) s opens })
-    (λ x first. record { performed = λ held is opens. halted (f held (world_at s x)) s opens })
+    (λ x first. record { performed = λ held is opens. halted (f held (world_at s x)) s opens; acted = λ held is opens. tt })
     (λ x. tt) (λ no. cc no) (λ no. cc no)
 
 -- ---- a text that acknowledges nothing
@@ -37,37 +37,40 @@ abbrev pub Answers : (Holdings → World → Answer) → State → List ℕ → 
 Answers f s text = (held : Holdings) (x : View) → f held (world_at s x) ≡ text_answer text
 
 module _ {May : Op → Type 0} (f : Holdings → World → Answer) (s : State) (text piece : List ℕ) {u v : Outside} (is : Answers f s text) (same : piece ≡ text) where
-  pub acts_told : Saying piece (Ok tt) u v → Acts (Rests s) May f s (Ok s) u v
+  pub acts_told : {before : Bool} → Saying piece (Ok tt) u v → Acts (Rests s) May f s before before (Ok s) u v
   acts_told call = acts_same f (λ held x. text_answer text) (λ x first held known rests. is held x)
       (text_told text piece s same call)
 
-  pub acts_not_told : (e : HostError) → Saying piece (Err e) u v
-      → Acts (Rests s) May f s (Err (end_of_host (end_of e))) u v
+  pub acts_not_told : (e : HostError) {before now : Bool} → Saying piece (Err e) u v
+      → Acts (Rests s) May f s before now (Err (end_of_host (end_of e))) u v
   acts_not_told e call = acts_same f (λ held x. text_answer text) (λ x first held known rests. is held x)
       (text_not_told text piece s same e call)
 
 -- ---- one answer after another
 
 -- the first of two, with what is known of it
-abbrev Firstly : (Holdings → World → Answer) → State → Option Holdings → State → View → View → Type 0
-Firstly f s holds t x y = PerformsOver (Opens s) holds f s x y × PerformedOver (Opens s) holds f s (Ok t) x y
+abbrev Firstly : (Holdings → World → Answer) → State → Option Holdings → Bool → Bool → State → View → View → Type 0
+Firstly f s holds before now t x y = PerformsOver (Opens s) holds f s x y × PerformedOver (Opens s) holds f s before now (Ok t) x y
 
 module _ {May : Op → Type 0} (f g : Holdings → World → Answer) (s : State) where
-  pub acts_first : (e : RunEnd) {u w : Outside} → Acts (Opens s) May f s (Err e) u w → Acts (Opens s) May (Both f g) s (Err e) u w
-  acts_first e acts = works_as
+  pub acts_first : (e : RunEnd) {before now : Bool} {u w : Outside} → Acts (Opens s) May f s before now (Err e) u w → Acts (Opens s) May (Both f g) s before now (Err e) u w
+  acts_first e {before = before} {now = now} acts = works_as
       (λ x y first p. record { performs = λ held known opens. performs_first held f g s (p.performs held known opens) })
-      (λ x y first p q. record { performed = λ held known opens. failed_first held f g s e x y (q.performed held known opens) })
+      (λ x y first p q. record {
+        performed = λ held known opens. failed_first held f g s e x y (q.performed held known opens);
+        acted = λ held known opens. acted_first held f g s e x y before now (q.performed held known opens) (q.acted held known opens);
+      })
       acts
 
-  firstly : (t : State) {u v : Outside} → Acts (Opens s) May f s (Ok t) u v → Works May s (PerformsOver (Opens s) u.holdings (Both f g) s) (Firstly f s u.holdings t) (Ok t) u v
+  firstly : (t : State) {before now : Bool} {u v : Outside} → Acts (Opens s) May f s before now (Ok t) u v → Works May s (PerformsOver (Opens s) u.holdings (Both f g) s) (Firstly f s u.holdings before now t) (Ok t) u v
   firstly t acts = works_as
       (λ x y first p. record { performs = λ held known opens. performs_first held f g s (p.performs held known opens) })
       (λ x y first p q. (p, q))
       acts
 
-  pub acts_second : (t : State) (r : Result State RunEnd) {u v w : Outside} → IsTold v.told → Acts (Opens s) May f s (Ok t) u v → Acts (Rests t) May g t r v w → Acts (Opens s) May (Both f g) s r u w
-  acts_second t r {u = u} {v = v} {w = w} known_v one two = works_on known_v (firstly t one)
-      (subst (λ (h : Option Holdings). Works May t (PerformsOver (Rests t) h g t) (PerformedOver (Rests t) h g t r) r v w) one.same two)
+  pub acts_second : (t : State) (r : Result State RunEnd) {before now after : Bool} {u v w : Outside} → IsTold v.told → Acts (Opens s) May f s before now (Ok t) u v → Acts (Rests t) May g t now after r v w → Acts (Opens s) May (Both f g) s before after r u w
+  acts_second t r {before = before} {now = now} {after = after} {u = u} {v = v} {w = w} known_v one two = works_on known_v (firstly t one)
+      (subst (λ (h : Option Holdings). Works May t (PerformsOver (Rests t) h g t) (PerformedOver (Rests t) h g t now after r) r v w) one.same two)
       (λ x y z p q n. record {
         performs = λ held known opens.
             let d = q.1.performed held known opens in
@@ -78,4 +81,7 @@ module _ {May : Op → Type 0} (f g : Holdings → World → Answer) (s : State)
             let d = q.1.performed held known opens in
             let at = left_rests held (f held (world_at s x)) s t x y d in
             performed_second held f g s t r x y z d (q.0.performs held known opens).files (n.performs held known at).files (l.performed held known at);
+        acted = λ held known opens.
+            let d = q.1.performed held known opens in
+            acted_second held f g s t r x y before now after d (q.1.acted held known opens) (l.acted held known (left_rests held (f held (world_at s x)) s t x y d));
       })

@@ -1,5 +1,5 @@
 -- An installation that is opened, and what goes on from there.
-use Rattle.std.proofs.Common.{◌≡◌, ℕ, List, [], ◌∷◌, Option, Some, None, Result, Ok, Err, IsErrAnd, IsErrOf, refl, sym, ◌∙◌, ap, subst}
+use Rattle.std.proofs.Common.{◌≡◌, ℕ, Bool, false, List, [], ◌∷◌, Option, Some, None, Result, Ok, Err, IsErrAnd, IsErrOf, refl, sym, ◌∙◌, ap, subst}
 use Rattle.std.specs.List.{AllByRecursion}
 use Rattle.std.proofs.lemmas.List.{append_cancel_right}
 use Rattle.fp_host.specs.Causes.{IsCaused}
@@ -23,7 +23,7 @@ use Rattle.dep_open.specs.Open.{Opened, IsOpened, StaysUnread}
 use Rattle.dep_open.specs.declared.open_end.OpenEnd.{OpenEnd}
 use Rattle.dep_open.specs.declared.open_end.OpenEnd.TheVariants as open_ends
 use Rattle.fl_change.specs.World.{World}
-use Rattle.fl_change.specs.Answer.{Answer, ops_of}
+use Rattle.fl_change.specs.Answer.{Answer, ops_of, has_acted}
 use Rattle.fl_change.specs.Ends.{end_of_open}
 use Rattle.fl_change.specs.Performs.{PerformsOver, PerformedOver, ChangesFrom, OpensBy, Acts}
 use Rattle.fl_change.specs.declared.end.RunEnd.{RunEnd}
@@ -91,9 +91,9 @@ goes_where {S = S} F one two = record {
 
 -- ---- work on what was opened
 
-module _ (May : Op → Type 0) (f : Holdings → World → Answer) (s : State) {r : Result State RunEnd} {u w : Outside} (works : Acts (Opens s) May f s r u w) where
+module _ (May : Op → Type 0) (f : Holdings → World → Answer) (s : State) {before now : Bool} {r : Result State RunEnd} {u w : Outside} (works : Acts (Opens s) May f s before now r u w) where
   abbrev Ended : View → View → Type 0
-  Ended x y = PerformedOver (Opens s) u.holdings f s r x y × (AreToldFor May u.holdings → ChangesFrom May s x y)
+  Ended x y = PerformedOver (Opens s) u.holdings f s before now r x y × (AreToldFor May u.holdings → ChangesFrom May s x y)
 
   worked : Goes u.told w.told (Working u.holdings May f s) Ended
   worked = record {
@@ -110,8 +110,8 @@ module _ (May : Op → Type 0) (f : Holdings → World → Answer) (s : State) {
       each_as x [] all = tt
       each_as x (v ∷ vs) all = (record { performs = all.0.0; changes = all.0.1 }, each_as x vs all.1)
 
-pub goes_failed : {a : Option Moments} (May : Op → Type 0) (f : Holdings → World → Answer) (s : State) (e : RunEnd) {u w : Outside} → IsNoRefusal e → IsLate f → IsTold a → IsTold u.told → Frame Nothing NoName NoPath a u.told → Goes a u.told StaysUnread StaysUnread → AtEnd (IsOpened s) a u.told
-    → Acts (Opens s) May f s (Err e) u w → Goes a w.told (RunsOver u.holdings May f) (EndedOver u.holdings f (Err e))
+pub goes_failed : {a : Option Moments} (May : Op → Type 0) (f : Holdings → World → Answer) (s : State) (e : RunEnd) {before now : Bool} {u w : Outside} → IsNoRefusal e → IsLate f → IsTold a → IsTold u.told → Frame Nothing NoName NoPath a u.told → Goes a u.told StaysUnread StaysUnread → AtEnd (IsOpened s) a u.told
+    → Acts (Opens s) May f s before now (Err e) u w → Goes a w.told (RunsOver u.holdings May f) (EndedOver u.holdings f (Err e))
 goes_failed May f s e {u = u} other late known known_b frame unread tells works =
     goes_on known_b (opening u.holdings May f late known frame unread tells) (worked May f s works) (λ x y z t p q step. runs_over u.holdings May f s late (begun q) t step) (λ x y z t p q step last. failed_over u.holdings f s e z other (begun q) t last.0)
 
@@ -147,7 +147,7 @@ ends_where {T = T} F one two = record {
       );
 }
 
-changed_over : (holds : Option Holdings) (May : Op → Type 0) (f : Holdings → World → Answer) (s t : State) {u v : View} (w : View) → Begun s u v → IsTree v → PerformsOver (Opens s) holds f s v w → PerformedOver (Opens s) holds f s (Ok t) v w
+changed_over : (holds : Option Holdings) (May : Op → Type 0) (f : Holdings → World → Answer) (s t : State) {before now : Bool} {u v : View} (w : View) → Begun s u v → IsTree v → PerformsOver (Opens s) holds f s v w → PerformedOver (Opens s) holds f s before now (Ok t) v w
     → (AreToldFor May holds → OpensBy s (Ok t) v w) → Changed holds May f t u w
 changed_over holds May f s t {u = u} {v = v} w begun tree work is opens = record {
   before = s;
@@ -161,8 +161,8 @@ changed_over holds May f s t {u = u} {v = v} w begun tree work is opens = record
   settled = λ ready held told. (is.performed held told (begun.opened.opens (ready_sound begun.opened.shown ready))).2.tidied;
 }
 
-pub goes_changed : {a : Option Moments} (May : Op → Type 0) (f : Holdings → World → Answer) (s t : State) {u w : Outside} → IsLate f → IsTold a → IsTold u.told → Frame Nothing NoName NoPath a u.told → Goes a u.told StaysUnread StaysUnread → AtEnd (IsOpened s) a u.told
-    → Acts (Opens s) May f s (Ok t) u w → Goes a w.told (RunsOver u.holdings May f) (Changed u.holdings May f t)
+pub goes_changed : {a : Option Moments} (May : Op → Type 0) (f : Holdings → World → Answer) (s t : State) {before now : Bool} {u w : Outside} → IsLate f → IsTold a → IsTold u.told → Frame Nothing NoName NoPath a u.told → Goes a u.told StaysUnread StaysUnread → AtEnd (IsOpened s) a u.told
+    → Acts (Opens s) May f s before now (Ok t) u w → Goes a w.told (RunsOver u.holdings May f) (Changed u.holdings May f t)
 goes_changed May f s t {u = u} late known known_b frame unread tells works =
     goes_on known_b (opening u.holdings May f late known frame unread tells) (ends_where (AreToldFor May u.holdings) (worked May f s works) works.opens)
     (λ x y z tree p q step. runs_over u.holdings May f s late (begun q) tree step)
@@ -171,30 +171,31 @@ goes_changed May f s t {u = u} late known known_b frame unread tells works =
 -- ---- what they left up to a refusal
 
 -- The changes were made up to a refusal: over an image that showed one state another is left, which
--- is that state after the operations of each answer that counts. Every stop leaves some state.
-pub record WasRefused (holds : Option Holdings) (May : Op → Type 0) (f : Holdings → World → Answer) (refusal : Refusal) (u w : View) : Type 0 where
+-- is that state after the operations of each answer that counts. It is told whether there are such.
+-- Every stop leaves some state.
+pub record WasRefused (holds : Option Holdings) (May : Op → Type 0) (f : Holdings → World → Answer) (refusal : Refusal) (acted : Bool) (u w : View) : Type 0 where
   pub before : State
   pub at : Shows (shows u) before
-  pub done : IsReady u → (held : Holdings) → holds ≡ Some held → OverView (f held) u (λ a. (a.refusal ≡ Some refusal) × Completes held a u w × Opens (after_all before (ops_of a)) w)
+  pub done : IsReady u → (held : Holdings) → holds ≡ Some held → OverView (f held) u (λ a. (a.refusal ≡ Some refusal) × Completes held a u w × Opens (after_all before (ops_of a)) w × (acted ≡ has_acted false (ops_of a)))
   pub opens : AreToldFor May holds → IsSound u → (t : State) × Opens t w
   pub tree : IsTree u
 
-was_refused : (holds : Option Holdings) (May : Op → Type 0) (f : Holdings → World → Answer) (s : State) (refusal : Refusal) {u v : View} (w : View) → Begun s u v → IsTree v → PerformsOver (Opens s) holds f s v w → PerformedOver (Opens s) holds f s (Err (run.Refused refusal)) v w
-    → (AreToldFor May holds → OpensBy s (Err (run.Refused refusal)) v w) → WasRefused holds May f refusal u w
-was_refused holds May f s refusal w begun tree work is opens = record {
+was_refused : (holds : Option Holdings) (May : Op → Type 0) (f : Holdings → World → Answer) (s : State) (refusal : Refusal) (acted : Bool) {u v : View} (w : View) → Begun s u v → IsTree v → PerformsOver (Opens s) holds f s v w → PerformedOver (Opens s) holds f s false acted (Err (run.Refused refusal)) v w
+    → (AreToldFor May holds → OpensBy s (Err (run.Refused refusal)) v w) → WasRefused holds May f refusal acted u w
+was_refused holds May f s refusal acted w begun tree work is opens = record {
   before = s;
   at = begun.opened.shown;
-  done = refused_over holds f s refusal w begun tree work is;
+  done = refused_over holds f s refusal acted w begun tree work is;
   opens = λ told sound. opens told (begun.opened.opens sound);
   tree = begun.before;
 }
 
-pub goes_refused : {a : Option Moments} (May : Op → Type 0) (f : Holdings → World → Answer) (s : State) (refusal : Refusal) {u w : Outside} → IsLate f → IsTold a → IsTold u.told → Frame Nothing NoName NoPath a u.told → Goes a u.told StaysUnread StaysUnread → AtEnd (IsOpened s) a u.told
-    → Acts (Opens s) May f s (Err (run.Refused refusal)) u w → Goes a w.told (RunsOver u.holdings May f) (WasRefused u.holdings May f refusal)
-goes_refused May f s refusal {u = u} late known known_b frame unread tells works =
+pub goes_refused : {a : Option Moments} (May : Op → Type 0) (f : Holdings → World → Answer) (s : State) (refusal : Refusal) (acted : Bool) {u w : Outside} → IsLate f → IsTold a → IsTold u.told → Frame Nothing NoName NoPath a u.told → Goes a u.told StaysUnread StaysUnread → AtEnd (IsOpened s) a u.told
+    → Acts (Opens s) May f s false acted (Err (run.Refused refusal)) u w → Goes a w.told (RunsOver u.holdings May f) (WasRefused u.holdings May f refusal acted)
+goes_refused May f s refusal acted {u = u} late known known_b frame unread tells works =
     goes_on known_b (opening u.holdings May f late known frame unread tells) (ends_where (AreToldFor May u.holdings) (worked May f s works) works.opens)
     (λ x y z tree p q step. runs_over u.holdings May f s late (begun q) tree step)
-    (λ x y z tree p q step last. was_refused u.holdings May f s refusal z (begun q) tree step.performs last.0.0 last.1)
+    (λ x y z tree p q step last. was_refused u.holdings May f s refusal acted z (begun q) tree step.performs last.0.0 last.1)
 
 -- ---- the cause of a fault
 

@@ -1,5 +1,5 @@
 -- The exported files, brought in step with the state that changes left.
-use Rattle.std.proofs.Common.{◌≡◌, ◌≢◌, ◌≤◌, ◌⊎◌, inl, inr, ℕ, List, [], ◌∷◌, ◌++◌, Option, Some, None, Result, Ok, Err, IsErrOf, OnOk, refl, sym, ◌∙◌, ap, subst, codes, arith}
+use Rattle.std.proofs.Common.{◌≡◌, ◌≢◌, ◌≤◌, ◌⊎◌, inl, inr, ℕ, Bool, true, false, List, [], ◌∷◌, ◌++◌, Option, Some, None, Result, Ok, Err, IsErrOf, OnOk, refl, sym, ◌∙◌, ap, subst, codes, arith}
 use Rattle.fp_host.specs.Paths.{Elements, Slot, IsAbove}
 use Rattle.fp_host.specs.View.{View, IsTree}
 use Rattle.fp_host.specs.Outcome.{Disk, Leaves, Nothing, gone, shows}
@@ -32,7 +32,7 @@ use Rattle.dep_states.specs.Names.{config, remotes_conf, pins_file, branch_dir, 
 use Rattle.dep_states.specs.Shown.{Shows, ref_seen}
 use Rattle.dep_states.specs.Sound.{Keeps, IsOld, is_remotes, is_pins, IsSound, Opens}
 use Rattle.dep_states.specs.Settled.{Settled, Used, HasBytes}
-use Rattle.dep_states.specs.After.{after_all}
+use Rattle.dep_states.specs.After.{Done, after_all}
 use Rattle.dep_states.specs.Zones.{outward}
 use Rattle.dep_states.proofs.Deployed.{top, outward_append}
 use Rattle.dep_states.proofs.Law.{ref_same}
@@ -48,7 +48,7 @@ use Rattle.fl_export.specs.Steps.{exported_in, MayRefresh, some_export, some_wor
 use Rattle.fl_export.proofs.PutRows.{same_shows}
 use Rattle.fl_export.proofs.Spared.{exports_top, work_top, no_repo}
 use Rattle.fl_change.specs.World.{World, world_at}
-use Rattle.fl_change.specs.Answer.{Answer, ops_of}
+use Rattle.fl_change.specs.Answer.{Answer, ops_of, has_acted, IsIdle}
 use Rattle.fl_change.specs.Changes.{IsStill}
 use Rattle.fl_change.specs.Ends.{end_of_host}
 use Rattle.fl_change.specs.Performs.{OpensBy, Acts}
@@ -66,7 +66,7 @@ use Rattle.fl_top.proofs.Altering.{alter_on, alter_refreshes, alter_refreshed, r
 use Rattle.fl_top.proofs.Ending.{prefix_all, before_last}
 use Rattle.fl_top.proofs.Opening.{Changed, WasRefused, goes_failed, goes_changed, goes_refused}
 use Rattle.fl_top.proofs.Over.{counts_shown}
-use Rattle.fl_top.proofs.Starting.{IsLate, IsNoRefusal, over_late, shown_after, ready_sound}
+use Rattle.fl_top.proofs.Starting.{IsLate, IsNoRefusal, over_late, shown_after, ready_sound, finishes_none}
 use Rattle.fp_small.proofs.Keeping.{files_on}
 use Rattle.fp_small.specs.Files.{KeepsFiles}
 
@@ -212,12 +212,12 @@ module _ (held : Holdings) (a : Answer) (before t : State) {u v w : View} (at : 
     sound = (opens sound).sound disk left;
   }
 
-  runs_left : Runs a u v → Runs a u w
-  runs_left runs = record {
+  runs_left : (IsIdle a → a.refusal ≡ None) → Runs a u v → Runs a u w
+  runs_left unrefused runs = record {
     said = a.pieces;
     so_far = before_last a (step.printed ∙ done.printed);
     prefix = λ sound disk left. prefix_all a a.pieces refl (just_left sound disk left);
-    only_rests = λ idle s is. rest_on (runs.only_rests idle s is) (rest_refreshes step);
+    only_rests = λ idle s is. rest_on (runs.only_rests idle s is) (rest_refreshes (unrefused idle) step);
     untouched = λ at_once. absurd (late at_once);
   }
 
@@ -252,7 +252,7 @@ module _ (holds : Option Holdings) (May : Op → Type 0) (f : Holdings → World
   runs_on tree runs = record {
     runs = λ ready held is shown counts.
         let e = changed.done ready held is shown counts in
-        runs_left held (shown_answer (f held) shown) changed.before t changed.at (changed.after ready held is shown counts) (not_at_once (shown_answer (f held) shown) e.0) e.1 step (opened held is) (runs.runs ready held is shown counts);
+        runs_left held (shown_answer (f held) shown) changed.before t changed.at (changed.after ready held is shown counts) (not_at_once (shown_answer (f held) shown) e.0) e.1 step (opened held is) (λ idle. e.0) (runs.runs ready held is shown counts);
     changes = λ known. alter_on u v w (runs.changes known) (alter_refreshes step);
     rests = λ ready held is shown counts rest idle.
         let e = changed.done ready held is shown counts in
@@ -284,9 +284,18 @@ module _ (holds : Option Holdings) (May : Op → Type 0) (f : Holdings → World
     given = λ held by. absurd by;
   }
 
--- ---- the same after a refusal, by the state that is shown
+-- ---- the same where one was refused after an operation, by the state that is shown
 
-module _ (holds : Option Holdings) (May : Op → Type 0) (f : Holdings → World → Answer) (late : IsLate f) (refusal : Refusal) {u v w : View} (was : WasRefused holds May f refusal u v) (step : RefreshesShown v w) where
+-- what tells that an operation was done tells it of some, and else of none
+acted_some : (ops : List Done) → true ≡ has_acted false ops → ops ≡ [] → ⊥
+acted_some [] acted none = cc acted
+acted_some (op ∷ ops) acted none = cc none
+
+acted_none : (ops : List Done) → false ≡ has_acted false ops → ops ≡ []
+acted_none [] acted = refl
+acted_none (op ∷ ops) acted = absurd (cc acted)
+
+module _ (holds : Option Holdings) (May : Op → Type 0) (f : Holdings → World → Answer) (late : IsLate f) (refusal : Refusal) {u v w : View} (was : WasRefused holds May f refusal true u v) (step : RefreshesShown v w) where
   -- where the answer's operations lead is what is shown
   moves : (a : Answer) → Opens (after_all was.before (ops_of a)) v → Refreshes (after_all was.before (ops_of a)) v w
   moves a opens = step.refreshes _ (opens.shown (shows v) (now_left v))
@@ -296,7 +305,7 @@ module _ (holds : Option Holdings) (May : Op → Type 0) (f : Holdings → World
     runs = λ ready held is shown counts.
         let a = shown_answer (f held) shown in
         let e = was.done ready held is shown counts in
-        runs_left held a was.before (after_all was.before (ops_of a)) was.at refl (over_late (f held) (late held) shown) e.1 (moves a e.2) (λ sound. (moves a e.2).opens e.2) (runs.runs ready held is shown counts);
+        runs_left held a was.before (after_all was.before (ops_of a)) was.at refl (over_late (f held) (late held) shown) e.1 (moves a e.2) (λ sound. (moves a e.2).opens e.2) (λ idle. absurd (acted_some (ops_of a) e.3 idle.0)) (runs.runs ready held is shown counts);
     changes = λ known. alter_on u v w (runs.changes known) (alter_refreshed step);
     rests = λ ready held is shown counts rest idle.
         let a = shown_answer (f held) shown in
@@ -333,7 +342,7 @@ module _ (holds : Option Holdings) (May : Op → Type 0) (f : Holdings → World
   }
 
 module _ {a b c : Option Moments} (holds : Option Holdings) (May : Op → Type 0) (f : Holdings → World → Answer) (late : IsLate f) (refusal : Refusal) (known_b : IsTold b) (known_c : IsTold c)
-    (first : Goes a b (RunsOver holds May f) (WasRefused holds May f refusal)) (second : Always RefreshesShown b c) where
+    (first : Goes a b (RunsOver holds May f) (WasRefused holds May f refusal true)) (second : Always RefreshesShown b c) where
   seen_trees : AtEnd RefreshedShown b c → Goes b c RefreshesShown (λ v w. IsTree w × (RefreshesShown v w × RefreshedShown v w))
   seen_trees end = ends_tree known_c (goes_known second end) (λ v w tree q. (tree, q))
 
@@ -344,6 +353,38 @@ module _ {a b c : Option Moments} (holds : Option Holdings) (May : Op → Type 0
 
   goes_refused_off : (e : HostEnd) → Goes a c (RunsOver holds May f) (EndedOver holds f (Err (end_of_host e)))
   goes_refused_off e = goes_on known_b first second (λ u v w tree r q step. runs_refused holds May f late refusal q step tree r) (λ u v w tree r q step last. halted_refused holds May f late refusal q step e)
+
+-- ---- where one was refused and no operation was done
+
+module _ (holds : Option Holdings) (May : Op → Type 0) (f : Holdings → World → Answer) (refusal : Refusal) {u v : View} (was : WasRefused holds May f refusal false u v) where
+  ended_unacted : EndedOver holds f (Err (run.Refused refusal)) u v
+  ended_unacted = record {
+    ended = λ ready held is shown counts. let e = was.done ready held is shown counts in (e.0, finishes_none held (shown_answer (f held) shown) (acted_none (ops_of (shown_answer (f held) shown)) e.3) e.1);
+    given = λ held by. counts_shown (shown_answer (f held)) (shows u) was.before was.at;
+  }
+
+  halted_unacted : (e : HostEnd) → EndedOver holds f (Err (end_of_host e)) u v
+  halted_unacted host.Fault = record { ended = λ ready held is shown counts. tt; given = λ held by. absurd by }
+  halted_unacted host.NoMemory = record {
+    ended = λ ready held is shown counts.
+        let a = shown_answer (f held) shown in
+        let e = was.done ready held is shown counts in
+        record { said = a.pieces; so_far = before_last a e.1.printed; just = e.1.just };
+    given = λ held by. absurd by;
+  }
+
+module _ {a b c : Option Moments} (holds : Option Holdings) (May : Op → Type 0) (f : Holdings → World → Answer) (refusal : Refusal) (known_b : IsTold b)
+    (first : Goes a b (RunsOver holds May f) (WasRefused holds May f refusal false)) (second : Always (λ v w. w ≡ v) b c) where
+  goes_unacted : (x : Result (Unit {0}) RunEnd) → ((u v : View) → WasRefused holds May f refusal false u v → EndedOver holds f x u v) → Goes a c (RunsOver holds May f) (EndedOver holds f x)
+  goes_unacted x ended = goes_on known_b first second
+      (λ u v w tree r q same. subst (RunsOver holds May f u) (sym same) r)
+      (λ u v w tree r q same last. subst (EndedOver holds f x u) (sym last) (ended u v q))
+
+  goes_unacted_on : Goes a c (RunsOver holds May f) (EndedOver holds f (Err (run.Refused refusal)))
+  goes_unacted_on = goes_unacted (Err (run.Refused refusal)) (λ u v q. ended_unacted holds May f refusal q)
+
+  goes_unacted_off : (e : HostEnd) → Goes a c (RunsOver holds May f) (EndedOver holds f (Err (end_of_host e)))
+  goes_unacted_off e = goes_unacted (Err (end_of_host e)) (λ u v q. halted_unacted holds May f refusal q e)
 
 -- ---- the refresh as the last part of a change
 
@@ -375,13 +416,13 @@ Stand a c holds May x = OnOk x (AreToldFor May holds → AtEnd (λ u w. IsSound 
 module _ {a c : Option Moments} (May : Op → Type 0) (f : Holdings → World → Answer) (s : State) (result : Result (Unit {0}) RunEnd) {u w : Outside}
     (late : IsLate f) (known : IsTold a) (known_u : IsTold u.told) (known_w : IsTold w.told) (known_c : IsTold c)
     (frame : Frame Nothing NoName NoPath a u.told) (unread : Goes a u.told StaysUnread StaysUnread) (tells : AtEnd (IsOpened s) a u.told) where
-  goes_passed : (e : RunEnd) → IsNoRefusal e → Acts (Opens s) May f s (Err e) u w → Always (λ x y. y ≡ x) w.told c → Whole a c u.holdings May f (Err e)
+  goes_passed : (e : RunEnd) {before now : Bool} → IsNoRefusal e → Acts (Opens s) May f s before now (Err e) u w → Always (λ x y. y ≡ x) w.told c → Whole a c u.holdings May f (Err e)
   goes_passed e other works same = goes_on known_w (goes_failed May f s e other late known known_u frame unread tells works) same
       (λ x y z tree p q is. subst (RunsOver u.holdings May f x) (sym is) p)
       (λ x y z tree p q is last. subst (EndedOver u.holdings f (Err e) x) (sym last) q)
 
-  pub goes_in_step : (r : Result State RunEnd) → Acts (Opens s) May f s r u w → Always (StepsAfter r) w.told c → (IsGivenBy result → AtEnd (InStepAfter r) w.told c) → PassesOn r result → Whole a c u.holdings May f result
-  goes_in_step (Ok t) works steps end passes =
+  pub goes_in_step : (r : Result State RunEnd) (acted : Bool) → Acts (Opens s) May f s false acted r u w → Always (StepsAfter r acted) w.told c → (IsGivenBy result → AtEnd (InStepAfter r acted) w.told c) → PassesOn r result → Whole a c u.holdings May f result
+  goes_in_step (Ok t) acted works steps end passes =
       let first = goes_changed May f s t late known known_u frame unread tells works in
       elim passes [
         | inl is ↦ subst (Whole a c u.holdings May f) (sym is) (goes_refreshed u.holdings May f t known_w known_c first steps (end (subst IsGivenBy (sym is) tt)))
@@ -390,8 +431,8 @@ module _ {a c : Option Moments} (May : Op → Type 0) (f : Holdings → World �
           | inr is ↦ subst (Whole a c u.holdings May f) (sym is) (goes_not_refreshed u.holdings May f t known_w known_c first steps host.NoMemory)
         ]
       ]
-  goes_in_step (Err (run.Refused refusal)) works steps end passes =
-      let first = goes_refused May f s refusal late known known_u frame unread tells works in
+  goes_in_step (Err (run.Refused refusal)) true works steps end passes =
+      let first = goes_refused May f s refusal true late known known_u frame unread tells works in
       elim passes [
         | inl is ↦ subst (Whole a c u.holdings May f) (sym is) (goes_refused_on u.holdings May f late refusal known_w known_c first steps (end (subst IsGivenBy (sym is) tt)))
         | inr failed ↦ elim failed [
@@ -399,24 +440,33 @@ module _ {a c : Option Moments} (May : Op → Type 0) (f : Holdings → World �
           | inr is ↦ subst (Whole a c u.holdings May f) (sym is) (goes_refused_off u.holdings May f late refusal known_w known_c first steps host.NoMemory)
         ]
       ]
-  goes_in_step (Err run.Fault) works steps end passes = subst (Whole a c u.holdings May f) (sym passes) (goes_passed run.Fault (λ refusal is. cc is) works steps)
-  goes_in_step (Err run.RemoteFault) works steps end passes = subst (Whole a c u.holdings May f) (sym passes) (goes_passed run.RemoteFault (λ refusal is. cc is) works steps)
-  goes_in_step (Err run.NoMemory) works steps end passes = subst (Whole a c u.holdings May f) (sym passes) (goes_passed run.NoMemory (λ refusal is. cc is) works steps)
+  goes_in_step (Err (run.Refused refusal)) false works steps end passes =
+      let first = goes_refused May f s refusal false late known known_u frame unread tells works in
+      elim passes [
+        | inl is ↦ subst (Whole a c u.holdings May f) (sym is) (goes_unacted_on u.holdings May f refusal known_w first steps)
+        | inr failed ↦ elim failed [
+          | inl is ↦ subst (Whole a c u.holdings May f) (sym is) (goes_unacted_off u.holdings May f refusal known_w first steps host.Fault)
+          | inr is ↦ subst (Whole a c u.holdings May f) (sym is) (goes_unacted_off u.holdings May f refusal known_w first steps host.NoMemory)
+        ]
+      ]
+  goes_in_step (Err run.Fault) acted works steps end passes = subst (Whole a c u.holdings May f) (sym passes) (goes_passed run.Fault (λ refusal is. cc is) works steps)
+  goes_in_step (Err run.RemoteFault) acted works steps end passes = subst (Whole a c u.holdings May f) (sym passes) (goes_passed run.RemoteFault (λ refusal is. cc is) works steps)
+  goes_in_step (Err run.NoMemory) acted works steps end passes = subst (Whole a c u.holdings May f) (sym passes) (goes_passed run.NoMemory (λ refusal is. cc is) works steps)
 
-  pub exports_in_step : (r : Result State RunEnd) → Acts (Opens s) May f s r u w → Always (StepsAfter r) w.told c → (IsGivenBy result → AtEnd (InStepAfter r) w.told c) → PassesOn r result → Stand a c u.holdings May result
-  exports_in_step (Ok t) works steps end passes =
+  pub exports_in_step : (r : Result State RunEnd) (acted : Bool) → Acts (Opens s) May f s false acted r u w → Always (StepsAfter r acted) w.told c → (IsGivenBy result → AtEnd (InStepAfter r acted) w.told c) → PassesOn r result → Stand a c u.holdings May result
+  exports_in_step (Ok t) acted works steps end passes =
       let first = goes_changed May f s t late known known_u frame unread tells works in
       elim passes [
         | inl is ↦ subst (Stand a c u.holdings May) (sym is) (exports_stand u.holdings May f t known_w known_c first steps known (end (subst IsGivenBy (sym is) tt)))
         | inr failed ↦ elim failed [ inl is ↦ subst (Stand a c u.holdings May) (sym is) tt | inr is ↦ subst (Stand a c u.holdings May) (sym is) tt ]
       ]
-  exports_in_step (Err (run.Refused refusal)) works steps end passes = elim passes [
+  exports_in_step (Err (run.Refused refusal)) acted works steps end passes = elim passes [
     | inl is ↦ subst (Stand a c u.holdings May) (sym is) tt
     | inr failed ↦ elim failed [ inl is ↦ subst (Stand a c u.holdings May) (sym is) tt | inr is ↦ subst (Stand a c u.holdings May) (sym is) tt ]
   ]
-  exports_in_step (Err run.Fault) works steps end passes = subst (Stand a c u.holdings May) (sym passes) tt
-  exports_in_step (Err run.RemoteFault) works steps end passes = subst (Stand a c u.holdings May) (sym passes) tt
-  exports_in_step (Err run.NoMemory) works steps end passes = subst (Stand a c u.holdings May) (sym passes) tt
+  exports_in_step (Err run.Fault) acted works steps end passes = subst (Stand a c u.holdings May) (sym passes) tt
+  exports_in_step (Err run.RemoteFault) acted works steps end passes = subst (Stand a c u.holdings May) (sym passes) tt
+  exports_in_step (Err run.NoMemory) acted works steps end passes = subst (Stand a c u.holdings May) (sym passes) tt
 
 -- ---- the cause of a fault
 
@@ -456,8 +506,8 @@ stands_after s (Err run.NoMemory) v w by opens = tt
 rose_on : (a b c : ℕ) → b ≤ c → Rose a b → Rose a c
 rose_on a b c le rose = omega arith
 
-pub caused_in_step : {a : Option Moments} (May : Op → Type 0) (f : Holdings → World → Answer) (s : State) (r : Result State RunEnd) (result : Result (Unit {0}) RunEnd) {u w : Outside} (before now : ℕ) → before ≤ u.host_faults → AtEnd (IsOpened s) a u.told
-    → Acts (Opens s) May f s r u w → PassesOn r result → IsCaused ((r ≢ Err run.Fault) × IsErrOf result run.Fault) w.told (StandsAfter r) w.host_faults now → IsCaused (AreToldFor May u.holdings × IsErrOf result run.Fault) a IsReady before now
+pub caused_in_step : {a : Option Moments} (May : Op → Type 0) (f : Holdings → World → Answer) (s : State) (r : Result State RunEnd) (result : Result (Unit {0}) RunEnd) {acted : Bool} {u w : Outside} (before now : ℕ) → before ≤ u.host_faults → AtEnd (IsOpened s) a u.told
+    → Acts (Opens s) May f s false acted r u w → PassesOn r result → IsCaused ((r ≢ Err run.Fault) × IsErrOf result run.Fault) w.told (StandsAfter r) w.host_faults now → IsCaused (AreToldFor May u.holdings × IsErrOf result run.Fault) a IsReady before now
 caused_in_step May f s r result {u = u} {w = w} before now later tells works passes cause = record {
   later = omega (arith, later, works.host.later, cause.later);
   fault = λ is m told ready.

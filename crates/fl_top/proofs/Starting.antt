@@ -1,5 +1,5 @@
 -- What a run is before anything is done, and what it is once the installation was opened.
-use Rattle.std.proofs.Common.{◌≡◌, inl, inr, ℕ, List, [], ◌∷◌, ◌++◌, Option, Some, None, Result, Ok, Err, refl, sym, ◌∙◌, ap, subst}
+use Rattle.std.proofs.Common.{◌≡◌, inl, inr, ℕ, Bool, false, List, [], ◌∷◌, ◌++◌, Option, Some, None, Result, Ok, Err, refl, sym, ◌∙◌, ap, subst}
 use Rattle.std.proofs.lemmas.List.{append-nil}
 use Rattle.fp_host.specs.Paths.{Elements}
 use Rattle.fp_host.specs.Remote.{Holdings}
@@ -25,7 +25,7 @@ use Rattle.dep_open.specs.Open.{NotShown, IsOpened, Opened, StaysUnread}
 use Rattle.dep_open.specs.declared.open_end.OpenEnd.{OpenEnd}
 use Rattle.dep_open.specs.declared.open_end.OpenEnd.TheVariants as open_end
 use Rattle.fl_change.specs.World.{World, world, world_at}
-use Rattle.fl_change.specs.Answer.{Answer, pieces_text, ops_in, ops_of, refusal_answer}
+use Rattle.fl_change.specs.Answer.{Answer, pieces_text, ops_in, ops_of, has_acted, refusal_answer}
 use Rattle.fl_top.specs.Answer.{shown_answer, IsAtOnce}
 use Rattle.fl_change.specs.Ends.{end_of_open}
 use Rattle.fl_top.specs.Asked.{AreToldFor}
@@ -213,7 +213,7 @@ ended held a s Fault w other begun is = tt
 ended held a s RemoteFault w other begun is = stands a s begun.opened begun.keeping is
 ended held a s NoMemory w other begun is = stands a s begun.opened begun.keeping is
 
-pub failed_over : (holds : Option Holdings) (f : Holdings → World → Answer) (s : State) (e : RunEnd) {u v : View} (w : View) → IsNoRefusal e → Begun s u v → IsTree v → PerformedOver (Opens s) holds f s (Err e) v w → EndedOver holds f (Err e) u w
+pub failed_over : (holds : Option Holdings) (f : Holdings → World → Answer) (s : State) (e : RunEnd) {before now : Bool} {u v : View} (w : View) → IsNoRefusal e → Begun s u v → IsTree v → PerformedOver (Opens s) holds f s before now (Err e) v w → EndedOver holds f (Err e) u w
 failed_over holds f s e {u = u} {v = v} w other begun tree is = record {
   ended = λ ready held told shown counts.
       let opens = begun.opened.opens (ready_sound begun.opened.shown ready) in
@@ -223,7 +223,7 @@ failed_over holds f s e {u = u} {v = v} w other begun tree is = record {
 }
 
 -- the changes were made
-pub done_over : (holds : Option Holdings) (f : Holdings → World → Answer) (s t : State) {u v : View} (w : View) → Begun s u v → IsTree v → PerformsOver (Opens s) holds f s v w → PerformedOver (Opens s) holds f s (Ok t) v w
+pub done_over : (holds : Option Holdings) (f : Holdings → World → Answer) (s t : State) {before now : Bool} {u v : View} (w : View) → Begun s u v → IsTree v → PerformsOver (Opens s) holds f s v w → PerformedOver (Opens s) holds f s before now (Ok t) v w
     → IsReady u → (held : Holdings) → holds ≡ Some held → OverView (f held) u (λ a. (a.refusal ≡ None) × Completes held a u w)
 done_over holds f s t {u = u} {v = v} w begun tree work is ready held told shown counts =
     let opens = begun.opened.opens (ready_sound begun.opened.shown ready) in
@@ -232,16 +232,17 @@ done_over holds f s t {u = u} {v = v} w begun tree work is ready held told shown
     (done.0, completes held (f held (world_at s v)) s (world_at s v) refl begun.opened begun.keeping (work.performs held told opens).files (sym (begun_world s begun tree)) done.2)
 
 -- they were made up to a refusal
-pub refused_over : (holds : Option Holdings) (f : Holdings → World → Answer) (s : State) (refusal : Refusal) {u v : View} (w : View) → Begun s u v → IsTree v → PerformsOver (Opens s) holds f s v w → PerformedOver (Opens s) holds f s (Err (Refused refusal)) v w
-    → IsReady u → (held : Holdings) → holds ≡ Some held → OverView (f held) u (λ a. (a.refusal ≡ Some refusal) × Completes held a u w × Opens (after_all s (ops_of a)) w)
-refused_over holds f s refusal {u = u} {v = v} w begun tree work is ready held told shown counts =
+pub refused_over : (holds : Option Holdings) (f : Holdings → World → Answer) (s : State) (refusal : Refusal) (acted : Bool) {u v : View} (w : View) → Begun s u v → IsTree v → PerformsOver (Opens s) holds f s v w → PerformedOver (Opens s) holds f s false acted (Err (Refused refusal)) v w
+    → IsReady u → (held : Holdings) → holds ≡ Some held → OverView (f held) u (λ a. (a.refusal ≡ Some refusal) × Completes held a u w × Opens (after_all s (ops_of a)) w × (acted ≡ has_acted false (ops_of a)))
+refused_over holds f s refusal acted {u = u} {v = v} w begun tree work is ready held told shown counts =
     let opens = begun.opened.opens (ready_sound begun.opened.shown ready) in
     let done = is.performed held told opens in
     let a = f held (world_at s v) in
-    subst (λ (a : Answer). (a.refusal ≡ Some refusal) × Completes held a u w × Opens (after_all s (ops_of a)) w) (ap (f held) (begun_world s begun tree) ∙ sym (over_is (f held) (shows u) shown s begun.opened.shown counts)) (
+    subst (λ (a : Answer). (a.refusal ≡ Some refusal) × Completes held a u w × Opens (after_all s (ops_of a)) w × (acted ≡ has_acted false (ops_of a))) (ap (f held) (begun_world s begun tree) ∙ sym (over_is (f held) (shows u) shown s begun.opened.shown counts)) (
       done.0,
       completes held a s (world_at s v) refl begun.opened begun.keeping (work.performs held told opens).files (sym (begun_world s begun tree)) done.1,
       subst (λ (z : State). Opens z w) (worlds_state held (world_at s v) (ops_of a)) done.1.holds.opens,
+      is.acted held told opens,
     )
 
 -- ---- where it wasn't opened

@@ -1,5 +1,5 @@
 -- What is exported: as it is listed, as it stands, and which names a run changes for it.
-use Rattle.std.specs.Prelude.{◌≡◌, ◌⊎◌, ℕ, List, Option, Some, Result, Ok, Err, flat_map}
+use Rattle.std.specs.Prelude.{◌≡◌, ◌⊎◌, ℕ, Bool, true, false, List, Option, Some, None, Result, Ok, Err, flat_map}
 use Rattle.fp_host.specs.Paths.{Elements, Slot}
 use Rattle.fp_host.specs.View.{View}
 use Rattle.fp_host.specs.Outcome.{Disk, Leaves, shows}
@@ -77,22 +77,31 @@ pub record RefreshesShown (u w : View) : Type 0 where
 abbrev pub RefreshedShown : View → View → Type 0
 RefreshedShown u w = (s : State) → Shows (shows u) s → WasRefreshed s u w
 
--- How exported files are brought in step with what changes left: by a refresh for the state that
--- these answered, or, where one was refused, for the state that is shown. Where they came to no end,
--- nothing is done.
-abbrev pub StepsAfter : Result State RunEnd → View → View → Type 0
-StepsAfter (Ok s) u w = Refreshes s u w
-StepsAfter (Err (ends.Refused refusal)) u w = RefreshesShown u w
-StepsAfter (Err ends.Fault) u w = w ≡ u
-StepsAfter (Err ends.RemoteFault) u w = w ≡ u
-StepsAfter (Err ends.NoMemory) u w = w ≡ u
+-- So it is where an operation was done; else nothing is.
+abbrev pub RefreshesWhere : Bool → View → View → Type 0
+RefreshesWhere true u w = RefreshesShown u w
+RefreshesWhere false u w = w ≡ u
 
-abbrev pub InStepAfter : Result State RunEnd → View → View → Type 0
-InStepAfter (Ok s) u w = WasRefreshed s u w
-InStepAfter (Err (ends.Refused refusal)) u w = RefreshedShown u w
-InStepAfter (Err ends.Fault) u w = Unit {0}
-InStepAfter (Err ends.RemoteFault) u w = Unit {0}
-InStepAfter (Err ends.NoMemory) u w = Unit {0}
+abbrev pub RefreshedWhere : Bool → View → View → Type 0
+RefreshedWhere true u w = RefreshedShown u w
+RefreshedWhere false u w = w ≡ u
+
+-- How exported files are brought in step with what changes left: by a refresh for the state that
+-- these answered, or, where one was refused after an operation, for the state that is shown. Where
+-- one was refused and no operation was done, and where they came to no end, nothing is done.
+abbrev pub StepsAfter : Result State RunEnd → Bool → View → View → Type 0
+StepsAfter (Ok s) acted u w = Refreshes s u w
+StepsAfter (Err (ends.Refused refusal)) acted u w = RefreshesWhere acted u w
+StepsAfter (Err ends.Fault) acted u w = w ≡ u
+StepsAfter (Err ends.RemoteFault) acted u w = w ≡ u
+StepsAfter (Err ends.NoMemory) acted u w = w ≡ u
+
+abbrev pub InStepAfter : Result State RunEnd → Bool → View → View → Type 0
+InStepAfter (Ok s) acted u w = WasRefreshed s u w
+InStepAfter (Err (ends.Refused refusal)) acted u w = RefreshedWhere acted u w
+InStepAfter (Err ends.Fault) acted u w = Unit {0}
+InStepAfter (Err ends.RemoteFault) acted u w = Unit {0}
+InStepAfter (Err ends.NoMemory) acted u w = Unit {0}
 
 -- over what a fault in it has a cause
 abbrev pub StandsAfter : Result State RunEnd → View → Type 0
@@ -138,11 +147,11 @@ pub record IsMadeLine (a : Answer) : Type 0 where
   pub commit : List ℕ
   pub is : a ≡ text_answer (made_text commit)
 
--- Where nothing is done, names may come to hold what tidying and a refresh make of them, and where a
--- remote is made what that does.
+-- Where nothing is done, names may come to hold what tidying makes of them; where nothing is
+-- refused, what a refresh does; and where a remote is made, what that does.
 pub data MayRest (a : Answer) (s : State) (q : Elements) (e : Slot) : Type 0 where
   tidied_at : MayTidy s q e → MayRest a s q e
-  refreshed_at : MayRefresh q e → MayRest a s q e
+  refreshed_at : a.refusal ≡ None → MayRefresh q e → MayRest a s q e
   made_at : (remote : List ℕ) (r : Ref) → IsMadeLine a → MayMake remote r q e → MayRest a s q e
 
 pub record OnlyRests (a : Answer) (s : State) (u w : View) : Type 0 where

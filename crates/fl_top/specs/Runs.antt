@@ -62,8 +62,8 @@ pub record IsJust (acknowledged : List Done) (u : View) (disk : Disk) : Type 0 w
 -- At every moment: the bytes printed since the start are the first pieces of the answer; every stop
 -- leaves the installation after a prefix of its operations that holds those that these pieces
 -- acknowledge. Where the answer has no operation and nothing is pulled, names only changed by
--- tidying and by a refresh of the exported files. Where the words or the input are refused, no name
--- changed, and no file.
+-- tidying, and where nothing is refused by a refresh of the exported files. Where the words or the
+-- input are refused, no name changed, and no file.
 pub record Runs (a : Answer) (u w : View) : Type 0 where
   pub said : List Piece
   pub so_far : Printed a said u w

@@ -76,7 +76,7 @@ pub(crate) fn run_exercise<T: Threads + Sync, H: Host, I: Source, G: Gate + Sync
 
 /// Opens the installation and makes the changes of an exercise, one after another up to the first
 /// refusal. Where none is refused, its last line is printed. Then the exported files are brought in
-/// step with the state, also where one was refused.
+/// step with the state; where one was refused, if an operation was done before.
 pub(crate) fn exercise<T: Threads + Sync, H: Host, R: Remotes>(
     rt: &T,
     alloc: Global,
@@ -98,6 +98,7 @@ pub(crate) fn exercise<T: Threads + Sync, H: Host, R: Remotes>(
         (R.holds remotes.old) (R.holds remotes.new) (R.faults remotes.old) (R.faults remotes.new) }
 {
     let opened = open(alloc, host)?;
-    let changed = make_exercise(rt, alloc, host, remotes, opened, apps);
-    bring_in_step(alloc, host, changed)
+    let mut acted = false;
+    let changed = make_exercise(rt, alloc, host, remotes, &mut acted, opened, apps);
+    bring_in_step(alloc, host, changed, acted)
 }

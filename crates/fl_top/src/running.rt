@@ -299,7 +299,8 @@ fn batch<T: Threads + Sync, H: Host, R: Remotes, I: Source>(
 }
 
 /// Opens the installation and makes the changes, one after another up to the first refusal. Then the
-/// exported files are brought in step with the state, also where one was refused.
+/// exported files are brought in step with the state; where one was refused, if an operation was done
+/// before.
 fn make_changes<T: Threads + Sync, H: Host, R: Remotes>(
     rt: &T,
     alloc: Global,
@@ -319,8 +320,9 @@ fn make_changes<T: Threads + Sync, H: Host, R: Remotes>(
         (R.holds remotes.old) (R.holds remotes.new) (R.faults remotes.old) (R.faults remotes.new) }
 {
     let opened = open(alloc, host)?;
-    let changed = change_all(rt, alloc, host, remotes, opened, changes);
-    bring_in_step(alloc, host, changed)
+    let mut acted = false;
+    let changed = change_all(rt, alloc, host, remotes, &mut acted, opened, changes);
+    bring_in_step(alloc, host, changed, acted)
 }
 
 /// Prints the line of words that are no command.

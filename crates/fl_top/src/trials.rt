@@ -1,5 +1,5 @@
 //! The changes of an exercise, and its last line.
-ghost use Rattle.std.specs.Prelude.{◌≡◌, IfOk, count_by};
+ghost use Rattle.std.specs.Prelude.{◌≡◌, Bool, IfOk, count_by};
 ghost use Rattle.fp_name.specs.Pins.{same_kind};
 ghost use Rattle.ost_walk.specs.Ends.{outside};
 ghost use Rattle.dep_states.specs.After.{IsGood};
@@ -23,29 +23,30 @@ use std::thread::Threads;
 
 /// Makes the changes of an exercise on an opened installation, one after another up to the first
 /// refusal, over these remotes. Where none is refused, it prints how many applications and runtimes
-/// are deployed then.
+/// are deployed then. `acted` is set once an operation was done.
 pub fn make_exercise<H: Host, R: Remotes>(
     rt: &(impl Threads + Sync),
     alloc: Global,
     host: &mut H,
     remotes: &mut R,
+    acted: &mut bool,
     opened: Opened,
     apps: &AppCount,
 ) -> Result<Opened, RunEnd>
     requires good { IsGood opened }
     ensures acts { Acts (Opens opened) (MayDo (exercise_changes apps.now))
-        (exercising apps.now) opened result
+        (exercising apps.now) opened acted.old acted.new result
         (outside (H.moments host.old) (H.faults host.old) (R.holds remotes.old)
         (R.faults remotes.old))
         (outside (H.moments host.new) (H.faults host.new) (R.holds remotes.new)
         (R.faults remotes.new)) }
 {
     let changes = exercise_commands(alloc, apps.number())?;
-    let changed = change_all(rt, alloc, host, remotes, opened, changes.as_slice())?;
+    let changed = change_all(rt, alloc, host, remotes, acted, opened, changes.as_slice())?;
     say_end(alloc, host, remotes, changed, apps)
 }
 
-/// Prints how many applications and runtimes are deployed.
+/// Prints how many applications and runtimes are deployed. No operation is done.
 fn say_end<H: Host, R: Remotes>(
     alloc: Global,
     host: &mut H,
@@ -53,8 +54,8 @@ fn say_end<H: Host, R: Remotes>(
     opened: Opened,
     apps: &AppCount,
 ) -> Result<Opened, RunEnd>
-    ensures acts { Acts (Rests opened) (MayDo (exercise_changes apps.now))
-        (end_answer apps.now) opened result
+    ensures acts { (acted : Bool) → Acts (Rests opened) (MayDo (exercise_changes apps.now))
+        (end_answer apps.now) opened acted acted result
         (outside (H.moments host.old) (H.faults host.old) (R.holds remotes.old)
         (R.faults remotes.old))
         (outside (H.moments host.new) (H.faults host.new) (R.holds remotes.new)

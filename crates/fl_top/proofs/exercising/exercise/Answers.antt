@@ -27,14 +27,14 @@ returns-clause-any_moment g c =
     let t = g.met.H.Host.is_tree in
     let step = c.bring_in_step.ensures in
     goes_in_step (MayDo (exercise_changes c.args.apps.now)) (exercising c.args.apps.now) c.in_ok-opened.opened c.bring_in_step.result (exercising_late c.args.apps.now) (t c.args.host.now) (t c.open.new.host) (t c.make_exercise-changed.new.host) (t c.bring_in_step.new.host) c.open.ensures.frame c.open.ensures.unread c.in_ok-opened.ensures.tells
-    c.make_exercise-changed.result c.make_exercise-changed.ensures.acts step.any_moment step.in_step step.passes
+    c.make_exercise-changed.result c.make_exercise-changed.new.acted c.make_exercise-changed.ensures.acts step.any_moment step.in_step step.passes
 
 pub returns-clause-exports : goal.returns-clause-exports
 returns-clause-exports g c =
     let t = g.met.H.Host.is_tree in
     let step = c.bring_in_step.ensures in
     exports_in_step (MayDo (exercise_changes c.args.apps.now)) (exercising c.args.apps.now) c.in_ok-opened.opened c.bring_in_step.result (exercising_late c.args.apps.now) (t c.args.host.now) (t c.open.new.host) (t c.make_exercise-changed.new.host) (t c.bring_in_step.new.host) c.open.ensures.frame c.open.ensures.unread c.in_ok-opened.ensures.tells
-    c.make_exercise-changed.result c.make_exercise-changed.ensures.acts step.any_moment step.in_step step.passes
+    c.make_exercise-changed.result c.make_exercise-changed.new.acted c.make_exercise-changed.ensures.acts step.any_moment step.in_step step.passes
 
 pub returns-clause-fault_has_cause : goal.returns-clause-fault_has_cause
 returns-clause-fault_has_cause g c =

@@ -21,7 +21,7 @@ returns-in_err-refresh-in-Ok-clause-passes g c = subst (λ (x : Result State Run
 pub returns-in_err-refresh-in-Ok-clause-any_moment : goal.returns-in_err-refresh-in-Ok-clause-any_moment
 returns-in_err-refresh-in-Ok-clause-any_moment g c =
     let steps = subst (λ (s : State). Always (Refreshes s) (g.H.Host.moments c.args.host.now) (g.H.Host.moments c.refresh.new.host)) c.state.ensures c.refresh.ensures.any_moment in
-    subst (λ (x : Result State RunEnd). Always (StepsAfter x) (g.H.Host.moments c.args.host.now) (g.H.Host.moments c.refresh.new.host)) (sym c.in-Ok.is) steps
+    subst (λ (x : Result State RunEnd). Always (StepsAfter x c.args.acted) (g.H.Host.moments c.args.host.now) (g.H.Host.moments c.refresh.new.host)) (sym c.in-Ok.is) steps
 
 pub returns-in_err-refresh-in-Ok-clause-in_step : goal.returns-in_err-refresh-in-Ok-clause-in_step
 returns-in_err-refresh-in-Ok-clause-in_step g c = λ given. absurd (not_given (host_ended c.from_residual.result c.in_err-refresh-in-Ok.field-0.0 c.from_residual.ensures.1) given)
@@ -37,12 +37,12 @@ returns-in_ok-refresh-in-Ok-clause-passes g c = subst (λ (x : Result State RunE
 pub returns-in_ok-refresh-in-Ok-clause-any_moment : goal.returns-in_ok-refresh-in-Ok-clause-any_moment
 returns-in_ok-refresh-in-Ok-clause-any_moment g c =
     let steps = subst (λ (s : State). Always (Refreshes s) (g.H.Host.moments c.args.host.now) (g.H.Host.moments c.refresh.new.host)) c.state.ensures c.refresh.ensures.any_moment in
-    subst (λ (x : Result State RunEnd). Always (StepsAfter x) (g.H.Host.moments c.args.host.now) (g.H.Host.moments c.refresh.new.host)) (sym c.in-Ok.is) steps
+    subst (λ (x : Result State RunEnd). Always (StepsAfter x c.args.acted) (g.H.Host.moments c.args.host.now) (g.H.Host.moments c.refresh.new.host)) (sym c.in-Ok.is) steps
 
 pub returns-in_ok-refresh-in-Ok-clause-in_step : goal.returns-in_ok-refresh-in-Ok-clause-in_step
 returns-in_ok-refresh-in-Ok-clause-in_step g c = λ given.
     let end = subst (λ (s : State). AtEnd (WasRefreshed s) (g.H.Host.moments c.args.host.now) (g.H.Host.moments c.refresh.new.host)) c.state.ensures c.in_ok-refresh-in-Ok.ensures.on_success in
-    subst (λ (x : Result State RunEnd). AtEnd (InStepAfter x) (g.H.Host.moments c.args.host.now) (g.H.Host.moments c.refresh.new.host)) (sym c.in-Ok.is) end
+    subst (λ (x : Result State RunEnd). AtEnd (InStepAfter x c.args.acted) (g.H.Host.moments c.args.host.now) (g.H.Host.moments c.refresh.new.host)) (sym c.in-Ok.is) end
 
 pub returns-in_ok-refresh-in-Ok-clause-fault_has_cause : goal.returns-in_ok-refresh-in-Ok-clause-fault_has_cause
 returns-in_ok-refresh-in-Ok-clause-fault_has_cause g c =
@@ -51,31 +51,31 @@ returns-in_ok-refresh-in-Ok-clause-fault_has_cause g c =
 
 -- ---- one was refused
 
-pub returns-in_err-refresh_shown-in-Err-Refused-clause-passes : goal.returns-in_err-refresh_shown-in-Err-Refused-clause-passes
-returns-in_err-refresh_shown-in-Err-Refused-clause-passes g c = subst (λ (x : Result State RunEnd). PassesOn x c.from_residual-in_err-refresh_shown-in-Err-Refused.result) (sym (c.in-Err-Refused.is ∙ ap (λ (e : RunEnd). Err e) c.in-Err-Refused.field-0-is)) (inr (host_ended c.from_residual-in_err-refresh_shown-in-Err-Refused.result c.in_err-refresh_shown-in-Err-Refused.field-0.0 c.from_residual-in_err-refresh_shown-in-Err-Refused.ensures.1))
+pub returns-in_err-refresh_where-in-Err-Refused-clause-passes : goal.returns-in_err-refresh_where-in-Err-Refused-clause-passes
+returns-in_err-refresh_where-in-Err-Refused-clause-passes g c = subst (λ (x : Result State RunEnd). PassesOn x c.from_residual-in_err-refresh_where-in-Err-Refused.result) (sym (c.in-Err-Refused.is ∙ ap (λ (e : RunEnd). Err e) c.in-Err-Refused.field-0-is)) (inr (host_ended c.from_residual-in_err-refresh_where-in-Err-Refused.result c.in_err-refresh_where-in-Err-Refused.field-0.0 c.from_residual-in_err-refresh_where-in-Err-Refused.ensures.1))
 
-pub returns-in_err-refresh_shown-in-Err-Refused-clause-any_moment : goal.returns-in_err-refresh_shown-in-Err-Refused-clause-any_moment
-returns-in_err-refresh_shown-in-Err-Refused-clause-any_moment g c = subst (λ (x : Result State RunEnd). Always (StepsAfter x) (g.H.Host.moments c.args.host.now) (g.H.Host.moments c.refresh_shown.new.host)) (sym (c.in-Err-Refused.is ∙ ap (λ (e : RunEnd). Err e) c.in-Err-Refused.field-0-is)) c.refresh_shown.ensures.any_moment
+pub returns-in_err-refresh_where-in-Err-Refused-clause-any_moment : goal.returns-in_err-refresh_where-in-Err-Refused-clause-any_moment
+returns-in_err-refresh_where-in-Err-Refused-clause-any_moment g c = subst (λ (x : Result State RunEnd). Always (StepsAfter x c.args.acted) (g.H.Host.moments c.args.host.now) (g.H.Host.moments c.refresh_where.new.host)) (sym (c.in-Err-Refused.is ∙ ap (λ (e : RunEnd). Err e) c.in-Err-Refused.field-0-is)) c.refresh_where.ensures.any_moment
 
-pub returns-in_err-refresh_shown-in-Err-Refused-clause-in_step : goal.returns-in_err-refresh_shown-in-Err-Refused-clause-in_step
-returns-in_err-refresh_shown-in-Err-Refused-clause-in_step g c = λ given. absurd (not_given (host_ended c.from_residual-in_err-refresh_shown-in-Err-Refused.result c.in_err-refresh_shown-in-Err-Refused.field-0.0 c.from_residual-in_err-refresh_shown-in-Err-Refused.ensures.1) given)
+pub returns-in_err-refresh_where-in-Err-Refused-clause-in_step : goal.returns-in_err-refresh_where-in-Err-Refused-clause-in_step
+returns-in_err-refresh_where-in-Err-Refused-clause-in_step g c = λ given. absurd (not_given (host_ended c.from_residual-in_err-refresh_where-in-Err-Refused.result c.in_err-refresh_where-in-Err-Refused.field-0.0 c.from_residual-in_err-refresh_where-in-Err-Refused.ensures.1) given)
 
-pub returns-in_err-refresh_shown-in-Err-Refused-clause-fault_has_cause : goal.returns-in_err-refresh_shown-in-Err-Refused-clause-fault_has_cause
-returns-in_err-refresh_shown-in-Err-Refused-clause-fault_has_cause g c =
-    caused_as c.refresh_shown.ensures.fault_has_cause (λ f. host_fault c.refresh_shown.result c.from_residual-in_err-refresh_shown-in-Err-Refused.result c.in_err-refresh_shown-in-Err-Refused.field-0.0 c.in_err-refresh_shown-in-Err-Refused.was c.from_residual-in_err-refresh_shown-in-Err-Refused.ensures.1 f.1)
+pub returns-in_err-refresh_where-in-Err-Refused-clause-fault_has_cause : goal.returns-in_err-refresh_where-in-Err-Refused-clause-fault_has_cause
+returns-in_err-refresh_where-in-Err-Refused-clause-fault_has_cause g c =
+    caused_as c.refresh_where.ensures.fault_has_cause (λ f. host_fault c.refresh_where.result c.from_residual-in_err-refresh_where-in-Err-Refused.result c.in_err-refresh_where-in-Err-Refused.field-0.0 c.in_err-refresh_where-in-Err-Refused.was c.from_residual-in_err-refresh_where-in-Err-Refused.ensures.1 f.1)
     (λ v stands. subst (λ (x : Result State RunEnd). StandsAfter x v) (c.in-Err-Refused.is ∙ ap (λ (e : RunEnd). Err e) c.in-Err-Refused.field-0-is) stands)
 
-pub returns-in_ok-refresh_shown-in-Err-Refused-clause-passes : goal.returns-in_ok-refresh_shown-in-Err-Refused-clause-passes
-returns-in_ok-refresh_shown-in-Err-Refused-clause-passes g c = subst (λ (x : Result State RunEnd). PassesOn x (Err (run.Refused c.in-Err-Refused.refusal))) (sym (c.in-Err-Refused.is ∙ ap (λ (e : RunEnd). Err e) c.in-Err-Refused.field-0-is)) (inl refl)
+pub returns-in_ok-refresh_where-in-Err-Refused-clause-passes : goal.returns-in_ok-refresh_where-in-Err-Refused-clause-passes
+returns-in_ok-refresh_where-in-Err-Refused-clause-passes g c = subst (λ (x : Result State RunEnd). PassesOn x (Err (run.Refused c.in-Err-Refused.refusal))) (sym (c.in-Err-Refused.is ∙ ap (λ (e : RunEnd). Err e) c.in-Err-Refused.field-0-is)) (inl refl)
 
-pub returns-in_ok-refresh_shown-in-Err-Refused-clause-any_moment : goal.returns-in_ok-refresh_shown-in-Err-Refused-clause-any_moment
-returns-in_ok-refresh_shown-in-Err-Refused-clause-any_moment g c = subst (λ (x : Result State RunEnd). Always (StepsAfter x) (g.H.Host.moments c.args.host.now) (g.H.Host.moments c.refresh_shown.new.host)) (sym (c.in-Err-Refused.is ∙ ap (λ (e : RunEnd). Err e) c.in-Err-Refused.field-0-is)) c.refresh_shown.ensures.any_moment
+pub returns-in_ok-refresh_where-in-Err-Refused-clause-any_moment : goal.returns-in_ok-refresh_where-in-Err-Refused-clause-any_moment
+returns-in_ok-refresh_where-in-Err-Refused-clause-any_moment g c = subst (λ (x : Result State RunEnd). Always (StepsAfter x c.args.acted) (g.H.Host.moments c.args.host.now) (g.H.Host.moments c.refresh_where.new.host)) (sym (c.in-Err-Refused.is ∙ ap (λ (e : RunEnd). Err e) c.in-Err-Refused.field-0-is)) c.refresh_where.ensures.any_moment
 
-pub returns-in_ok-refresh_shown-in-Err-Refused-clause-in_step : goal.returns-in_ok-refresh_shown-in-Err-Refused-clause-in_step
-returns-in_ok-refresh_shown-in-Err-Refused-clause-in_step g c = λ given. subst (λ (x : Result State RunEnd). AtEnd (InStepAfter x) (g.H.Host.moments c.args.host.now) (g.H.Host.moments c.refresh_shown.new.host)) (sym (c.in-Err-Refused.is ∙ ap (λ (e : RunEnd). Err e) c.in-Err-Refused.field-0-is)) c.in_ok-refresh_shown-in-Err-Refused.ensures.on_success
+pub returns-in_ok-refresh_where-in-Err-Refused-clause-in_step : goal.returns-in_ok-refresh_where-in-Err-Refused-clause-in_step
+returns-in_ok-refresh_where-in-Err-Refused-clause-in_step g c = λ given. subst (λ (x : Result State RunEnd). AtEnd (InStepAfter x c.args.acted) (g.H.Host.moments c.args.host.now) (g.H.Host.moments c.refresh_where.new.host)) (sym (c.in-Err-Refused.is ∙ ap (λ (e : RunEnd). Err e) c.in-Err-Refused.field-0-is)) c.in_ok-refresh_where-in-Err-Refused.ensures.on_success
 
-pub returns-in_ok-refresh_shown-in-Err-Refused-clause-fault_has_cause : goal.returns-in_ok-refresh_shown-in-Err-Refused-clause-fault_has_cause
-returns-in_ok-refresh_shown-in-Err-Refused-clause-fault_has_cause g c = caused_as c.refresh_shown.ensures.fault_has_cause (λ f. absurd (cc f.1)) (λ v stands. subst (λ (x : Result State RunEnd). StandsAfter x v) (c.in-Err-Refused.is ∙ ap (λ (e : RunEnd). Err e) c.in-Err-Refused.field-0-is) stands)
+pub returns-in_ok-refresh_where-in-Err-Refused-clause-fault_has_cause : goal.returns-in_ok-refresh_where-in-Err-Refused-clause-fault_has_cause
+returns-in_ok-refresh_where-in-Err-Refused-clause-fault_has_cause g c = caused_as c.refresh_where.ensures.fault_has_cause (λ f. absurd (cc f.1)) (λ v stands. subst (λ (x : Result State RunEnd). StandsAfter x v) (c.in-Err-Refused.is ∙ ap (λ (e : RunEnd). Err e) c.in-Err-Refused.field-0-is) stands)
 
 -- ---- they came to no end
 
@@ -83,7 +83,7 @@ pub returns-in-Err-Fault-clause-passes : goal.returns-in-Err-Fault-clause-passes
 returns-in-Err-Fault-clause-passes g c = subst (λ (x : Result State RunEnd). PassesOn x (Err run.Fault)) (sym (c.in-Err-Fault.is ∙ ap (λ (e : RunEnd). Err e) c.in-Err-Fault.field-0-is)) refl
 
 pub returns-in-Err-Fault-clause-any_moment : goal.returns-in-Err-Fault-clause-any_moment
-returns-in-Err-Fault-clause-any_moment g c = subst (λ (x : Result State RunEnd). Always (StepsAfter x) (g.H.Host.moments c.args.host.now) (g.H.Host.moments c.args.host.now)) (sym (c.in-Err-Fault.is ∙ ap (λ (e : RunEnd). Err e) c.in-Err-Fault.field-0-is)) (stays (g.met.H.Host.is_tree c.args.host.now) (λ u. refl) (λ u tree. refl))
+returns-in-Err-Fault-clause-any_moment g c = subst (λ (x : Result State RunEnd). Always (StepsAfter x c.args.acted) (g.H.Host.moments c.args.host.now) (g.H.Host.moments c.args.host.now)) (sym (c.in-Err-Fault.is ∙ ap (λ (e : RunEnd). Err e) c.in-Err-Fault.field-0-is)) (stays (g.met.H.Host.is_tree c.args.host.now) (λ u. refl) (λ u tree. refl))
 
 pub returns-in-Err-Fault-clause-in_step : goal.returns-in-Err-Fault-clause-in_step
 returns-in-Err-Fault-clause-in_step g c = λ given. absurd given
@@ -95,7 +95,7 @@ pub returns-in-Err-RemoteFault-clause-passes : goal.returns-in-Err-RemoteFault-c
 returns-in-Err-RemoteFault-clause-passes g c = subst (λ (x : Result State RunEnd). PassesOn x (Err run.RemoteFault)) (sym (c.in-Err-RemoteFault.is ∙ ap (λ (e : RunEnd). Err e) c.in-Err-RemoteFault.field-0-is)) refl
 
 pub returns-in-Err-RemoteFault-clause-any_moment : goal.returns-in-Err-RemoteFault-clause-any_moment
-returns-in-Err-RemoteFault-clause-any_moment g c = subst (λ (x : Result State RunEnd). Always (StepsAfter x) (g.H.Host.moments c.args.host.now) (g.H.Host.moments c.args.host.now)) (sym (c.in-Err-RemoteFault.is ∙ ap (λ (e : RunEnd). Err e) c.in-Err-RemoteFault.field-0-is)) (stays (g.met.H.Host.is_tree c.args.host.now) (λ u. refl) (λ u tree. refl))
+returns-in-Err-RemoteFault-clause-any_moment g c = subst (λ (x : Result State RunEnd). Always (StepsAfter x c.args.acted) (g.H.Host.moments c.args.host.now) (g.H.Host.moments c.args.host.now)) (sym (c.in-Err-RemoteFault.is ∙ ap (λ (e : RunEnd). Err e) c.in-Err-RemoteFault.field-0-is)) (stays (g.met.H.Host.is_tree c.args.host.now) (λ u. refl) (λ u tree. refl))
 
 pub returns-in-Err-RemoteFault-clause-in_step : goal.returns-in-Err-RemoteFault-clause-in_step
 returns-in-Err-RemoteFault-clause-in_step g c = λ given. absurd given
@@ -107,7 +107,7 @@ pub returns-in-Err-NoMemory-clause-passes : goal.returns-in-Err-NoMemory-clause-
 returns-in-Err-NoMemory-clause-passes g c = subst (λ (x : Result State RunEnd). PassesOn x (Err run.NoMemory)) (sym (c.in-Err-NoMemory.is ∙ ap (λ (e : RunEnd). Err e) c.in-Err-NoMemory.field-0-is)) refl
 
 pub returns-in-Err-NoMemory-clause-any_moment : goal.returns-in-Err-NoMemory-clause-any_moment
-returns-in-Err-NoMemory-clause-any_moment g c = subst (λ (x : Result State RunEnd). Always (StepsAfter x) (g.H.Host.moments c.args.host.now) (g.H.Host.moments c.args.host.now)) (sym (c.in-Err-NoMemory.is ∙ ap (λ (e : RunEnd). Err e) c.in-Err-NoMemory.field-0-is)) (stays (g.met.H.Host.is_tree c.args.host.now) (λ u. refl) (λ u tree. refl))
+returns-in-Err-NoMemory-clause-any_moment g c = subst (λ (x : Result State RunEnd). Always (StepsAfter x c.args.acted) (g.H.Host.moments c.args.host.now) (g.H.Host.moments c.args.host.now)) (sym (c.in-Err-NoMemory.is ∙ ap (λ (e : RunEnd). Err e) c.in-Err-NoMemory.field-0-is)) (stays (g.met.H.Host.is_tree c.args.host.now) (λ u. refl) (λ u tree. refl))
 
 pub returns-in-Err-NoMemory-clause-in_step : goal.returns-in-Err-NoMemory-clause-in_step
 returns-in-Err-NoMemory-clause-in_step g c = λ given. absurd given

@@ -21,7 +21,7 @@ returns-in_err-changed g c =
     let v = outside (g.H.Host.moments c.change_all.new.host) (g.H.Host.faults c.change_all.new.host) (g.R.Remotes.holds c.change_all.new.remotes) (g.R.Remotes.faults c.change_all.new.remotes) in
     let e = c.in_err-changed.field-0.0 in
     let changes : c.as_slice.result.now ≡ exercise_changes n = c.as_slice.ensures ∙ c.in_ok-changes.ensures ∙ ap exercise_changes c.number.ensures.number in
-    let acts = subst (λ (l : List Change). Acts (Opens c.args.opened) (MayDo l) (changing l) c.args.opened (Err e) u v) changes c.in_err-changed.ensures.acts in
+    let acts = subst (λ (l : List Change). Acts (Opens c.args.opened) (MayDo l) (changing l) c.args.opened c.args.acted.now c.change_all.new.acted (Err e) u v) changes c.in_err-changed.ensures.acts in
     record { acts = acts_err c.from_residual-in_err-changed.result e c.from_residual-in_err-changed.ensures.1 (acts_first (changing (exercise_changes n)) (end_answer n) c.args.opened e acts) }
 
 pub returns : goal.returns
@@ -30,5 +30,5 @@ returns g c =
     let u = outside (g.H.Host.moments c.args.host.now) (g.H.Host.faults c.args.host.now) (g.R.Remotes.holds c.args.remotes.now) (g.R.Remotes.faults c.args.remotes.now) in
     let v = outside (g.H.Host.moments c.change_all.new.host) (g.H.Host.faults c.change_all.new.host) (g.R.Remotes.holds c.change_all.new.remotes) (g.R.Remotes.faults c.change_all.new.remotes) in
     let changes : c.as_slice.result.now ≡ exercise_changes n = c.as_slice.ensures ∙ c.in_ok-changes.ensures ∙ ap exercise_changes c.number.ensures.number in
-    let acts = subst (λ (l : List Change). Acts (Opens c.args.opened) (MayDo l) (changing l) c.args.opened (Ok c.in_ok-changed.changed) u v) changes c.in_ok-changed.ensures.acts in
-    record { acts = acts_second (changing (exercise_changes n)) (end_answer n) c.args.opened c.in_ok-changed.changed c.say_end.result (g.met.H.Host.is_tree c.change_all.new.host) acts c.say_end.ensures.acts }
+    let acts = subst (λ (l : List Change). Acts (Opens c.args.opened) (MayDo l) (changing l) c.args.opened c.args.acted.now c.change_all.new.acted (Ok c.in_ok-changed.changed) u v) changes c.in_ok-changed.ensures.acts in
+    record { acts = acts_second (changing (exercise_changes n)) (end_answer n) c.args.opened c.in_ok-changed.changed c.say_end.result (g.met.H.Host.is_tree c.change_all.new.host) acts (c.say_end.ensures.acts c.change_all.new.acted) }

@@ -10,7 +10,7 @@ use Rattle.fl_top.proofs.Lines.{acts_told, acts_not_told}
 use Rattle.fl_top.proofs.trials.say_end.Goals as goal
 
 pub returns-in_err-line : goal.returns-in_err-line
-returns-in_err-line g c = record { acts = acts_err c.from_residual.result NoMemory c.from_residual.ensures.1 (acts_halted (end_answer c.args.apps.now) (g.met.H.Host.is_tree c.args.host.now)) }
+returns-in_err-line g c = record { acts = λ acted. acts_err c.from_residual.result NoMemory c.from_residual.ensures.1 (acts_halted (end_answer c.args.apps.now) (g.met.H.Host.is_tree c.args.host.now)) }
 
 pub returns-in_err-say : goal.returns-in_err-say
 returns-in_err-say g c =
@@ -20,7 +20,7 @@ returns-in_err-say g c =
     let is : c.in_ok-line.line ≡ end_text c.args.apps.now c.args.opened = c.in_ok-line.ensures ∙ ap (end_text c.args.apps.now) c.state.ensures in
     let call : Saying c.as_bytes.result.now (Err c.in_err-say.field-0.0) u v = record { step = c.in_err-say.ensures.step; cause = c.in_err-say.ensures.fault_has_cause; holdings = refl; remote_faults = refl } in
     record {
-      acts = acts_err c.from_residual-in_err-say.result (end_of_host (end_of c.in_err-say.field-0.0)) c.from_residual-in_err-say.ensures.1
+      acts = λ acted. acts_err c.from_residual-in_err-say.result (end_of_host (end_of c.in_err-say.field-0.0)) c.from_residual-in_err-say.ensures.1
           (acts_not_told (end_answer c.args.apps.now) c.args.opened (end_text c.args.apps.now c.args.opened) c.as_bytes.result.now (λ held x. refl) (said ∙ is) c.in_err-say.field-0.0 call);
     }
 
@@ -31,4 +31,4 @@ returns g c =
     let said : c.as_bytes.result.now ≡ c.in_ok-line.line = search rules in
     let is : c.in_ok-line.line ≡ end_text c.args.apps.now c.args.opened = c.in_ok-line.ensures ∙ ap (end_text c.args.apps.now) c.state.ensures in
     let call : Saying c.as_bytes.result.now (Ok tt) u v = record { step = c.in_ok-say.ensures.step; cause = c.in_ok-say.ensures.fault_has_cause; holdings = refl; remote_faults = refl } in
-    record { acts = acts_told (end_answer c.args.apps.now) c.args.opened (end_text c.args.apps.now c.args.opened) c.as_bytes.result.now (λ held x. refl) (said ∙ is) call }
+    record { acts = λ acted. acts_told (end_answer c.args.apps.now) c.args.opened (end_text c.args.apps.now c.args.opened) c.as_bytes.result.now (λ held x. refl) (said ∙ is) call }
