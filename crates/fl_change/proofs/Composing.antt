@@ -285,7 +285,7 @@ works_untidied s e call = record {
 
 -- what is refused was not done
 none_acted : (o : Option Refusal) (done : Done) (r : Refusal) (before : Bool) → (unless o (done_answer done)).refusal ≡ Some r → before ≡ has_acted before (ops_of (unless o (done_answer done)))
-none_acted None done r before is = absurd (cc is)
+none_acted None done r before is = let clash : None ≡ Some r = is in absurd (cc clash)
 none_acted (Some refusal) done r before is = refl
 
 not_acted : (held : Holdings) (op : Op) (s : State) (e : RunEnd) (before : Bool) (v w : View) → WasDoneBy held op s (Err e) v w → Acted (op_over op held (world_at s v)) (Err e) before before

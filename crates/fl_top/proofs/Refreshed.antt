@@ -288,12 +288,12 @@ module _ (holds : Option Holdings) (May : Op → Type 0) (f : Holdings → World
 
 -- what tells that an operation was done tells it of some, and else of none
 acted_some : (ops : List Done) → true ≡ has_acted false ops → ops ≡ [] → ⊥
-acted_some [] acted none = cc acted
+acted_some [] acted none = let clash : true ≡ false = acted in cc clash
 acted_some (op ∷ ops) acted none = cc none
 
 acted_none : (ops : List Done) → false ≡ has_acted false ops → ops ≡ []
 acted_none [] acted = refl
-acted_none (op ∷ ops) acted = absurd (cc acted)
+acted_none (op ∷ ops) acted = let clash : false ≡ true = acted in absurd (cc clash)
 
 module _ (holds : Option Holdings) (May : Op → Type 0) (f : Holdings → World → Answer) (late : IsLate f) (refusal : Refusal) {u v w : View} (was : WasRefused holds May f refusal true u v) (step : RefreshesShown v w) where
   -- where the answer's operations lead is what is shown
