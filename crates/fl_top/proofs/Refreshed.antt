@@ -356,6 +356,9 @@ module _ {a b c : Option Moments} (holds : Option Holdings) (May : Op → Type 0
 
 -- ---- where one was refused and no operation was done
 
+stands_done : (held : Holdings) (a : Answer) {u v : View} → Completes held a u v → Stands a u v
+stands_done held a done = record { said = a.pieces; so_far = before_last a done.printed; just = done.just }
+
 module _ (holds : Option Holdings) (May : Op → Type 0) (f : Holdings → World → Answer) (refusal : Refusal) {u v : View} (was : WasRefused holds May f refusal false u v) where
   ended_unacted : EndedOver holds f (Err (run.Refused refusal)) u v
   ended_unacted = record {
@@ -366,10 +369,7 @@ module _ (holds : Option Holdings) (May : Op → Type 0) (f : Holdings → World
   halted_unacted : (e : HostEnd) → EndedOver holds f (Err (end_of_host e)) u v
   halted_unacted host.Fault = record { ended = λ ready held is shown counts. tt; given = λ held by. absurd by }
   halted_unacted host.NoMemory = record {
-    ended = λ ready held is shown counts.
-        let a = shown_answer (f held) shown in
-        let e = was.done ready held is shown counts in
-        record { said = a.pieces; so_far = before_last a e.1.printed; just = e.1.just };
+    ended = λ ready held is shown counts. stands_done held (shown_answer (f held) shown) (was.done ready held is shown counts).1;
     given = λ held by. absurd by;
   }
 
