@@ -120,7 +120,7 @@ impl<'a, 'b, R: System> FolderStage<'a, 'b, R> {
         Ok(Ending {
             status,
             printed: self.capture.take(),
-            calls: None,
+            counts: None,
             flaw: None,
         })
     }

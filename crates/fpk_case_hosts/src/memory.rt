@@ -1,23 +1,37 @@
 //! A case over the host in memory.
-use crate::NotedHost;
+use crate::counted_remotes::{CountedRemotes, RemoteCalls};
 use crate::folder::is_for_folder;
+use crate::noted_host::NotedHost;
 use crate::program::Program;
-use crate::stage::{Ending, PathState, find, give, unless_fault};
+use crate::stage::{Counts, Ending, PathState, find, give, unless_fault};
 use fp_base::{Blob, Text};
 use fp_host::{Host, Path};
 use fp_memhost::{MemHost, MemNode, MemRemotes, MemSource};
 use fpk_case_remotes::{Ware, Wares};
-use fpk_case_text::{Case, Command, Failing, Failure, Fixture};
+use fpk_case_text::{Action, Case, Command, Failing, Failure, Fixture};
 use std::alloc::{AllocError, Global};
 use std::thread::Threads;
 
 /// The most steps of a case that is played in memory too. There each call looks through all earlier
 /// ones.
-const MOST_STEPS: usize = 1000;
+const MOST_STEPS: u64 = 1000;
 
 /// Whether a case is played in memory: it hasn't too many steps, or can't be played over a folder.
 pub fn is_for_memory(case: &Case) -> bool {
-    case.steps.len() <= MOST_STEPS || !is_for_folder(case)
+    steps_of(case) <= MOST_STEPS || !is_for_folder(case)
+}
+
+/// How many steps a case has; what is given at many paths counts as often.
+fn steps_of(case: &Case) -> u64 {
+    let mut count = 0u64;
+    for step in &case.steps {
+        let times = match &step.action {
+            Action::Give(given) => given.times,
+            _ => 1,
+        };
+        count = count.saturating_add(times);
+    }
+    count
 }
 
 /// The input of a command. What is short comes in small pieces, so that something is cut.
@@ -94,7 +108,16 @@ fn put_node(
     remotes.put(url, &path, node)
 }
 
-/// Runs a command over a host and remotes in memory, and answers its status.
+/// How a command ended.
+#[derive(Clone, Copy)]
+pub struct Ran {
+    /// The exit status.
+    pub status: u8,
+    /// How many calls of the remotes it made.
+    pub remote_calls: RemoteCalls,
+}
+
+/// Runs a command over a host and remotes in memory.
 pub fn run_in_memory<P: Program, T: Threads + Sync, H: Host>(
     program: &P,
     rt: &T,
@@ -103,13 +126,19 @@ pub fn run_in_memory<P: Program, T: Threads + Sync, H: Host>(
     command: &Command,
     failing: Failing,
     wares: &Wares,
-) -> Result<u8, AllocError> {
+) -> Result<Ran, AllocError> {
     let mut input = input_of(alloc, command, failing.input)?;
-    let mut remotes = remotes_of(alloc, wares)?;
+    let mut held = remotes_of(alloc, wares)?;
     if let Some(call) = failing.remotes {
-        remotes.fail_calls(&[call])?;
+        held.fail_calls(&[call])?;
     }
-    Ok(program.run(rt, alloc, &command.words, &mut input, host, &mut remotes))
+    let mut remotes = CountedRemotes::new(held, failing.turned);
+    let status = program.run(rt, alloc, &command.words, &mut input, host, &mut remotes);
+    let remote_calls = remotes.calls();
+    Ok(Ran {
+        status,
+        remote_calls,
+    })
 }
 
 /// The host in memory that a case is played on.
@@ -158,13 +187,11 @@ impl MemStage {
         let_fail(&mut self.host.host, command.failure)?;
         self.host.begin(self.alloc);
         let host = &mut self.host;
-        let failing = Failing {
-            input: input_fails_at,
-            remotes: None,
-        };
-        let status = run_in_memory(program, rt, self.alloc, host, command, failing, wares)?;
+        let mut failing = Failing::none();
+        failing.input = input_fails_at;
+        let ran = run_in_memory(program, rt, self.alloc, host, command, failing, wares)?;
         self.host.host.fail_calls(&[])?;
-        ran_since(self.alloc, &self.host, status, start, calls)
+        ran_since(self.alloc, &self.host, ran.status, start, calls)
     }
 
     /// Looks at what stands at a path. It errs only without memory.
@@ -192,7 +219,11 @@ fn ran_since(
     Ok(Ending {
         status,
         printed: printed.to_vec(alloc)?,
-        calls: Some(host.calls().saturating_sub(calls)),
+        counts: Some(Counts {
+            calls: host.calls().saturating_sub(calls),
+            files: noted.files(),
+            bytes: noted.bytes(),
+        }),
         flaw,
     })
 }

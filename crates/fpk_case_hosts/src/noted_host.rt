@@ -17,6 +17,8 @@ pub struct NotedHost {
     /// The host. What is asked of it alone isn't noted.
     pub host: MemHost,
     notes: Notes,
+    /// How many bytes were appended.
+    bytes: u64,
     /// Whether there was no memory for a note.
     lacks_memory: bool,
 }
@@ -28,6 +30,7 @@ impl NotedHost {
         NotedHost {
             host,
             notes,
+            bytes: 0,
             lacks_memory: false,
         }
     }
@@ -35,7 +38,18 @@ impl NotedHost {
     /// Forgets what was made so far.
     pub fn begin(&mut self, alloc: Global) {
         self.notes = Notes::new(alloc);
+        self.bytes = 0;
         self.lacks_memory = false;
+    }
+
+    /// How many files were made since the notes began.
+    pub fn files(&self) -> u64 {
+        self.notes.files()
+    }
+
+    /// How many bytes were appended to files since the notes began.
+    pub fn bytes(&self) -> u64 {
+        self.bytes
     }
 
     /// What is wrong with the files that were made since the notes began, where a command did what
@@ -84,6 +98,7 @@ impl Host for NotedHost {
 
     fn append(&mut self, path: &Path, bytes: &[u8]) -> Result<(), HostError> {
         self.host.append(path, bytes)?;
+        self.bytes = self.bytes.saturating_add(bytes.len() as u64);
         if !bytes.is_empty() {
             self.notes.append(path);
         }

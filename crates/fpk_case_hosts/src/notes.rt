@@ -43,6 +43,11 @@ impl Notes {
         }
     }
 
+    /// How many files were made.
+    pub fn files(&self) -> u64 {
+        self.files.len() as u64
+    }
+
     /// A file was made.
     pub fn create(&mut self, path: &Path) -> Result<(), AllocError> {
         let file = self.files.len();

@@ -10,6 +10,17 @@ use std::alloc::{AllocError, Global};
 use std::rt::Files;
 use std::thread::Threads;
 
+/// How much a command did to a host.
+#[derive(Clone, Copy)]
+pub struct Counts {
+    /// How many calls it made.
+    pub calls: u64,
+    /// How many files it made.
+    pub files: u64,
+    /// How many bytes it appended to files.
+    pub bytes: u64,
+}
+
 /// How a command ended.
 #[derive(Drop)]
 pub struct Ending {
@@ -17,8 +28,8 @@ pub struct Ending {
     pub status: u8,
     /// What it printed.
     pub printed: Vec<u8>,
-    /// How many calls of the host it made, where they are counted.
-    pub calls: Option<u64>,
+    /// How much it did to the host, where that is counted.
+    pub counts: Option<Counts>,
     /// What is wrong with the files that it made, where that is noted.
     pub flaw: Option<String>,
 }
@@ -98,18 +109,30 @@ pub fn unless_fault<T>(answer: Result<T, HostEnd>) -> Result<Option<T>, AllocErr
     }
 }
 
-/// Puts something into a host, synced, with the folders above it, in the place of a file or a link
-/// that is there.
+/// Puts something into a host as often as is said, synced, with the folders above it, in the place
+/// of a file or a link that is there.
 pub fn give<H: Host>(
     alloc: Global,
     host: &mut H,
     given: &Fixture,
     bytes: &[u8],
 ) -> Result<(), HostEnd> {
-    make_folders(alloc, host, &given.path)?;
-    let path = Path::parse(alloc, &given.path)?;
-    take_away(host, &path)?;
-    give_at(alloc, host, &path, &given.kind, bytes)
+    for number in 0..given.times {
+        let path = numbered_path(alloc, &given.path, number)?;
+        make_folders(alloc, host, &path)?;
+        let path = Path::parse(alloc, &path)?;
+        take_away(host, &path)?;
+        give_at(alloc, host, &path, &given.kind, bytes)?;
+    }
+    Ok(())
+}
+
+/// The path with the number in the place of `{number}`.
+fn numbered_path(alloc: Global, path: &str, number: u64) -> Result<String, AllocError> {
+    match path.split_once("{number}") {
+        Some((front, back)) => format!(in alloc; "{front}{number}{back}"),
+        None => String::from_str(alloc, path),
+    }
 }
 
 /// Takes a file or a link away where one is there.

@@ -1,11 +1,13 @@
 //! Whether what a stop may leave is as it has to be.
-use crate::showing::{State, reopen};
-use crate::{fault_in, outcomes, picture};
+use crate::likeness::{is_like, other_text};
+use crate::next::Next;
+use crate::showing::{State, open, state_of};
 use fp_memhost::{Image, MemHost};
-use fpk_case_hosts::Program;
-use fpk_case_remotes::Wares;
-use fpk_case_text::{bytes_text, message};
+use fpk_case_hosts::{Program, image_look, moment_look, outcomes, with_number};
+use fpk_case_remotes::fault_in;
+use fpk_case_text::message;
 use std::alloc::{AllocError, Global};
+use std::collections::{BTreeMap, BTreeSet};
 use std::thread::Threads;
 
 /// After how many lines a moment is, or may be.
@@ -33,32 +35,39 @@ impl Lines {
             last: count.saturating_add(1),
         }
     }
+
+    /// A number for them and the look of a moment.
+    fn look(self, moment: u64) -> u64 {
+        let first = with_number(moment, self.first as u64);
+        with_number(first, self.last as u64)
+    }
 }
 
-/// Judges moments one after another. A moment that looks like the one that was judged last isn't
-/// judged again.
+/// Judges moments one after another. One that looks as an earlier one isn't judged again, nor is an
+/// outcome.
 #[derive(Drop)]
 pub struct Judge<'a> {
     alloc: Global,
-    /// The remotes, with every commit of the case.
-    wares: &'a Wares,
+    /// What is run on each outcome, and the remotes.
+    next: &'a Next<'a>,
     /// What the installation shows after each number of lines.
     states: &'a [State],
-    /// How the last moment looked.
-    seen: String,
-    /// After how many lines it was.
-    lines: Lines,
+    /// How the moments looked that were judged, with their lines.
+    moments: BTreeSet<u64>,
+    /// How the outcomes looked, each with a number of lines after which the installation shows the
+    /// same.
+    outcomes: BTreeMap<u64, usize>,
 }
 
 impl<'a> Judge<'a> {
     /// No moment was judged yet.
-    pub fn new(alloc: Global, wares: &'a Wares, states: &'a [State]) -> Self {
+    pub fn new(alloc: Global, next: &'a Next<'a>, states: &'a [State]) -> Self {
         Judge {
             alloc,
-            wares,
+            next,
             states,
-            seen: String::new(alloc),
-            lines: Lines::exactly(0),
+            moments: BTreeSet::new(alloc),
+            outcomes: BTreeMap::new(alloc),
         }
     }
 
@@ -89,49 +98,61 @@ impl<'a> Judge<'a> {
         calls: u64,
         lines: Lines,
     ) -> Result<Option<String>, AllocError> {
-        let looks = picture(self.alloc, host, calls)?;
-        if self.lines == lines && self.seen == looks {
+        let look = lines.look(moment_look(self.alloc, host, calls)?);
+        if self.moments.contains(&look) {
             return Ok(None);
         }
-        self.seen = looks;
-        self.lines = lines;
+        self.moments.insert(look)?;
         for image in outcomes(self.alloc, host, calls)? {
-            if let Some(text) = self.outcome(program, rt, image)? {
+            if let Some(text) = self.outcome(program, rt, image, lines)? {
                 return Ok(Some(text));
             }
         }
         Ok(None)
     }
 
-    /// Says what isn't as it has to be in an outcome of the present moment.
+    /// Says what isn't as it has to be in an outcome.
     fn outcome<P: Program, R: Threads + Sync>(
-        &self,
+        &mut self,
         program: &P,
         rt: &R,
         image: Image,
+        lines: Lines,
     ) -> Result<Option<String>, AllocError> {
-        if let Some(text) = fault_in(&image, self.wares.commits()) {
+        if let Some(text) = fault_in(&image, self.next.wares.commits()) {
             return message(self.alloc, text);
         }
-        let state = reopen(program, rt, self.alloc, image)?;
-        if self.is_expected(state.as_ref()) {
+        let Some(opened) = open(self.alloc, image)? else {
+            return self.unopened(lines);
+        };
+        let look = image_look(&opened.image);
+        if self.is_expected(self.outcomes.get(&look), lines) {
             return Ok(None);
         }
-        Ok(Some(other_text(self.alloc, self.lines.first, state.as_ref())?))
-    }
-
-    fn is_expected(&self, state: Option<&State>) -> bool {
-        let Lines { first, last } = self.lines;
-        state.is_some() && (state == self.states.get(first) || state == self.states.get(last))
-    }
-}
-
-fn other_text(alloc: Global, lines: usize, state: Option<&State>) -> Result<String, AllocError> {
-    match state {
-        Some(state) => {
-            let shown = bytes_text(alloc, &state.text)?;
-            format!(in alloc; "after {lines} lines this was shown: {shown}")
+        let Some(state) = state_of(program, rt, self.alloc, opened, self.next)? else {
+            return self.unopened(lines);
+        };
+        for count in [lines.first, lines.last] {
+            if is_like(Some(&state), self.states.get(count), self.states) {
+                self.outcomes.insert(look, count)?;
+                return Ok(None);
+            }
         }
-        None => format!(in alloc; "after {lines} lines it can't be opened and changed"),
+        Ok(Some(other_text(self.alloc, lines.first, &state, self.states)?))
+    }
+
+    /// Whether what shows the state after this number of lines shows one of those after these.
+    fn is_expected(&self, count: Option<&usize>, lines: Lines) -> bool {
+        let Some(count) = count else {
+            return false;
+        };
+        let state = self.states.get(*count);
+        is_like(state, self.states.get(lines.first), self.states)
+            || is_like(state, self.states.get(lines.last), self.states)
+    }
+
+    fn unopened(&self, lines: Lines) -> Result<Option<String>, AllocError> {
+        let lines = lines.first;
+        Ok(Some(format!(in self.alloc; "after {lines} lines it can't be opened and changed")?))
     }
 }

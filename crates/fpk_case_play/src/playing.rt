@@ -1,6 +1,7 @@
 //! The steps of a case, one after another.
+use crate::cutting::play_cuts;
 use crate::expecting::expect;
-use fpk_case_hosts::{Ending, Program, Stage};
+use fpk_case_hosts::{Counts, Ending, Program, Stage};
 use fpk_case_remotes::{Wares, with_digits};
 use fpk_case_system::System;
 use fpk_case_text::{Action, Case, Command, Fixture, Step, Wrong, difference, message};
@@ -44,6 +45,7 @@ fn play_step<P: Program, T: Threads + Sync, R: System>(
         | Action::Commit(_)
         | Action::Offer { .. }
         | Action::Break { .. }
+        | Action::Replace { .. }
         | Action::FromHere => Ok(None),
         Action::Run(command) => {
             let expected = with_digits(alloc, wares, step.bytes())?;
@@ -68,7 +70,8 @@ fn play_give<R: System>(
     }
 }
 
-/// Runs a command, first with each call of its input failing where that is asked for.
+/// Runs a command, first with its input cut after each byte, and with each call of its input failing,
+/// where that is asked for.
 fn play_command<P: Program, T: Threads + Sync, R: System>(
     program: &P,
     rt: &T,
@@ -78,6 +81,9 @@ fn play_command<P: Program, T: Threads + Sync, R: System>(
     expected: &[u8],
     wares: &Wares,
 ) -> Result<Option<String>, AllocError> {
+    if let Some(text) = play_cuts(program, rt, alloc, stage, command, expected, wares)? {
+        return Ok(Some(text));
+    }
     let unreached = command.pieces.map(|pieces| pieces.calls);
     for call in 0..unreached.unwrap_or(0) {
         let ran = stage.run(program, rt, command, Some(call), wares)?;
@@ -112,19 +118,28 @@ fn judge(
     if let Some(flaw) = &ran.flaw {
         return message(alloc, flaw.as_str());
     }
-    judge_calls(alloc, command.calls, ran.calls)
+    match ran.counts {
+        Some(counts) => judge_counts(alloc, command, counts),
+        None => Ok(None),
+    }
 }
 
-/// Says where another number of calls was made than is expected.
-fn judge_calls(
+/// Says where the host was asked for another number of calls, files or bytes than is expected.
+fn judge_counts(
     alloc: Global,
-    expected: Option<u64>,
-    came: Option<u64>,
+    command: &Command,
+    counts: Counts,
 ) -> Result<Option<String>, AllocError> {
-    match (expected, came) {
-        (Some(want), Some(made)) if want != made => Ok(Some(format!(in alloc;
-            "expected {want} calls of the host, but {made} were made"
-        )?)),
-        _ => Ok(None),
+    let rows = [
+        ("calls of the host", command.calls, counts.calls),
+        ("files that are made", command.makes, counts.files),
+        ("bytes that are appended", command.appends, counts.bytes),
+    ];
+    for (what, expected, came) in &rows {
+        if expected.is_some_and(|expected| expected != *came) {
+            let expected = expected.unwrap_or(0);
+            return Ok(Some(format!(in alloc; "expected {expected} {what}, but {came} came")?));
+        }
     }
+    Ok(None)
 }

@@ -1,23 +1,23 @@
 //! The commands of a case over a host in memory, with a call that fails.
-use crate::present_image;
 use fp_memhost::MemHost;
-use fpk_case_hosts::{Program, give, run_in_memory, unless_fault};
+use fpk_case_hosts::{Program, RemoteCalls, give, present_image, run_in_memory, unless_fault};
 use fpk_case_remotes::Wares;
 use fpk_case_text::{Action, Case, Failing, Failure};
 use std::alloc::{AllocError, Global};
 use std::ops::Range;
 use std::thread::Threads;
 
-/// What fails while the commands of a case run.
+/// What goes wrong while the commands of a case run.
 #[derive(Clone, Copy)]
 pub enum Trouble {
-    /// No call fails.
     Nothing,
-    /// A call of the host, counted from 0 where the stops begin.
+    /// A call of the host fails, counted from 0 where the stops begin.
     Host(Failure),
-    /// A call of the remotes, counted from 0 at the command with this number, which is counted from
-    /// 0 at the first one of the case.
+    /// A call of the remotes fails, counted from 0 at the command with this number, which is counted
+    /// from 0 at the first one of the case.
     Remotes { command: usize, call: u64 },
+    /// A read of the remotes gives another first byte, counted so too, of those that give any.
+    Turned { command: usize, read: u64 },
 }
 
 /// Where the stops of a case begin: at its line `from here`, or at its first command.
@@ -39,6 +39,8 @@ pub struct Replay {
     pub host: MemHost,
     /// The status that is another.
     pub other_status: Option<u8>,
+    /// How many calls of the remotes each command made, from the start on.
+    pub remote_calls: Vec<RemoteCalls>,
 }
 
 impl Replay {
@@ -66,7 +68,7 @@ pub fn start_of<'a, P: Program, R: Threads + Sync>(
         .unwrap_or(0);
     let mut host = MemHost::new(alloc)?;
     give_all(alloc, &mut host, case)?;
-    let _other = run_steps(program, rt, alloc, &mut host, case, 0..at, Trouble::Nothing)?;
+    let _ran = run_steps(program, rt, alloc, &mut host, case, 0..at, Trouble::Nothing)?;
     Ok(Start { case, at, host })
 }
 
@@ -96,8 +98,16 @@ impl Start<'_> {
             host.fail_calls(&[(call, is_done)])?;
         }
         let steps = self.at..self.case.steps.len();
-        let other_status = run_steps(program, rt, alloc, &mut host, self.case, steps, trouble)?;
-        Ok(Replay { host, other_status })
+        let ran = run_steps(program, rt, alloc, &mut host, self.case, steps, trouble)?;
+        let StepsRun {
+            other_status,
+            remote_calls,
+        } = ran;
+        Ok(Replay {
+            host,
+            other_status,
+            remote_calls,
+        })
     }
 
     /// A host on which all was done that comes before.
@@ -125,8 +135,16 @@ fn give_all(alloc: Global, host: &mut MemHost, case: &Case) -> Result<(), AllocE
     Ok(())
 }
 
-/// Runs the commands of these steps, and answers the first status that is another than the case
-/// says.
+/// How the commands of some steps ran, up to the first whose status is another than the case says.
+#[derive(Drop)]
+struct StepsRun {
+    /// That status.
+    other_status: Option<u8>,
+    /// How many calls of the remotes each command made.
+    remote_calls: Vec<RemoteCalls>,
+}
+
+/// Runs the commands of these steps.
 fn run_steps<P: Program, R: Threads + Sync>(
     program: &P,
     rt: &R,
@@ -135,9 +153,10 @@ fn run_steps<P: Program, R: Threads + Sync>(
     case: &Case,
     steps: Range<usize>,
     trouble: Trouble,
-) -> Result<Option<u8>, AllocError> {
+) -> Result<StepsRun, AllocError> {
     let mut wares = Wares::new(alloc);
     let mut number: usize = 0;
+    let mut remote_calls = Vec::new(alloc);
     for (at, step) in case.steps.iter().enumerate() {
         wares.take_next(rt, &case.steps, at)?;
         let Action::Run(command) = &step.action else {
@@ -148,23 +167,30 @@ fn run_steps<P: Program, R: Threads + Sync>(
         if at < steps.start || at >= steps.end {
             continue;
         }
-        let status = run_in_memory(program, rt, alloc, host, command, failing, &wares)?;
-        if status != command.status {
-            return Ok(Some(status));
+        let ran = run_in_memory(program, rt, alloc, host, command, failing, &wares)?;
+        remote_calls.push(ran.remote_calls)?;
+        if ran.status != command.status {
+            return Ok(StepsRun {
+                other_status: Some(ran.status),
+                remote_calls,
+            });
         }
     }
-    Ok(None)
+    Ok(StepsRun {
+        other_status: None,
+        remote_calls,
+    })
 }
 
-/// What fails at the command with this number.
+/// What goes wrong at the command with this number.
 fn failing_at(trouble: Trouble, number: usize) -> Failing {
+    let mut failing = Failing::none();
     match trouble {
-        Trouble::Remotes { command, call } if command == number => Failing {
-            input: None,
-            remotes: Some(call),
-        },
-        _ => Failing::none(),
+        Trouble::Remotes { command, call } if command == number => failing.remotes = Some(call),
+        Trouble::Turned { command, read } if command == number => failing.turned = Some(read),
+        _ => {}
     }
+    failing
 }
 
 /// The remotes of a case after all its steps.

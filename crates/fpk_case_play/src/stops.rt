@@ -1,11 +1,12 @@
 //! A case with a stop, and with a failure, at each call of the host.
 use crate::judge::{Judge, Lines};
+use crate::likeness::is_like;
+use crate::next::Next;
 use crate::remote_faults::fail_remotes;
 use crate::replay::{Replay, Start, Trouble, start_of, wares_of};
 use crate::showing::{State, reopen};
-use crate::{last_open, oldest_image, open_names, present_image};
 use fp_memhost::{Image, MemHost};
-use fpk_case_hosts::Program;
+use fpk_case_hosts::{Program, last_open, oldest_image, open_names, present_image};
 use fpk_case_remotes::{Wares, with_digits};
 use fpk_case_text::{Case, Failure, ShownText, Stops, Wrong, difference, message};
 use std::alloc::{AllocError, Global};
@@ -38,12 +39,13 @@ pub fn play_stops<P: Program, R: Threads + Sync>(
     stops: &Stops,
 ) -> Result<Option<Wrong>, AllocError> {
     let start = start_of(program, rt, alloc, case)?;
-    let course = course_of(program, rt, alloc, &start)?;
     let wares = wares_of(rt, alloc, case)?;
+    let next = Next::new(alloc, stops, &wares)?;
+    let course = course_of(program, rt, alloc, &start, &next)?;
     if let Some(wrong) = judge_shown(alloc, &wares, &stops.shown, &course.states)? {
         return Ok(Some(wrong));
     }
-    let text = judge_course(program, rt, alloc, &start, stops, &course, &wares)?;
+    let text = judge_course(program, rt, alloc, &start, stops, &course, &next)?;
     match text {
         Some(text) => Ok(Some(wrong_at(stops, text))),
         None => Ok(None),
@@ -58,20 +60,20 @@ fn judge_course<P: Program, R: Threads + Sync>(
     start: &Start<'_>,
     stops: &Stops,
     course: &Course,
-    wares: &Wares,
+    next: &Next<'_>,
 ) -> Result<Option<String>, AllocError> {
     let host = &course.plain.host;
-    if let Some(text) = judge_open(program, rt, alloc, host, &stops.open, &course.states)? {
+    if let Some(text) = judge_open(program, rt, alloc, course, &stops.open, next)? {
         return Ok(Some(text));
     }
-    let mut judge = Judge::new(alloc, wares, &course.states);
+    let mut judge = Judge::new(alloc, next, &course.states);
     if let Some(text) = stop_everywhere(program, rt, alloc, course, &mut judge)? {
         return Ok(Some(text));
     }
     if let Some(text) = fail_everywhere(program, rt, alloc, start, host.calls(), &mut judge)? {
         return Ok(Some(text));
     }
-    fail_remotes(program, rt, alloc, start, &mut judge)
+    fail_remotes(program, rt, alloc, start, &course.plain, &mut judge)
 }
 
 fn wrong_at(stops: &Stops, text: String) -> Wrong {
@@ -85,22 +87,18 @@ fn course_of<P: Program, R: Threads + Sync>(
     rt: &R,
     alloc: Global,
     start: &Start<'_>,
+    next: &Next<'_>,
 ) -> Result<Course, AllocError> {
     let plain = start.replay(program, rt, alloc, Trouble::Nothing)?;
     let mut printed_at = Vec::new(alloc);
     let mut states = Vec::new(alloc);
-    add_state(
-        program,
-        rt,
-        alloc,
-        &mut states,
-        present_image(alloc, &plain.host, 0)?,
-    )?;
+    let image = present_image(alloc, &plain.host, 0)?;
+    add_state(program, rt, alloc, &mut states, image, next)?;
     for line in 1..=plain.lines() {
         let call = call_after(program, rt, alloc, start, &plain, line)?;
         printed_at.push(call)?;
         let image = present_image(alloc, &plain.host, call)?;
-        add_state(program, rt, alloc, &mut states, image)?;
+        add_state(program, rt, alloc, &mut states, image, next)?;
     }
     Ok(Course {
         plain,
@@ -160,9 +158,10 @@ fn add_state<P: Program, R: Threads + Sync>(
     alloc: Global,
     states: &mut Vec<State>,
     image: Option<Image>,
+    next: &Next<'_>,
 ) -> Result<(), AllocError> {
     if let Some(image) = image {
-        if let Some(state) = reopen(program, rt, alloc, image)? {
+        if let Some(state) = reopen(program, rt, alloc, image, next)? {
             states.push(state)?;
         }
     }
@@ -178,9 +177,10 @@ fn judge_shown(
 ) -> Result<Option<Wrong>, AllocError> {
     for (shown, state) in expected.iter().zip(states) {
         let text = with_digits(alloc, wares, &shown.text)?;
-        if text.as_slice() != state.text.as_slice() {
+        let lists = &state.shown.lists;
+        if text.as_slice() != lists.as_slice() {
             let line = shown.line;
-            let text = difference(alloc, "shown", &text, &state.text)?;
+            let text = difference(alloc, "shown", &text, lists)?;
             return Ok(Some(Wrong { line, text }));
         }
     }
@@ -201,20 +201,21 @@ fn judge_open<P: Program, R: Threads + Sync>(
     program: &P,
     rt: &R,
     alloc: Global,
-    host: &MemHost,
+    course: &Course,
     expected: &[u8],
-    states: &[State],
+    next: &Next<'_>,
 ) -> Result<Option<String>, AllocError> {
     if expected.is_empty() {
         return Ok(None);
     }
+    let host = &course.plain.host;
     let calls = last_open(host)?;
     let names = open_names(alloc, host, calls)?;
     if names.as_bytes() != expected {
         let text = difference(alloc, "may come back", expected, names.as_bytes())?;
         return Ok(Some(text));
     }
-    judge_last(program, rt, alloc, host, calls, states)
+    judge_last(program, rt, alloc, course, calls, next)
 }
 
 /// Says where all names at their oldest entries don't show the state before the last line, or the
@@ -223,31 +224,29 @@ fn judge_last<P: Program, R: Threads + Sync>(
     program: &P,
     rt: &R,
     alloc: Global,
-    host: &MemHost,
+    course: &Course,
     calls: u64,
-    states: &[State],
+    next: &Next<'_>,
 ) -> Result<Option<String>, AllocError> {
-    let lines = states.len().saturating_sub(1);
-    let before = states.get(lines.saturating_sub(1));
+    let lines = course.states.len().saturating_sub(1);
+    let host = &course.plain.host;
+    let image = oldest_image(alloc, host, calls)?;
     if !shows(
         program,
         rt,
         alloc,
-        oldest_image(alloc, host, calls)?,
-        before,
+        image,
+        course,
+        lines.saturating_sub(1),
+        next,
     )? {
         return message(
             alloc,
             "the oldest entries don't show the state before the last line",
         );
     }
-    if !shows(
-        program,
-        rt,
-        alloc,
-        present_image(alloc, host, calls)?,
-        states.last(),
-    )? {
+    let image = present_image(alloc, host, calls)?;
+    if !shows(program, rt, alloc, image, course, lines, next)? {
         return message(
             alloc,
             "the present entries don't show the state after the last line",
@@ -256,21 +255,21 @@ fn judge_last<P: Program, R: Threads + Sync>(
     Ok(None)
 }
 
-/// Whether an image shows this state.
+/// Whether an image shows the state after this number of lines.
 fn shows<P: Program, R: Threads + Sync>(
     program: &P,
     rt: &R,
     alloc: Global,
     image: Option<Image>,
-    state: Option<&State>,
+    course: &Course,
+    lines: usize,
+    next: &Next<'_>,
 ) -> Result<bool, AllocError> {
     let Some(image) = image else {
         return Ok(false);
     };
-    match reopen(program, rt, alloc, image)? {
-        Some(shown) => Ok(state == Some(&shown)),
-        None => Ok(false),
-    }
+    let state = reopen(program, rt, alloc, image, next)?;
+    Ok(is_like(state.as_ref(), course.states.get(lines), &course.states))
 }
 
 /// Stops the case before each call and at its end.

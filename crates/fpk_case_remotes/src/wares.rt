@@ -119,6 +119,7 @@ impl Wares {
             Action::BeginRemote { url } => self.begin(url),
             Action::Offer { name, label } => self.offer(name, label),
             Action::Break { object, harm } => self.harm(object, *harm),
+            Action::Replace { object, other } => self.replace(object, other),
             Action::Give(given) => self.give(given, step.bytes()),
             _ => Ok(None),
         }
@@ -267,6 +268,22 @@ impl Wares {
             }
             None => message(alloc, "this object can't be broken so"),
         }
+    }
+
+    /// Puts another object in the place of an object of the present remote.
+    fn replace(
+        &mut self,
+        words: &ObjectWords,
+        other: &ObjectWords,
+    ) -> Result<Option<String>, AllocError> {
+        let alloc = self.alloc;
+        let (Some(object), Some(other)) = (self.object(words), self.object(other)) else {
+            return message(alloc, "there is no such object");
+        };
+        let path = path_of(alloc, &Path::root(alloc), &object.digest, object.kind)?;
+        let ware = object_ware(alloc, &other.object)?;
+        self.put(path.text(), ware)?;
+        Ok(None)
     }
 
     /// The digits that stand for a name in braces; none where it names nothing.

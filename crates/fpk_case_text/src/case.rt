@@ -45,13 +45,26 @@ pub enum Action {
     /// Something is put somewhere.
     Give(Fixture),
     /// What follows is about the remote at this url.
-    BeginRemote { url: String },
+    BeginRemote {
+        url: String,
+    },
     /// A commit of the remote, which offers it. What it has follows.
     Commit(CommitLine),
     /// The remote offers the commit that is called so under the ref.
-    Offer { name: String, label: String },
+    Offer {
+        name: String,
+        label: String,
+    },
     /// An object of the remote is broken.
-    Break { object: ObjectWords, harm: Harm },
+    Break {
+        object: ObjectWords,
+        harm: Harm,
+    },
+    /// Another object stands in the place of an object of the remote.
+    Replace {
+        object: ObjectWords,
+        other: ObjectWords,
+    },
     /// A command is run.
     Run(Command),
     /// What was done so far is on the disk: stops and failures are tried from here on.
@@ -155,6 +168,9 @@ pub struct Fixture {
     pub path: String,
     /// What it is. The content of a file is that of its step.
     pub kind: FixtureKind,
+    /// How often it is put there, each time with the next number from 0 in the place of `{number}`
+    /// in its path.
+    pub times: u64,
 }
 
 /// What is put there.
@@ -185,6 +201,29 @@ pub struct Command {
     pub failure: Option<Failure>,
     /// How many calls of the host it makes, where that matters.
     pub calls: Option<u64>,
+    /// How many files it makes, where that matters.
+    pub makes: Option<u64>,
+    /// How many bytes it appends to files, where that matters.
+    pub appends: Option<u64>,
+    /// Whether it is run with its input cut after each byte first.
+    pub has_cuts: bool,
+}
+
+impl Command {
+    /// A command of these words with this input, of which nothing else is said.
+    pub fn new(words: Vec<String>, input: Vec<u8>) -> Self {
+        Command {
+            words,
+            input,
+            pieces: None,
+            status: 0,
+            failure: None,
+            calls: None,
+            makes: None,
+            appends: None,
+            has_cuts: false,
+        }
+    }
 }
 
 /// An input that comes in pieces of one size, by at most this number of calls: each takes some of
@@ -206,21 +245,24 @@ pub struct Failure {
     pub is_done: bool,
 }
 
-/// The calls that fail while a command runs, each counted from 0.
+/// What goes wrong while a command runs, each counted from 0.
 #[derive(Clone, Copy)]
 pub struct Failing {
-    /// That of its input.
+    /// The call of its input that fails.
     pub input: Option<u64>,
-    /// That of the remotes.
+    /// The call of the remotes that fails.
     pub remotes: Option<u64>,
+    /// The read of the remotes that gives another first byte, of those that give any.
+    pub turned: Option<u64>,
 }
 
 impl Failing {
-    /// None fails.
+    /// Nothing goes wrong.
     pub fn none() -> Self {
         Failing {
             input: None,
             remotes: None,
+            turned: None,
         }
     }
 }
@@ -233,6 +275,8 @@ pub struct Stops {
     /// The names at which a stop may bring back something at the last moment where it may, each
     /// with how many entries. Not tried where it is empty.
     pub open: Vec<u8>,
+    /// The words of the command that has to work on whatever a stop left, where the case says them.
+    pub next: Option<Vec<String>>,
     /// What the installation shows at first and after each line that is printed. Not tried where
     /// there is none.
     pub shown: Vec<ShownText>,

@@ -14,7 +14,9 @@ pub enum CaseError {
     NoStep,
     /// A line about a command has none above it.
     NoCommand,
-    /// A line `shown` has no line `stops` above it.
+    /// A line about what is given has nothing given above it.
+    NoFixture,
+    /// A line about stops has no line `stops` above it.
     NoStops,
     /// A word is no number, or too great.
     NoNumber,
@@ -28,9 +30,11 @@ pub enum CaseError {
     NoObject,
     /// The words name no way to break an object.
     NoHarm,
+    /// The words name no object in the place of another.
+    NoReplacement,
     /// A line about a remote has none above it.
     NoRemote,
-    /// A hard link is given to a remote or a commit.
+    /// A hard link, or more than one thing, is given to a remote or a commit.
     NotInstallation,
     /// There was no memory.
     NoMemory,
@@ -44,7 +48,8 @@ impl CaseError {
             CaseError::NoCase => "a line `case NAME` comes first",
             CaseError::NoStep => "an indented line belongs to a line above it, which is missing",
             CaseError::NoCommand => "this line belongs to a command, and none is above it",
-            CaseError::NoStops => "`shown` belongs to a line `stops`, and none is above it",
+            CaseError::NoFixture => "this line belongs to what is given, and nothing is above it",
+            CaseError::NoStops => "this line belongs to a line `stops`, and none is above it",
             CaseError::NoNumber => "a number is expected",
             CaseError::NoMode => "after the path come permission bits in octal digits, or nothing",
             CaseError::NoHex => "an even number of hexadecimal digits is expected",
@@ -55,8 +60,9 @@ impl CaseError {
             CaseError::NoHarm => {
                 "the last word is absent, folder, cut, longer, turned, or permission bits"
             }
+            CaseError::NoReplacement => "two objects are expected, and `by` between them",
             CaseError::NoRemote => "this line belongs to a remote, and none is above it",
-            CaseError::NotInstallation => "a hard link is given to the installation alone",
+            CaseError::NotInstallation => "this is given to the installation alone",
             CaseError::NoMemory => "out of memory",
         }
     }

@@ -67,28 +67,19 @@ impl Parser {
             Sign::Content => self.take_content(line.text),
             Sign::Stops => self.begin_stops(),
             Sign::ShownText => self.begin_shown(),
-            Sign::Fixture(_)
-            | Sign::Folder
-            | Sign::Link
-            | Sign::HardLink
-            | Sign::Remote
-            | Sign::Commit
-            | Sign::Offer
-            | Sign::Break
-            | Sign::Command
-            | Sign::FromHere
-            | Sign::File(_)
-            | Sign::FoundFolder
-            | Sign::FoundLink
-            | Sign::FoundHardLink
-            | Sign::Absent => self.begin_step(line),
+            Sign::Next => self.take_next(line.text),
             Sign::Input(_)
             | Sign::Zeros
             | Sign::Pieces
             | Sign::Status
             | Sign::FailureUndone
             | Sign::FailureDone
-            | Sign::Calls => self.take_of_command(line),
+            | Sign::Calls
+            | Sign::Makes
+            | Sign::Appends
+            | Sign::Cuts => self.take_of_command(line),
+            Sign::Times | Sign::Fill => self.take_of_fixture(line),
+            _ => self.begin_step(line),
         }
     }
 
@@ -125,6 +116,7 @@ impl Parser {
         let stops = Stops {
             line: self.line,
             open: Vec::new(self.alloc),
+            next: None,
             shown: Vec::new(self.alloc),
         };
         let Some(case) = self.cases.last_mut() else {
@@ -146,6 +138,19 @@ impl Parser {
             return Err(CaseError::NoStops);
         };
         stops.shown.push(shown)?;
+        Ok(())
+    }
+
+    /// The command that is run on whatever a stop left.
+    fn take_next(&mut self, text: &str) -> Result<(), CaseError> {
+        let words = cut_words(self.alloc, text)?;
+        let Some(case) = self.cases.last_mut() else {
+            return Err(CaseError::NoCase);
+        };
+        let Some(stops) = &mut case.stops else {
+            return Err(CaseError::NoStops);
+        };
+        stops.next = Some(words);
         Ok(())
     }
 
@@ -175,11 +180,33 @@ impl Parser {
         };
         tell(alloc, command, line)
     }
+
+    /// A line about what is given above.
+    fn take_of_fixture(&mut self, line: Line<'_>) -> Result<(), CaseError> {
+        let Some(case) = self.cases.last_mut() else {
+            return Err(CaseError::NoCase);
+        };
+        let Some(step) = case.steps.last_mut() else {
+            return Err(CaseError::NoFixture);
+        };
+        let Action::Give(given) = &mut step.action else {
+            return Err(CaseError::NoFixture);
+        };
+        match line.sign {
+            Sign::Times if given.owner.is_installation() => given.times = number(line.text)?,
+            Sign::Fill => fill(&mut step.content, line.text)?,
+            _ => return Err(CaseError::NotInstallation),
+        }
+        Ok(())
+    }
 }
 
 /// Whether a line of this kind is about a remote that was named above it.
 fn needs_remote(sign: Sign) -> bool {
-    matches!(sign, Sign::Commit | Sign::Offer | Sign::Break)
+    matches!(
+        sign,
+        Sign::Commit | Sign::Offer | Sign::Break | Sign::Replace
+    )
 }
 
 fn has_remote(steps: &[Step]) -> bool {
@@ -226,6 +253,18 @@ fn take_of_steps(alloc: Global, steps: &mut Vec<Step>, text: &str) -> Result<(),
     }
 }
 
+/// Lets the last line of a content go on with a text, as often as is said before it.
+fn fill(content: &mut Vec<u8>, text: &str) -> Result<(), CaseError> {
+    let (count, text) = word_and_rest(text)?;
+    let count = size(count)?;
+    let _newline = content.pop();
+    for _ in 0..count {
+        content.extend_from_slice(text.as_bytes())?;
+    }
+    content.push(b'\n')?;
+    Ok(())
+}
+
 /// What a step does or expects.
 fn action_of(alloc: Global, line: Line<'_>, owner: Owner) -> Result<Action, CaseError> {
     match line.sign {
@@ -237,6 +276,7 @@ fn action_of(alloc: Global, line: Line<'_>, owner: Owner) -> Result<Action, Case
         Sign::Commit => commit_action(alloc, line.text),
         Sign::Offer => offer_action(alloc, line.text),
         Sign::Break => break_action(alloc, line.text),
+        Sign::Replace => replace_action(alloc, line.text),
         Sign::Command => run_action(alloc, line.text),
         Sign::FromHere => Ok(Action::FromHere),
         Sign::File(_) => expect_file_action(alloc, line.text),
@@ -255,7 +295,12 @@ fn give_action(
     owner: Owner,
 ) -> Result<Action, CaseError> {
     let path = String::from_str(alloc, path)?;
-    Ok(Action::Give(Fixture { owner, path, kind }))
+    Ok(Action::Give(Fixture {
+        owner,
+        path,
+        kind,
+        times: 1,
+    }))
 }
 
 fn give_file_action(alloc: Global, text: &str, owner: Owner) -> Result<Action, CaseError> {
@@ -298,6 +343,18 @@ fn break_action(alloc: Global, text: &str) -> Result<Action, CaseError> {
     }
 }
 
+fn replace_action(alloc: Global, text: &str) -> Result<Action, CaseError> {
+    let Some((object, other)) = text.split_once(" by ") else {
+        return Err(CaseError::NoReplacement);
+    };
+    let (object, other) = (name_of(alloc, object)?, name_of(alloc, other)?);
+    if object.harm.is_some() || other.harm.is_some() {
+        return Err(CaseError::NoReplacement);
+    }
+    let (object, other) = (object.object, other.object);
+    Ok(Action::Replace { object, other })
+}
+
 /// A hard link, which neither a remote nor a commit has.
 fn give_hard_link_action(alloc: Global, text: &str, owner: Owner) -> Result<Action, CaseError> {
     if !owner.is_installation() {
@@ -331,14 +388,8 @@ fn expect_action(alloc: Global, path: &str, what: What) -> Result<Action, CaseEr
 }
 
 fn run_action(alloc: Global, text: &str) -> Result<Action, CaseError> {
-    Ok(Action::Run(Command {
-        words: cut_words(alloc, text)?,
-        input: Vec::new(alloc),
-        pieces: None,
-        status: 0,
-        failure: None,
-        calls: None,
-    }))
+    let words = cut_words(alloc, text)?;
+    Ok(Action::Run(Command::new(words, Vec::new(alloc))))
 }
 
 /// Tells of a command what a line says.
@@ -366,6 +417,9 @@ fn tell_more(command: &mut Command, line: Line<'_>) -> Result<(), CaseError> {
         Sign::FailureUndone => command.failure = Some(failure_of(line.text, false)?),
         Sign::FailureDone => command.failure = Some(failure_of(line.text, true)?),
         Sign::Calls => command.calls = Some(number(line.text)?),
+        Sign::Makes => command.makes = Some(number(line.text)?),
+        Sign::Appends => command.appends = Some(number(line.text)?),
+        Sign::Cuts => command.has_cuts = true,
         _ => return Err(CaseError::NoKind),
     }
     Ok(())

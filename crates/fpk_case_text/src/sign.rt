@@ -24,6 +24,10 @@ pub enum Sign {
     Link,
     /// `& PATH FILE`: the path is a hard link of the file.
     HardLink,
+    /// `times NUMBER`: what is given stands at so many paths, with a number in each.
+    Times,
+    /// `fill NUMBER TEXT`: the last line of the file's content goes on with so many of these texts.
+    Fill,
     /// `remote URL`: what follows is about the remote at this url.
     Remote,
     /// `commit LABEL REF TIME`: a commit of the remote, with what follows, which it offers under
@@ -33,6 +37,8 @@ pub enum Sign {
     Offer,
     /// `break LABEL KIND HOW`, `break LABEL file PATH HOW`: an object of the remote is broken.
     Break,
+    /// `replace NAME by OTHER`: another object stands in the place of an object of the remote.
+    Replace,
     /// `$ WORDS`: a command, and the lines that it prints.
     Command,
     /// `< LINE`: a line of its input.
@@ -50,6 +56,12 @@ pub enum Sign {
     FailureDone,
     /// `calls NUMBER`: this number of calls of the host are made.
     Calls,
+    /// `makes NUMBER`: this number of files are made.
+    Makes,
+    /// `appends NUMBER`: this number of bytes are appended to files.
+    Appends,
+    /// `cuts`: the command is run with its input cut after each byte first.
+    Cuts,
     /// `= PATH`: a file that stands there now, with just the content that follows.
     File(Form),
     /// `=/ PATH`: a folder that stands there now.
@@ -64,6 +76,8 @@ pub enum Sign {
     FromHere,
     /// `stops`: the case again from its start, with a stop or a failure at each call of the host.
     Stops,
+    /// `next WORDS`: the command that is run on whatever a stop left.
+    Next,
     /// `shown`: what the installation shows before the first line that was printed, or after the
     /// next one.
     ShownText,
@@ -85,7 +99,7 @@ pub struct Line<'a> {
 }
 
 /// The signs that a text follows.
-const BEFORE_TEXT: [(&str, Sign); 30] = [
+const BEFORE_TEXT: [(&str, Sign); 36] = [
     ("  ", Sign::Content),
     ("#", Sign::Blank),
     ("case ", Sign::Case),
@@ -95,10 +109,13 @@ const BEFORE_TEXT: [(&str, Sign); 30] = [
     ("/ ", Sign::Folder),
     ("@ ", Sign::Link),
     ("& ", Sign::HardLink),
+    ("times ", Sign::Times),
+    ("fill ", Sign::Fill),
     ("remote ", Sign::Remote),
     ("commit ", Sign::Commit),
     ("offer ", Sign::Offer),
     ("break ", Sign::Break),
+    ("replace ", Sign::Replace),
     ("$ ", Sign::Command),
     ("< ", Sign::Input(Form::Lines)),
     ("<- ", Sign::Input(Form::Open)),
@@ -109,6 +126,9 @@ const BEFORE_TEXT: [(&str, Sign); 30] = [
     ("! ", Sign::FailureUndone),
     ("!+ ", Sign::FailureDone),
     ("calls ", Sign::Calls),
+    ("makes ", Sign::Makes),
+    ("appends ", Sign::Appends),
+    ("next ", Sign::Next),
     ("= ", Sign::File(Form::Lines)),
     ("=- ", Sign::File(Form::Open)),
     ("=x ", Sign::File(Form::Hex)),
@@ -119,10 +139,11 @@ const BEFORE_TEXT: [(&str, Sign); 30] = [
 ];
 
 /// The signs that stand alone.
-const ALONE: [(&str, Sign); 6] = [
+const ALONE: [(&str, Sign); 7] = [
     ("", Sign::Blank),
     ("$", Sign::Command),
     ("<", Sign::Input(Form::Lines)),
+    ("cuts", Sign::Cuts),
     ("from here", Sign::FromHere),
     ("stops", Sign::Stops),
     ("shown", Sign::ShownText),

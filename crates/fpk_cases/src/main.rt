@@ -4,14 +4,12 @@
 
 use fl_top::run;
 use fp_host::{Host, Remotes, Source};
-use fpk_case_hosts::{Program, is_for_folder};
-use fpk_case_play::{play_in_folder, play_in_memory, play_stops};
-use fpk_case_system::System;
-use fpk_case_text::{Case, CaseError, Parser, Wrong};
+use fpk_case_hosts::Program;
+use fpk_case_play::run_files;
 use std::alloc::Global;
+use std::io;
 use std::process::ExitCode;
 use std::thread::Threads;
-use std::{env, fs, io};
 
 /// fpk, whose cases are played.
 #[derive(Clone, Copy)]
@@ -33,134 +31,6 @@ impl Program for Fpk {
 
 /// The arguments are names of files of cases.
 fn main(rt: HostRuntime) -> io::Result<ExitCode> {
-    let names = names_of(&rt, rt.alloc())?;
-    let status = try_files(&rt, rt.alloc(), &names)?;
+    let status = run_files(&Fpk, &rt, rt.alloc())?;
     Ok(ExitCode::from(status))
-}
-
-/// Tries the files of these names, and answers the status: 0 where all is as the cases say.
-fn try_files<R: System>(rt: &R, alloc: Global, names: &[String]) -> io::Result<u8> {
-    let mut wrong = say_others(rt, names)?;
-    for name in names {
-        wrong = wrong.saturating_add(try_file(rt, alloc, name.as_str())?);
-    }
-    if names.is_empty() {
-        println!(rt; "the arguments name files of cases")?;
-        return Ok(2);
-    }
-    say_end(rt, wrong)
-}
-
-/// Says whether something was wrong, and answers the status.
-fn say_end<R: System>(rt: &R, wrong: u64) -> io::Result<u8> {
-    if wrong > 0 {
-        println!(rt; "{wrong} wrong")?;
-        return Ok(1);
-    }
-    println!(rt; "all cases passed")?;
-    Ok(0)
-}
-
-/// The arguments.
-fn names_of<R: System>(rt: &R, alloc: Global) -> io::Result<Vec<String>> {
-    let mut names = Vec::new(alloc);
-    let mut args = env::args(rt)?;
-    let _program = args.next();
-    for name in args {
-        names.push(name)?;
-    }
-    Ok(names)
-}
-
-/// Says which files of cases in the current folder aren't named, and answers how many.
-fn say_others<R: System>(rt: &R, names: &[String]) -> io::Result<u64> {
-    let mut count = 0u64;
-    for entry in fs::read_dir(rt, ".")? {
-        let entry = entry?;
-        count = count.saturating_add(judge_name(rt, names, entry.file_name())?);
-    }
-    Ok(count)
-}
-
-/// Says where a file of cases isn't named, and answers 1 there.
-fn judge_name<R: System>(rt: &R, names: &[String], name: &str) -> io::Result<u64> {
-    if !name.ends_with(".case") || names.iter().any(|named| named.as_str() == name) {
-        return Ok(0);
-    }
-    println!(rt; "{name}: the arguments don't name it")?;
-    Ok(1)
-}
-
-/// Tries the cases of a file, prints what isn't as they say, and answers how much that is.
-fn try_file<R: System>(rt: &R, alloc: Global, name: &str) -> io::Result<u64> {
-    match fs::read_to_string(rt, name) {
-        Ok(text) => try_text(rt, alloc, name, text.as_str()),
-        Err(error) => {
-            println!(rt; "{name}: {error}")?;
-            Ok(1)
-        }
-    }
-}
-
-/// Tries the cases of a text.
-fn try_text<R: System>(rt: &R, alloc: Global, name: &str, text: &str) -> io::Result<u64> {
-    let mut parser = Parser::new(alloc);
-    match parser.take_all(text) {
-        Ok(()) => try_cases(rt, alloc, name, &parser.into_cases()),
-        Err(fault) => say_fault(rt, name, parser.line(), fault),
-    }
-}
-
-/// Says which line can't be read.
-fn say_fault<R: System>(rt: &R, name: &str, line: u64, fault: CaseError) -> io::Result<u64> {
-    let text = fault.text();
-    println!(rt; "{name}:{line}: {text}")?;
-    Ok(1)
-}
-
-fn try_cases<R: System>(rt: &R, alloc: Global, name: &str, cases: &[Case]) -> io::Result<u64> {
-    let mut count = 0u64;
-    for case in cases {
-        count = count.saturating_add(try_case(rt, alloc, name, case)?);
-    }
-    Ok(count)
-}
-
-/// Tries a case each way, prints what isn't as it says, and answers how much that is.
-fn try_case<R: System>(rt: &R, alloc: Global, name: &str, case: &Case) -> io::Result<u64> {
-    if let Some(wrong) = play_in_memory(&Fpk, rt, alloc, case)? {
-        return say(rt, name, case, "in memory", &wrong);
-    }
-    if let Some(wrong) = in_folder(rt, alloc, case)? {
-        return say(rt, name, case, "in a folder", &wrong);
-    }
-    if let Some(wrong) = with_stops(rt, alloc, case)? {
-        return say(rt, name, case, "with stops", &wrong);
-    }
-    Ok(0)
-}
-
-/// Plays a case over a folder where it can be.
-fn in_folder<R: System>(rt: &R, alloc: Global, case: &Case) -> io::Result<Option<Wrong>> {
-    match is_for_folder(case) {
-        true => play_in_folder(&Fpk, rt, alloc, case),
-        false => Ok(None),
-    }
-}
-
-/// Plays a case with a stop at each call where it asks for it.
-fn with_stops<R: System>(rt: &R, alloc: Global, case: &Case) -> io::Result<Option<Wrong>> {
-    match &case.stops {
-        Some(stops) => Ok(play_stops(&Fpk, rt, alloc, case, stops)?),
-        None => Ok(None),
-    }
-}
-
-/// Prints what isn't as a case says.
-fn say<R: System>(rt: &R, name: &str, case: &Case, place: &str, wrong: &Wrong) -> io::Result<u64> {
-    let line = wrong.line;
-    let title = case.name.as_str();
-    let text = wrong.text.as_str();
-    println!(rt; "{name}:{line}: {title}, {place}: {text}")?;
-    Ok(1)
 }

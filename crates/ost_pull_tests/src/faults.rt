@@ -6,7 +6,7 @@ use fp_base::ObjKind;
 use fp_host::{Entry, Path, is_link_text};
 use fp_memhost::{FileRow, Image, MemHost};
 use fp_name::Digest;
-use fpk_case_play::outcomes;
+use fpk_case_hosts::outcomes;
 use ost_commit::Built;
 use ost_content::{file_digest, is_permission, link_digest, meta_digest};
 use ost_store::object_named;

@@ -37,10 +37,22 @@ pub fn oldest_image(
     host: &MemHost,
     calls: u64,
 ) -> Result<Option<Image>, AllocError> {
+    let choices = host.choices(calls)?;
+    layer_image(alloc, host, calls, choices.as_slice(), 1)
+}
+
+/// Every name of the choices at the entry with this number, or at its last one where it has fewer.
+pub fn layer_image(
+    alloc: Global,
+    host: &MemHost,
+    calls: u64,
+    choices: &[(Path, u64)],
+    layer: u64,
+) -> Result<Option<Image>, AllocError> {
     let mut names = Vec::new(alloc);
-    for (path, entries) in host.choices(calls)?.as_slice() {
+    for (path, entries) in choices {
         if *entries > 0 {
-            names.push((path.copy()?, 1))?;
+            names.push((path.copy()?, layer.min(*entries)))?;
         }
     }
     image_left(host, calls, names, Vec::new(alloc))
@@ -77,10 +89,15 @@ fn with_file(
 /// turned to ff.
 pub fn outcomes(alloc: Global, host: &MemHost, calls: u64) -> Result<Vec<Image>, AllocError> {
     let mut images = Vec::new(alloc);
-    keep(&mut images, present_image(alloc, host, calls)?)?;
-    keep(&mut images, oldest_image(alloc, host, calls)?)?;
-    add_names(alloc, host, calls, &mut images)?;
-    add_files(alloc, host, calls, &mut images)?;
+    let Some(present) = present_image(alloc, host, calls)? else {
+        return Ok(images);
+    };
+    let choices = host.choices(calls)?;
+    let choices = choices.as_slice();
+    keep(&mut images, layer_image(alloc, host, calls, choices, 1)?)?;
+    add_names(alloc, host, calls, choices, &mut images)?;
+    add_files(alloc, host, calls, choices, &present, &mut images)?;
+    images.push(present)?;
     Ok(images)
 }
 
@@ -95,9 +112,10 @@ fn add_names(
     alloc: Global,
     host: &MemHost,
     calls: u64,
+    choices: &[(Path, u64)],
     images: &mut Vec<Image>,
 ) -> Result<(), AllocError> {
-    for (path, entries) in host.choices(calls)?.as_slice() {
+    for (path, entries) in choices {
         for entry in 1..=*entries {
             keep(images, with_name(alloc, host, calls, path, entry)?)?;
         }
@@ -105,21 +123,32 @@ fn add_names(
     Ok(())
 }
 
+/// Adds what a stop may make of the new files: each of their names is one of the choices.
 fn add_files(
     alloc: Global,
     host: &MemHost,
     calls: u64,
+    choices: &[(Path, u64)],
+    present: &Image,
     images: &mut Vec<Image>,
 ) -> Result<(), AllocError> {
-    let Some(image) = present_image(alloc, host, calls)? else {
-        return Ok(());
-    };
-    for row in image.files.as_slice() {
-        add_file(alloc, host, calls, row, images)?;
+    for row in present.files.as_slice() {
+        if has_choice(choices, present, row.id) {
+            add_file(alloc, host, calls, row, images)?;
+        }
     }
     Ok(())
 }
 
+/// Whether the file with this id stands at one of the choices.
+fn has_choice(choices: &[(Path, u64)], present: &Image, id: u64) -> bool {
+    present.names.as_slice().iter().any(|(path, entry)| {
+        matches!(entry, Entry::File(other) if *other == id)
+            && choices.iter().any(|choice| choice.0.text() == path.text())
+    })
+}
+
+/// Adds the file without bytes and with all its bytes turned to ff, where it is new.
 fn add_file(
     alloc: Global,
     host: &MemHost,
@@ -127,40 +156,12 @@ fn add_file(
     row: &FileRow,
     images: &mut Vec<Image>,
 ) -> Result<(), AllocError> {
-    keep(
-        images,
-        with_file(alloc, host, calls, row.id, Vec::new(alloc))?,
-    )?;
-    let turned = vec![in alloc; 0xff; row.bytes.len()]?;
-    keep(images, with_file(alloc, host, calls, row.id, turned)?)
-}
-
-/// How a moment looks: two moments with one picture leave the same. A call that only reads changes
-/// nothing of it.
-pub fn picture(alloc: Global, host: &MemHost, calls: u64) -> Result<String, AllocError> {
-    let mut text = open_names(alloc, host, calls)?;
-    let Some(image) = present_image(alloc, host, calls)? else {
-        return Ok(text);
-    };
-    for (path, entry) in image.names.as_slice() {
-        push_entry(&mut text, path.text(), entry)?;
+    if let Some(image) = with_file(alloc, host, calls, row.id, Vec::new(alloc))? {
+        images.push(image)?;
+        let turned = vec![in alloc; 0xff; row.bytes.len()]?;
+        keep(images, with_file(alloc, host, calls, row.id, turned)?)?;
     }
-    for row in image.files.as_slice() {
-        let (id, length) = (row.id, row.bytes.len());
-        writeln!(text, "{id} {length}")?;
-    }
-    Ok(text)
-}
-
-fn push_entry(text: &mut String, path: &str, entry: &Entry) -> Result<(), AllocError> {
-    match entry {
-        Entry::Dir => writeln!(text, "{path} folder"),
-        Entry::File(id) => writeln!(text, "{path} file {id}"),
-        Entry::Link(link) => {
-            let link = link.as_str();
-            writeln!(text, "{path} link {link}")
-        }
-    }
+    Ok(())
 }
 
 /// The last moment at which a stop may bring back something.

@@ -1,9 +1,9 @@
 //! Whether what a stop left is whole, read from its names and files alone: nothing of the program
 //! under test looks at it.
+use crate::wares::MadeCommit;
 use fp_base::ObjKind;
 use fp_host::Entry;
 use fp_memhost::Image;
-use fpk_case_remotes::MadeCommit;
 use ost_commit::{BuiltObject, TreeRow};
 use ost_model::Object;
 

@@ -1,0 +1,74 @@
+//! Remotes in memory whose calls are counted, and of which one may answer otherwise.
+ghost use Rattle.std.specs.Prelude.{◌≡◌, ◌≤◌, None, Some, IfOk, IsErrOf, length};
+ghost use Rattle.fp_host.specs.Moments.{Rose};
+ghost use Rattle.fp_host.specs.Remote.{Holdings, IsNode, HasNodeBits, bytes_of, CameFrom};
+
+use fp_host::{Node, Path, RemoteError, Remotes};
+use fp_memhost::MemRemotes;
+use std::alloc::Global;
+
+/// How many calls of remotes were made.
+#[derive(Clone, Copy)]
+pub struct RemoteCalls {
+    /// All of them.
+    pub all: u64,
+    /// The reads that gave any bytes.
+    pub reads: u64,
+}
+
+/// Remotes in memory. Each call is theirs, and is counted.
+#[derive(Drop)]
+pub struct CountedRemotes {
+    remotes: MemRemotes,
+    calls: RemoteCalls,
+    /// The read that gives another first byte, counted from 0.
+    turned: Option<u64>,
+}
+
+impl CountedRemotes {
+    /// No call was made yet.
+    pub fn new(remotes: MemRemotes, turned: Option<u64>) -> Self {
+        let calls = RemoteCalls { all: 0, reads: 0 };
+        CountedRemotes {
+            remotes,
+            calls,
+            turned,
+        }
+    }
+
+    /// How many calls were made.
+    pub fn calls(&self) -> RemoteCalls {
+        self.calls
+    }
+}
+
+impl Remotes for CountedRemotes {
+    ghost holds = { λ r. None };
+
+    ghost faults = { λ r. ⟦<MemRemotes as Remotes>⟧.faults r.remotes };
+
+    fn node(&mut self, alloc: Global, url: &str, path: &Path) -> Result<Node, RemoteError> {
+        self.calls.all = self.calls.all.saturating_add(1);
+        self.remotes.node(alloc, url, path)
+    }
+
+    fn read_at(
+        &mut self,
+        url: &str,
+        path: &Path,
+        at: u64,
+        into: &mut [u8],
+    ) -> Result<usize, RemoteError> {
+        self.calls.all = self.calls.all.saturating_add(1);
+        let count = self.remotes.read_at(url, path, at, into)?;
+        if count > 0 {
+            if self.turned == Some(self.calls.reads)
+                && let Some(first) = into.first_mut()
+            {
+                *first ^= 1;
+            }
+            self.calls.reads = self.calls.reads.saturating_add(1);
+        }
+        Ok(count)
+    }
+}

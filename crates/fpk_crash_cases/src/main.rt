@@ -1,0 +1,36 @@
+//! Runs the cases of the files that its arguments name, as fpk_cases does. Its own are long ones
+//! with a stop at each call, which have a program's time to themselves.
+#![tactic(auto)]
+
+use fl_top::run;
+use fp_host::{Host, Remotes, Source};
+use fpk_case_hosts::Program;
+use fpk_case_play::run_files;
+use std::alloc::Global;
+use std::io;
+use std::process::ExitCode;
+use std::thread::Threads;
+
+/// fpk, whose cases are played.
+#[derive(Clone, Copy)]
+struct Fpk;
+
+impl Program for Fpk {
+    fn run<T: Threads + Sync, H: Host, R: Remotes, I: Source>(
+        &self,
+        rt: &T,
+        alloc: Global,
+        words: &[String],
+        input: &mut I,
+        host: &mut H,
+        remotes: &mut R,
+    ) -> u8 {
+        run(rt, alloc, words, input, host, remotes)
+    }
+}
+
+/// The arguments are names of files of cases.
+fn main(rt: HostRuntime) -> io::Result<ExitCode> {
+    let status = run_files(&Fpk, &rt, rt.alloc())?;
+    Ok(ExitCode::from(status))
+}
