@@ -7,8 +7,8 @@ use std::alloc::{AllocError, Global};
 use std::thread::Threads;
 
 /// Lets each call of the remotes fail that the commands make where nothing does, and lets each read
-/// give another first byte. Answers the first that isn't told, or after which a stop shows another
-/// state than that after the last line that was printed.
+/// of an install give another first byte. Answers the first that isn't told, or after which a stop
+/// shows another state than that after the last line that was printed.
 pub fn fail_remotes<P: Program, R: Threads + Sync>(
     program: &P,
     rt: &R,
@@ -21,7 +21,11 @@ pub fn fail_remotes<P: Program, R: Threads + Sync>(
         if let Some(text) = fail_command(program, rt, alloc, start, command, calls.all, judge)? {
             return Ok(Some(text));
         }
-        if let Some(text) = turn_command(program, rt, alloc, start, command, calls.reads, judge)? {
+        let reads = match start.is_install(command) {
+            true => calls.reads,
+            false => 0,
+        };
+        if let Some(text) = turn_command(program, rt, alloc, start, command, reads, judge)? {
             return Ok(Some(text));
         }
     }

@@ -85,6 +85,16 @@ impl Start<'_> {
         before.count()..all.count()
     }
 
+    /// Whether the command with this number is an install.
+    pub fn is_install(&self, number: usize) -> bool {
+        let steps = self.case.steps.iter();
+        let mut commands = steps.filter(|step| is_command(&step.action));
+        match commands.nth(number) {
+            Some(step) => is_install(&step.action),
+            None => false,
+        }
+    }
+
     /// Plays the commands.
     pub fn replay<P: Program, R: Threads + Sync>(
         &self,
@@ -121,6 +131,13 @@ impl Start<'_> {
 
 fn is_command(action: &Action) -> bool {
     matches!(action, Action::Run(_))
+}
+
+fn is_install(action: &Action) -> bool {
+    match action {
+        Action::Run(command) => matches!(command.words.first(), Some(word) if word == "install"),
+        _ => false,
+    }
 }
 
 /// Puts there what is given.
