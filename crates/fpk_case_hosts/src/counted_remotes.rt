@@ -1,7 +1,5 @@
 //! Remotes in memory whose calls are counted, and of which one may answer otherwise.
-ghost use Rattle.std.specs.Prelude.{◌≡◌, ◌≤◌, None, Some, IfOk, IsErrOf, length};
-ghost use Rattle.fp_host.specs.Moments.{Rose};
-ghost use Rattle.fp_host.specs.Remote.{Holdings, IsNode, HasNodeBits, bytes_of, CameFrom};
+ghost use Rattle.std.specs.Prelude.{None};
 
 use fp_host::{Node, Path, RemoteError, Remotes};
 use fp_memhost::MemRemotes;

@@ -135,7 +135,10 @@ fn is_command(action: &Action) -> bool {
 
 fn is_install(action: &Action) -> bool {
     match action {
-        Action::Run(command) => matches!(command.words.first(), Some(word) if word == "install"),
+        Action::Run(command) => match command.words.first() {
+            Some(word) => word.as_str() == "install",
+            None => false,
+        },
         _ => false,
     }
 }
