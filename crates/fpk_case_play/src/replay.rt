@@ -20,19 +20,44 @@ pub enum Trouble {
     Turned { command: usize, read: u64 },
 }
 
-/// Where the stops of a case begin: at its line `from here`, or at its first command.
+/// The steps of a case from a line `from here` to the next one, or to its end.
+#[derive(Clone, Copy)]
+pub struct Section {
+    /// The place of the first step.
+    from: usize,
+    /// The place after the last one.
+    pub to: usize,
+}
+
+/// The sections of a case. All of it is one where it has no line `from here`.
+pub fn sections_of(alloc: Global, case: &Case) -> Result<Vec<Section>, AllocError> {
+    let mut sections = Vec::new(alloc);
+    let mut begun = None;
+    for (at, step) in case.steps.iter().enumerate() {
+        if matches!(&step.action, Action::FromHere) {
+            if let Some(from) = begun {
+                sections.push(Section { from, to: at })?;
+            }
+            begun = Some(at);
+        }
+    }
+    let from = begun.unwrap_or(0);
+    let to = case.steps.len();
+    sections.push(Section { from, to })?;
+    Ok(sections)
+}
+
+/// Where the stops of a section of a case begin.
 #[derive(Drop)]
 pub struct Start<'a> {
     /// The case itself.
     pub case: &'a Case,
-    /// The place of the step.
-    at: usize,
+    section: Section,
     /// What was given and done before.
     host: MemHost,
 }
 
-/// The commands of a case from the start of its stops on, up to the first whose status is another
-/// than it says.
+/// The commands of a section, up to the first whose status is another than the case says.
 #[derive(Drop)]
 pub struct Replay {
     /// Its calls are counted from 0 at the start.
@@ -54,35 +79,46 @@ impl Replay {
     }
 }
 
-/// Does what a case does before its stops begin.
+/// Does what a case does before a section.
 pub fn start_of<'a, P: Program, R: Threads + Sync>(
     program: &P,
     rt: &R,
     alloc: Global,
     case: &'a Case,
+    section: Section,
 ) -> Result<Start<'a>, AllocError> {
-    let at = case
-        .steps
-        .iter()
-        .position(|step| matches!(&step.action, Action::FromHere))
-        .unwrap_or(0);
+    let before = Section {
+        from: 0,
+        to: section.from,
+    };
     let mut host = MemHost::new(alloc)?;
     give_all(alloc, &mut host, case)?;
-    let _ran = run_steps(program, rt, alloc, &mut host, case, 0..at, Trouble::Nothing)?;
-    Ok(Start { case, at, host })
+    let _ran = run_steps(
+        program,
+        rt,
+        alloc,
+        &mut host,
+        case,
+        before,
+        Trouble::Nothing,
+    )?;
+    Ok(Start {
+        case,
+        section,
+        host,
+    })
 }
 
 impl Start<'_> {
-    /// The numbers of the commands that come after the start, counted from 0 at the first one of
-    /// the case.
+    /// The numbers of the commands of the section, counted from 0 at the first one of the case.
     pub fn commands(&self) -> Range<usize> {
-        let steps = &self.case.steps;
-        let before = steps
-            .iter()
-            .take(self.at)
-            .filter(|step| is_command(&step.action));
-        let all = steps.iter().filter(|step| is_command(&step.action));
-        before.count()..all.count()
+        self.commands_before(self.section.from)..self.commands_before(self.section.to)
+    }
+
+    /// How many commands come before a step.
+    fn commands_before(&self, at: usize) -> usize {
+        let before = self.case.steps.iter().take(at);
+        before.filter(|step| is_command(&step.action)).count()
     }
 
     /// Whether the command with this number is an install.
@@ -95,7 +131,7 @@ impl Start<'_> {
         }
     }
 
-    /// Plays the commands.
+    /// Plays the commands of the section.
     pub fn replay<P: Program, R: Threads + Sync>(
         &self,
         program: &P,
@@ -107,8 +143,8 @@ impl Start<'_> {
         if let Trouble::Host(Failure { call, is_done }) = trouble {
             host.fail_calls(&[(call, is_done)])?;
         }
-        let steps = self.at..self.case.steps.len();
-        let ran = run_steps(program, rt, alloc, &mut host, self.case, steps, trouble)?;
+        let (case, section) = (self.case, self.section);
+        let ran = run_steps(program, rt, alloc, &mut host, case, section, trouble)?;
         let StepsRun {
             other_status,
             remote_calls,
@@ -155,7 +191,7 @@ fn give_all(alloc: Global, host: &mut MemHost, case: &Case) -> Result<(), AllocE
     Ok(())
 }
 
-/// How the commands of some steps ran, up to the first whose status is another than the case says.
+/// How the commands of a section ran, up to the first whose status is another than the case says.
 #[derive(Drop)]
 struct StepsRun {
     /// That status.
@@ -164,27 +200,27 @@ struct StepsRun {
     remote_calls: Vec<RemoteCalls>,
 }
 
-/// Runs the commands of these steps.
+/// Runs the commands of a section.
 fn run_steps<P: Program, R: Threads + Sync>(
     program: &P,
     rt: &R,
     alloc: Global,
     host: &mut MemHost,
     case: &Case,
-    steps: Range<usize>,
+    section: Section,
     trouble: Trouble,
 ) -> Result<StepsRun, AllocError> {
     let mut wares = Wares::new(alloc);
     let mut number: usize = 0;
     let mut remote_calls = Vec::new(alloc);
-    for (at, step) in case.steps.iter().enumerate() {
+    for (at, step) in case.steps.iter().take(section.to).enumerate() {
         wares.take_next(rt, &case.steps, at)?;
         let Action::Run(command) = &step.action else {
             continue;
         };
         let failing = failing_at(trouble, number);
         number = number.saturating_add(1);
-        if at < steps.start || at >= steps.end {
+        if at < section.from {
             continue;
         }
         let ran = run_in_memory(program, rt, alloc, host, command, failing, &wares)?;
@@ -213,14 +249,15 @@ fn failing_at(trouble: Trouble, number: usize) -> Failing {
     failing
 }
 
-/// The remotes of a case after all its steps.
+/// The remotes of a case before the step at this place.
 pub fn wares_of<R: Threads + Sync>(
     rt: &R,
     alloc: Global,
     case: &Case,
+    to: usize,
 ) -> Result<Wares, AllocError> {
     let mut wares = Wares::new(alloc);
-    for at in 0..case.steps.len() {
+    for at in 0..to {
         wares.take_next(rt, &case.steps, at)?;
     }
     Ok(wares)

@@ -3,7 +3,7 @@ use crate::judge::{Judge, Lines};
 use crate::likeness::is_like;
 use crate::next::Next;
 use crate::remote_faults::fail_remotes;
-use crate::replay::{Replay, Start, Trouble, start_of, wares_of};
+use crate::replay::{Replay, Start, Trouble, sections_of, start_of, wares_of};
 use crate::showing::{State, reopen};
 use fp_memhost::{Image, MemHost};
 use fpk_case_hosts::{Program, last_open, oldest_image, open_names, present_image};
@@ -12,7 +12,7 @@ use fpk_case_text::{Case, Failure, ShownText, Stops, Wrong, difference, message}
 use std::alloc::{AllocError, Global};
 use std::thread::Threads;
 
-/// How a case goes where nothing stops it.
+/// How a section goes where nothing stops it.
 #[derive(Drop)]
 struct Course {
     plain: Replay,
@@ -29,8 +29,9 @@ impl Course {
     }
 }
 
-/// Plays a case with a stop and with a failure at each call of the host. Answers the first that
-/// shows another state than those after the last line that was printed, or after the next one.
+/// Plays each section of a case with a stop and with a failure at each call of the host. Answers the
+/// first that shows another state than those after the last line that was printed, or after the next
+/// one.
 pub fn play_stops<P: Program, R: Threads + Sync>(
     program: &P,
     rt: &R,
@@ -38,21 +39,30 @@ pub fn play_stops<P: Program, R: Threads + Sync>(
     case: &Case,
     stops: &Stops,
 ) -> Result<Option<Wrong>, AllocError> {
-    let start = start_of(program, rt, alloc, case)?;
-    let wares = wares_of(rt, alloc, case)?;
-    let next = Next::new(alloc, stops, &wares)?;
-    let course = course_of(program, rt, alloc, &start, &next)?;
-    if let Some(wrong) = judge_shown(alloc, &wares, &stops.shown, &course.states)? {
-        return Ok(Some(wrong));
+    let mut shown = stops.shown.as_slice();
+    for section in sections_of(alloc, case)? {
+        let start = start_of(program, rt, alloc, case, section)?;
+        let wares = wares_of(rt, alloc, case, section.to)?;
+        let next = Next::new(alloc, stops, &wares)?;
+        let course = course_of(program, rt, alloc, &start, &next)?;
+        if let Some(wrong) = judge_shown(alloc, &wares, shown, &course.states)? {
+            return Ok(Some(wrong));
+        }
+        shown = shown.get(course.states.len()..).unwrap_or(&[]);
+        if let Some(text) = judge_course(program, rt, alloc, &start, stops, &course, &next)? {
+            return Ok(Some(wrong_at(stops.line, text)));
+        }
     }
-    let text = judge_course(program, rt, alloc, &start, stops, &course, &next)?;
-    match text {
-        Some(text) => Ok(Some(wrong_at(stops, text))),
+    match shown.first() {
+        Some(left) => {
+            let text = String::from_str(alloc, "the case prints no line for this `shown`")?;
+            Ok(Some(wrong_at(left.line, text)))
+        }
         None => Ok(None),
     }
 }
 
-/// Judges how a case goes where something stops it.
+/// Judges how a section goes where something stops it.
 fn judge_course<P: Program, R: Threads + Sync>(
     program: &P,
     rt: &R,
@@ -76,12 +86,11 @@ fn judge_course<P: Program, R: Threads + Sync>(
     fail_remotes(program, rt, alloc, start, &course.plain, &mut judge)
 }
 
-fn wrong_at(stops: &Stops, text: String) -> Wrong {
-    let line = stops.line;
+fn wrong_at(line: u64, text: String) -> Wrong {
     Wrong { line, text }
 }
 
-/// Looks at the case before each call.
+/// Looks at a section after each line.
 fn course_of<P: Program, R: Threads + Sync>(
     program: &P,
     rt: &R,
@@ -168,7 +177,7 @@ fn add_state<P: Program, R: Threads + Sync>(
     Ok(())
 }
 
-/// Compares what is shown after each line with what the case says, where it says so.
+/// Compares what is shown after each line with the first of what the case says, where it says so.
 fn judge_shown(
     alloc: Global,
     wares: &Wares,
@@ -179,16 +188,15 @@ fn judge_shown(
         let text = with_digits(alloc, wares, &shown.text)?;
         let lists = &state.shown.lists;
         if text.as_slice() != lists.as_slice() {
-            let line = shown.line;
             let text = difference(alloc, "shown", &text, lists)?;
-            return Ok(Some(Wrong { line, text }));
+            return Ok(Some(wrong_at(shown.line, text)));
         }
     }
     match expected.last() {
-        Some(shown) if expected.len() != states.len() => {
-            let (line, many) = (shown.line, states.len());
+        Some(shown) if expected.len() < states.len() => {
+            let many = states.len();
             let text = format!(in alloc; "expected `shown` {many} times")?;
-            Ok(Some(Wrong { line, text }))
+            Ok(Some(wrong_at(shown.line, text)))
         }
         _ => Ok(None),
     }
@@ -272,7 +280,7 @@ fn shows<P: Program, R: Threads + Sync>(
     Ok(is_like(state.as_ref(), course.states.get(lines), &course.states))
 }
 
-/// Stops the case before each call and at its end.
+/// Stops a section before each call and at its end.
 fn stop_everywhere<P: Program, R: Threads + Sync>(
     program: &P,
     rt: &R,

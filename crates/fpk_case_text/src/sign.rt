@@ -72,7 +72,7 @@ pub enum Sign {
     FoundHardLink,
     /// `- PATH`: nothing stands there now.
     Absent,
-    /// `from here`: what was done so far is on the disk, and `stops` begins here.
+    /// `from here`: what was done so far is on the disk, and stops begin here.
     FromHere,
     /// `stops`: the case again from its start, with a stop or a failure at each call of the host.
     Stops,
