@@ -31,6 +31,8 @@ use Rattle.op_change.specs.Applied.{Brings, have_for, op_refusal, AppliesWith, A
 use Rattle.op_change.specs.Attempts.{Attempts}
 use Rattle.op_change.specs.declared.ending.ApplyEnd.{ApplyEnd}
 use Rattle.op_change.specs.declared.ending.ApplyEnd.TheVariants as applies
+use Rattle.op_change.proofs.Brings.{true_now}
+use Rattle.op_change.proofs.Pulling.{true_files}
 use Rattle.fl_lines.specs.Lines.{op_text}
 use Rattle.fl_change.specs.World.{world_at, supplied}
 use Rattle.fl_change.specs.Answer.{ops_of, done_answer, unless, has_acted}
@@ -72,14 +74,16 @@ host_end applies.NoMemory is = absurd (cc is)
 
 module _ (op : Op) (s : State) (u v : Outside) where
   -- what is answered over the objects that there are
-  answers_at : {result : Result State ApplyEnd} → Attempts s op result u v → (held : Holdings) → u.holdings ≡ Some held → (x : View) → IsFirst u.told x → AppliesWith (have_for s op held x) s op result
-  answers_at clauses held told x first = clauses.answers (have_for s op held x) (record {
-    moments = first.0;
-    held = held;
-    told_is = first.1;
-    holdings_are = told;
-    is = ap (λ (y : View). have_for s op held y) (sym first.2);
-  })
+  answers_at : {result : Result State ApplyEnd} → Attempts s op result u v → (held : Holdings) → u.holdings ≡ Some held → (x : View) → IsFirst u.told x → Opens s x → AppliesWith (have_for s op held x) s op result
+  answers_at clauses held told x first opens = clauses.answers (have_for s op held x)
+      (record {
+        moments = first.0;
+        held = held;
+        told_is = first.1;
+        holdings_are = told;
+        is = ap (λ (y : View). have_for s op held y) (sym first.2);
+      })
+      (λ b. true_now first.0 first.1 (true_files (subst (Opens s) (sym first.2) opens)))
 
   performs_at : (x y : View) → Applies s op u.holdings x y → PerformsOver (Rests s) u.holdings (op_over op) s x y
   performs_at x y step = record { performs = λ held told rests. applying u.holdings held told op s rests step }
@@ -91,7 +95,7 @@ module _ (op : Op) (s : State) (u v : Outside) where
   opens_of t clauses known x y first was opens = elim (brings_or_not op) [
     | inl b ↦
         let told = known (op, refl, b) in
-        let a = answers_at clauses told.0 told.1 x first in
+        let a = answers_at clauses told.0 told.1 x first opens in
         subst (λ (z : State). Opens z y) (sym a.1) (was.opens told.0 (λ b. told.1) opens)
     | inr none ↦
         let held : Holdings = λ url path. no_entry in
@@ -110,7 +114,7 @@ module _ (op : Op) (s : State) (u v : Outside) where
   pub works_applied : (t : State) → May s op → IsTold u.told → IsTold v.told → Attempts s op (Ok t) u v → Works (Just op) s (PerformsOver (Rests s) u.holdings (op_over op) s) (IsApplied t) (Ok t) u v
   works_applied t may told_u told_v clauses = record {
     goes = goes_to in_trees (λ x y r. performs_at x y r.0)
-        (λ x y q held told rests. applied u.holdings held told op s t may (tree_at told_u x q.0.1) q.1 rests q.0.0.0 q.0.0.1 (answers_at clauses held told x q.0.1));
+        (λ x y q held told rests. applied u.holdings held told op s t may (tree_at told_u x q.0.1) q.1 rests q.0.0.0 q.0.0.1 (answers_at clauses held told x q.0.1 rests.opens));
     opens = λ known. record { goes = goes_to (goes_first (goes_known clauses.moments clauses.success)) (λ x y r. tt) (λ x y q. opens_of t clauses known x y q.1 q.0.1) };
     changes = λ known. goes_to clauses.moments changes_at changes_at;
     same = clauses.same;
@@ -128,7 +132,7 @@ module _ (op : Op) (s : State) (u v : Outside) where
   -- what is refused leaves the state
   opens_not : (e : ApplyEnd) → Attempts s op (Err e) u v → (AsksBy (Just op) → AreTold u.holdings) → (x y : View) → IsFirst u.told x → Applies s op u.holdings x y → OpensBy s (Err (end_of_apply e)) x y
   opens_not (applies.Refused r) clauses known x y first step = λ opens. elim (brings_or_not op) [
-    | inl b ↦ let told = known (op, refl, b) in (s, step.refused told.0 (λ b. told.1) r (answers_at clauses told.0 told.1 x first) opens)
+    | inl b ↦ let told = known (op, refl, b) in (s, step.refused told.0 (λ b. told.1) r (answers_at clauses told.0 told.1 x first opens) opens)
     | inr none ↦ absurd (clauses.plain none)
   ]
   opens_not applies.Fault clauses known x y first step = tt
@@ -156,7 +160,7 @@ module _ (op : Op) (s : State) (u v : Outside) where
   pub works_not_applied : (e : ApplyEnd) → Attempts s op (Err e) u v → Works (Just op) s (PerformsOver (Rests s) u.holdings (op_over op) s) (DoneOver u.holdings op s (Err (end_of_apply e))) (Err (end_of_apply e)) u v
   works_not_applied (applies.Refused r) clauses = not_applied (DoneOver u.holdings op s (Err (Refused r))) (applies.Refused r) clauses
       (goes_to (goes_first (goes_known clauses.moments (clauses.refused r refl))) (λ x y p. performs_at x y p.0)
-      (λ x y q. record { done = λ held told rests. apply_refused u.holdings held told op s rests r (answers_at clauses held told x q.1) q.0.0 q.0.1 }))
+      (λ x y q. record { done = λ held told rests. apply_refused u.holdings held told op s rests r (answers_at clauses held told x q.1 rests.opens) q.0.0 q.0.1 }))
   works_not_applied applies.Fault clauses = not_applied (DoneOver u.holdings op s (Err Fault)) applies.Fault clauses
       (goes_to clauses.moments performs_at (λ x y q. record { done = λ held told rests. tt }))
   works_not_applied applies.RemoteFault clauses = not_applied (DoneOver u.holdings op s (Err RemoteFault)) applies.RemoteFault clauses

@@ -25,7 +25,7 @@ use Rattle.fp_small.specs.declared.state.RefRow.{RefRow}
 use Rattle.fp_small.specs.declared.state.RemoteRow.{RemoteRow}
 use Rattle.fp_small.specs.declared.state.State.{State}
 use Rattle.ost_model.specs.Objects.{Have, store}
-use Rattle.ost_pull.specs.Pulls.{IsLacked}
+use Rattle.ost_pull.specs.Pulls.{HasTrueFiles, IsLacked}
 use Rattle.ost_store.specs.Created.{Creates}
 use Rattle.ost_store.proofs.Creating.{creates_on}
 use Rattle.ost_walk.specs.Ends.{Outside}
@@ -47,10 +47,11 @@ use Rattle.op_change.specs.Fetching.{Fetches}
 use Rattle.op_change.specs.Obtaining.{WasObtained, Obtains}
 use Rattle.op_change.specs.declared.ending.ApplyEnd.{ApplyEnd}
 use Rattle.op_change.specs.declared.ending.ApplyEnd.TheVariants as ends
-use Rattle.op_change.proofs.Brings.{supplied, where_told}
+use Rattle.op_change.proofs.Brings.{supplied_true, where_told}
 use Rattle.op_change.proofs.Brought.{IsBringing, none_some, pull_refused, pull_remote, pull_fault, refuses_with, at_url}
 use Rattle.op_change.proofs.Changing.{changes_on, deploy_changes, deploy_store}
 use Rattle.op_change.proofs.Passing.{remotes_on}
+use Rattle.op_change.proofs.Pulling.{true_files}
 use Rattle.op_change.proofs.Standing.{goes_back}
 use Rattle.op_change.proofs.Plain.{err_with, never_refused, never_remote, host_fault, host_starved}
 
@@ -96,7 +97,7 @@ module _ {s : State} {op : Op} {name : Ref} {commit : List ℕ} {origin : Remote
   not_obtained : (e : PullEnd) {u v : Outside} → IsTold u.told → Obtains s origin name commit (Err e) u v → Attempts s op (Err (of_pull e)) u v
   not_obtained e told o = record {
     same = o.same;
-    answers = λ have x. refuses_with have s op e (refuses have (o.answers have (at_url b.url x)));
+    answers = λ have x files. refuses_with have s op e (refuses have (o.answers have (at_url b.url x) (files b.brings)));
     plain = λ none. absurd (none b.brings);
     moments = begins told o.moments (λ x y t r. applies_fetches r) (λ x y t r q. applies_fetches q);
     success = tt;
@@ -121,13 +122,13 @@ module _ {s : State} {op : Op} {name : Ref} {commit : List ℕ} {origin : Remote
     pub tree : IsTree v
     pub fetches : Fetches s name commit holds u v
     pub was : WasObtained s origin name commit holds row u v
-    pub answers : (held : Holdings) → holds ≡ Some held → (op_refusal (have_for s op held u) op ≡ None) × (row.timestamp ≡ commit_time (have_for s op held u) commit)
+    pub answers : HasTrueFiles repo u → (held : Holdings) → holds ≡ Some held → (op_refusal (have_for s op held u) op ≡ None) × (row.timestamp ≡ commit_time (have_for s op held u) commit)
 
   module _ (row : RefRow) (row_is : row ≡ row_brought s name origin.name commit row.timestamp) where
     at_row : {u v : Outside} → IsTold u.told → IsTold v.told → Obtains s origin name commit (Ok row) u v → AtEnd (AtRow u.holdings row) u.told v.told
     at_row told last o = ends_in_tree last
-        (ends_both (ends_both (ends_goes told o.moments) (o.success row refl)) (supplied {url = url_for s op} {Q = λ have x y. (op_refusal have op ≡ None) × (row.timestamp ≡ commit_time have commit)} (ends_goes told o.moments)
-        (λ have x. let a = o.answers have (at_url b.url x) in ends_to (ends_goes told o.moments) (λ x y q. (b.refusal have ∙ a.0, a.1)))))
+        (ends_both (ends_both (ends_goes told o.moments) (o.success row refl)) (supplied_true {url = url_for s op} {Q = λ have x y. (op_refusal have op ≡ None) × (row.timestamp ≡ commit_time have commit)} (ends_goes told o.moments)
+        (λ have x files. let a = o.answers have (at_url b.url x) files in ends_to (ends_goes told o.moments) (λ x y q. (b.refusal have ∙ a.0, a.1)))))
         (λ x y tree q. record { tree = tree; fetches = q.0.0; was = q.0.1; answers = q.1 })
 
     after_is : (have : Have) → row.timestamp ≡ commit_time have commit → with_row s row ≡ state_after s (done_with have op)
@@ -136,15 +137,15 @@ module _ {s : State} {op : Op} {name : Ref} {commit : List ℕ} {origin : Remote
     applies_deploys : {holds : Option Holdings} {u v w : View} → AtRow holds row u v → Deploys s row v w → Applies s op holds u w
     applies_deploys {u = u} {w = w} p deploys = record {
       either = λ held is opens. let told = is b.brings in
-          subst (λ (t : State). OpensEither s t w) (after_is (have_for s op held u) (p.answers held told).1) (deploys.either (p.was.stages held told opens));
-      refused = λ held is r refused opens. absurd (none_some (sym (p.answers held (is b.brings)).0 ∙ refused));
+          subst (λ (t : State). OpensEither s t w) (after_is (have_for s op held u) (p.answers (true_files opens) held told).1) (deploys.either (p.was.stages held told opens));
+      refused = λ held is r refused opens. absurd (none_some (sym (p.answers (true_files opens) held (is b.brings)).0 ∙ refused));
       changes = λ opens. changes_as (changes_on (p.fetches.changes (opens b.brings)) (deploy_changes s name commit (ap (λ (r : RefRow). r.name) row_is) (ap (λ (r : RefRow). r.commit) row_is) deploys));
     }
 
     applied_deploys : {holds : Option Holdings} {u v w : View} → IsTree w → AtRow holds row u v → Deploys s row v w → WasDeployed s row v w → WasApplied s op holds u w
     applied_deploys {u = u} {v = v} {w = w} tree p deploys done = record {
       opens = λ held is opens. let told = is b.brings in
-          subst (λ (t : State). Opens t w) (after_is (have_for s op held u) (p.answers held told).1) (done.opens (p.was.stages held told opens));
+          subst (λ (t : State). Opens t w) (after_is (have_for s op held u) (p.answers (true_files opens) held told).1) (done.opens (p.was.stages held told opens));
       objects = λ held is opens. b.objects (have_for s op held u) u w (at_url_of (λ have. HasObjects have commit u w) held (objects_on (p.was.objects held (is b.brings) (opens b.brings))));
       shares = λ held is opens. shares_on (p.was.shares held (is b.brings) (opens b.brings)) deploys.shares deploys.files;
       creates = λ held is opens. b.created (have_for s op held u) u w (at_url_of (λ have. Creates repo (IsLacked repo have commit u) u w) held
@@ -176,7 +177,7 @@ module _ {s : State} {op : Op} {name : Ref} {commit : List ℕ} {origin : Remote
       not_deployed : (e : HostEnd) → Deploying s row (Err e) v w → Attempts s op (Err (of_host e)) u w
       not_deployed e d = record {
         same = d.holdings ∙ o.same;
-        answers = λ have x. err_with have s op e;
+        answers = λ have x files. err_with have s op e;
         plain = λ none. absurd (none b.brings);
         moments = goes d;
         success = tt;
@@ -197,7 +198,7 @@ module _ {s : State} {op : Op} {name : Ref} {commit : List ℕ} {origin : Remote
       pub attempts : (t : State) → Deploying s row (Ok t) v w → Attempts s op (Ok t) u w
       attempts t d = record {
         same = d.holdings ∙ o.same;
-        answers = λ have x. let a = o.answers have (at_url b.url x) in (b.refusal have ∙ a.0, d.state ∙ after_is have a.1);
+        answers = λ have x files. let a = o.answers have (at_url b.url x) (files b.brings) in (b.refusal have ∙ a.0, d.state ∙ after_is have a.1);
         plain = λ none. absurd (none b.brings);
         moments = goes d;
         success = ends_in_tree {Q = λ x z. (y : View) × AtRow u.holdings row x y × (Deploys s row y z × WasDeployed s row y z)} d.last (ends_on (ends_both (ends_goes d.told d.moments) d.success) (at_row told d.told o) d.told (λ x y z t q n. (y, q, n)))

@@ -19,7 +19,7 @@ use Rattle.ost_walk.specs.PullEnds.{RefusesBy}
 use Rattle.ost_walk.specs.declared.pull_end.PullEnd.{PullEnd}
 use Rattle.ost_walk.specs.declared.pull_end.PullEnd.TheVariants as ends
 use Rattle.ost_head.specs.declared.head.Head.{Head}
-use Rattle.ost_pull.specs.Pulls.{first_refusal}
+use Rattle.ost_pull.specs.Pulls.{HasTrueFiles, HasTrueFilesNow, first_refusal}
 use Rattle.dep_states.specs.Frames.{KeptIn}
 use Rattle.dep_states.specs.Sound.{Opens}
 use Rattle.dep_switch.specs.Rows.{IsAt}
@@ -53,6 +53,32 @@ supplied {url = url} {holds = holds} {Q = Q} first each = record {
         );
   };
 }
+
+-- what is so of one view of a told host is so of it now
+pub true_now : {told : Option Moments} (m : Moments) → told ≡ Some m → HasTrueFiles repo m.now → HasTrueFilesNow repo told
+true_now m at files = record { are = λ n is. let same : n ≡ m = cc (is, at) in subst (λ (k : Moments). HasTrueFiles repo k.now) (sym same) files }
+
+-- the same of a store whose files are those of their names
+pub supplied_true : {url : Option (List ℕ)} {holds : Option Holdings} {b c : Option Moments} {S : View → View → Type 0} {Q : Have → View → View → Type 0} → AtEnd S b c
+    → ((have : Have) → Supplies repo url b holds have → HasTrueFilesNow repo b → AtEnd (Q have) b c) → AtEnd (λ v w. HasTrueFiles repo v → (held : Holdings) → holds ≡ Some held → Q (supply_at held url v) v w) b c
+supplied_true {url = url} {holds = holds} {Q = Q} first each = record {
+  goes = record {
+    untold = first.goes.untold;
+    told = λ m e.
+        let one = first.goes.told m e in (
+          one.0,
+          one.1,
+          one.2,
+          λ files held told.
+              let two = (each (supply_at held url m.now) (record { moments = m; held = held; told_is = e; holdings_are = told; is = refl }) (true_now m e files)).goes.told m e in
+              subst (λ (n : Moments). Q (supply_at held url m.now) m.now n.now) (let same : two.0 ≡ one.0 = cc (two.1, one.1) in same) two.3,
+        );
+  };
+}
+
+-- so it goes on where nothing changes
+pub true_still : {a b : Option Moments} → Unchanged a b → (m : Moments) → a ≡ Some m → HasTrueFilesNow repo a → HasTrueFilesNow repo b
+true_still still m at files = let n = still.goes.told m at in true_now n.0 n.1 (subst (HasTrueFiles repo) (sym n.3.0) (files.are m at))
 
 -- where nothing changes, the same is supplied
 pub still_supplied : {text url : List ℕ} {holds now : Option Holdings} {a b : Option Moments} {have : Have} → text ≡ url → Unchanged a b → now ≡ holds → Supplies repo (Some url) a holds have → Supplies repo (Some text) b now have

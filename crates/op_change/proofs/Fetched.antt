@@ -22,7 +22,7 @@ use Rattle.ost_model.specs.Standing.{deploy_name}
 use Rattle.ost_model.proofs.Looked.{look_same}
 use Rattle.ost_model.proofs.Places.{first_same}
 use Rattle.ost_checkout.specs.Checkout.{HasReserved}
-use Rattle.ost_pull.specs.Pulls.{Pulls, PullsName, PullsSoundly, IsLackedName, WasPulled, WasRefused}
+use Rattle.ost_pull.specs.Pulls.{HasTrueFiles, Pulls, PullsName, PullsSoundly, IsLackedName, WasPulled, WasRefused}
 use Rattle.ost_pull.specs.Work.{WorksName}
 use Rattle.dep_states.specs.Frames.{KeptIn}
 use Rattle.dep_states.specs.Lasting.{IsLasting}
@@ -48,7 +48,7 @@ use Rattle.op_change.proofs.Creating.{room_creates, furnish_creates}
 use Rattle.op_change.proofs.Apart.{rest_within, dir_apart, work_in_tmp, object_off_tmp, store_by}
 use Rattle.op_change.proofs.Changing.{changes_on, room_changes, room_store, pull_changes, ready_object, furnish_changes, furnish_files, furnish_store}
 use Rattle.op_change.proofs.Folders.{lays_opens}
-use Rattle.op_change.proofs.Pulling.{pull_opens, true_names}
+use Rattle.op_change.proofs.Pulling.{pull_opens, true_files, true_names, true_same}
 use Rattle.op_change.proofs.Cleared.{room_opens}
 use Rattle.op_change.proofs.Sparing.{ready_opens, which_of}
 use Rattle.op_change.specs.Readying.{a_head}
@@ -182,7 +182,7 @@ pub record AtPull (name : Ref) (commit url : List ℕ) (kept : Bool) (holds : Op
   pub room : RoomMade name commit kept u between
   pub has : HasRoom tmp (commit_dir name commit) kept between
   pub pull : PullsSoundly repo pull_work between v
-  pub was : (held : Holdings) → holds ≡ Some held → WasPulled repo pull_work (supply_at held (Some url) between) commit between v
+  pub was : HasTrueFiles repo between → (held : Holdings) → holds ≡ Some held → WasPulled repo pull_work (supply_at held (Some url) between) commit between v
 
 module _ (s : State) (name : Ref) (commit url : List ℕ) (kept : Bool) (holds : Option Holdings) (digits : is_digest commit ≡ true) (unkept : kept ≡ false → KeptIn s name commit → ⊥) where
   pub room_still : {u v : View} → RoomMade name commit kept u v → Opens s u → Opens s v
@@ -213,12 +213,12 @@ module _ (s : State) (name : Ref) (commit url : List ℕ) (kept : Bool) (holds :
     pub at_room : Opens s u → Opens s p.between
     at_room opens = room_still p.room opens
 
-    module _ (held : Holdings) (told : holds ≡ Some held) where
+    module _ (files : HasTrueFiles repo u) (held : Holdings) (told : holds ≡ Some held) where
       same_supply : supply_at held (Some url) p.between ≡ supply_at held (Some url) u
       same_supply = ap (λ (own : Have). supply own (remote held (Some url))) same_before
 
       pub was_pulled : WasPulled repo pull_work (supply_at held (Some url) u) commit p.between v
-      was_pulled = subst (λ (have : Have). WasPulled repo pull_work have commit p.between v) same_supply (p.was held told)
+      was_pulled = subst (λ (have : Have). WasPulled repo pull_work have commit p.between v) same_supply (p.was (true_same same_before files) held told)
 
       pub agrees : Agree (supply_at held (Some url) u) (store repo (shows v)) (order (supply_at held (Some url) u) commit)
       agrees = was_pulled.pulled.stored (shows v) (now_left v)
@@ -230,7 +230,7 @@ module _ (s : State) (name : Ref) (commit url : List ℕ) (kept : Bool) (holds :
       furnish_still : {w : View} → Furnishes commit (commit_dir name commit) kept v w → AreTold holds → Opens s u → Opens s w
       furnish_still (readies ready) told opens = ready_opens ready (at_still opens)
       furnish_still (lays between tree ready is out) told opens =
-          lays_opens name commit digits (unkept is) tree (ap (λ (have : Have). first_fault have commit) (store_by tree_v tree ready.files (ready_object ready)) ∙ whole told.0 told.1) out (ready_opens ready (at_still opens))
+          lays_opens name commit digits (unkept is) tree (ap (λ (have : Have). first_fault have commit) (store_by tree_v tree ready.files (ready_object ready)) ∙ whole (true_files opens) told.0 told.1) out (ready_opens ready (at_still opens))
 
       pub fetches_furnish : {w : View} → Furnishes commit (commit_dir name commit) kept v w → Fetches s name commit holds u w
       fetches_furnish furnish = record {
@@ -248,12 +248,12 @@ module _ (s : State) (name : Ref) (commit url : List ℕ) (kept : Bool) (holds :
         object_before : (d : List ℕ) (kind : ObjKind) → store repo (shows p.between) d kind ≡ store repo (shows u) d kind
         object_before d kind = ap (λ (have : Have). have d kind) same_before
 
-        pub agrees_after : (held : Holdings) (told : holds ≡ Some held) → Agree (supply_at held (Some url) u) (store repo (shows w)) (order (supply_at held (Some url) u) commit)
-        agrees_after held told = λ place has. object_after place.digest place.kind ∙ agrees held told place has
+        pub agrees_after : (files : HasTrueFiles repo u) (held : Holdings) (told : holds ≡ Some held) → Agree (supply_at held (Some url) u) (store repo (shows w)) (order (supply_at held (Some url) u) commit)
+        agrees_after files held told = λ place has. object_after place.digest place.kind ∙ agrees files held told place has
 
         has_objects : (held : Holdings) → holds ≡ Some held → Opens s u → HasObjects (supply_at held (Some url) u) commit u w
-        has_objects held told opens = let was = was_pulled held told in record {
-          there = agrees_after held told;
+        has_objects held told opens = let was = was_pulled (true_files opens) held told in record {
+          there = agrees_after (true_files opens) held told;
           stood = λ d kind good some. object_after d kind ∙ was.stood d kind good (λ none. some (sym (object_before d kind) ∙ none)) ∙ object_before d kind;
           others = λ d kind good none.
               object_after d kind ∙ ap (object_at kind) (same_shown p.tree tree_v (pulls_of p.room p.pull opens).files (object_path repo d kind) (was.others d kind good none)) ∙ object_before d kind;
@@ -268,23 +268,23 @@ module _ (s : State) (name : Ref) (commit url : List ℕ) (kept : Bool) (holds :
         pub was_fetched : WasFurnished commit (commit_dir name commit) kept v w → WasFetched s name commit kept url holds u w
         was_fetched furnished = record {
           fetched = λ held told opens. record {
-            clean = (was_pulled held told).pulled.clean;
+            clean = (was_pulled (true_files opens) held told).pulled.clean;
             objects = has_objects held told opens;
             link_free = link_after held told opens;
             laid = λ is. furnished.laid is (dir_apart name commit);
           };
-          shares = λ held told opens. shares_on (shares_on (shares_empty p.room) (pulled_lasts (was_pulled held told).shares) (pulls_of p.room p.pull opens).files) furnished.shares (furnish_files s name commit furnish);
+          shares = λ held told opens. shares_on (shares_on (shares_empty p.room) (pulled_lasts (was_pulled (true_files opens) held told).shares) (pulls_of p.room p.pull opens).files) furnished.shares (furnish_files s name commit furnish);
           creates = λ held told opens.
               let pulled = (pulls_of p.room p.pull opens).files in
               let before = files_on (files_kept p.room) pulled in
               creates_to (λ o l. record { digits = l.digits; ordered = l.ordered; lacked = sym (object_before o.0 o.1) ∙ l.lacked }) (λ o l. record { digits = l.digits; ordered = l.ordered; lacked = object_before o.0 o.1 ∙ l.lacked })
-              (creates_on (creates_off (room_creates name commit kept p.room) (was_pulled held told).creates (files_kept p.room) pulled) (furnish_creates name commit furnish) before (furnish_files s name commit furnish));
+              (creates_on (creates_off (room_creates name commit kept p.room) (was_pulled (true_files opens) held told).creates (files_kept p.room) pulled) (furnish_creates name commit furnish) before (furnish_files s name commit furnish));
         }
 
         -- the commit's root has no entry `deploy`
-        pub not_reserved : HasReserved repo commit w → (held : Holdings) → holds ≡ Some held → HasNoDeploy (supply_at held (Some url) u) commit → ⊥
-        not_reserved reserved held told none =
-            reserved.there (look_same (supply_at held (Some url) u) (store repo (shows w)) commit (was_pulled held told).pulled.clean (agrees_after held told) deploy_name ∙ none)
+        pub not_reserved : HasReserved repo commit w → HasTrueFiles repo u → (held : Holdings) → holds ≡ Some held → HasNoDeploy (supply_at held (Some url) u) commit → ⊥
+        not_reserved reserved files held told none =
+            reserved.there (look_same (supply_at held (Some url) u) (store repo (shows w)) commit (was_pulled files held told).pulled.clean (agrees_after files held told) deploy_name ∙ none)
 
   -- ---- where the pull is refused
 

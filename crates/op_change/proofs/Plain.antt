@@ -195,7 +195,7 @@ module _ (s : State) (op : Op) (off : Brings op → ⊥) {u w : Outside} where
   pub attempts_plain : (t : State) → Plainly s op (Ok t) u w → Attempts s op (Ok t) u w
   attempts_plain t p = record {
     same = p.holdings;
-    answers = λ have x. ok_plain s op off have t p.state;
+    answers = λ have x files. ok_plain s op off have t p.state;
     plain = λ none. p.state;
     moments = goes_plain s op off p.told p.moments;
     success = end_plain s op off p.success;
@@ -210,7 +210,7 @@ module _ (s : State) (op : Op) (off : Brings op → ⊥) {u w : Outside} where
   not_plain : (end : HostEnd) → Plainly s op (Err end) u w → Attempts s op (Err (of_host end)) u w
   not_plain end p = record {
     same = p.holdings;
-    answers = λ have x. err_with have s op end;
+    answers = λ have x files. err_with have s op end;
     plain = λ none. err_plainly s op end;
     moments = goes_plain s op off p.told p.moments;
     success = tt;

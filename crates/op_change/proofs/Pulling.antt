@@ -1,20 +1,22 @@
 -- A pull spares what is shown.
 use Rattle.std.proofs.Common.{◌≡◌, ◌⊎◌, ◌≤◌, inl, inr, ℕ, List, [], ◌∷◌, ◌++◌, true, codes, length, take, refl, sym, ◌∙◌, ap, arith, append_assoc}
 use Rattle.fp_base.specs.declared.object.ObjKind.{ObjKind}
+use Rattle.fp_base.specs.declared.object.ObjKind.TheVariants as kinds
 use Rattle.fp_host.specs.Paths.{Elements, IsAbove}
 use Rattle.fp_host.specs.View.{View}
-use Rattle.fp_host.specs.Outcome.{Spot, gone, folder, Disk, Leaves}
+use Rattle.fp_host.specs.Outcome.{Spot, gone, folder, shows, Disk, Leaves}
 use Rattle.fp_name.specs.Hex.{hex, is_digest}
 use Rattle.fp_small.specs.Clear.{IsWithin}
 use Rattle.fp_small.specs.Places.{repo, tmp}
 use Rattle.fp_small.specs.declared.state.State.{State}
-use Rattle.ost_model.specs.Objects.{object_path}
+use Rattle.ost_model.specs.Objects.{Have, object_path, store}
 use Rattle.ost_model.specs.Stores.{objects_folder}
 use Rattle.ost_store.proofs.Elements.{prefix_is_one}
 use Rattle.ost_store.specs.Place.{LeavesStore}
-use Rattle.ost_pull.specs.Pulls.{PullsAt, Pulls}
+use Rattle.ost_pull.specs.Pulls.{PullsAt, Pulls, HasTrueFiles}
 use Rattle.ost_pull.specs.Pulls as pulls
 use Rattle.ost_pull.specs.Work.{WorksAt}
+use Rattle.ost_pull.proofs.TrueFiles.{stores_true}
 use Rattle.dep_states.specs.Frames.{IsNewObject}
 use Rattle.dep_states.specs.Sound.{Fixed, Permits, Opens, Spares, InTmp}
 use Rattle.dep_states.proofs.Deployed.{top}
@@ -30,6 +32,14 @@ use Rattle.op_change.proofs.Sparing.{a_folder}
 -- every stop leaves a store whose names are true
 pub true_names : {s : State} {v : View} → Opens s v → LeavesStore repo v
 true_names opens = record { each = λ disk left. sound_store disk (opens.sound disk left) }
+
+-- so its files and links are those of their names
+pub true_files : {s : State} {v : View} → Opens s v → HasTrueFiles repo v
+true_files {v = v} opens = stores_true repo v (true_names opens)
+
+-- files are those of their names where the store is the same
+pub true_same : {u v : View} → store repo (shows v) ≡ store repo (shows u) → HasTrueFiles repo u → HasTrueFiles repo v
+true_same same files = record { each = λ d object digits there. files.each d object digits (sym (ap (λ (have : Have). have d kinds.File) same) ∙ there) }
 
 -- ---- work
 

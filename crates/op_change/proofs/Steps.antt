@@ -20,7 +20,7 @@ use Rattle.ost_model.specs.Remotes.{Supplies, remote}
 use Rattle.ost_checkout.specs.Checkout.{HasReserved}
 use Rattle.ost_walk.specs.declared.pull_end.PullEnd.{PullEnd}
 use Rattle.ost_walk.specs.declared.pull_end.PullEnd.TheVariants as ends
-use Rattle.ost_pull.specs.Pulls.{CanPull, PullsSoundly, Refuses, WasPulled, WasRefused}
+use Rattle.ost_pull.specs.Pulls.{CanPull, HasTrueFiles, HasTrueFilesNow, PullsSoundly, Refuses, WasPulled, WasRefused}
 use Rattle.dep_states.specs.Frames.{KeptIn}
 use Rattle.dep_states.specs.Names.{commit_dir}
 use Rattle.dep_states.specs.Sound.{Opens}
@@ -31,10 +31,11 @@ use Rattle.op_change.specs.Furnishing.{Furnishes, WasFurnished, CanFurnish}
 use Rattle.op_change.specs.Places.{pull_work}
 use Rattle.op_change.specs.Rooms.{RoomAt, RoomName, HasRoom, CanMakeRoom}
 use Rattle.op_change.proofs.Able.{can_pull, can_furnish}
-use Rattle.op_change.proofs.Brings.{supplied}
+use Rattle.op_change.proofs.Brings.{supplied_true, true_now}
 use Rattle.op_change.proofs.Changing.{room_store}
 use Rattle.op_change.proofs.Fetched.{AtPull, RoomMade, fetches_room, fetches_pull, fetches_furnish, was_fetched, not_reserved, turned_down, at_still, whole, dir_pulled, room_still, pulls_of}
 use Rattle.op_change.proofs.Cleared.{can_make_room}
+use Rattle.op_change.proofs.Pulling.{true_files, true_same}
 
 -- ---- the paths are those of the commit
 
@@ -50,10 +51,10 @@ pub pulls_at : {r t p q : Elements} {a b : Option Moments} → r ≡ p → t ≡
 pulls_at {t = t} {p = p} {a = a} {b = b} r_is t_is goes = subst (λ (x : Elements). Always (PullsSoundly p x) a b) t_is (subst (λ (x : Elements). Always (PullsSoundly x t) a b) r_is goes)
 
 pub pulled_at : {r t p q : Elements} {url : List ℕ} {holds : Option Holdings} {commit : List ℕ} {a b : Option Moments} → r ≡ p → t ≡ q
-    → ((have : Have) → Supplies r (Some url) a holds have → AtEnd (WasPulled r t have commit) a b) → (have : Have) → Supplies p (Some url) a holds have → AtEnd (WasPulled p q have commit) a b
+    → ((have : Have) → Supplies r (Some url) a holds have → HasTrueFilesNow r a → AtEnd (WasPulled r t have commit) a b) → (have : Have) → Supplies p (Some url) a holds have → HasTrueFilesNow p a → AtEnd (WasPulled p q have commit) a b
 pulled_at {t = t} {p = p} {url = url} {holds = holds} {commit = commit} {a = a} {b = b} r_is t_is each =
-    subst (λ (y : Elements). (have : Have) → Supplies p (Some url) a holds have → AtEnd (WasPulled p y have commit) a b) t_is
-    (subst (λ (x : Elements). (have : Have) → Supplies x (Some url) a holds have → AtEnd (WasPulled x t have commit) a b) r_is each)
+    subst (λ (y : Elements). (have : Have) → Supplies p (Some url) a holds have → HasTrueFilesNow p a → AtEnd (WasPulled p y have commit) a b) t_is
+    (subst (λ (x : Elements). (have : Have) → Supplies x (Some url) a holds have → HasTrueFilesNow x a → AtEnd (WasPulled x t have commit) a b) r_is each)
 
 -- ---- call by call
 
@@ -71,9 +72,9 @@ module _ (s : State) (name : Ref) (commit url : List ℕ) (kept : Bool) (holds :
   made_room told frame has = record { goes = begins told (goes_known frame.goes has) (λ u w t k. tt) (λ u w t k q. (t, q)) }
 
   pub at_pull : {a b c : Option Moments} → IsTold a → IsTold b → Frame (RoomAt tmp (commit_dir name commit) kept) (RoomName tmp (commit_dir name commit) kept) NoPath a b → AtEnd (λ u w. HasRoom tmp (commit_dir name commit) kept w) a b
-      → Always (PullsSoundly repo pull_work) b c → ((have : Have) → Supplies repo (Some url) b holds have → AtEnd (WasPulled repo pull_work have commit) b c) → AtEnd (AtPull name commit url kept holds) a c
+      → Always (PullsSoundly repo pull_work) b c → ((have : Have) → Supplies repo (Some url) b holds have → HasTrueFilesNow repo b → AtEnd (WasPulled repo pull_work have commit) b c) → AtEnd (AtPull name commit url kept holds) a c
   at_pull told mid frame has pulls each =
-      ends_on (ends_both (ends_goes mid pulls) (supplied {Q = λ have v w. WasPulled repo pull_work have commit v w} (ends_goes mid pulls) each)) (made_room told frame has) mid
+      ends_on (ends_both (ends_goes mid pulls) (supplied_true {Q = λ have v w. WasPulled repo pull_work have commit v w} (ends_goes mid pulls) each)) (made_room told frame has) mid
       (λ u v w tree q e. record { between = v; before = q.0; tree = tree; room = q.1.0; has = q.1.1; pull = e.0; was = e.1 })
 
   pub goes_furnish : {a c d : Option Moments} → IsTold c → Always (Fetches s name commit holds) a c → AtEnd (AtPull name commit url kept holds) a c → Always (Furnishes commit (commit_dir name commit) kept) c d → Always (Fetches s name commit holds) a d
@@ -89,7 +90,7 @@ module _ (s : State) (name : Ref) (commit url : List ℕ) (kept : Bool) (holds :
       ends_in_tree last (between mid known (ends_both (ends_goes mid furnishes) done)) (λ u w tree q. was_fetched s name commit url kept holds digits unkept q.2.0 q.1 tree q.2.1.0 q.2.1.1)
 
   pub end_reserved : {a c d : Option Moments} → IsTold c → IsTold d → AtEnd (AtPull name commit url kept holds) a c → Always (Furnishes commit (commit_dir name commit) kept) c d → AtEnd (λ u w. HasReserved repo commit w) c d
-      → AtEnd (λ u w. (held : Holdings) → holds ≡ Some held → HasNoDeploy (supply_at held (Some url) u) commit → ⊥) a d
+      → AtEnd (λ u w. HasTrueFiles repo u → (held : Holdings) → holds ≡ Some held → HasNoDeploy (supply_at held (Some url) u) commit → ⊥) a d
   end_reserved mid last known furnishes reserved =
       ends_in_tree last (between mid known (ends_both (ends_goes mid furnishes) reserved)) (λ u w tree q. not_reserved s name commit url kept holds digits unkept q.2.0 q.1 tree q.2.1.0 q.2.1.1)
 
@@ -113,7 +114,7 @@ module _ (s : State) (name : Ref) (commit url : List ℕ) (kept : Bool) (holds :
   pull_can tree made opens = can_pull tree (room_still s name commit url kept holds digits unkept made opens)
 
   pub furnish_can : {u v : View} → is_ref name ≡ true → IsTree v → (AtPull name commit url kept holds) u v → AreTold holds → Opens s u → CanFurnish commit (commit_dir name commit) kept v
-  furnish_can {v = v} good tree known told opens = can_furnish tree (at_still s name commit url kept holds digits unkept known opens) name commit kept good free (whole s name commit url kept holds digits unkept known told.0 told.1)
+  furnish_can {v = v} good tree known told opens = can_furnish tree (at_still s name commit url kept holds digits unkept known opens) name commit kept good free (whole s name commit url kept holds digits unkept known (true_files opens) told.0 told.1)
     where
       free : kept ≡ false → v.names (commit_dir name commit) ≡ absent
       free is = elim ((pulls_of s name commit url kept holds digits unkept known.room known.pull opens).keeps.names (commit_dir name commit)) [ inl same ↦ same ∙ (known.has.cleared is).gone (commit_dir name commit) (inl refl) | inr put ↦ absurd (dir_pulled name commit known.between (v.names (commit_dir name commit)) put) ]
@@ -141,6 +142,13 @@ supplies_after name commit kept s {url = url} told told' frame x =
       is = x.is ∙ ap (λ (own : Have). supply own (remote x.held url)) (sym (room_store s name commit kept (told x.moments x.told_is) (told' n.0 n.1) n.3));
     }
 
+-- the files of the store are still those of their names
+pub true_after : (name : Ref) (commit : List ℕ) (kept : Bool) (s : State) {a b : Option Moments} → IsTold a → IsTold b → Frame (RoomAt tmp (commit_dir name commit) kept) (RoomName tmp (commit_dir name commit) kept) NoPath a b
+    → (m : Moments) → a ≡ Some m → HasTrueFilesNow repo a → HasTrueFilesNow repo b
+true_after name commit kept s told told' frame m at files =
+    let n = frame.goes.told m at in
+    true_now n.0 n.1 (true_same (room_store s name commit kept (told m at) (told' n.0 n.1) n.3) (files.are m at))
+
 -- ---- the causes at the commit's paths
 
 pub room_cause_at : {F : Type 0} {t f p q : Elements} {kept : Bool} {a : Option Moments} {before now : ℕ} → t ≡ p → f ≡ q → IsCaused F a (CanMakeRoom t f kept) before now → IsCaused F a (CanMakeRoom p q kept) before now
@@ -157,10 +165,13 @@ refused_at {a = a} {b = b} is refused = subst (λ (x : Elements). AtEnd (WasRefu
 pub supplies_at : {p q : Elements} {url : Option (List ℕ)} {holds : Option Holdings} {have : Have} {a : Option Moments} → p ≡ q → Supplies p url a holds have → Supplies q url a holds have
 supplies_at {url = url} {holds = holds} {have = have} {a = a} is x = subst (λ (r : Elements). Supplies r url a holds have) is x
 
--- a reserved name is none of a commit without one
-pub never_reserved : {url : List ℕ} {holds : Option Holdings} (commit : List ℕ) {have : Have} {a b : Option Moments} → Supplies repo (Some url) a holds have → HasNoDeploy have commit
-    → AtEnd (λ u w. (held : Holdings) → holds ≡ Some held → HasNoDeploy (supply_at held (Some url) u) commit → ⊥) a b → ⊥
-never_reserved commit x none last = (last.goes.told x.moments x.told_is).3 x.held x.holdings_are (subst (λ (have : Have). HasNoDeploy have commit) x.is none)
+pub true_at : {p q : Elements} {a : Option Moments} → p ≡ q → HasTrueFilesNow p a → HasTrueFilesNow q a
+true_at {a = a} is files = subst (λ (r : Elements). HasTrueFilesNow r a) is files
 
-pub turned_by : {s : State} {name : Ref} {commit url : List ℕ} {holds : Option Holdings} {a b : Option Moments} → AtEnd (λ u w. (held : Holdings) → holds ≡ Some held → HasNoDeploy (supply_at held (Some url) u) commit → ⊥) a b → AtEnd (WasTurnedDown s name commit url holds) a b
-turned_by never = ends_to never (λ u w no_case. record { objects = λ held told opens none. absurd (no_case held told none); names = λ held told opens none. absurd (no_case held told none) })
+-- a reserved name is none of a commit without one
+pub never_reserved : {url : List ℕ} {holds : Option Holdings} (commit : List ℕ) {have : Have} {a b : Option Moments} → Supplies repo (Some url) a holds have → HasTrueFilesNow repo a → HasNoDeploy have commit
+    → AtEnd (λ u w. HasTrueFiles repo u → (held : Holdings) → holds ≡ Some held → HasNoDeploy (supply_at held (Some url) u) commit → ⊥) a b → ⊥
+never_reserved commit x files none last = (last.goes.told x.moments x.told_is).3 (files.are x.moments x.told_is) x.held x.holdings_are (subst (λ (have : Have). HasNoDeploy have commit) x.is none)
+
+pub turned_by : {s : State} {name : Ref} {commit url : List ℕ} {holds : Option Holdings} {a b : Option Moments} → AtEnd (λ u w. HasTrueFiles repo u → (held : Holdings) → holds ≡ Some held → HasNoDeploy (supply_at held (Some url) u) commit → ⊥) a b → AtEnd (WasTurnedDown s name commit url holds) a b
+turned_by never = ends_to never (λ u w no_case. record { objects = λ held told opens none. absurd (no_case (true_files opens) held told none); names = λ held told opens none. absurd (no_case (true_files opens) held told none) })

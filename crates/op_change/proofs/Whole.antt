@@ -34,7 +34,7 @@ use Rattle.op_change.specs.Fetching.{Fetches, WasFetched, HasNoDeploy, WasTurned
 use Rattle.op_change.specs.Headed.{IsHeaded}
 use Rattle.op_change.specs.Obtaining.{WasObtained, Obtains}
 use Rattle.op_change.specs.declared.coming.Coming.{Coming}
-use Rattle.op_change.proofs.Brings.{supplied, still_supplied, fetches_same, AtFetch, was_obtained, left_same, left_down, names_same, names_down, head_answers, fetch_answers, done_answers, where_told}
+use Rattle.op_change.proofs.Brings.{supplied, still_supplied, true_still, fetches_same, AtFetch, was_obtained, left_same, left_down, names_same, names_down, head_answers, fetch_answers, done_answers, where_told}
 use Rattle.op_change.proofs.Headed.{head_ok}
 use Rattle.op_change.proofs.Passing.{remotes_after}
 
@@ -120,7 +120,7 @@ module _ (s : State) (origin : RemoteRow) (name : Ref) (commit : List ℕ) (u v 
   not_read : (e : PullEnd) → Foresees s origin name commit (Err e) u v → Obtains s origin name commit (Err e) u v
   not_read e f = record {
     same = f.looks.same;
-    answers = λ have x. head_answers have name commit e (f.heads have x);
+    answers = λ have x files. head_answers have name commit e (f.heads have x);
     moments = begins f.told f.looks.unchanged.goes (λ x y t same. fetches_same same) (λ x y t same is. fetches_same is.0);
     success = λ row is. absurd (cc is);
     refused = λ r is. left_still s u.holdings f.told f.looks.unchanged;
@@ -161,7 +161,7 @@ module _ (s : State) (origin : RemoteRow) (name : Ref) (commit : List ℕ) (u v 
     not_fetched : (e : PullEnd) → Retrieves s name commit coming.kept origin.url (Err e) v w → Obtains s origin name commit (Err e) u w
     not_fetched e p = record {
       same = p.same ∙ f.looks.same;
-      answers = λ have x. fetch_answers have name commit (f.heads have x).0 e (f.heads have x).1 (p.refuses have (supplied_on x) (no_deploy have x));
+      answers = λ have x files. fetch_answers have name commit (f.heads have x).0 e (f.heads have x).1 (p.refuses have (supplied_on x) (true_still f.looks.unchanged x.moments x.told_is files) (no_deploy have x));
       moments = goes p;
       success = λ row is. absurd (cc is);
       refused = λ r is. left p (p.refused r (err_on e (ends.Refused r) is));
@@ -180,7 +180,7 @@ module _ (s : State) (origin : RemoteRow) (name : Ref) (commit : List ℕ) (u v 
       pub obtains : Retrieves s name commit coming.kept origin.url (Ok tt) v w → Obtains s origin name commit (Ok coming.row) u w
       obtains p = record {
         same = p.same ∙ f.looks.same;
-        answers = λ have x. done_answers have name commit (f.heads have x).0 coming.row (f.heads have x).1 (f.heads have x).2 (p.refuses have (supplied_on x) (no_deploy have x));
+        answers = λ have x files. done_answers have name commit (f.heads have x).0 coming.row (f.heads have x).1 (f.heads have x).2 (p.refuses have (supplied_on x) (true_still f.looks.unchanged x.moments x.told_is files) (no_deploy have x));
         moments = goes p;
         success = λ row is. subst (λ (r : RefRow). AtEnd (WasObtained s origin name commit u.holdings r) u.told w.told) (let same : coming.row ≡ row = cc is in same)
             (ends_to (at_fetch s origin name commit u.holdings coming.row.timestamp coming.kept f.told mid last at_head (fetches p) (was_fetched_at refl f.looks.same p.success))

@@ -11,6 +11,7 @@ use Rattle.fp_small.specs.declared.refusal.Refusal.{Refusal}
 use Rattle.fp_small.specs.declared.state.State.{State}
 use Rattle.ost_model.specs.Objects.{Have}
 use Rattle.ost_model.specs.Remotes.{Supplies}
+use Rattle.ost_pull.specs.Pulls.{HasTrueFilesNow}
 use Rattle.ost_walk.specs.Ends.{IsRemotes, Outside}
 use Rattle.dep_states.specs.Sound.{Opens}
 use Rattle.op_change.specs.Applied.{Brings, url_for, AppliesWith, AppliesPlainly, Applies, WasApplied, IsStarved, HostFaulted}
@@ -18,14 +19,15 @@ use Rattle.op_change.specs.Bringing.{WasLeft}
 use Rattle.op_change.specs.declared.ending.ApplyEnd.{ApplyEnd}
 use Rattle.op_change.specs.declared.ending.ApplyEnd.TheVariants as ends
 
--- What is answered; what a stop at any moment leaves; how it is once it is done, where it is
--- refused, where a remote is at fault and where memory runs out; and whose a fault is. The remotes
--- stay as they are, and where no commit is brought they aren't asked.
+-- What is answered, by an operation that brings a commit over a store whose files are those of their
+-- names; what a stop at any moment leaves; how it is once it is done, where it is refused, where a
+-- remote is at fault and where memory runs out; and whose a fault is. The remotes stay as they are,
+-- and where no commit is brought they aren't asked.
 pub record Attempts (s : State) (op : Op) (result : Result State ApplyEnd)
     (u w : Outside) : Type 0 where
   pub same : w.holdings ≡ u.holdings
   pub answers : (have : Have) → Supplies repo (url_for s op) u.told u.holdings have
-      → AppliesWith have s op result
+      → (Brings op → HasTrueFilesNow repo u.told) → AppliesWith have s op result
   pub plain : (Brings op → ⊥) → AppliesPlainly s op result
   pub moments : Always (Applies s op u.holdings) u.told w.told
   pub success : OnOk result (AtEnd (WasApplied s op u.holdings) u.told w.told)

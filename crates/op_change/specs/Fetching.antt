@@ -17,7 +17,7 @@ use Rattle.ost_model.specs.Order.{first_fault}
 use Rattle.ost_model.specs.Remotes.{Supplies}
 use Rattle.ost_model.specs.Standing.{deploy_name}
 use Rattle.ost_checkout.specs.Checkout.{IsCheckedOut}
-use Rattle.ost_pull.specs.Pulls.{IsLacked, Refuses, first_refusal}
+use Rattle.ost_pull.specs.Pulls.{HasTrueFilesNow, IsLacked, Refuses, first_refusal}
 use Rattle.ost_store.specs.Created.{Creates}
 use Rattle.ost_walk.specs.Ends.{IsRemotes, Outside}
 use Rattle.ost_walk.specs.declared.pull_end.PullEnd.{PullEnd}
@@ -68,13 +68,14 @@ pub record WasTurnedDown (s : State) (name : Ref) (commit url : List ℕ) (holds
       → HasNoDeploy (supply_at held (Some url) u) commit
       → (q : Elements) → (w.names q ≡ u.names q) ⊎ LeftName s name commit q (w.names q)
 
--- What is refused; what is so at each moment, in the end, and where it is turned down; and whose a
--- fault is. The remotes stay as they are.
+-- What is refused, where the store's files are those of their names; what is so at each moment, in
+-- the end, and where it is turned down; and whose a fault is. The remotes stay as they are.
 pub record Retrieves (s : State) (name : Ref) (commit : List ℕ) (kept : Bool) (url : List ℕ)
     (result : Result (Unit {0}) PullEnd) (u w : Outside) : Type 0 where
   pub same : w.holdings ≡ u.holdings
   pub refuses : (have : Have) → Supplies repo (Some url) u.told u.holdings have
-      → HasNoDeploy have commit → Refuses (first_refusal have commit) result
+      → HasTrueFilesNow repo u.told → HasNoDeploy have commit
+      → Refuses (first_refusal have commit) result
   pub moments : Always (Fetches s name commit u.holdings) u.told w.told
   pub success : OnOk result (AtEnd (WasFetched s name commit kept url u.holdings) u.told w.told)
   pub refused : (r : Refusal) → IsErrOf result (ends.Refused r)

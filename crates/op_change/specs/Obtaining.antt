@@ -14,7 +14,7 @@ use Rattle.fp_small.specs.declared.state.RemoteRow.{RemoteRow}
 use Rattle.fp_small.specs.declared.state.State.{State}
 use Rattle.ost_model.specs.Objects.{Have}
 use Rattle.ost_model.specs.Remotes.{Supplies}
-use Rattle.ost_pull.specs.Pulls.{IsLacked}
+use Rattle.ost_pull.specs.Pulls.{HasTrueFilesNow, IsLacked}
 use Rattle.ost_store.specs.Created.{Creates}
 use Rattle.ost_walk.specs.Ends.{IsRemotes, Outside}
 use Rattle.ost_walk.specs.PullEnds.{RefusesBy}
@@ -50,7 +50,7 @@ pub record Obtains (s : State) (origin : RemoteRow) (name : Ref) (commit : List 
     (result : Result RefRow PullEnd) (u w : Outside) : Type 0 where
   pub same : w.holdings ≡ u.holdings
   pub answers : (have : Have) → Supplies repo (Some origin.url) u.told u.holdings have
-      → ObtainsWith have name commit result
+      → HasTrueFilesNow repo u.told → ObtainsWith have name commit result
   pub moments : Always (Fetches s name commit u.holdings) u.told w.told
   pub success : (row : RefRow) → result ≡ Ok row
       → AtEnd (WasObtained s origin name commit u.holdings row) u.told w.told

@@ -11,7 +11,7 @@ use crate::rooms::make_room;
 use dep_states::Opened;
 use fp_host::{Host, Remotes};
 use fp_name::{Digest, RefName};
-use ost_pull::pull;
+use ost_pull::pull_trusting;
 use ost_walk::PullEnd;
 use std::alloc::Global;
 use std::thread::Threads;
@@ -39,7 +39,7 @@ pub(crate) fn fetch<H: Host, R: Remotes>(
         (R.faults remotes.new)) }
 {
     make_room(alloc, host, &places.tmp, &places.folder, kept)?;
-    pull(
+    pull_trusting(
         rt,
         alloc,
         host,
