@@ -188,7 +188,7 @@ module _ {A : Type 0} (item : A → Holdings → World → Answer) (all : List A
         acted = λ held known rests.
             let stage = q.stage held known rests in
             let at = stage_rests item held all (a ∷ left) s t stage in
-            stage_acted item held all a left s t stage e z (l.performed held known at) (l.acted held known at);
+            stage_acted item held all a left s t stage e _ z (l.performed held known at) (l.acted held known at);
       })
 
   pub turn_ends : (t : State) {before now : Bool} {u w : Outside} → Turned [] t before now u w → Acts (Rests s) May (each_over item all) s before now (Ok t) u w

@@ -1,15 +1,14 @@
 -- What an operation leaves that adds a ref: all is settled but for work and the file of the ref.
-use Rattle.std.proofs.Common.{◌≡◌, ◌≢◌, ◌⊎◌, inl, inr, ℕ, ◌<◌, ◌≤◌, List, [], ◌∷◌, ◌++◌, length, eqb, Bool, true, false, Option, Some, None, if◌then◌else◌, Contains, refl, sym, ◌∙◌, ap, subst, codes, arith}
+use Rattle.std.proofs.Common.{◌≡◌, ◌≢◌, ◌⊎◌, inl, inr, ℕ, ◌<◌, ◌≤◌, List, [], ◌∷◌, ◌++◌, length, eqb, true, Some, None, if◌then◌else◌, Contains, refl, sym, ◌∙◌, ap, subst, codes, arith}
 use Rattle.std.specs.Prelude.{map, is_some}
 use Rattle.std.specs.List.{list_all}
 use Rattle.std.specs.Str.{bytes_eq}
 use Rattle.std.proofs.lemmas.Bool.{cases_Bool, and_parts, cond-true, cond-false}
 use Rattle.std.proofs.lemmas.Slice.Eq.{bytes_eq-Decides}
-use Rattle.fp_host.specs.Paths.{Elements, Slot, dir, IsAbove}
+use Rattle.fp_host.specs.Paths.{Elements, Slot}
 use Rattle.fp_host.specs.View.{View, IsTree}
 use Rattle.fp_host.specs.Outcome.{Spot, gone, shows}
 use Rattle.fp_base.specs.declared.object.ObjKind.{ObjKind}
-use Rattle.fp_name.specs.Grammar.{is_remote_name}
 use Rattle.fp_name.specs.Hex.{is_byte, is_digest, hex}
 use Rattle.fp_name.specs.Kinds.{kind_word}
 use Rattle.fp_name.specs.Refs.{Ref, is_ref, ref_text, ref_with}
@@ -25,23 +24,20 @@ use Rattle.fp_small.specs.declared.state.State.{State}
 use Rattle.fp_small.specs.declared.state.RefRow.{RefRow}
 use Rattle.ost_model.specs.Objects.{Have, object_path, object_at, store}
 use Rattle.ost_model.specs.Order.{Place, In, Agree, order}
-use Rattle.ost_model.specs.Used.{IsUsed}
 use Rattle.ost_model.proofs.Places.{order_same}
 use Rattle.ost_store.proofs.Lists.{in_first, in_one}
 use Rattle.ost_walk.specs.Steps.{place_name}
-use Rattle.dep_states.specs.Names.{config, remotes_conf, pins_file, commit_dir, deploy, ref_file}
-use Rattle.dep_states.specs.After.{May, Done, state_after, after_op, row_at}
-use Rattle.dep_states.specs.Settled.{Settled, Used, HasBytes, HasOrigin}
+use Rattle.dep_states.specs.Names.{config, remotes_conf, pins_file, commit_dir, ref_file}
+use Rattle.dep_states.specs.After.{May, state_after, after_op, row_at}
+use Rattle.dep_states.specs.Settled.{Used, HasBytes}
 use Rattle.dep_states.specs.Shown.{Shows, at_name, ref_key, there, ref_seen}
 use Rattle.dep_states.specs.Sound.{Keeps, Opens}
-use Rattle.dep_states.specs.Zones.{outward}
 use Rattle.dep_states.proofs.Changes.{at_inserted}
-use Rattle.dep_states.proofs.Deployed.{top}
-use Rattle.dep_states.proofs.Rows.{text_apart, head_of}
+use Rattle.dep_states.proofs.Rows.{text_apart}
 use Rattle.dep_states.proofs.Single.{some_is, none_some}
 use Rattle.dep_states.proofs.Sparing.{word_apart, state_of_kept, shown_good}
 use Rattle.dep_states.proofs.Switch.{digits_no_active}
-use Rattle.dep_states.proofs.Switching.{second, word_no_repo}
+use Rattle.dep_states.proofs.Switching.{word_no_repo}
 use Rattle.dep_states.proofs.Total.{ref_is}
 use Rattle.dep_states.proofs.Usual.{sound_store}
 use Rattle.dep_states.proofs.Worked.{word_same}

@@ -16,7 +16,7 @@ use Rattle.dep_states.specs.After.{plain, state_after, after_op}
 use Rattle.dep_states.specs.Effects.{Effect, effect_of, brings, writes}
 use Rattle.op_change.specs.Deploys.{SameObjects}
 use Rattle.op_change.specs.Brought.{HasObjects, brought_refusal, commit_time, supply_at}
-use Rattle.op_change.specs.Applied.{Brings, url_of, url_for, url_by, have_for, op_refusal, refusal_by, done_with, time_by, HasObjectsFor, HasObjectsBy}
+use Rattle.op_change.specs.Applied.{Brings, url_of, url_by, have_for, op_refusal, refusal_by, done_with, time_by, HasObjectsFor, HasObjectsBy}
 use Rattle.op_change.proofs.Plain.{done_plain, none_refused}
 use Rattle.fl_change.specs.World.{world_at, kept_commits, used_of, supplied, supplied_by, world_after}
 use Rattle.fl_change.specs.Performs.{Rests, done_of}

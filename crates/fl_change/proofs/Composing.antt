@@ -14,19 +14,15 @@ use Rattle.fp_host.proofs.Cause.{clash_step}
 use Rattle.fp_host.proofs.Framed.{IsTold}
 use Rattle.fp_host.proofs.Goes.{makes_goes, ends_tree}
 use Rattle.fp_host.proofs.Ending.{goes_known}
-use Rattle.fp_small.specs.Places.{repo}
 use Rattle.fp_small.specs.declared.state.State.{State}
 use Rattle.fp_small.specs.declared.op.Op.{Op}
-use Rattle.fp_small.specs.declared.op.Op.TheVariants.{Install, Update, Uninstall, AddPin, DropPin, AddRemote, ModifyRemote, DropRemote, SetOverride, DropOverride, Migrate, Rollback}
 use Rattle.fp_small.specs.declared.refusal.Refusal.{Refusal}
-use Rattle.ost_model.specs.Objects.{Have}
-use Rattle.ost_model.specs.Remotes.{Supplies}
-use Rattle.ost_walk.specs.Ends.{IsRemotes, Outside}
+use Rattle.ost_walk.specs.Ends.{Outside}
 use Rattle.dep_states.specs.After.{Done, May, plain, state_after}
 use Rattle.dep_states.specs.Effects.{Effect, effect_of, BringsCommit, brings, writes}
 use Rattle.dep_states.specs.Sound.{Opens}
 use Rattle.dep_tidy.specs.Tidy.{Tidies}
-use Rattle.op_change.specs.Bringing.{AreTold, WasLeft}
+use Rattle.op_change.specs.Bringing.{AreTold}
 use Rattle.op_change.specs.Applied.{Brings, have_for, op_refusal, AppliesWith, Applies, WasApplied}
 use Rattle.op_change.specs.Attempts.{Attempts}
 use Rattle.op_change.specs.declared.ending.ApplyEnd.{ApplyEnd}

@@ -32,7 +32,7 @@ use Rattle.op_change.specs.Bringing.{AreTold, WasLeft}
 use Rattle.op_change.specs.Applied.{Brings, have_for, op_refusal, refusal_by, done_with, AppliesWith, Applies, WasApplied}
 use Rattle.fl_lines.specs.Lines.{op_text}
 use Rattle.fl_change.specs.World.{World, world_at, world_after, worlds_after, supplied}
-use Rattle.fl_change.specs.Answer.{Answer, Piece, lines_of, pieces_text, ops_in, ops_of, done_answer, refusal_answer, unless, sets_config, set_config, keeps_commits}
+use Rattle.fl_change.specs.Answer.{Answer, Piece, lines_of, pieces_text, ops_in, ops_of, done_answer, refusal_answer, unless, sets_config, set_config}
 use Rattle.fl_change.specs.Refs.{op_over}
 use Rattle.fl_change.specs.Changes.{HasText}
 use Rattle.fl_change.specs.Created.{LacksFor}

@@ -419,8 +419,8 @@ module _ {A : Type 0} (item : A → Holdings → World → Answer) (held : Holdi
         (performed_onto held stage.pieces (each_over item (a ∷ left) held (world_at t w)) (world_at s v) (world_at t w) (Err e) v w z stage_world stage.done stage.files kept
         (failed_followed held next_answer later_answer (world_at t w) e w z failed))
 
-    pub stage_acted : (e : RunEnd) {after : Bool} (z : View) → Performed held next_answer (world_at t w) (Err e) w z → Acted next_answer (Err e) now after → Acted (each_over item all held (world_at s v)) (Err e) before after
-    stage_acted e {after = after} z failed acted =
+    pub stage_acted : (e : RunEnd) (after : Bool) (z : View) → Performed held next_answer (world_at t w) (Err e) w z → Acted next_answer (Err e) now after → Acted (each_over item all held (world_at s v)) (Err e) before after
+    stage_acted e after z failed acted =
         subst (λ (q : Answer). Acted q (Err e) before after) (sym stage.same)
         (acted_onto stage.pieces (each_over item (a ∷ left) held (world_at t w)) (Err e) before now after stage.acted
         (acted_followed held next_answer later_answer (world_at t w) e w z now after failed acted))
