@@ -25,6 +25,4 @@ mod rows;
 #[cfg(test)]
 mod sizes;
 #[cfg(test)]
-mod trusting;
-#[cfg(test)]
 mod walks;
