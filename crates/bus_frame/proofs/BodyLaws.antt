@@ -3,13 +3,15 @@ use Rattle.std.proofs.Common.{◌≡◌, ℕ, zero, suc, ◌+◌, ◌<◌, ◌�
 use Rattle.std.specs.Prelude.{option_map, is_some, codes, IfOk}
 use Rattle.std.specs.Str.{bytes_eq}
 use Rattle.std.proofs.lemmas.Bool.{eqb-true, eq-eqb, eqb-false, cases_Bool, false≢true}
-use Rattle.std.proofs.lemmas.Option.{cond_some}
+use Rattle.std.proofs.lemmas.Option.{cond_some, same_Some}
 use Rattle.std.proofs.lemmas.List.{length-append, append-nil, take-append-drop}
 use Rattle.std.proofs.lemmas.Slice.Eq.{bytes_eq-Decides}
 use Rattle.bus_frame.specs.declared.limits.TheConstants.{MOST_ARRAY_BYTES}
 use Rattle.bus_frame.specs.declared.header.Header.{Header}
 use Rattle.bus_frame.specs.Steps.{first_of, remainder_byte}
 use Rattle.fp_base.specs.Steps.{◌>>=◌, Gives}
+use Rattle.fp_base.proofs.Options.{guarded}
+use Rattle.fp_base.proofs.Lists.{empty_is}
 use Rattle.bus_frame.specs.Places.{Place, bytes_at, long_text_at}
 use Rattle.bus_frame.specs.Types.{basic}
 use Rattle.bus_frame.specs.Values.{array_head_at}
@@ -39,10 +41,6 @@ text_some : (little : Bool) (at : ℕ) (text bytes : List ℕ) → IsLongText li
 text_some little at text bytes is =
     omega (arith, ap (λ (l : List ℕ). length l) is.spelled, length-append ((zeros 4 at ++ number_bytes little (length text)) ++ text) (0 ∷ []))
 
-none_left : (l : List ℕ) → eqb (length l) 0 ≡ true → l ≡ []
-none_left [] e = refl
-none_left (x ∷ xs) e = absurd (omega (arith, eqb-true (length (x ∷ xs)) 0 e))
-
 one_takes : (little : Bool) (p q : Place) (t : List ℕ) (ts : List (List ℕ)) → IsBytes p.rest → long_text_at little p ≡ Some (t, q) → AreTexts little q.at ts q.rest → AreTexts little p.at (t ∷ ts) p.rest
 one_takes little p q t ts fits e are =
     let x = long_text_takes little p t q fits e in
@@ -54,17 +52,14 @@ after_fits little p q t fits e = let x = long_text_takes little p t q fits e in 
 nothing_more : (little : Bool) (at : ℕ) (bytes : List ℕ) (ts : List (List ℕ)) → bytes ≡ [] → [] ≡ ts → AreTexts little at ts bytes
 nothing_more little at bytes ts empty e = subst (λ (l : List (List ℕ)). AreTexts little at l bytes) e empty
 
-same_some : {A : Type 0} (x y : A) → Some x ≡ Some y → x ≡ y
-same_some x y e = cc
-
 texts_take : (little : Bool) (n : ℕ) (p : Place) (ts : List (List ℕ)) → IsBytes p.rest → texts_at little n p ≡ Some ts → AreTexts little p.at ts p.rest
 unfolding texts_at
 texts_take little zero p ts fits e =
     let end = cond_some (eqb (length p.rest) 0) [] ts e in
-    nothing_more little p.at p.rest ts (none_left p.rest end.0) end.1
+    nothing_more little p.at p.rest ts (empty_is p.rest end.0) end.1
 texts_take little (suc n) p ts fits e =
     elim (chosen (eqb (length p.rest) 0) (Some []) (long_text_at little p >>= λ text. option_map (λ more. text.0 ∷ more) (texts_at little n text.1)) (Some ts) e) [
-      | inl g ↦ nothing_more little p.at p.rest ts (none_left p.rest g.0) (same_some [] ts g.1)
+      | inl g ↦ nothing_more little p.at p.rest ts (empty_is p.rest g.0) (same_Some [] ts g.1)
       | inr g ↦
           let t = bind_some (long_text_at little p) (λ text. option_map (λ more. text.0 ∷ more) (texts_at little n text.1)) ts g.1 in
           let m = map_some (texts_at little n t.0.1) (λ more. t.0.0 ∷ more) ts t.2 in
@@ -115,7 +110,7 @@ first_takes h message text fits e =
       first = x.0;
       rest = t.0.1.rest;
       parts = x.1.parts;
-      is = subst (λ (l : List ℕ). IsLongText h.little h.body_at l x.0) (same_some t.0.0 text t.2) x.2;
+      is = subst (λ (l : List ℕ). IsLongText h.little h.body_at l x.0) (same_Some t.0.0 text t.2) x.2;
     }
 
 first_again : (h : Header) (message text : List ℕ) → BeginsWithText h message text → first_text h message ≡ Some text
@@ -130,10 +125,6 @@ first_law h message found fits is text = (λ e. first_takes h message text fits 
 
 -- ---- three texts
 
-typed_takes : {A : Type 0} (b : Bool) (x : Option A) (y : A) → cond b x None ≡ Some y → (b ≡ true) × (x ≡ Some y)
-typed_takes true x y e = (refl, e)
-typed_takes false x y e = absurd cc
-
 abbrev Three : Type 0
 Three = List ℕ × List ℕ × List ℕ
 
@@ -146,7 +137,7 @@ three_takes little p a b c fits e =
     let end = cond_some (eqb (length t.0.1.rest) 0) (f.0.0, s.0.0, t.0.0) (a, b, c) t.2 in
     let fits_f = after_fits little p f.0.1 f.0.0 fits f.1 in
     let fits_s = after_fits little f.0.1 s.0.1 s.0.0 fits_f s.1 in
-    let third = one_takes little s.0.1 t.0.1 t.0.0 [] fits_s t.1 (none_left t.0.1.rest end.0) in
+    let third = one_takes little s.0.1 t.0.1 t.0.0 [] fits_s t.1 (empty_is t.0.1.rest end.0) in
     let second = one_takes little f.0.1 s.0.1 s.0.0 (t.0.0 ∷ []) fits_f s.1 third in
     let all = one_takes little p f.0.1 f.0.0 (s.0.0 ∷ t.0.0 ∷ []) fits f.1 second in
     subst (λ (x : Three). AreTexts little p.at (x.0 ∷ x.1 ∷ x.2 ∷ []) p.rest) end.1 all
@@ -172,7 +163,7 @@ three_law h message found fits is a b c =
     let p = body_place h message in
     let typed = bytes_eq-Decides (signature_text h) (codes "sss") in (
       λ e.
-          let both = typed_takes (has_signature h (codes "sss")) (three_texts_at h.little p) (a, b, c) (sym is ∙ e) in
+          let both = guarded (has_signature h (codes "sss")) (three_texts_at h.little p) (a, b, c) (sym is ∙ e) in
           record { typed = typed.0 both.0; are = three_takes h.little p a b c (body_fits h message fits) both.1 },
       λ t. is ∙ at_yes (has_signature h (codes "sss")) (three_texts_at h.little p) None (typed.1 t.typed) ∙ three_again h.little h.body_at (body_bytes h message) a b c t.are,
     )
@@ -193,7 +184,7 @@ elements_take little p q fits e =
     let end = cond_some (eqb (length body.0.1.rest) 0) (place head.0.1.at body.0.0) q body.2 in
     let before = array_head_takes little (basic 115) [] p head.0.0 head.0.1 fits head.1 in
     let taken = bytes_takes head.0.0 head.0.1 body.0.0 body.0.1 body.1 in
-    let all : head.0.1.rest ≡ body.0.0 = taken.0.parts ∙ ap (λ (l : List ℕ). body.0.0 ++ l) (none_left body.0.1.rest end.0) ∙ append-nil body.0.0 in
+    let all : head.0.1.rest ≡ body.0.0 = taken.0.parts ∙ ap (λ (l : List ℕ). body.0.0 ++ l) (empty_is body.0.1.rest end.0) ∙ append-nil body.0.0 in
     let spelled : p.rest ≡ array_head little 4 p.at (length body.0.0) ++ body.0.0 =
     before.0.parts ∙ ap (λ (l : List ℕ). array_head little 4 p.at head.0.0 ++ l) all ∙ ap (λ (n : ℕ). array_head little 4 p.at n ++ body.0.0) (sym taken.1) in
     let at_is : head.0.1.at ≡ p.at + length (array_head little 4 p.at (length body.0.0)) = before.0.at ∙ ap (λ (n : ℕ). p.at + length (array_head little 4 p.at n)) (sym taken.1) in
@@ -218,7 +209,7 @@ unfolding names_in names_place
 names_take h message names fits e =
     let p = body_place h message in
     let a = bind_some (names_place h message) (λ q. texts_at h.little (length q.rest) q) names e in
-    let both = typed_takes (has_signature h (codes "as")) (elements_place h.little p) a.0 a.1 in
+    let both = guarded (has_signature h (codes "as")) (elements_place h.little p) a.0 a.1 in
     let body = body_fits h message fits in
     let els = elements_take h.little p a.0 body both.1 in
     let head = array_head h.little 4 h.body_at (length a.0.rest) in

@@ -1,7 +1,7 @@
 -- A field that is read is a field, and a field is read.
 use Rattle.std.proofs.Common.{◌≡◌, ℕ, zero, suc, ◌+◌, ◌-◌, ◌<◌, ◌≤◌, Bool, true, false, cond, eqb, ltb, List, [], ◌∷◌, ◌++◌, length, Option, Some, None, refl, sym, ap, subst, ◌∙◌, append_assoc, inl, inr, arith}
 use Rattle.std.specs.Prelude.{◌&&◌, ◌||◌, ◌⊎◌, option_map}
-use Rattle.std.proofs.lemmas.Bool.{eqb-true, eqb-false, eq-eqb, ne_eqb, or_cases, cases_Bool, false≢true}
+use Rattle.std.proofs.lemmas.Bool.{eqb-true, eqb-false, eq-eqb, ne_eqb, or_cases, cases_Bool, false≢true, or_parts}
 use Rattle.std.proofs.lemmas.Option.{some_pair_parts}
 use Rattle.std.proofs.lemmas.List.{length-append, append-nil}
 use Rattle.bus_frame.specs.declared.limits.TheConstants.{MOST_CONTAINERS, MOST_ARRAYS, MOST_STRUCTS}
@@ -15,7 +15,7 @@ use Rattle.bus_frame.specs.Writing.{zeros}
 use Rattle.bus_frame.specs.Grammar.{IsNumber, IsLongText, IsShortText, IsValue, IsTypeText, is_telling, IsContent, IsField}
 use Rattle.bus_frame.proofs.Taking.{place, Takes, Takes-then, bind_some, bind_is, byte_takes, byte_again, aligned_takes, aligned_again}
 use Rattle.bus_frame.proofs.Spelled.{IsBytes, Takes-bytes, number_takes, number_again, long_text_takes, long_text_again, short_text_takes, short_text_again}
-use Rattle.bus_frame.proofs.TypeLaws.{chosen, none_of}
+use Rattle.bus_frame.proofs.TypeLaws.{chosen}
 use Rattle.bus_frame.proofs.ValueTakes.{map_some, variant_type_takes, value_takes}
 use Rattle.bus_frame.proofs.ValueAgain.{map_is, remainder_both, at_yes, at_no, variant_type_again, value_again}
 
@@ -62,8 +62,8 @@ tells_nothing (entry key t) a b d = refl
 
 telling_parts : (t : Ty) → is_telling t ≡ false → ((eqb (tag t) 115 || eqb (tag t) 111) ≡ false) × (eqb (tag t) 103 ≡ false) × (eqb (tag t) 117 ≡ false)
 telling_parts (basic c) e =
-    let last = none_of ((eqb c 115 || eqb c 111) || eqb c 103) (eqb c 117) e in
-    let first = none_of (eqb c 115 || eqb c 111) (eqb c 103) last.0 in
+    let last = or_parts ((eqb c 115 || eqb c 111) || eqb c 103) (eqb c 117) e in
+    let first = or_parts (eqb c 115 || eqb c 111) (eqb c 103) last.0 in
     (first.0, first.1, last.1)
 telling_parts variant e = (refl, refl, refl)
 telling_parts (array t) e = (refl, refl, refl)

@@ -1,7 +1,7 @@
 -- What a read message, a broken rule and a want of bytes say of the bytes, and what says that they are so read.
 use Rattle.std.proofs.Common.{◌≡◌, ℕ, ◌+◌, ◌-◌, ◌<◌, ◌≤◌, Bool, true, false, ◌||◌, not, eqb, ltb, cond, List, ◌++◌, length, Option, Some, None, Result, Ok, Err, refl, sym, ap, subst, ◌∙◌, inl, inr, arith}
 use Rattle.std.specs.Prelude.{◌⊎◌}
-use Rattle.std.proofs.lemmas.Bool.{ltb-false, le-ltb, ltb-true, not-false, or_cases, eqb-true, eqb-false}
+use Rattle.std.proofs.lemmas.Bool.{ltb-false, le-ltb, ltb-true, not-false, or_cases, eqb-true, eqb-false, or_parts}
 use Rattle.fp_base.specs.declared.frame_rule.FrameRule.{FrameRule}
 use Rattle.fp_base.specs.declared.frame_rule.FrameRule.TheVariants.{Order, ZeroType, Version, Serial, Length}
 use Rattle.bus_frame.specs.declared.limits.TheConstants.{MOST_ARRAY_BYTES, MOST_MESSAGE_BYTES}
@@ -54,13 +54,9 @@ pub record IsSound (f : Fixed) : Type 0 where
   pub array : f.array_len ≤ MOST_ARRAY_BYTES
   pub all : message_len f ≤ MOST_MESSAGE_BYTES
 
-none_else : (b : Bool) (rule : FrameRule) (x : Option FrameRule) → cond b (Some rule) x ≡ None → (b ≡ false) × (x ≡ None)
+pub none_else : (b : Bool) (rule : FrameRule) (x : Option FrameRule) → cond b (Some rule) x ≡ None → (b ≡ false) × (x ≡ None)
 none_else true rule x e = absurd cc
 none_else false rule x e = (refl, e)
-
-or_false : (a b : Bool) → (a || b) ≡ false → (a ≡ false) × (b ≡ false)
-or_false true b e = absurd cc
-or_false false b e = (refl, e)
 
 letter : (order : ℕ) → (eqb order 108 ≡ true) ⊎ (eqb order 66 ≡ true) → (order ≡ 108) ⊎ (order ≡ 66)
 letter order (inl e) = inl (eqb-true order 108 e)
@@ -74,7 +70,7 @@ sound_fixed f e =
     let version = none_else (not (eqb f.version 1)) Version _ kind.1 in
     let serial = none_else (eqb f.serial 0) Serial _ version.1 in
     let lengths = none_else (ltb MOST_ARRAY_BYTES f.array_len || ltb MOST_MESSAGE_BYTES (message_len f)) Length _ serial.1 in
-    let both = or_false (ltb MOST_ARRAY_BYTES f.array_len) (ltb MOST_MESSAGE_BYTES (message_len f)) lengths.0 in
+    let both = or_parts (ltb MOST_ARRAY_BYTES f.array_len) (ltb MOST_MESSAGE_BYTES (message_len f)) lengths.0 in
     record {
       order = letter f.order (or_cases (eqb f.order 108) (eqb f.order 66) (not-false _ order.0));
       kind = eqb-false _ _ kind.0;

@@ -6,6 +6,7 @@ use Rattle.std.proofs.lemmas.Bool.{cases_eq, eqb-true, eqb-false, eq-eqb, ne_eqb
 use Rattle.std.proofs.lemmas.List.{length-append, append-nil}
 use Rattle.fp_base.specs.declared.frame_rule.FrameRule.{FrameRule}
 use Rattle.fp_base.specs.declared.frame_rule.FrameRule.TheVariants.{Code, Double, Kind, Value}
+use Rattle.fp_base.proofs.Options.{none_if_not_some, or_alone}
 use Rattle.bus_frame.specs.declared.header.Header.{Header}
 use Rattle.bus_frame.specs.declared.fixed.Fixed.{Fixed}
 use Rattle.bus_frame.specs.declared.known.Grammar.{Grammar}
@@ -332,20 +333,12 @@ given-push code (g ∷ before) f = by_test (eqb g.code code) (given-push code be
     by_test true ih = refl
     by_test false ih = ih
 
-or_else_none : {A : Type 0} (o : Option A) → option_or o None ≡ o
-or_else_none (Some x) = refl
-or_else_none None = refl
-
-none_if_not : {A : Type 0} (o : Option A) → is_some o ≡ false → o ≡ None
-none_if_not (Some x) e = absurd (false≢true (sym e))
-none_if_not None e = refl
-
 -- a field of another code leaves what is known tied
 tied_above : (k : Known) (before : List Field) (f : Field) → Tied k before → 9 < f.code → Tied k (before ++ f ∷ [])
 tied_above k before f t lt = record {
   says = λ code low high.
       let apart : eqb f.code code ≡ false = ne_eqb f.code code (λ e. omega arith) in
-      t.says code low high ∙ sym (given-push code before f ∙ ap (λ (b : Bool). option_or (given code before) (cond b (Some f.content) None)) apart ∙ or_else_none (given code before));
+      t.says code low high ∙ sym (given-push code before f ∙ ap (λ (b : Bool). option_or (given code before) (cond b (Some f.content) None)) apart ∙ or_alone (given code before));
 }
 
 tied_put : (k : Known) (before : List Field) (f : Field) → Tied k before → 1 ≤ f.code → f.code ≤ 9 → given f.code before ≡ None → is_kind f.code f.content ≡ true → Tied (put k f.code f.content) (before ++ f ∷ [])
@@ -361,7 +354,7 @@ tied_put k before f t low high absent kind = record {
         | inr ne ↦
             let test = ne_eqb f.code o ne in
             at_no (eqb f.code o) (Some f.content) (known_says k o) test ∙ t.says o o_low o_high
-            ∙ sym (given-push o before f ∙ ap (λ (b : Bool). option_or (given o before) (cond b (Some f.content) None)) test ∙ or_else_none (given o before))
+            ∙ sym (given-push o before f ∙ ap (λ (b : Bool). option_or (given o before) (cond b (Some f.content) None)) test ∙ or_alone (given o before))
       ];
 }
 
@@ -382,7 +375,7 @@ added_known k before f t low high =
     by_tests true kind good d h read = read
     by_tests false false good d h read = read
     by_tests false true false d h read = read
-    by_tests false true true d h read = (put k f.code f.content, read, tied_put k before f t low high (none_if_not (given f.code before) d) h)
+    by_tests false true true d h read = (put k f.code f.content, read, tied_put k before f t low high (none_if_not_some (given f.code before) d) h)
 
 pub added : (k : Known) (before : List Field) (f : Field) → Tied k before → Added k before f (field_fault before f)
 unfolding add_field Added

@@ -1,5 +1,5 @@
 -- A message that is read is one, and one is read; the rule that is named is the first one broken.
-use Rattle.std.proofs.Common.{◌≡◌, ℕ, zero, suc, ◌+◌, ◌-◌, ◌<◌, ◌≤◌, Bool, true, false, not, cond, eqb, ltb, List, [], ◌∷◌, ◌++◌, length, take, drop, Option, Some, None, Result, Ok, Err, refl, sym, ap, subst, ◌∙◌, append_assoc, inl, inr, arith, length-drop, drop-drop}
+use Rattle.std.proofs.Common.{◌≡◌, ℕ, zero, suc, ◌+◌, ◌-◌, ◌<◌, ◌≤◌, Bool, true, not, eqb, ltb, List, [], ◌∷◌, ◌++◌, length, take, drop, Option, Some, None, Result, Ok, Err, refl, sym, ap, subst, ◌∙◌, append_assoc, inl, inr, arith, length-drop, drop-drop}
 use Rattle.std.specs.Prelude.{◌||◌, ◌⊎◌, ◌≢◌, is_some}
 use Rattle.std.proofs.lemmas.Bool.{ltb-true, ltb-false, le-ltb, lt-ltb, not-false, false≢true}
 use Rattle.std.proofs.lemmas.List.{length-append, length-take-le, take-append-drop, take_at, drop_at, append-nil}
@@ -25,7 +25,7 @@ use Rattle.bus_frame.proofs.Spelled.{IsBytes, IsBytes-left, IsBytes-right}
 use Rattle.bus_frame.proofs.KnownLaws.{Tied, tied_none}
 use Rattle.bus_frame.proofs.ArrayLaws.{AllFine, Why, Stops, Outcome, fields_take, fields_again, fields_stop}
 use Rattle.bus_frame.proofs.EndLaws.{end-rest, header_is, header_same}
-use Rattle.bus_frame.proofs.Frames.{IsRead, reads_whole, IsBroken, reads_bad, makes_whole, makes_bad, stays_whole, stays_bad}
+use Rattle.bus_frame.proofs.Frames.{IsRead, reads_whole, IsBroken, reads_bad, makes_whole, makes_bad, stays_whole, stays_bad, none_else}
 use Rattle.bus_frame.proofs.ValueAgain.{at_yes, at_no}
 use Rattle.bus_frame.proofs.StableLaws.{fixed_front, same_front}
 
@@ -90,10 +90,6 @@ not_broken : (o : Option FrameRule) (k m : Known) → unless_broken o k ≡ Ok m
 not_broken None k m e = (refl, cc)
 not_broken (Some rule) k m e = absurd cc
 
-first_none : (b : Bool) (rule : FrameRule) (x : Option FrameRule) → cond b (Some rule) x ≡ None → (b ≡ false) × (x ≡ None)
-first_none true rule x e = absurd cc
-first_none false rule x e = (refl, e)
-
 -- no rule is broken after the fields
 pub record NoRest (kind : MessageType) (fields : List Field) (gap body : List ℕ) : Type 0 where
   pub padded : are_zero gap ≡ true
@@ -102,9 +98,9 @@ pub record NoRest (kind : MessageType) (fields : List Field) (gap body : List �
 
 no_rest : (kind : MessageType) (fields : List Field) (gap body : List ℕ) → rest_fault kind fields gap body ≡ None → NoRest kind fields gap body
 no_rest kind fields gap body e =
-    let a = first_none (not (are_zero gap)) Padding _ e in
-    let b = first_none (not (has_needed kind fields)) Required _ a.1 in
-    let c = first_none (not (eqb (length body) 0 || is_typing (given 8 fields))) Body None b.1 in
+    let a = none_else (not (are_zero gap)) Padding _ e in
+    let b = none_else (not (has_needed kind fields)) Required _ a.1 in
+    let c = none_else (not (eqb (length body) 0 || is_typing (given 8 fields))) Body None b.1 in
     record { padded = not-false _ a.0; needed = not-false _ b.0; typed = not-false _ c.0 }
 
 rest_none : (kind : MessageType) (fields : List Field) (gap body : List ℕ) → NoRest kind fields gap body → rest_fault kind fields gap body ≡ None

@@ -12,6 +12,7 @@ use Rattle.bus_frame.specs.Places.{Place, bytes_at, byte_at, aligned_at, number_
 use Rattle.bus_frame.specs.Writing.{zeros, number_bytes}
 use Rattle.bus_frame.specs.Grammar.{IsNumber, IsLongText, IsShortText}
 use Rattle.bus_frame.proofs.Taking.{place, Takes, Takes-then, bind_some, bind_is, none_if, bytes_takes, bytes_again, byte_takes, byte_again, aligned_takes, aligned_again}
+use Rattle.bus_frame.proofs.Rows.{length-number_bytes}
 
 abbrev pub IsBytes : List ℕ → Type 0
 IsBytes bytes = (i : ℕ) → get_or bytes i 0 < 256
@@ -43,10 +44,6 @@ pub number_from-below : (little : Bool) (digits : List ℕ) → IsBytes digits �
 number_from-below true digits fits = omega (arith, fits 0, fits 1, fits 2, fits 3)
 number_from-below false digits fits = omega (arith, fits 0, fits 1, fits 2, fits 3)
 
-pub length-number : (little : Bool) (n : ℕ) → length (number_bytes little n) ≡ 4
-length-number true n = refl
-length-number false n = refl
-
 pub number_takes : (little : Bool) (p : Place) (n : ℕ) (q : Place) → IsBytes p.rest → number_at little p ≡ Some (n, q) → (x : List ℕ) × Takes p x q × IsNumber little p.at n x
 unfolding number_at
 number_takes little p n q fits e =
@@ -75,7 +72,7 @@ number_again little p n x rest parts is =
     let grouped : p.rest ≡ z ++ (digits ++ rest) = parts ∙ ap (λ (b : List ℕ). b ++ rest) is.spelled ∙ append_assoc z digits rest in
     let q = place (p.at + length z) (digits ++ rest) in
     let a = aligned_again 4 p (digits ++ rest) grouped in
-    let d = bytes_again q digits rest 4 refl (length-number little n) in
+    let d = bytes_again q digits rest 4 refl (length-number_bytes little n) in
     let end : place ((p.at + length z) + length digits) rest ≡ place (p.at + length x) rest = ap (λ (k : ℕ). place k rest) (omega (arith, length-append z digits, ap (λ (b : List ℕ). length b) is.spelled)) in
     bind_is (aligned_at 4 p) (λ r. bytes_at 4 r >>= λ d. Some (number_from little d.0, d.1)) q a
     ∙ bind_is (bytes_at 4 q) (λ d. Some (number_from little d.0, d.1)) (digits, place ((p.at + length z) + length digits) rest) d

@@ -2,7 +2,7 @@
 use Rattle.std.proofs.Common.{◌≡◌, ℕ, zero, suc, ◌+◌, ◌-◌, ◌<◌, ◌≤◌, Bool, true, false, cond, eqb, ltb, List, [], ◌∷◌, ◌++◌, length, Option, Some, None, refl, sym, ap, subst, ◌∙◌, append_assoc, inl, inr, arith}
 use Rattle.std.specs.Option.{option_map_or, option_or}
 use Rattle.std.specs.Prelude.{◌&&◌, ◌||◌, ◌⊎◌}
-use Rattle.std.proofs.lemmas.Bool.{ltb-true, lt-ltb, eqb-true, eqb-false, eq-eqb, ne_eqb, and_parts, and_from, or_cases, cases_Bool, false≢true}
+use Rattle.std.proofs.lemmas.Bool.{ltb-true, lt-ltb, eqb-true, eqb-false, eq-eqb, ne_eqb, and_parts, and_from, or_cases, cases_Bool, false≢true, or_parts}
 use Rattle.std.proofs.lemmas.Option.{cond_some, some_pair_parts}
 use Rattle.std.proofs.lemmas.List.{length-append, append-nil, nil_from_length}
 use Rattle.bus_frame.specs.declared.limits.TheConstants.{MOST_CONTAINERS, MOST_ARRAYS, MOST_STRUCTS}
@@ -213,10 +213,6 @@ IsTaken a s types rest = (t : Ty) × (is_type false t a s ≡ true) × (types �
 pub some_more : (n : ℕ) → eqb n 0 ≡ false → 0 < n
 some_more n e = let ne = eqb-false n 0 e in omega arith
 
-pub none_of : (a b : Bool) → (a || b) ≡ false → (a ≡ false) × (b ≡ false)
-none_of true b e = absurd cc
-none_of false b e = (refl, e)
-
 step_takes : (all a s : ℕ) (inner : ℕ → ℕ → List ℕ → Option (List ℕ)) (types rest : List ℕ) → (0 < all → (x y : ℕ) → Sound (inner x y) (λ t. is_type false t x y ≡ true)) → type_step all a s inner types ≡ Some rest → IsTaken a s types rest
 unfolding IsTaken
 step_takes all a s inner [] rest sound e = absurd cc
@@ -229,7 +225,7 @@ step_takes all a s inner (c ∷ types) rest sound e =
           elim (chosen (eqb all 0 || eqb a 0) None (element_after (inner (a - 1) s) types) (Some rest) g.1) [
             | inl h ↦ absurd cc
             | inr h ↦
-                let room = none_of (eqb all 0) (eqb a 0) h.0 in
+                let room = or_parts (eqb all 0) (eqb a 0) h.0 in
                 let held = element_takes (inner (a - 1) s) (a - 1) s (sound (some_more all room.0) (a - 1) s) types rest h.1 in
                 (array held.0, and_from (ltb 0 a) (is_type true held.0 (a - 1) s) (lt-ltb 0 a (some_more a room.1)) held.1, ap (λ (x : ℕ). x ∷ types) (eqb-true c 97 g.0) ∙ ap (λ (l : List ℕ). 97 ∷ l) held.2)
           ]
@@ -239,7 +235,7 @@ step_takes all a s inner (c ∷ types) rest sound e =
                 elim (chosen (eqb all 0 || eqb s 0) None (members_after (inner a (s - 1)) (length types) types) (Some rest) k.1) [
                   | inl h ↦ absurd cc
                   | inr h ↦
-                      let room = none_of (eqb all 0) (eqb s 0) h.0 in
+                      let room = or_parts (eqb all 0) (eqb s 0) h.0 in
                       let held = members_take (inner a (s - 1)) (λ t. is_type false t a (s - 1) ≡ true) (sound (some_more all room.0) a (s - 1)) (length types) types rest h.1 in
                       let texts = type_text held.0 ++ types_text held.1 in
                       let good = and_from (ltb 0 s && is_type false held.0 a (s - 1)) (are_types held.1 a (s - 1)) (and_from (ltb 0 s) (is_type false held.0 a (s - 1)) (lt-ltb 0 s (some_more s room.1)) held.2) (are_all held.1 a (s - 1) held.3) in

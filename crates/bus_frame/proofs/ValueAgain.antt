@@ -15,10 +15,11 @@ use Rattle.bus_frame.specs.Values.{fixed_size, alignment, fixed_at, truth_at, ba
 use Rattle.bus_frame.specs.Writing.{zeros, number_bytes}
 use Rattle.bus_frame.specs.Grammar.{IsFixed, IsNumber, IsTruth, IsLongText, IsShortText, IsBasic, AreInRow, array_head, IsArray, AreMembers, IsStruct, IsTypeText, IsVariant, type_alignment, IsValue}
 use Rattle.bus_frame.proofs.Taking.{place, bind_some, bind_is, bytes_again, byte_again, aligned_again}
-use Rattle.bus_frame.proofs.Spelled.{number_again, long_text_again, short_text_again, length-number}
+use Rattle.bus_frame.proofs.Spelled.{number_again, long_text_again, short_text_again}
 use Rattle.bus_frame.proofs.TypeLaws.{basic_apart, complete_again, element_skipped, count, count_le, text_some}
 use Rattle.bus_frame.proofs.ValueTakes.{first_alignment, not_closed, closing, wider, less_one, shuts_struct, shuts_entry}
 use Rattle.bus_frame.proofs.ValueSteps.{step}
+use Rattle.bus_frame.proofs.Rows.{length-number_bytes}
 
 -- what is P is read, to where it ends
 abbrev pub ReadsAt : (Place → Option Place) → (ℕ → List ℕ → Type 0) → Type 0
@@ -263,7 +264,7 @@ basic_some little c at v is =
                 elim (cases_Bool (eqb c 98)) [
                   | inl k ↦
                       let t = MatchBool-at_true _ _ k is2 in
-                      omega (arith, ap (λ (l : List ℕ). length l) t.spelled, length-append (zeros 4 at) (number_bytes little t.n), length-number little t.n)
+                      omega (arith, ap (λ (l : List ℕ). length l) t.spelled, length-append (zeros 4 at) (number_bytes little t.n), length-number_bytes little t.n)
                   | inr k ↦
                       let t = MatchBool-at_false _ _ k is2 in
                       omega (arith, t.some, t.size_is, ap (λ (l : List ℕ). length l) t.spelled, length-append (zeros (fixed_size c) at) t.digits)
@@ -285,7 +286,7 @@ value_some little (suc all) (suc a) s (array t) at v is =
     let body = concat is.elements in
     let n = length body in
     let count = zeros 4 at ++ number_bytes little n in
-    omega (arith, ap (λ (l : List ℕ). length l) is.spelled, length-append (array_head little (type_alignment t) at n) body, length-append count (zeros (type_alignment t) (at + length count)), length-append (zeros 4 at) (number_bytes little n), length-number little n)
+    omega (arith, ap (λ (l : List ℕ). length l) is.spelled, length-append (array_head little (type_alignment t) at n) body, length-append count (zeros (type_alignment t) (at + length count)), length-append (zeros 4 at) (number_bytes little n), length-number_bytes little n)
 value_some little (suc all) a zero (struct t ts) at v is = elim is [ ]
 value_some little (suc all) a (suc s) (struct t ts) at v is =
     let first = is.each.0 in
@@ -296,10 +297,10 @@ value_some little (suc all) a s (entry key t) at v is =
     let here = value_some little all a s (basic key) (at + length (zeros 8 at)) first is.each.3 in
     omega (arith, here, ap (λ (l : List ℕ). length l) is.spelled, length-append (zeros 8 at) is.members, ap (λ (l : List ℕ). length l) is.each.2, length-append first is.each.1)
 
-abbrev Inner : Bool → ℕ → Type 0
-Inner little all = (a s : ℕ) (t : Ty) (e : Bool) (x y : ℕ) (left : List ℕ) → is_type e t x y ≡ true → x ≤ MOST_ARRAYS → y ≤ MOST_STRUCTS → CompleteAt (value_at little all a s) (type_text t ++ left) left (IsValue little all a s t)
+abbrev InnerAgain : Bool → ℕ → Type 0
+InnerAgain little all = (a s : ℕ) (t : Ty) (e : Bool) (x y : ℕ) (left : List ℕ) → is_type e t x y ≡ true → x ≤ MOST_ARRAYS → y ≤ MOST_STRUCTS → CompleteAt (value_at little all a s) (type_text t ++ left) left (IsValue little all a s t)
 
-inner_all : (little : Bool) (all : ℕ) → Inner little all → (a s : ℕ) (ts : Tys) (x y : ℕ) → are_types ts x y ≡ true → x ≤ MOST_ARRAYS → y ≤ MOST_STRUCTS → CompleteAll (value_at little all a s) (IsValue little all a s) ts
+inner_all : (little : Bool) (all : ℕ) → InnerAgain little all → (a s : ℕ) (ts : Tys) (x y : ℕ) → are_types ts x y ≡ true → x ≤ MOST_ARRAYS → y ≤ MOST_STRUCTS → CompleteAll (value_at little all a s) (IsValue little all a s) ts
 unfolding CompleteAll
 inner_all little all ih a s none x y good lx ly = tt
 inner_all little all ih a s (more t ts) x y good lx ly =
@@ -317,7 +318,7 @@ some_all all = ne_eqb (suc all) 0 (λ e. omega arith)
 some_both : (all a : ℕ) → (eqb (suc all) 0 || eqb (suc a) 0) ≡ false
 some_both all a = rw (some_all all, some_all a) refl
 
-pub value_again : (little : Bool) (all : ℕ) → Inner little all
+pub value_again : (little : Bool) (all : ℕ) → InnerAgain little all
 unfolding value_at
 value_again little zero a s (basic c) e x y left good lx ly p v rest parts is = basic_value little zero a s c (λ _ _ _ _. None) left good p v rest parts is
 value_again little zero a s variant e x y left good lx ly p v rest parts is = elim is [ ]

@@ -3,7 +3,7 @@ use Rattle.std.proofs.Common.{◌≡◌, ℕ, zero, suc, ◌+◌, ◌-◌, ◌<�
 use Rattle.std.specs.Option.{option_or}
 use Rattle.std.specs.Prelude.{◌&&◌, ◌||◌, ◌⊎◌, option_map, MatchBool}
 use Rattle.std.specs.List.{concat}
-use Rattle.std.proofs.lemmas.Bool.{ltb-true, ltb-false, lt-ltb, leb-true, eqb-true, eqb-false, eq-eqb, ne_eqb, and_parts, and_from, or_cases, cases_Bool, false≢true}
+use Rattle.std.proofs.lemmas.Bool.{ltb-true, ltb-false, lt-ltb, leb-true, eqb-true, eqb-false, eq-eqb, ne_eqb, and_parts, and_from, or_cases, cases_Bool, false≢true, or_parts}
 use Rattle.std.proofs.lemmas.Option.{cond_some, some_pair_parts}
 use Rattle.std.proofs.lemmas.List.{length-append, append-nil, nil_from_length}
 use Rattle.bus_frame.specs.declared.limits.TheConstants.{MOST_ARRAY_BYTES, MOST_ARRAYS, MOST_STRUCTS}
@@ -17,7 +17,7 @@ use Rattle.bus_frame.specs.Writing.{zeros, number_bytes}
 use Rattle.bus_frame.specs.Grammar.{IsFixed, IsNumber, IsTruth, IsLongText, IsShortText, IsBasic, AreInRow, array_head, IsArray, AreMembers, IsStruct, IsTypeText, IsVariant, type_alignment, IsValue}
 use Rattle.bus_frame.proofs.Taking.{place, Takes, Takes-then, bind_some, bind_is, none_if, bytes_takes, byte_takes, aligned_takes}
 use Rattle.bus_frame.proofs.Spelled.{IsBytes, Takes-bytes, number_takes, long_text_takes, short_text_takes}
-use Rattle.bus_frame.proofs.TypeLaws.{chosen, not_closing, basic_apart, complete_takes, element_skipped, or_else_some, none_of}
+use Rattle.bus_frame.proofs.TypeLaws.{chosen, not_closing, basic_apart, complete_takes, element_skipped, or_else_some}
 use Rattle.bus_frame.proofs.ValueSteps.{step}
 
 -- what is read ends at a place, with these types left, and is P
@@ -442,7 +442,7 @@ value_takes little (suc all) a s variant e x y left good lx ly p end fits h =
     }
 value_takes little (suc all) zero s (array t) e x y left good lx ly p end fits h =
     let room = has_room (eqb (suc all) 0 || eqb zero 0) (array_at little (value_at little all (zero - 1) s) (type_text t ++ left) p) end h in
-    absurd (false≢true (sym (none_of (eqb (suc all) 0) (eqb zero 0) room.0).1))
+    absurd (false≢true (sym (or_parts (eqb (suc all) 0) (eqb zero 0) room.0).1))
 value_takes little (suc all) (suc a) s (array t) e x y left good lx ly p end fits h =
     let goods = and_parts (ltb 0 x) (is_type true t (x - 1) y) good in
     let read : array_at little (value_at little all a s) (type_text t ++ left) p ≡ Some end = subst (λ (n : ℕ). array_at little (value_at little all n s) (type_text t ++ left) p ≡ Some end) (less_one a) (has_room (eqb (suc all) 0 || eqb (suc a) 0) (array_at little (value_at little all (suc a - 1) s) (type_text t ++ left) p) end h).1 in
@@ -451,7 +451,7 @@ value_takes little (suc all) (suc a) s (array t) e x y left good lx ly p end fit
 value_takes little (suc all) a zero (struct t ts) e x y left good lx ly p end fits h =
     let types = ((type_text t ++ types_text ts) ++ 41 ∷ []) ++ left in
     let room = has_room (eqb (suc all) 0 || eqb zero 0) (struct_at (value_at little all a (zero - 1)) types p) end h in
-    absurd (false≢true (sym (none_of (eqb (suc all) 0) (eqb zero 0) room.0).1))
+    absurd (false≢true (sym (or_parts (eqb (suc all) 0) (eqb zero 0) room.0).1))
 value_takes little (suc all) a (suc s) (struct t ts) e x y left good lx ly p end fits h =
     let goods = and_parts (ltb 0 y && is_type false t x (y - 1)) (are_types ts x (y - 1)) good in
     let firsts = and_parts (ltb 0 y) (is_type false t x (y - 1)) goods.0 in

@@ -2,7 +2,8 @@
 use Rattle.std.proofs.Common.{◌≡◌, ◌==◌, ◌≤◌, ℕ, Bool, true, false, List, [], ◌∷◌, Option, Some, None, refl, sym, ap, subst, ◌∙◌, inl, inr, arith}
 use Rattle.std.specs.Prelude.{◌||◌, ◌&&◌, not, nat_eq, nat_le, if◌then◌else◌}
 use Rattle.std.specs.List.{list_any}
-use Rattle.std.proofs.lemmas.Bool.{and_parts, and_from, or_cases, cases_Bool, eqb-true, le-leb, false≢true}
+use mathlib.Core.Bool.{and-false, and-true}
+use Rattle.std.proofs.lemmas.Bool.{and_parts, and_from, or_cases, cases_Bool, eqb-true, le-leb, false≢true, or_right, or_left}
 use Rattle.indexmap.specs.IndexMap.{get}
 use Rattle.bus_frame.specs.declared.header.Header.{Header}
 use Rattle.fp_base.specs.declared.side.Side.TheVariants as side
@@ -14,13 +15,6 @@ use Rattle.bus_policy.specs.Events.{Judged, is_call, is_reply, wants_no_reply, i
 use Rattle.bus_policy.specs.Watching.{calls_by, calls_after, is_up_to, calls_with, CallsAt, judged_event}
 
 -- ---- since the last reply
-
-or_right : (a b : Bool) → b ≡ true → (a || b) ≡ true
-or_right true b e = refl
-or_right false b e = e
-
-or_left : (a b : Bool) → a ≡ true → (a || b) ≡ true
-or_left a b e = ap (λ (x : Bool). x || b) e
 
 since_step : (ended one more other others : Bool) → (one ≡ true → other ≡ true) → (more ≡ true → others ≡ true)
     → (if ended then false else one || more) ≡ true → (if ended then false else other || others) ≡ true
@@ -150,12 +144,8 @@ replied_as : (noted : List Judged) (h : Header) (bytes : List ℕ) (v : Verdict)
     → calls_after (judged_event side.Bus h bytes v ∷ noted) s ≡ with_reply_if b (client_waits noted s) (names_wait noted s) (is_reused noted s)
 replied_as noted h bytes v s b e = ap (λ (ended : Bool). with_reply_if ended (client_waits noted s) (names_wait noted s) (is_reused noted s)) e
 
-and_yes : (b : Bool) → (b && true) ≡ b
-and_yes true = refl
-and_yes false = refl
-
 serial_ended : (h : Header) (bytes : List ℕ) (v : Verdict) (n s : ℕ) → is_reply h ≡ true → is_forwarded v ≡ true → h.reply_serial ≡ Some n → is_bus_reply s (judged_event side.Bus h bytes v) ≡ (n == s)
-serial_ended h bytes v n s reply sent answers = (λ i. (reply i && is_serial (answers i) s) && sent i) ∙ and_yes (n == s)
+serial_ended h bytes v n s reply sent answers = (λ i. (reply i && is_serial (answers i) s) && sent i) ∙ and-true (n == s)
 
 pub calls_ended : {S H : Type 0} (old new : ClientCalls S H) (noted : List Judged) (h : Header) (bytes : List ℕ) (v : Verdict) (n : ℕ) → is_reply h ≡ true → is_forwarded v ≡ true → h.reply_serial ≡ Some n → CallsAt old noted
     → ((s : ℕ) → get nat_eq new.waiting s ≡ (if n == s then None else get nat_eq old.waiting s)) → new.highest ≡ old.highest → CallsAt new (judged_event side.Bus h bytes v ∷ noted)
@@ -183,15 +173,11 @@ calls_unended calls noted h bytes v e at = record {
 pub no_reply : (h : Header) (bytes : List ℕ) (v : Verdict) (s : ℕ) → is_reply h ≡ false → is_bus_reply s (judged_event side.Bus h bytes v) ≡ false
 no_reply h bytes v s e = λ i. (e i && is_serial h.reply_serial s) && is_forwarded v
 
-and_no : (b : Bool) → (b && false) ≡ false
-and_no true = refl
-and_no false = refl
-
 pub not_forwarded : (h : Header) (bytes : List ℕ) (v : Verdict) (s : ℕ) → is_forwarded v ≡ false → is_bus_reply s (judged_event side.Bus h bytes v) ≡ false
-not_forwarded h bytes v s e = ap (λ (b : Bool). (is_reply h && is_serial h.reply_serial s) && b) e ∙ and_no (is_reply h && is_serial h.reply_serial s)
+not_forwarded h bytes v s e = ap (λ (b : Bool). (is_reply h && is_serial h.reply_serial s) && b) e ∙ and-false (is_reply h && is_serial h.reply_serial s)
 
 pub no_serial : (h : Header) (bytes : List ℕ) (v : Verdict) (s : ℕ) → h.reply_serial ≡ None → is_bus_reply s (judged_event side.Bus h bytes v) ≡ false
-no_serial h bytes v s e = ap (λ (o : Option ℕ). (is_reply h && is_serial o s) && is_forwarded v) e ∙ ap (λ (b : Bool). b && is_forwarded v) (and_no (is_reply h))
+no_serial h bytes v s e = ap (λ (o : Option ℕ). (is_reply h && is_serial o s) && is_forwarded v) e ∙ ap (λ (b : Bool). b && is_forwarded v) (and-false (is_reply h))
 
 -- ---- what stays
 

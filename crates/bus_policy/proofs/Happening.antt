@@ -3,6 +3,7 @@ use Rattle.std.proofs.Common.{◌≡◌, ◌==◌, ℕ, Bool, true, false, List,
 use Rattle.std.specs.Prelude.{◌||◌, ◌&&◌, not, if◌then◌else◌, is_some}
 use Rattle.std.specs.Option.{option_map_or}
 use Rattle.std.specs.Str.{bytes_eq}
+use mathlib.Core.Bool.{and-false, and-true}
 use Rattle.std.proofs.lemmas.Bool.{and_parts, cases_Bool, false≢true}
 use Rattle.std.proofs.lemmas.Slice.Eq.{bytes_eq-Decides}
 use Rattle.bus_frame.specs.declared.header.Header.{Header}
@@ -33,14 +34,6 @@ none_told : (u : Bool) → ◌≡◌ {A = Option (List ℕ)} (if u then None els
 none_told true = refl
 none_told false = refl
 
-and_no : (b : Bool) → (b && false) ≡ false
-and_no true = refl
-and_no false = refl
-
-and_yes : (b : Bool) → (b && true) ≡ b
-and_yes true = refl
-and_yes false = refl
-
 -- ---- a reply of the client
 
 pub settled : (rules : List PolicyRule) (peer q : List ℕ) (m : ℕ) (h : Header) (bytes : List ℕ) (v : Verdict) (k : Known)
@@ -49,8 +42,8 @@ pub settled : (rules : List PolicyRule) (peer q : List ℕ) (m : ℕ) (h : Heade
 settled rules peer q m h bytes v k reply forwarded to answers =
     let j = judged_event side.Client h bytes v in
     let done : (s : ℕ) → is_client_reply q s j ≡ (bytes_eq peer q && (m == s)) =
-    λ s. (λ i. (((true && reply i) && says (to i) q) && is_serial (answers i) s) && forwarded i) ∙ and_yes (bytes_eq peer q && (m == s)) in
-    by (bytes_eq peer q) ∙ sym (event_is rules j q k None false (λ s. false) (λ s. bytes_eq peer q && (m == s)) (none_told (is_unique_like q)) (and_no (is_unique_like q)) (λ s. refl) done)
+    λ s. (λ i. (((true && reply i) && says (to i) q) && is_serial (answers i) s) && forwarded i) ∙ and-true (bytes_eq peer q && (m == s)) in
+    by (bytes_eq peer q) ∙ sym (event_is rules j q k None false (λ s. false) (λ s. bytes_eq peer q && (m == s)) (none_told (is_unique_like q)) (and-false (is_unique_like q)) (λ s. refl) done)
   where
     by : (b : Bool) → (if b then without_call m k else k) ≡ changed rules None false (λ s. false) (λ s. b && (m == s)) k
     by true = refl
@@ -67,7 +60,7 @@ not_driver (Some s) q b e =
       | inl h ↦
           let unique : is_unique_like q ≡ false = ap is_unique_like (sym ((bytes_eq-Decides s q).0 h)) ∙ ap is_unique_like same in
           ap (λ (u : Bool). u && (bytes_eq s q && b)) unique
-      | inr h ↦ ap (λ (t : Bool). is_unique_like q && (t && b)) h ∙ and_no (is_unique_like q)
+      | inr h ↦ ap (λ (t : Bool). is_unique_like q && (t && b)) h ∙ and-false (is_unique_like q)
     ]
 
 signal_no_call : (kind : MessageType) → is_signal_type kind ≡ true → is_call_type kind ≡ false
@@ -140,4 +133,4 @@ sent rules s q h bytes v k tells from =
         ∙ told_so (is_unique_like q && is_some h.destination) ((is_call h && not (wants_no_reply h)) && is_forwarded v)
         ∙ (λ i. changed rules None (is_unique_like q && is_some h.destination) (λ n. sym (calls_as (is_call h) (not (wants_no_reply h)) (is_forwarded v) (h.serial == n)) i) (λ n. false) k)
     by false e =
-        sym (λ i. changed rules None (and_no (is_unique_like q) i) (λ n. calls_not (is_call h) (not (wants_no_reply h)) (is_forwarded v) (h.serial == n) i) (λ n. false) k)
+        sym (λ i. changed rules None (and-false (is_unique_like q) i) (λ n. calls_not (is_call h) (not (wants_no_reply h)) (is_forwarded v) (h.serial == n) i) (λ n. false) k)

@@ -3,7 +3,7 @@ use Rattle.std.proofs.Common.{◌≡◌, ◌==◌, ◌<◌, ℕ, zero, suc, Bool
 use Rattle.std.specs.Prelude.{◌||◌, nat_eq, if◌then◌else◌, is_some, map, OnOk, OnErr}
 use Rattle.std.specs.List.{list_any}
 use Rattle.std.specs.Str.{bytes_eq}
-use Rattle.std.proofs.lemmas.Bool.{or_cases, cases_Bool, eq-eqb, false≢true}
+use Rattle.std.proofs.lemmas.Bool.{or_cases, cases_Bool, eq-eqb, false≢true, or_parts}
 use Rattle.std.proofs.lemmas.Slice.Eq.{bytes_eq-Decides}
 use Rattle.bus_policy.specs.declared.level.Level.{Level}
 use Rattle.bus_policy.specs.declared.level.Level.TheVariants as level
@@ -14,6 +14,7 @@ use Rattle.bus_policy.specs.declared.peer.RawNews.TheVariants as raw
 use Rattle.bus_policy.specs.Levels.{greater, level_by, rules_level, given_level, pattern_matches}
 use Rattle.bus_policy.specs.Events.{is_unique_like}
 use Rattle.bus_policy.specs.Watching.{Known, unknown, known_of, name_level, or_each, with_name, with_call, with_news, changed_if, speaks_of, tells, KeepsKnown}
+use Rattle.bus_policy.proofs.Greatest.{greater_none}
 
 -- ---- what tells something makes a peer known
 
@@ -38,32 +39,22 @@ telling_known rules (raw.Message false (Some n)) k e is =
 
 -- ---- what tells nothing changes nothing
 
-or_none : (a b : Bool) → (a || b) ≡ false → (a ≡ false) × (b ≡ false)
-or_none true b e = absurd (false≢true (sym e))
-or_none false b e = (refl, e)
-
 flags_untold : (test : PolicyRule → Bool) (rules : List PolicyRule) (flags : List Bool) → list_any test rules ≡ false → or_each test rules flags ≡ flags
 flags_untold test [] flags e = refl
 flags_untold test (r ∷ rules) [] e = refl
 flags_untold test (r ∷ rules) (f ∷ flags) e =
-    let none = or_none (test r) (list_any test rules) e in
+    let none = or_parts (test r) (list_any test rules) e in
     λ i. (none.0 i || f) ∷ flags_untold test rules flags none.1 i
 
 level_untold : (rules : List PolicyRule) (name : List ℕ) → speaks_of rules name ≡ false → rules_level rules name ≡ level.None
 level_untold [] name e = refl
 level_untold (r ∷ rules) name e =
-    let none = or_none (pattern_matches r.pattern name) (speaks_of rules name) e in
+    let none = or_parts (pattern_matches r.pattern name) (speaks_of rules name) e in
     λ i. greater (if none.0 i then given_level r.grant else level.None) (level_untold rules name none.1 i)
 
 name_untold : (u : Bool) (l : Level) → l ≡ level.None → (if u then level.None else l) ≡ level.None
 name_untold true l e = refl
 name_untold false l e = e
-
-none_greater : (l : Level) → greater level.None l ≡ l
-none_greater level.None = refl
-none_greater level.See = refl
-none_greater level.Talk = refl
-none_greater level.Own = refl
 
 pub untold : (rules : List PolicyRule) (news : RawNews) (k : Known) → tells rules news ≡ false → with_news rules news k ≡ k
 untold rules (raw.Name name) k e = λ i. record k {
@@ -75,7 +66,7 @@ untold rules (raw.Name name) k e = λ i. record k {
     none = name_untold (is_unique_like name.now) (rules_level rules name.now) (level_untold rules name.now e)
 
     same : greater (name_level rules name.now) k.had ≡ k.had
-    same = ap (λ (l : Level). greater l k.had) none ∙ none_greater k.had
+    same = ap (λ (l : Level). greater l k.had) none ∙ greater_none k.had
 untold rules (raw.Message true call) k e = absurd (false≢true (sym e))
 untold rules (raw.Message false None) k e = refl
 untold rules (raw.Message false (Some n)) k e = absurd (false≢true (sym e))

@@ -3,7 +3,7 @@ use Rattle.std.proofs.Common.{◌≡◌, ◌==◌, ◌≤◌, ℕ, Bool, true, f
 use Rattle.std.specs.Prelude.{◌||◌, ◌&&◌, not, nat_le, if◌then◌else◌, is_some}
 use Rattle.std.specs.Option.{option_map_or}
 use Rattle.std.specs.List.{list_any}
-use Rattle.std.proofs.lemmas.Bool.{and_parts, and_from, or_cases, or_from, cases_Bool, eqb-true, false≢true}
+use Rattle.std.proofs.lemmas.Bool.{and_parts, and_from, or_cases, or_from, cases_Bool, eqb-true, false≢true, or_right, or_left, not-true}
 use Rattle.bus_frame.specs.declared.header.Header.{Header}
 use Rattle.bus_frame.specs.declared.message.MessageType.{MessageType}
 use Rattle.bus_frame.specs.declared.message.MessageType.TheVariants as type
@@ -97,13 +97,6 @@ waits_used noted serial =
     since_some serial (λ before j. is_client_call serial j) (λ j. is_sent j && nat_le serial j.event.header.serial)
     (λ before j e. sent_uses serial j (and_parts (is_sent_as serial j) (not (wants_no_reply j.event.header)) e).0) noted
 
-or_right : (a b : Bool) → b ≡ true → (a || b) ≡ true
-or_right true b e = refl
-or_right false b e = e
-
-or_left : (a b : Bool) → a ≡ true → (a || b) ≡ true
-or_left a b e = ap (λ (x : Bool). x || b) e
-
 listed_used : (noted : List Judged) (serial : ℕ) → has_listed noted serial ≡ true → was_used noted serial ≡ true
 listed_used [] serial e = e
 listed_used (j ∷ before) serial e =
@@ -184,10 +177,6 @@ rising_lose_nothing rules client owners noted e serial rises r =
 
 -- ---- other replies
 
-not_true : (b : Bool) → not b ≡ true → b ≡ false
-not_true true e = sym e
-not_true false e = refl
-
 plainly : (e : Event) (waits listing reused : Bool) → (is_return e.header && is_of_driver e.header) ≡ false → option_map_or (reply_to e) (calls_by waits listing reused) verdict.Drop ≡ (if waits then verdict.Pass else verdict.Drop)
 plainly e true listing reused is = ap (λ (b : Bool). if b && (listing || (reused && is_list e.header)) then (if some_names e then verdict.FilterNameList else verdict.Drop) else verdict.Pass) is
 plainly e false listing reused is = refl
@@ -198,4 +187,4 @@ others_pass rules client owners noted e serial side plain answers =
     let sight = sight_after rules client owners noted in
     reply_verdict sight e side parts.0
     ∙ ap (bus_reply sight e) answers
-    ∙ plainly e (client_waits noted serial) (names_wait noted serial) (is_reused noted serial) (not_true (is_return e.header && is_of_driver e.header) parts.1)
+    ∙ plainly e (client_waits noted serial) (names_wait noted serial) (is_reused noted serial) (not-true (is_return e.header && is_of_driver e.header) parts.1)

@@ -1,5 +1,5 @@
 -- The messages in a stream are those that were taken and those in the bytes that aren't.
-use Rattle.std.proofs.Common.{◌≡◌, ℕ, zero, suc, ◌+◌, ◌<◌, ◌≤◌, List, [], ◌∷◌, ◌++◌, length, take, drop, Option, Some, None, refl, sym, ap, subst, ◌∙◌, append_assoc, arith}
+use Rattle.std.proofs.Common.{◌≡◌, ℕ, zero, suc, ◌+◌, ◌≤◌, List, [], ◌∷◌, ◌++◌, length, take, drop, Option, Some, None, refl, sym, ap, subst, ◌∙◌, append_assoc, arith}
 use Rattle.std.specs.List.{AllByRecursion}
 use Rattle.std.proofs.lemmas.List.{length-append, length-drop, append-nil, take_at, drop_at}
 use Rattle.bus_frame.specs.declared.header.Header.{Header}
@@ -123,10 +123,6 @@ waits bytes (whole h n) e is none =
 
 pub whole_waits : (bytes : List ℕ) → IsWhole (frame_of bytes) → messages_in bytes ≡ [] → ⊥
 whole_waits bytes is none = waits bytes (frame_of bytes) refl is none
-
--- a message has bytes
-pub some_bytes : (m : Message) → IsMessage m → 0 < length m.bytes
-some_bytes m is = let body = has_body m.bytes m.header (length m.bytes) (frame_whole m.bytes m.header is) in omega (arith, body.start, body.end)
 
 -- ---- streams, one step and another
 

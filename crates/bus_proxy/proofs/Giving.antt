@@ -7,6 +7,7 @@ use Rattle.fp_base.specs.declared.frame_rule.FrameRule.{FrameRule}
 use Rattle.fp_base.specs.declared.side.Side.{Side}
 use Rattle.fp_base.specs.declared.side.Side.TheVariants as side
 use Rattle.bus_stream.specs.Stream.{Message, CutterAt, messages_in}
+use Rattle.bus_stream.proofs.Streams.{some_len}
 use Rattle.bus_policy.specs.Events.{Event}
 use Rattle.bus_policy.specs.Watching.{event}
 use Rattle.bus_proxy.specs.declared.out.Out.{Out}
@@ -26,7 +27,6 @@ use Rattle.bus_proxy.specs.Streaming.{StreamsAt, StreamsGave, TookOne, Keeps, No
 use Rattle.bus_proxy.specs.Filters.{JudgeAt, FilterAt, AllTaken, Made, Gives, IsNotYet}
 use Rattle.bus_proxy.proofs.Taking.{took_at, stays_at, all_taken, unbroken, broken}
 use Rattle.bus_proxy.proofs.Feeding.{none_waits, fed_at}
-use Rattle.bus_proxy.proofs.Fronts.{some_bytes}
 use Rattle.bus_proxy.proofs.Arriving.{ended_at}
 
 -- ---- a message
@@ -164,7 +164,7 @@ fewer old new h bytes one =
     let message : Message = record { header = h; bytes = bytes } in
     omega (
       arith,
-      some_bytes message one.cut.each.0,
+      some_len message one.cut.each.0,
       ap (λ (l : List ℕ). length l) one.cut.parts,
       length-append (bytes ++ []) new.cutter,
       length-append bytes [],

@@ -4,6 +4,7 @@ use Rattle.std.specs.Prelude.{◌||◌, ◌&&◌, ◌⊎◌, not, nat_le, if◌t
 use Rattle.std.specs.Option.{option_map_or, option_to_list}
 use Rattle.std.specs.List.{list_any, filter_map, cons_option, filter, AllByRecursion}
 use Rattle.std.specs.Str.{bytes_eq}
+use mathlib.Core.Bool.{and-false}
 use Rattle.std.proofs.lemmas.Bool.{cases_Bool, false≢true}
 use Rattle.fp_base.specs.declared.side.Side.{Side}
 use Rattle.fp_base.specs.declared.side.Side.TheVariants as side
@@ -111,15 +112,11 @@ no_first a b c d e = ap (λ (x : Bool). ((x && b) && c) && d) e
 no_owner : (h : Header) → is_return h ≡ true → tells_owner h ≡ false
 no_owner h is = no_first (is_signal h) _ _ _ (return_no_signal h.kind is)
 
-and_none : (b : Bool) → (b && false) ≡ false
-and_none true = refl
-and_none false = refl
-
 none_given : (e : Event) (q : List ℕ) → is_return e.header ≡ true → name_given q e ≡ None
 none_given e q is =
     let none : new_owner e ≡ None =
     ap (λ (b : Bool). if is_bus_side e.side && b then option_map_or (λ t. Some (t.0, t.2)) (three_texts e.header e.bytes) None else None) (no_owner e.header is)
-    ∙ ap (λ (b : Bool). if b then option_map_or (λ t. Some (t.0, t.2)) (three_texts e.header e.bytes) None else None) (and_none (is_bus_side e.side)) in
+    ∙ ap (λ (b : Bool). if b then option_map_or (λ t. Some (t.0, t.2)) (three_texts e.header e.bytes) None else None) (and-false (is_bus_side e.side)) in
     ap (λ (o : Option (List ℕ × List ℕ)). option_map_or (λ g. if bytes_eq g.1 q then Some g.0 else None) o None) none
 
 same_listing : (h : Header) (n : ℕ) → is_listing h ≡ is_listing (record h { body_len = n })

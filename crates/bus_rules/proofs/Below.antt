@@ -2,6 +2,7 @@
 use Rattle.std.proofs.Common.{◌≡◌, ◌==◌, ℕ, ◌<◌, ◌≤◌, Bool, true, false, List, [], ◌∷◌, length, get_or, refl, sym, ap, subst, ◌∙◌, arith, eqb}
 use Rattle.std.specs.Prelude.{◌&&◌, ◌||◌, nat_eq}
 use Rattle.std.specs.List.{starts_with}
+use mathlib.Core.Bool.{and-true}
 use Rattle.std.proofs.lemmas.Bool.{and_parts, false≢true}
 use Rattle.bus_rules.specs.Rules.{is_within}
 
@@ -21,13 +22,9 @@ and_step x a p q r h = subst (λ (t : Bool). ((x == a) && p || (t && q)) ≡ ((x
     by true p q r h = h
     by false p q r h = refl
 
-and_true : (b : Bool) → (b && true) ≡ b
-and_true true = refl
-and_true false = refl
-
 pub within-under : (s : ℕ) (path above : List ℕ) → is_within s path above ≡ under s path above
 within-under s [] [] = refl
-within-under s (x ∷ xs) [] = and_true (s == x) ∙ eqb_comm s x
+within-under s (x ∷ xs) [] = and-true (s == x) ∙ eqb_comm s x
 within-under s [] (a ∷ bs) = refl
 within-under s (x ∷ xs) (a ∷ bs) = and_step x a _ _ _ (within-under s xs bs)
 

@@ -1,8 +1,6 @@
 -- A text is one rule at most, and what a reader finds of it.
 use Rattle.std.proofs.Common.{◌≡◌, ◌≢◌, ℕ, zero, suc, ◌<◌, Bool, true, false, List, [], ◌∷◌, ◌++◌, length, get_or, Option, Some, None, refl, sym, ap, subst, ◌∙◌, arith, eqb, append_assoc}
 use Rattle.std.specs.Prelude.{◌||◌, codes}
-use Rattle.std.specs.Str.{bytes_eq}
-use Rattle.std.proofs.lemmas.Slice.Eq.{bytes_eq-Decides}
 use Rattle.std.proofs.lemmas.Bool.{and_parts, false≢true}
 use Rattle.std.proofs.lemmas.List.{append-nil, append_cancel_right, length-append}
 use Rattle.bus_frame.specs.Names.{is_interface, is_member, is_path}
@@ -16,10 +14,7 @@ use Rattle.bus_rules.proofs.Splits.{Misses, Misses-nil, Misses-rest, Misses-is, 
 
 -- ---- members
 
-pub differs : (a b : List ℕ) → bytes_eq a b ≡ false → a ≢ b
-differs a b h e = false≢true (sym h ∙ (bytes_eq-Decides a b).1 e)
-
-star_misses : (c : ℕ) → c ≢ 42 → Misses c (codes "*")
+pub star_misses : (c : ℕ) → c ≢ 42 → Misses c (codes "*")
 star_misses c other zero l e = other (sym e)
 star_misses c other (suc i) l e = absurd (omega arith)
 
@@ -76,7 +71,7 @@ members_one (One i m) (One j n) text is too =
 -- ---- objects
 
 -- a path has no `*`
-path_end : (p q : List ℕ) → is_path p ≡ true → p ≡ q ++ codes "/*" → ⊥
+pub path_end : (p q : List ℕ) → is_path p ≡ true → p ≡ q ++ codes "/*" → ⊥
 path_end p q is e = Misses-is 42 p (q ++ 47 ∷ []) [] (e ∙ sym (append_assoc q (47 ∷ []) (42 ∷ []))) (path_misses 42 refl p is)
 
 pub no_end : (text : List ℕ) → ((front : List ℕ) → text ≢ front ++ codes "/*") → is_path text ≡ false → (o : Objects) → NamesObjects o text → ⊥
@@ -106,7 +101,7 @@ Misses-append c [] ys h k = k
 Misses-append c (x ∷ xs) ys h k = Misses-cons c x (xs ++ ys) (h 0 (omega arith)) (Misses-append c xs ys (Misses-rest c x xs h) k)
 
 -- members have no `@`
-members_sign : (m : Members) → are_members m ≡ true → Misses 64 (members_text m)
+pub members_sign : (m : Members) → are_members m ≡ true → Misses 64 (members_text m)
 members_sign All valid = star_misses 64 (λ e. omega arith)
 members_sign (Of i) valid = Misses-append 64 i (codes ".*") (interface_misses 64 refl i valid) (Misses-cons 64 46 (codes "*") (λ e. omega arith) (star_misses 64 (λ e. omega arith)))
 members_sign (One i m) valid =

@@ -2,7 +2,7 @@
 use Rattle.std.proofs.Common.{◌≡◌, ◌==◌, ◌≢◌, ℕ, suc, ◌+◌, ◌<◌, Bool, true, false, List, [], ◌∷◌, ◌++◌, length, get_or, take, drop, add-one, refl, sym, ap, subst, ◌∙◌, inl, inr, arith, eqb}
 use Rattle.std.specs.Prelude.{not, ◌&&◌, ◌||◌, nat_le}
 use Rattle.std.specs.List.{list_all, list_any, slice_split, onto_first}
-use Rattle.std.proofs.lemmas.Bool.{eqb-true, and_parts, and_from, or_cases, cases_Bool, false≢true}
+use Rattle.std.proofs.lemmas.Bool.{eqb-true, and_parts, and_from, or_cases, cases_Bool, false≢true, or_right}
 use Rattle.std.proofs.lemmas.List.Folds.{list_all_at}
 use Rattle.std.proofs.Math.Seq.{get_or-append_seam}
 use Rattle.std.proofs.lemmas.List.{length-append, take-append-drop, get_or-drop, length-drop}
@@ -71,10 +71,6 @@ parts_first p c (part ∷ parts) h =
     let outer = and_parts (p c && list_all p part) (list_all (list_all p) parts) h in
     let inner = and_parts (p c) (list_all p part) outer.0 in
     (inner.0, and_from (list_all p part) (list_all (list_all p) parts) inner.1 outer.1)
-
-or_right : (a b : Bool) → b ≡ true → (a || b) ≡ true
-or_right true b e = refl
-or_right false b e = e
 
 all_joined : (p : ℕ → Bool) (s : ℕ) (bytes : List ℕ) → list_all (list_all p) (slice_split (λ c. c == s) bytes) ≡ true → list_all (joined p s) bytes ≡ true
 all_joined p s [] h = refl

@@ -1,50 +1,20 @@
 -- Lines one after another.
-use Rattle.std.proofs.Common.{◌≡◌, ◌==◌, ℕ, ◌+◌, ◌<◌, ◌≤◌, Bool, true, false, List, [], ◌∷◌, ◌++◌, length, take, drop, Some, None, Ok, Err, Result, Option, refl, sym, ap, ◌∙◌, arith, cond, ltb}
-use Rattle.std.specs.Prelude.{if◌then◌else◌, option_map, ◌||◌}
+use Rattle.std.proofs.Common.{◌≡◌, ◌==◌, ℕ, ◌+◌, ◌<◌, Bool, true, false, List, [], ◌∷◌, ◌++◌, length, drop, Some, None, Ok, Err, Result, Option, refl, sym, ap, ◌∙◌, arith, cond}
+use Rattle.std.specs.Prelude.{if◌then◌else◌, ◌||◌}
 use Rattle.std.specs.Str.{bytes_eq}
-use Rattle.std.specs.List.{All, list_any, slice_split, position_or_len}
-use Rattle.std.proofs.lemmas.Bool.{ltb-true, ltb-false}
-use Rattle.std.proofs.lemmas.Option.{some_pair_parts}
-use Rattle.std.proofs.lemmas.List.{length-drop}
+use Rattle.std.specs.List.{list_any, slice_split, position_or_len}
 use Rattle.std.proofs.lemmas.List.Folds.{list_any-append}
 use Rattle.std.specs.Cmp.Lexicographic.{nat_list_eq_equiv}
-use Rattle.std.proofs.lemmas.List.Sums.{fails_before_first}
 use Rattle.std.proofs.lemmas.List.Splits.{slice_split_none, slice_split_first, length-slice_split}
 use Rattle.bus_stream.specs.declared.recording.Recording.{Recording}
 use Rattle.fp_base.specs.Parts.{parts_at}
+use Rattle.fp_base.proofs.Lines.{is_end, found, missed, none_ends}
 use Rattle.bus_stream.specs.declared.recording.Draft.{Draft}
 use Rattle.bus_stream.specs.Recordings.{or_bad, with_line, with_lines, said, Knows, Took}
-
-abbrev is_end : ℕ → Bool
-is_end b = b == 10
 
 lines_cons : (number : ℕ) (r : Recording) (line : List ℕ) (lines : List (List ℕ)) → 0 < length lines → with_lines number r (line ∷ lines) ≡ or_bad number (with_line r line) (λ s. with_lines (number + 1) s lines)
 lines_cons number r line [] l = absurd (omega arith)
 lines_cons number r line (next ∷ lines) l = refl
-
-abbrev cut_at : List ℕ → ℕ → List ℕ × List ℕ
-cut_at bytes n = (take n bytes, drop (n + 1) bytes)
-
-found_by : (b : Bool) (at : ℕ) (bytes line remainder : List ℕ) → option_map (cut_at bytes) (cond b (Some at) None) ≡ Some (line, remainder)
-    → (b ≡ true) × (take at bytes ≡ line) × (drop (at + 1) bytes ≡ remainder)
-found_by true at bytes line remainder e = let parts = some_pair_parts (take at bytes) line (drop (at + 1) bytes) remainder e in (refl, parts.0, parts.1)
-found_by false at bytes line remainder e = absurd cc
-
-missed_by : (b : Bool) (at : ℕ) (bytes : List ℕ) → option_map (cut_at bytes) (cond b (Some at) None) ≡ None → b ≡ false
-missed_by true at bytes e = absurd cc
-missed_by false at bytes e = refl
-
-found : (bytes line remainder : List ℕ) → parts_at 10 bytes ≡ Some (line, remainder)
-    → (position_or_len is_end bytes < length bytes) × (take (position_or_len is_end bytes) bytes ≡ line) × (drop (position_or_len is_end bytes + 1) bytes ≡ remainder)
-unfolding parts_at
-found bytes line remainder e = let parts = found_by (ltb (position_or_len is_end bytes) (length bytes)) (position_or_len is_end bytes) bytes line remainder e in (ltb-true _ _ parts.0, parts.1, parts.2)
-
-missed : (bytes : List ℕ) → parts_at 10 bytes ≡ None → length bytes ≤ position_or_len is_end bytes
-unfolding parts_at
-missed bytes e = ltb-false _ _ (missed_by (ltb (position_or_len is_end bytes) (length bytes)) (position_or_len is_end bytes) bytes e)
-
-none_ends : (bytes : List ℕ) → length bytes ≤ position_or_len is_end bytes → All (λ b. is_end b ≡ false) bytes
-none_ends bytes l k d m = fails_before_first is_end bytes k d (omega (arith, l, m))
 
 pub lines_step : (number : ℕ) (r : Recording) (bytes line remainder : List ℕ) → parts_at 10 bytes ≡ Some (line, remainder)
     → with_lines number r (slice_split (λ b. b == 10) bytes) ≡ or_bad number (with_line r line) (λ s. with_lines (number + 1) s (slice_split (λ b. b == 10) remainder))
@@ -62,11 +32,6 @@ nothing_left number r bytes e l = lines_end number r bytes true e l
 
 pub no_newline : (number : ℕ) (r : Recording) (bytes : List ℕ) → parts_at 10 bytes ≡ None → (length bytes == 0) ≡ false → with_lines number r (slice_split (λ b. b == 10) bytes) ≡ Err number
 no_newline number r bytes e l = lines_end number r bytes false e l
-
-pub remainder_is_shorter : (bytes line remainder : List ℕ) → parts_at 10 bytes ≡ Some (line, remainder) → length remainder < length bytes
-remainder_is_shorter bytes line remainder e =
-    let f = found bytes line remainder e in
-    omega (arith, f.0, ap (λ (l : List ℕ). length l) f.2, length-drop (position_or_len is_end bytes + 1) bytes)
 
 after_good : {A : Type 0} (number : ℕ) (o : Option Recording) (new : Draft) (next : Recording → Result A ℕ) → Took true new o → Knows new × (or_bad number o next ≡ next (said new))
 after_good number (Some r) new next t = (t.2, ap next (sym t.1))

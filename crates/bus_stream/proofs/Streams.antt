@@ -135,7 +135,7 @@ still_at (Err NoMemory) old new fed given fits is at = subst (λ (l : List ℕ).
 
 -- ---- all of them
 
-some_len : (m : Message) → IsMessage m → 0 < length m.bytes
+pub some_len : (m : Message) → IsMessage m → 0 < length m.bytes
 some_len m is = let body = has_body m.bytes m.header (length m.bytes) (frame_whole m.bytes m.header is) in omega (arith, body.start, body.end)
 
 -- whole messages at the front are the first ones of the stream

@@ -9,6 +9,9 @@ use Rattle.std.specs.Map.{keys_of, values_of}
 use Rattle.std.proofs.lemmas.Bool.{cases_Bool, false≢true}
 use Rattle.std.proofs.lemmas.List.{take_more, take_all}
 use Rattle.std.proofs.lemmas.List.Elements.{Contains-append_left, Contains-push, Contains-push_cases}
+use Rattle.fp_base.proofs.Options.{some_none, none_some}
+use Rattle.fp_base.proofs.Lists.{in_none}
+use Rattle.fp_base.proofs.Texts.{bytes_eq-true, bytes_eq-same}
 use Rattle.fp_host.specs.Paths.{Elements, path_text, elements_of}
 use Rattle.fp_host.specs.View.{View, IsTree}
 use Rattle.fp_host.specs.Outcome.{Spot, Disk, gone, shows, spot_of}
@@ -16,20 +19,19 @@ use Rattle.fp_host.proofs.Settled.{at_tree}
 use Rattle.fp_keyfile.specs.declared.group.Group.{Group}
 use Rattle.fp_keyfile.specs.KeyFile.{file_of, is_good}
 use Rattle.fp_keyfile.proofs.Read.{good_file_of}
-use Rattle.fp_small.proofs.Ordered.{bytes_eq-itself, bytes_eq-is}
 use Rattle.fp_small.specs.Load.{Loads, loaded_of}
 use Rattle.fp_small.specs.Naming.{ListsIn}
 use Rattle.fp_small.specs.declared.loading.Loaded.{Loaded}
 use Rattle.fp_small.specs.declared.loading.Loaded.TheVariants.{Bytes, Absent, TooLong, NotFile}
 use Rattle.fp_small.specs.declared.state.OverrideRow.{OverrideRow}
-use Rattle.dep_open.proofs.Gathering.{in_none}
 use Rattle.dep_states.specs.Names.{overrides_folder, override_path}
 use Rattle.fp_name.specs.Grammar.{is_override}
 use Rattle.dep_states.specs.Shown.{Seen, away, bad, there, seen_of, small_most, if_file, named_override, override_at, override_seen, at_name, override_key}
 use Rattle.dep_states.specs.After.{IsGoodLayer}
 use Rattle.dep_states.proofs.Good.{named_good, ok_good, if_file_is, read_there}
-use Rattle.dep_states.proofs.Single.{some_is, some_none, none_some}
+use Rattle.dep_states.proofs.Single.{some_is}
 use Rattle.dep_states.proofs.Total.{override_is, named_is}
+use Rattle.dep_states.proofs.Away.{override_away}
 use Rattle.dep_open.specs.declared.part.Part.{Part}
 use Rattle.dep_open.specs.Parts.{lesser, seen_as, override_loaded, IsLeast, BadOverride, Puts, Adds, IsLayerOf, HoldsGoodLayers, AreOverrides, AreGoodLayers, AddsOverride, BadOverrideAt, FindsOverrides}
 use Rattle.dep_open.proofs.Least.{least_both, least_to, override_back}
@@ -110,7 +112,7 @@ module _ {Z : Type 0} (disk : Disk) (names : List (List ℕ)) (name : List ℕ) 
       only = λ n other found. elim (cases_Bool (bytes_eq (override_key row) n)) [
         | inl t ↦
             let one : row ≡ other = some_is (if_true (bytes_eq (override_key row) n) (Some row) (at_name override_key (values_of es) n) t (sym (finds n) ∙ found)) in
-            ap (override_seen disk) (sym (bytes_eq-is (override_key row) n t) ∙ named) ∙ is ∙ ap there one
+            ap (override_seen disk) (sym (bytes_eq-true (override_key row) n t) ∙ named) ∙ is ∙ ap there one
         | inr f ↦ so_far.only n other (if_false (bytes_eq (override_key row) n) (Some row) (at_name override_key (values_of es) n) f (sym (finds n) ∙ found))
       ];
       least = least_to (BadOverrideAt disk names) (BadOverrideAt disk further) (λ q h. (h.0, h.1, earlier h.2, h.3, h.4)) (λ q h. elim (which h.0 h.2) [
@@ -133,12 +135,12 @@ module _ {Z : Type 0} (disk : Disk) (names : List (List ℕ)) (name : List ℕ) 
             let text : n ≡ override_key row = one ∙ sym named in
             let same_row : row ≡ other = same_there is (sym (ap (override_seen disk) one) ∙ seen) in
             finds n ∙ ap (λ t. if bytes_eq (override_key row) t then Some row else at_name override_key (values_of es) t) text
-            ∙ ap (λ b. if b then Some row else at_name override_key (values_of es) (override_key row)) (bytes_eq-itself (override_key row)) ∙ ap Some same_row
+            ∙ ap (λ b. if b then Some row else at_name override_key (values_of es) (override_key row)) (bytes_eq-same (override_key row)) ∙ ap Some same_row
 
         put : (n : List ℕ) → is_override n ≡ true → (other : OverrideRow) → override_seen disk n ≡ there other → Contains names n ⊎ (n ≡ name) → at_name override_key (values_of (insert_entry string_cmp es puts.0 row)) n ≡ Some other
         put n of_n other seen (inr one) = put_this n other seen one
         put n of_n other seen (inl before) = elim (cases_Bool (bytes_eq (override_key row) n)) [
-          | inl t ↦ put_this n other seen (sym (bytes_eq-is (override_key row) n t) ∙ named)
+          | inl t ↦ put_this n other seen (sym (bytes_eq-true (override_key row) n t) ∙ named)
           | inr f ↦ finds n ∙ ap (λ b. if b then Some row else at_name override_key (values_of es) n) f ∙ so_far.has n of_n before other seen
         ]
 
@@ -212,15 +214,11 @@ override_there {v = v} name path loaded good at loads =
     ap (λ b. if b then override_at name (shows v (override_path name)) else away) good ∙ override_as name (shows v (override_path name))
     ∙ ap (override_loaded name) (sym (loads.is ∙ ap (λ q. loaded_of small_most (shows v q)) at))
 
-away_at : (name : List ℕ) → override_at name gone ≡ away
-unfolding override_at
-away_at name = refl
-
 away_if : (disk : Disk) (name : List ℕ) → disk (override_path name) ≡ gone → override_seen disk name ≡ away
 away_if disk name none = ap (λ n. if is_override name then override_at name n else away) none ∙ both (is_override name)
   where
     both : (b : Bool) → (if b then override_at name gone else away) ≡ away
-    both true = away_at name
+    both true = override_away name
     both false = refl
 
 pub good_if : (disk : Disk) (name : List ℕ) (s : Seen OverrideRow) → override_seen disk name ≡ s → (s ≡ away → ⊥) → is_override name ≡ true

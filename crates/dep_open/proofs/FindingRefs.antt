@@ -9,6 +9,9 @@ use Rattle.std.specs.Map.{keys_of, values_of}
 use Rattle.std.proofs.lemmas.Bool.{cases_Bool}
 use Rattle.std.proofs.lemmas.List.{take_more, take_all}
 use Rattle.std.proofs.lemmas.List.Elements.{Contains-append_left, Contains-push, Contains-push_cases}
+use Rattle.fp_base.proofs.Options.{some_none, none_some}
+use Rattle.fp_base.proofs.Lists.{in_none}
+use Rattle.fp_base.proofs.Texts.{bytes_eq-true, bytes_eq-same}
 use Rattle.fp_host.specs.Paths.{Elements, absent, path_text, elements_of}
 use Rattle.fp_host.specs.View.{View, IsTree}
 use Rattle.fp_host.specs.Outcome.{Disk, gone, shows, spot_of}
@@ -16,14 +19,12 @@ use Rattle.fp_host.proofs.Separate.{absent_cases}
 use Rattle.fp_host.proofs.Settled.{at_tree}
 use Rattle.fp_name.specs.Refs.{Ref, is_ref, ref_of, ref_text}
 use Rattle.fp_name.proofs.Refs.{ref_of-ref_text, ref_of-some}
-use Rattle.fp_small.proofs.Ordered.{bytes_eq-itself, bytes_eq-is}
 use Rattle.fp_small.specs.declared.state.RefRow.{RefRow}
-use Rattle.dep_open.proofs.Gathering.{in_none}
 use Rattle.dep_states.specs.Branches.{AreBranches}
 use Rattle.dep_states.specs.Names.{active, branch_dir}
 use Rattle.dep_states.specs.Shown.{Seen, away, bad, there, seen_of, by_active, ref_seen, row_seen, at_name, ref_key}
 use Rattle.dep_states.specs.After.{IsGoodRow}
-use Rattle.dep_states.proofs.Single.{some_is, some_none, none_some, ref_if_bad}
+use Rattle.dep_states.proofs.Single.{some_is, ref_if_bad}
 use Rattle.dep_states.proofs.Total.{ref_is}
 use Rattle.dep_states.proofs.BranchPaths.{branch_same, branch_level}
 use Rattle.dep_open.specs.declared.part.Part.{Part}
@@ -105,7 +106,7 @@ module _ {Z : Type 0} (disk : Disk) (paths : List Elements) (p : Elements) (es f
       only = λ text other found. elim (cases_Bool (bytes_eq (ref_key row) text)) [
         | inl t ↦
             let one : row ≡ other = some_is (if_true (bytes_eq (ref_key row) text) (Some row) (at_name ref_key (values_of es) text) t (sym (finds text) ∙ found)) in
-            ap (λ t. row_seen disk (ref_of t)) (sym (bytes_eq-is (ref_key row) text t)) ∙ ap (λ n. row_seen disk (ref_of (ref_text n))) named ∙ ap (row_seen disk) (ref_of-ref_text name good) ∙ is ∙ ap there one
+            ap (λ t. row_seen disk (ref_of t)) (sym (bytes_eq-true (ref_key row) text t)) ∙ ap (λ n. row_seen disk (ref_of (ref_text n))) named ∙ ap (row_seen disk) (ref_of-ref_text name good) ∙ is ∙ ap there one
         | inr f ↦ so_far.only text other (if_false (bytes_eq (ref_key row) text) (Some row) (at_name ref_key (values_of es) text) f (sym (finds text) ∙ found))
       ];
       least = least_to (BadRefAt disk paths) (BadRefAt disk further) (λ q h. (h.0, h.1, earlier h.2, h.3, h.4)) (λ q h. elim (which h.0 h.2) [
@@ -140,13 +141,13 @@ module _ {Z : Type 0} (disk : Disk) (paths : List Elements) (p : Elements) (es f
             let text : ref_text n ≡ ref_key row = ap ref_text (one ∙ sym named) in
             let same : row ≡ other = same_there is (sym (ap (ref_seen disk) one) ∙ seen) in
             finds (ref_text n) ∙ ap (λ t. if bytes_eq (ref_key row) t then Some row else at_name ref_key (values_of es) t) text
-            ∙ ap (λ b. if b then Some row else at_name ref_key (values_of es) (ref_key row)) (bytes_eq-itself (ref_key row)) ∙ ap Some same
+            ∙ ap (λ b. if b then Some row else at_name ref_key (values_of es) (ref_key row)) (bytes_eq-same (ref_key row)) ∙ ap Some same
 
         put : (n : Ref) → is_ref n ≡ true → (other : RefRow) → ref_seen disk n ≡ there other → Contains paths (branch_dir n) ⊎ (n ≡ name) → at_name ref_key (values_of (insert_entry string_cmp es puts.0 row)) (ref_text n) ≡ Some other
         put n of_n other seen (inr one) = put_this n other seen one
         put n of_n other seen (inl before) = elim (cases_Bool (bytes_eq (ref_key row) (ref_text n))) [
           | inl t ↦
-              let one : n ≡ name = some_is (sym (ref_of-ref_text n of_n) ∙ ap ref_of (sym (bytes_eq-is (ref_key row) (ref_text n) t) ∙ ap ref_text named) ∙ ref_of-ref_text name good) in
+              let one : n ≡ name = some_is (sym (ref_of-ref_text n of_n) ∙ ap ref_of (sym (bytes_eq-true (ref_key row) (ref_text n) t) ∙ ap ref_text named) ∙ ref_of-ref_text name good) in
               put_this n other seen one
           | inr f ↦ finds (ref_text n) ∙ ap (λ b. if b then Some row else at_name ref_key (values_of es) (ref_text n)) f ∙ so_far.has n of_n before other seen
         ]

@@ -1,5 +1,5 @@
 -- Rows that are gathered place by place.
-use Rattle.std.proofs.Common.{◌≡◌, inl, inr, ℕ, List, [], ◌∷◌, map, true, false, Option, Some, refl, sym, ◌∙◌, ap, Contains, arith}
+use Rattle.std.proofs.Common.{◌≡◌, inl, inr, ℕ, List, [], ◌∷◌, map, true, false, Option, Some, refl, sym, ◌∙◌, ap}
 use Rattle.std.specs.Prelude.{if◌then◌else◌, String, string_bytes}
 use Rattle.std.specs.declared.cmp.Ordering.{Ordering}
 use Rattle.std.specs.declared.cmp.Ordering.TheVariants.{Less, Equal, Greater}
@@ -14,13 +14,10 @@ use Rattle.std.specs.Map.{keys_of, values_of}
 use Rattle.std.proofs.lemmas.Bool.{cases_Bool, and_from, both_ways}
 use Rattle.std.proofs.lemmas.Map.Text.{is_eq-slice_cmp}
 use Rattle.std.proofs.lemmas.Slice.Eq.{bytes_eq-Decides}
+use Rattle.fp_base.proofs.Texts.{bytes_eq-true}
 use Rattle.fp_host.specs.Reads.{comes_first, is_ascending}
-use Rattle.fp_small.proofs.Ordered.{bytes_eq-is}
 use Rattle.dep_states.specs.Shown.{at_name}
 use Rattle.dep_open.specs.Parts.{IsKeyed}
-
-pub in_none : {A : Type 0} (x : A) → Contains [] x → ⊥
-in_none x has = absurd (omega (arith, has.1))
 
 module _ {Z T : Type 0} (name : T → List ℕ) where
   equal_texts : (a b : String Z) → string_cmp a b ≡ Equal → string_bytes a ≡ string_bytes b
@@ -49,7 +46,7 @@ module _ {Z T : Type 0} (name : T → List ℕ) where
         ]
     found_by e es Greater h one t more = elim (cases_Bool (bytes_eq (name e.1) t)) [
       | inl here ↦ elim (cases_Bool (bytes_eq (name row) t)) [
-        | inl both ↦ absurd (same_texts key e.0 (known ∙ bytes_eq-is (name row) t both ∙ sym (bytes_eq-is (name e.1) t here) ∙ sym one) h)
+        | inl both ↦ absurd (same_texts key e.0 (known ∙ bytes_eq-true (name row) t both ∙ sym (bytes_eq-true (name e.1) t here) ∙ sym one) h)
         | inr off ↦ rw (here, off) refl
       ]
       | inr other ↦ rw other (more)

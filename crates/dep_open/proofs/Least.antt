@@ -2,7 +2,7 @@
 use Rattle.std.proofs.Common.{◌≡◌, ◌⊎◌, inl, inr, ℕ, List, true, false, ◌&&◌, Option, Some, None, refl, sym, ◌∙◌, ap, subst, codes}
 use Rattle.std.specs.List.{list_all}
 use Rattle.std.specs.Str.{bytes_eq}
-use Rattle.std.proofs.lemmas.Bool.{cases_Bool, and_parts, and_from, or_cases}
+use Rattle.std.proofs.lemmas.Bool.{cases_Bool, and_parts, and_from}
 use Rattle.std.proofs.lemmas.Slice.Eq.{bytes_eq-Decides}
 use Rattle.fp_host.specs.Paths.{Elements, is_element, path_text, elements_of}
 use Rattle.fp_name.specs.Grammar.{is_id, is_arch, is_branch}
@@ -10,7 +10,7 @@ use Rattle.fp_name.specs.Refs.{Ref, is_ref}
 use Rattle.fp_name.specs.Kinds.{kind_word}
 use Rattle.fp_small.specs.Order.{comes_before}
 use Rattle.fp_small.proofs.Ordered.{before_on, before_back}
-use Rattle.ost_refs.proofs.Elements.{element_id, element_arch, element_branch, element_kind}
+use Rattle.fp_small.proofs.Elements.{element_id, element_arch, element_branch, element_kind, element_override}
 use Rattle.dep_states.specs.Names.{override_path, active}
 use Rattle.fp_name.specs.Grammar.{is_override}
 use Rattle.dep_states.proofs.Texts.{text_back}
@@ -27,12 +27,6 @@ active_back name good = text_back (active name) (active_elements name good)
         let b = and_parts (is_arch n.arch) (is_branch n.branch) a.1 in
         and_from (is_element (codes "active")) _ refl (and_from (is_element n.branch) _ (element_branch n.branch b.1) (and_from (is_element n.arch) _ (element_arch n.arch b.0)
         (and_from (is_element n.id) _ (element_id n.id a.0) (and_from (is_element (kind_word n.kind)) true (element_kind n.kind) refl))))
-
-pub element_override : (name : List ℕ) → is_override name ≡ true → is_element name ≡ true
-element_override name good = elim (or_cases (bytes_eq name (codes "global")) (is_id name) good) [
-  | inl is ↦ subst (λ n. is_element n ≡ true) (sym ((bytes_eq-Decides name (codes "global")).0 is)) refl
-  | inr id ↦ element_id name id
-]
 
 pub override_back : (name : List ℕ) → is_override name ≡ true → elements_of (path_text (override_path name)) ≡ override_path name
 override_back name good = text_back (override_path name) (and_from (is_element name) true (element_override name good) refl)

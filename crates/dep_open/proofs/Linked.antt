@@ -1,9 +1,8 @@
 -- What `active` leads to.
-use Rattle.std.proofs.Common.{◌≡◌, inl, inr, ℕ, List, ◌∷◌, true, Option, Some, None, Ok, Result, refl, sym, ◌∙◌, ap, subst}
-use Rattle.std.specs.Prelude.{ok_or}
+use Rattle.std.proofs.Common.{◌≡◌, inl, inr, ℕ, List, ◌∷◌, true, Option, Some, None, Ok, refl, sym, ◌∙◌, ap}
 use Rattle.std.specs.Str.{bytes_eq}
 use Rattle.std.proofs.lemmas.Bool.{cases_Bool}
-use Rattle.fp_host.specs.Paths.{Elements, Slot, absent, dir, file, link, is_element}
+use Rattle.fp_host.specs.Paths.{Elements, Slot, absent, dir, file, link}
 use Rattle.fp_host.specs.View.{View, Inode, IsTree}
 use Rattle.fp_host.specs.Outcome.{Spot, Disk, gone, folder, holds, points, holding, shows, spot_of}
 use Rattle.fp_host.specs.Reads.{StatOf, LinkOf, IsStat}
@@ -11,12 +10,8 @@ use Rattle.fp_host.specs.declared.host.Stat.{Stat}
 use Rattle.fp_host.specs.declared.host.Stat.TheVariants as stats
 use Rattle.fp_host.proofs.Settled.{at_tree}
 use Rattle.std.proofs.lemmas.Slice.Eq.{bytes_eq-Decides}
-use Rattle.fp_name.specs.FileNames.{is_file_name}
-use Rattle.fp_name.specs.declared.fault.NameError.{NameError}
-use Rattle.fp_name.specs.declared.fault.NameError.TheVariants.{Bad}
 use Rattle.fp_name.specs.Hex.{hex, unhex}
 use Rattle.fp_name.specs.Refs.{Ref, is_ref}
-use Rattle.fp_name.proofs.Files.{file_digest}
 use Rattle.fp_name.proofs.HexTexts.{unhex-hex, unhex-some}
 use Rattle.fp_small.specs.Load.{Loads, loaded_of}
 use Rattle.fp_small.specs.declared.loading.Loaded.{Loaded}
@@ -108,12 +103,6 @@ deploy_there {v = v} name text commit dir_ path loaded at_dir at is loads =
     deploy_as name text (shows v (deploy (text_dir name text))) ∙ ap (λ l. row_in name text (seen_as deploy_of l)) (sym (loads.is ∙ ap (λ q. loaded_of small_most (shows v q)) here))
     ∙ ap (λ t. row_in name t (seen_as deploy_of loaded)) (unhex-some text commit is).0
 
-pub digest_element : (text commit : List ℕ) → unhex text ≡ Some commit → is_element text ≡ true
-digest_element text commit is = let parts = unhex-some text commit is in subst (λ t. is_element t ≡ true) (sym parts.0) (element_file (hex commit) (file_digest commit parts.1))
-  where
-    element_file : (t : List ℕ) → is_file_name t ≡ true → is_element t ≡ true
-    element_file t h = h
-
 -- a row that was read is good
 pub row_good : (name : Ref) (text : List ℕ) (loaded : Loaded) → is_ref name ≡ true → IsRowOf name (row_in name text (seen_as deploy_of loaded))
 row_good name text loaded good = go (row_in name text (seen_as deploy_of loaded)) refl
@@ -133,20 +122,6 @@ link_of v (file id) s = absurd (cc s.2)
 
 pub stat_link : {p : Elements} {v w : View} → StatOf p (Ok stats.Link) v w → (text : List ℕ) × (v.names p ≡ link text)
 stat_link {p = p} {v = v} stat = link_of v (v.names p) stat.tells.1
-
-pub unhex_ok : (text : List ℕ) (r : Result (List ℕ) NameError) (d : List ℕ) → r ≡ ok_or (unhex text) Bad → r ≡ Ok d → unhex text ≡ Some d
-unhex_ok text r d is ok = go (unhex text) (sym is ∙ ok)
-  where
-    go : (o : Option (List ℕ)) → ok_or o Bad ≡ Ok d → o ≡ Some d
-    go None e = absurd (cc e)
-    go (Some x) e = let same : x ≡ d = cc e in ap Some same
-
-pub unhex_err : (text : List ℕ) (r : Result (List ℕ) NameError) → r ≡ ok_or (unhex text) Bad → ((d : List ℕ) → r ≡ Ok d → ⊥) → unhex text ≡ None
-unhex_err text r is none = go (unhex text) refl
-  where
-    go : (o : Option (List ℕ)) → unhex text ≡ o → o ≡ None
-    go None e = refl
-    go (Some x) e = absurd (none x (is ∙ ap (λ o. ok_or o Bad) e))
 
 -- where `active` is a link, what its text leads to is what stands at the ref
 pub active_there : (u v : View) (name : Ref) (path : Elements) (text : List ℕ) {s : Seen RefRow} → path ≡ active name → v ≡ u → text_seen (shows u path) ≡ there text

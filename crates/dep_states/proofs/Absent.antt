@@ -2,32 +2,20 @@
 -- each choice is Sound.
 use Rattle.std.proofs.Common.{◌≡◌, ◌≢◌, inl, inr, ℕ, List, ◌∷◌, Option, Some, None, refl, sym, ◌∙◌, ap, subst}
 use Rattle.fp_base.specs.declared.object.ObjKind.{ObjKind}
-use Rattle.fp_base.specs.declared.object.ObjKind.TheVariants as kinds
 use Rattle.fp_host.specs.Paths.{Elements, Slot, absent, dir, file, link, set_at, under, at}
 use Rattle.fp_host.specs.View.{View, Inode, MayBe}
-use Rattle.fp_host.specs.Outcome.{Spot, gone, folder, spot_of, Disk, Leaves}
+use Rattle.fp_host.specs.Outcome.{Spot, gone, spot_of, Disk, Leaves}
 use Rattle.fp_host.proofs.Separate.{path_cases, set_same, set_other, at_cases, at_off, IsClosed}
 use Rattle.fp_small.specs.Places.{repo}
 use Rattle.fp_small.specs.declared.state.State.{State}
 use Rattle.ost_model.specs.Objects.{object_path, object_at, object_fault, missing, store}
 use Rattle.ost_model.specs.Order.{Place, In, order}
 use Rattle.ost_model.proofs.Places.{faultless, order_same}
+use Rattle.ost_model.proofs.Spots.{none_gone, none_folder}
 use Rattle.dep_states.specs.Names.{active, text_dir, deploy}
 use Rattle.dep_states.specs.Sound.{Keeps, Fixed, Opens}
 use Rattle.dep_states.proofs.Law.{ref_same}
 use Rattle.dep_states.proofs.Sparing.{IsOfOrder, fixed_in_repo}
-
-no_object : (kind : ObjKind) → object_at kind gone ≡ None
-no_object kinds.Commit = refl
-no_object kinds.DirTree = refl
-no_object kinds.DirMeta = refl
-no_object kinds.File = refl
-
-folder_no_object : (kind : ObjKind) → object_at kind folder ≡ None
-folder_no_object kinds.Commit = refl
-folder_no_object kinds.DirTree = refl
-folder_no_object kinds.DirMeta = refl
-folder_no_object kinds.File = refl
 
 some_none : Some missing ≡ None → ⊥
 some_none e = cc
@@ -45,8 +33,8 @@ no_dir_closed (link text) f h = refl
 -- below a file or a link nothing counts
 closed : (n : Elements → Slot) (files : ℕ → Option Inode) (p : Elements) (kind : ObjKind) → (object_at kind (spot_of files (at n p)) ≡ None → ⊥) → IsClosed n p
 closed n files p kind is x = elim (at_cases n p) [
-  | inr none ↦ absurd (is (ap (λ e. object_at kind (spot_of files e)) none ∙ no_object kind))
-  | inl same ↦ no_dir_closed (n p) (n (x ∷ p)) (λ e. is (ap (λ f. object_at kind (spot_of files f)) (same ∙ e) ∙ folder_no_object kind))
+  | inr none ↦ absurd (is (ap (λ e. object_at kind (spot_of files e)) none ∙ none_gone kind))
+  | inl same ↦ no_dir_closed (n p) (n (x ∷ p)) (λ e. is (ap (λ f. object_at kind (spot_of files f)) (same ∙ e) ∙ none_folder kind))
 ]
 
 -- the outcome with one name absent
@@ -105,7 +93,7 @@ module _ {s : State} {v : View} (d : List ℕ) (kind : ObjKind) (opens : Opens s
   no_place o pl h e = there_is_object pl.digest pl.kind (disk_without place_path left may (object_path repo pl.digest pl.kind))
       (faultless (store repo (disk_without place_path left may)) 0 (order (store repo (disk_without place_path left may)) o.commit)
       ((opens.sound (disk_without place_path left may) (leaves_without place_path left may)).commits o.name o.commit (kept_without o)).whole pl h).1
-      (ap (λ q. object_at pl.kind (disk_without place_path left may q)) e ∙ ap (object_at pl.kind) (gone_without place_path left may) ∙ no_object pl.kind)
+      (ap (λ q. object_at pl.kind (disk_without place_path left may q)) e ∙ ap (object_at pl.kind) (gone_without place_path left may) ∙ none_gone pl.kind)
 
   unfixed_of : IsOfOrder disk place_path → ⊥
   unfixed_of o = no_place o o.place

@@ -3,6 +3,7 @@ use Rattle.std.proofs.Common.{◌≡◌, ◌≢◌, ◌⊎◌, inl, inr, List, [
 use Rattle.std.proofs.lemmas.List.Elements.{Contains-append_left, Contains-append_right, Contains-append_cases}
 use Rattle.fp_host.specs.Paths.{Elements, absent, path_text, elements_of}
 use Rattle.fp_host.specs.View.{View, IsTree}
+use Rattle.fp_host.proofs.Shown.{some_above}
 use Rattle.fp_name.specs.declared.kind.RefKind.{RefKind}
 use Rattle.fp_name.specs.declared.kind.RefKind.TheVariants.{App, Runtime}
 use Rattle.fp_name.specs.Kinds.{kind_word}
@@ -26,9 +27,6 @@ pub branch_same : (a b : Ref) → branch_dir a ≡ branch_dir b → a ≡ b
 branch_same a b e = active_same a b (ap (λ p. codes "active" ∷ p) e)
 
 -- ---- what is looked at
-
-some_above : {v : View} → IsTree v → (x : List ℕ) (up : Elements) → v.names (x ∷ up) ≢ absent → v.names up ≢ absent
-some_above tree x up some none = elim (tree.above x up) [ inl gone_ ↦ some gone_ | inr there_ ↦ absurd (cc (none, there_)) ]
 
 -- where something stands in a branch directory, it is among those that are looked at
 pub branch_level : {v : View} → IsTree v → (x : List ℕ) (name : Ref) → v.names (x ∷ branch_dir name) ≢ absent → IsLevel 3 (codes "app" ∷ []) v (branch_dir name) ⊎ IsLevel 3 (codes "runtime" ∷ []) v (branch_dir name)

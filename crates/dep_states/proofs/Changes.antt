@@ -5,10 +5,12 @@ use Rattle.std.specs.Prelude.{if◌then◌else◌}
 use Rattle.std.specs.List.{list_any}
 use Rattle.std.specs.Str.{bytes_eq}
 use Rattle.std.proofs.lemmas.Bool.{cases_Bool, false_from_ne_true}
+use Rattle.fp_base.proofs.Options.{some_none}
+use Rattle.fp_base.proofs.Texts.{bytes_eq-true, bytes_eq-same}
 use Rattle.fp_host.specs.Reads.{is_ascending}
 use Rattle.fp_name.specs.Refs.{Ref, ref_text}
 use Rattle.fp_small.specs.Order.{comes_before, inserted, removed, replaced}
-use Rattle.fp_small.proofs.Ordered.{bytes_eq-itself, bytes_eq-is, bytes_eq-differ, map-inserted, is_ascending-inserted, is_ascending-removed}
+use Rattle.fp_small.proofs.Ordered.{bytes_eq-differ, map-inserted, is_ascending-inserted, is_ascending-removed}
 use Rattle.fp_small.specs.declared.state.State.{State}
 use Rattle.fp_small.specs.declared.state.RefRow.{RefRow}
 use Rattle.fp_small.specs.declared.state.Previous.{Previous}
@@ -18,7 +20,6 @@ use Rattle.dep_states.specs.Shown.{at_name, ref_key, override_key}
 use Rattle.dep_states.specs.Small.{IsLayered}
 use Rattle.dep_states.specs.After.{row_at, with_refs, moved, updated, exchanged, back, rolled_back, after_op}
 use Rattle.dep_states.specs.Switch.{IsWith}
-use Rattle.dep_states.proofs.Single.{some_none}
 
 module _ {A : Type 0} (name : A → List ℕ) where
   pub at_removed : (xs : List A) (x t : List ℕ) → at_name name (removed name xs x) t ≡ (if bytes_eq x t then None else at_name name xs t)
@@ -28,13 +29,13 @@ module _ {A : Type 0} (name : A → List ℕ) where
       by true = refl
       by false = refl
   at_removed (y ∷ ys) x t = elim (cases_Bool (bytes_eq (name y) x)) [
-    | inl same ↦ let is : name y ≡ x = bytes_eq-is (name y) x same in
+    | inl same ↦ let is : name y ≡ x = bytes_eq-true (name y) x same in
         elim (cases_Bool (bytes_eq x t)) [
           | inl here ↦ rw same (at_removed ys x t ∙ rw here refl)
           | inr off ↦ let other : bytes_eq (name y) t ≡ false = ap (λ z. bytes_eq z t) is ∙ off in rw same (at_removed ys x t ∙ rw (off, other) refl)
         ]
     | inr differ ↦ elim (cases_Bool (bytes_eq (name y) t)) [
-      | inl here ↦ let off : bytes_eq x t ≡ false = ap (bytes_eq x) (sym (bytes_eq-is (name y) t here)) ∙ bytes_eq-differ (name y) x differ in rw (differ, here, off) refl
+      | inl here ↦ let off : bytes_eq x t ≡ false = ap (bytes_eq x) (sym (bytes_eq-true (name y) t here)) ∙ bytes_eq-differ (name y) x differ in rw (differ, here, off) refl
       | inr other ↦ rw (differ, other) (at_removed ys x t)
     ]
   ]
@@ -52,7 +53,7 @@ module _ {A : Type 0} (name : A → List ℕ) where
       let n = none_on y ys (name a) none in
       elim (cases_Bool (comes_before (name y) (name a))) [
         | inl before ↦ elim (cases_Bool (bytes_eq (name y) t)) [
-          | inl here ↦ let off : bytes_eq (name a) t ≡ false = ap (bytes_eq (name a)) (sym (bytes_eq-is (name y) t here)) ∙ bytes_eq-differ (name y) (name a) n.0 in rw (before, here, off) refl
+          | inl here ↦ let off : bytes_eq (name a) t ≡ false = ap (bytes_eq (name a)) (sym (bytes_eq-true (name y) t here)) ∙ bytes_eq-differ (name y) (name a) n.0 in rw (before, here, off) refl
           | inr other ↦ rw (before, other) (at_inserted ys a t n.1)
         ]
         | inr remainder ↦ rw remainder refl
@@ -60,7 +61,7 @@ module _ {A : Type 0} (name : A → List ℕ) where
 
   pub at_replaced : (xs : List A) (a : A) (t : List ℕ) → at_name name (replaced name xs a) t ≡ (if bytes_eq (name a) t then Some a else at_name name xs t)
   at_replaced xs a t =
-      at_inserted (removed name xs (name a)) a t (at_removed xs (name a) (name a) ∙ rw (bytes_eq-itself (name a)) refl)
+      at_inserted (removed name xs (name a)) a t (at_removed xs (name a) (name a) ∙ rw (bytes_eq-same (name a)) refl)
       ∙ elim (cases_Bool (bytes_eq (name a) t)) [
         | inl here ↦ rw here refl
         | inr off ↦ rw off (at_removed xs (name a) t ∙ rw off refl)
@@ -87,10 +88,10 @@ module _ {A : Type 0} (name : A → List ℕ) where
 
   pub replaced_ascends : (xs : List A) (a : A) → is_ascending (map name xs) ≡ true → is_ascending (map name (replaced name xs a)) ≡ true
   replaced_ascends xs a up =
-      inserted_ascends (removed name xs (name a)) a (at_removed xs (name a) (name a) ∙ rw (bytes_eq-itself (name a)) refl) (removed_ascends xs (name a) up)
+      inserted_ascends (removed name xs (name a)) a (at_removed xs (name a) (name a) ∙ rw (bytes_eq-same (name a)) refl) (removed_ascends xs (name a) up)
 
 off_false : (x t : List ℕ) → t ≢ x → bytes_eq x t ≡ false
-off_false x t off = false_from_ne_true (bytes_eq x t) (λ e. off (sym (bytes_eq-is x t e)))
+off_false x t off = false_from_ne_true (bytes_eq x t) (λ e. off (sym (bytes_eq-true x t e)))
 
 -- ---- operations on refs
 
@@ -99,7 +100,7 @@ module _ (s : State) (up : is_ascending (map ref_key s.refs) ≡ true) where
   with_row row = record {
     setup = refl;
     overrides = refl;
-    here = at_replaced ref_key s.refs row (ref_key row) ∙ rw (bytes_eq-itself (ref_key row)) refl;
+    here = at_replaced ref_key s.refs row (ref_key row) ∙ rw (bytes_eq-same (ref_key row)) refl;
     others = λ text off. at_replaced ref_key s.refs row text ∙ rw (off_false (ref_key row) text off) refl;
     ascend = replaced_ascends ref_key s.refs row up;
   }
@@ -108,7 +109,7 @@ module _ (s : State) (up : is_ascending (map ref_key s.refs) ≡ true) where
   with_new row none = record {
     setup = refl;
     overrides = refl;
-    here = at_inserted ref_key s.refs row (ref_key row) none ∙ rw (bytes_eq-itself (ref_key row)) refl;
+    here = at_inserted ref_key s.refs row (ref_key row) none ∙ rw (bytes_eq-same (ref_key row)) refl;
     others = λ text off. at_inserted ref_key s.refs row text none ∙ rw (off_false (ref_key row) text off) refl;
     ascend = inserted_ascends ref_key s.refs row none up;
   }
@@ -117,7 +118,7 @@ module _ (s : State) (up : is_ascending (map ref_key s.refs) ≡ true) where
   without_row name = record {
     setup = refl;
     overrides = refl;
-    here = at_removed ref_key s.refs (ref_text name) (ref_text name) ∙ rw (bytes_eq-itself (ref_text name)) refl;
+    here = at_removed ref_key s.refs (ref_text name) (ref_text name) ∙ rw (bytes_eq-same (ref_text name)) refl;
     others = λ text off. at_removed ref_key s.refs (ref_text name) text ∙ rw (off_false (ref_text name) text off) refl;
     ascend = removed_ascends ref_key s.refs (ref_text name) up;
   }

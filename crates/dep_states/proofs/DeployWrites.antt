@@ -3,14 +3,15 @@ use Rattle.std.proofs.Common.{◌≡◌, ◌<◌, ◌≤◌, ◌+◌, ◌*◌, �
 use Rattle.std.specs.Prelude.{if◌then◌else◌, option_and_then, flat_map, reverse, nat_le, ◌/◌, ◌%◌, ◌-◌, ◌==◌}
 use Rattle.std.specs.List.{list_all}
 use Rattle.std.specs.Str.{is_utf8}
-use Rattle.std.proofs.lemmas.Bool.{cases_Bool, and_parts, and_from, ltb-true, lt-ltb, eqb-true, leb-true}
+use Rattle.std.proofs.lemmas.Bool.{cases_Bool, and_parts, and_from, ltb-true, lt-ltb, eqb-true}
 use Rattle.std.proofs.lemmas.List.{length-append, length-reverse}
 use Rattle.std.proofs.lemmas.Str.{is_utf8-from_IsUtf8}
 use Rattle.fp_name.specs.Bytes.{is_dotted}
 use Rattle.fp_name.specs.Grammar.{is_remote_name}
 use Rattle.fp_name.specs.Hex.{is_byte, is_digest, digit, hex}
 use Rattle.fp_name.proofs.Bytes.{dotted_remote_name, Utf8-from_dotted}
-use Rattle.fp_name.proofs.HexTexts.{length-hex, unhex-hex}
+use Rattle.fp_name.proofs.HexTexts.{unhex-hex}
+use Rattle.fp_name.proofs.Lengths.{remote_short, digest_long}
 use Rattle.fp_small.specs.declared.state.Previous.{Previous}
 use Rattle.gv_value.specs.declared.limits.TheConstants.{MOST_BYTES}
 use Rattle.gv_value.specs.Basics.{string}
@@ -174,13 +175,6 @@ framed_length body offsets =
 text_length : (text : List ℕ) → length (text ++ (0 ∷ [])) ≡ length text + 1
 text_length text = length-append text (0 ∷ [])
 
-hex_length : (d : List ℕ) → is_digest d ≡ true → length (hex d) ≡ 64
-hex_length d good = omega (arith, length-hex d, (digest_parts d good).0)
-
-short_remote_name : (text : List ℕ) → is_remote_name text ≡ true → length text ≤ 64
-unfolding is_remote_name
-short_remote_name text good = leb-true (length text) 64 (and_parts (nat_le (length text) 64) _ good).0
-
 abbrev inner_tree : List ℕ → ℕ → Tree
 inner_tree text time = Tree.tuple (tree (text_value text) (tree (time_tree time) no_trees))
 
@@ -207,7 +201,7 @@ unfolding previous_shape
 previous_length None good = omega arith
 previous_length (Some p) good =
     let inner = inner_length (hex p.commit) p.timestamp in
-    let h = hex_length p.commit good.0 in
+    let h = digest_long p.commit good.0 in
     let whole : length (spelling (previous_tree (Some p)) previous_shape) ≡ length (spelling (inner_tree (hex p.commit) p.timestamp) (Shape.tuple inner_shapes)) + 1 = text_length (spelling (inner_tree (hex p.commit) p.timestamp) (Shape.tuple inner_shapes)) in
     omega (arith, inner, h, whole)
 
@@ -229,9 +223,9 @@ deploy_length d read =
     let e = placed_length three back 8 (omega arith) (omega arith) in
     let o = length-reverse (length one ∷ length two ∷ []) in
     let origin_is = text_length d.origin in
-    let origin_few = short_remote_name d.origin read.origin in
+    let origin_few = remote_short d.origin read.origin in
     let commit_is = text_length (hex d.commit) in
-    let hex_is = hex_length d.commit read.commit in
+    let hex_is = digest_long d.commit read.commit in
     let n = length-le_bytes 8 d.timestamp in
     let back_is = previous_length d.previous read.previous in
     omega (arith, whole, a, b, c, e, o, origin_is, origin_few, commit_is, hex_is, n, back_is)

@@ -1,9 +1,9 @@
 -- An image with a deployed ref is Sound.
 use Rattle.std.proofs.Common.{◌≡◌, ◌≢◌, ◌⊎◌, inl, inr, ℕ, List, [], ◌∷◌, ◌++◌, Bool, true, false, not, ◌||◌, leb, length, Some, None, refl, sym, ◌∙◌, ap, subst, arith}
-use Rattle.std.specs.Prelude.{codes, if◌then◌else◌}
+use Rattle.std.specs.Prelude.{codes}
 use Rattle.std.specs.Str.{bytes_eq, is_utf8, chars}
 use Rattle.std.specs.List.{AllByRecursion}
-use Rattle.std.proofs.lemmas.Bool.{cases_Bool, both_ways, leb-true}
+use Rattle.std.proofs.lemmas.Bool.{cases_Bool, both_ways, leb-true, or_cases, not-true}
 use Rattle.std.proofs.lemmas.List.{length-append}
 use Rattle.std.proofs.lemmas.Slice.Eq.{bytes_eq-Decides}
 use lib.Utf8.{encode}
@@ -27,19 +27,23 @@ use Rattle.ost_model.specs.Look.{nothing, directory, file_at, look, next, entry_
 use Rattle.ost_model.specs.Standing.{Stands, expected, is_metadata, deploy_name, metadata_name}
 use Rattle.ost_model.specs.Stores.{IsObject}
 use Rattle.sha2.specs.Sha256.{sha256, digest_bytes, hash_after, compress, rounds, schedule, first_words}
+use Rattle.fp_base.proofs.Options.{some_none, none_some}
+use Rattle.fp_base.proofs.Texts.{bytes_eq-false}
+use Rattle.fp_base.proofs.Booleans.{if_true}
 use Rattle.dep_states.specs.Names.{active, text_dir, commit_dir, deploy, override_path}
 use Rattle.fp_name.specs.Grammar.{is_override}
 use Rattle.dep_states.specs.Deploy.{deploy_of}
-use Rattle.dep_states.specs.Shown.{Seen, away, there, by_active, deploy_at, ref_seen, override_seen, override_at, at_name, ref_key, override_key, Shows}
+use Rattle.dep_states.specs.Shown.{away, there, by_active, deploy_at, ref_seen, override_seen, override_at, at_name, ref_key, override_key, Shows}
 use Rattle.dep_states.specs.Zones.{Allowed, Fits, zone, outward, outward_onto, IsFileOrGone}
 use Rattle.dep_states.specs.Sound.{reads_as, Keeps, IsKeptBy, Sound}
 use Rattle.dep_states.specs.Samples.{layer}
 use Rattle.dep_states.specs.Deployed.{platform, metadata_bytes, file_digest, tree_bytes, tree_digest, dir_bytes, dir_digest, commit_bytes, commit, deploy_bytes, commit_text, deployed_rows, deployed_disk, deployed_row, deployed_state}
 use Rattle.dep_states.proofs.Empty.{allowed_gone}
 use Rattle.dep_states.proofs.Listed.{refs_listed, overrides_listed}
-use Rattle.dep_states.proofs.Rows.{none_at, each_at, head_of, tail_of, text_apart, not_true, or_cases}
-use Rattle.dep_states.proofs.Single.{there_is, some_none, none_some}
+use Rattle.dep_states.proofs.Rows.{none_at, each_at, head_of, tail_of}
+use Rattle.dep_states.proofs.Single.{there_is}
 use Rattle.dep_states.proofs.Worked.{active_same, config_there, layer_there}
+use Rattle.dep_states.proofs.Away.{override_away, layer_away}
 
 -- ---- what computes
 
@@ -185,7 +189,7 @@ deep_test q = not (bytes_eq (top q) (codes "runtime")) || leb (length q) 6
 deep_apart : (rest : Elements) (x y : List ℕ) (q : Elements) → deep_test q ≡ true → (x ∷ (y ∷ rest)) ++ the_dir ≢ q
 unfolding deep_test
 deep_apart rest x y q t e = elim (or_cases (not (bytes_eq (top q) (codes "runtime"))) (leb (length q) 6) t) [
-  | inl other ↦ text_apart (top q) (codes "runtime") (not_true (bytes_eq (top q) (codes "runtime")) other) (sym (ap top e) ∙ ap head_of (outward_append (x ∷ (y ∷ rest)) the_dir []))
+  | inl other ↦ bytes_eq-false (top q) (codes "runtime") (not-true (bytes_eq (top q) (codes "runtime")) other) (sym (ap top e) ∙ ap head_of (outward_append (x ∷ (y ∷ rest)) the_dir []))
   | inr few ↦ absurd (omega (arith, ap length e, length-append (x ∷ (y ∷ rest)) the_dir, leb-true (length q) 6 few))
 ]
 
@@ -200,7 +204,7 @@ near_test q = not (path_eq (tail_of q) the_dir) || (bytes_eq (head_of q) (codes 
 near_apart : (x : List ℕ) → x ≢ codes "metadata" → x ≢ codes "deploy" → (q : Elements) → near_test q ≡ true → x ∷ the_dir ≢ q
 unfolding near_test
 near_apart x a b q t e = elim (or_cases (not (path_eq (tail_of q) the_dir)) (bytes_eq (head_of q) (codes "metadata") || bytes_eq (head_of q) (codes "deploy")) t) [
-  | inl other ↦ both_ways (path_eq (tail_of q) the_dir) (not_true (path_eq (tail_of q) the_dir) other) ((path_decides (tail_of q) the_dir).1 (sym (ap tail_of e)))
+  | inl other ↦ both_ways (path_eq (tail_of q) the_dir) (not-true (path_eq (tail_of q) the_dir) other) ((path_decides (tail_of q) the_dir).1 (sym (ap tail_of e)))
   | inr named ↦ elim (or_cases (bytes_eq (head_of q) (codes "metadata")) (bytes_eq (head_of q) (codes "deploy")) named) [
     | inl m ↦ a (ap head_of e ∙ (bytes_eq-Decides (head_of q) (codes "metadata")).0 m)
     | inr d ↦ b (ap head_of e ∙ (bytes_eq-Decides (head_of q) (codes "deploy")).0 d)
@@ -218,7 +222,7 @@ active_test q = not (bytes_eq (head_of q) (codes "active")) || path_eq q (active
 active_apart : (name : Ref) → name ≢ platform → (q : Elements) → active_test q ≡ true → active name ≢ q
 unfolding active_test
 active_apart name off q t e = elim (or_cases (not (bytes_eq (head_of q) (codes "active"))) (path_eq q (active platform)) t) [
-  | inl other ↦ text_apart (head_of q) (codes "active") (not_true (bytes_eq (head_of q) (codes "active")) other) (sym (ap head_of e))
+  | inl other ↦ bytes_eq-false (head_of q) (codes "active") (not-true (bytes_eq (head_of q) (codes "active")) other) (sym (ap head_of e))
   | inr same ↦ off (active_same name platform (e ∙ (path_decides q (active platform)).0 same))
 ]
 
@@ -228,19 +232,11 @@ active_gone name off = none_at (active name) active_test deployed_rows (active_a
 
 -- ---- the one ref
 
-if_away : (b : Bool) (x : Seen RefRow) → x ≡ away → if b then x else away ≡ away
-if_away true x e = e
-if_away false x e = refl
-
-if_good : {A : Type 0} (b : Bool) (x y : A) → b ≡ true → if b then x else y ≡ x
-if_good true x y e = refl
-if_good false x y e = absurd cc
-
 pub row_is : ref_seen deployed_disk platform ≡ there deployed_row
-row_is = if_good (is_ref platform) (deploy_at platform commit_text (holds 5 420 deploy_bytes)) away good ∙ deploy_there
+row_is = if_true (is_ref platform) (deploy_at platform commit_text (holds 5 420 deploy_bytes)) away good ∙ deploy_there
 
 pub other_away : (name : Ref) → name ≢ platform → ref_seen deployed_disk name ≡ away
-other_away name off = if_away (is_ref name) (by_active deployed_disk name (deployed_disk (active name))) (ap (by_active deployed_disk name) (active_gone name off))
+other_away name off = layer_away (is_ref name) (by_active deployed_disk name (deployed_disk (active name))) (ap (by_active deployed_disk name) (active_gone name off))
 
 pub ref_cases : (name : Ref) → (name ≡ platform) ⊎ (name ≢ platform)
 ref_cases name = elim (cases_Bool (path_eq (active name) (active platform))) [
@@ -304,7 +300,7 @@ override_test q = not (path_eq (tail_of q) (codes "overrides" ∷ [])) || bytes_
 override_apart : (name : List ℕ) → name ≢ codes "global" → (q : Elements) → override_test q ≡ true → override_path name ≢ q
 unfolding override_test
 override_apart name off q t e = elim (or_cases (not (path_eq (tail_of q) (codes "overrides" ∷ []))) (bytes_eq (head_of q) (codes "global")) t) [
-  | inl other ↦ both_ways (path_eq (tail_of q) (codes "overrides" ∷ [])) (not_true (path_eq (tail_of q) (codes "overrides" ∷ [])) other) ((path_decides (tail_of q) (codes "overrides" ∷ [])).1 (sym (ap tail_of e)))
+  | inl other ↦ both_ways (path_eq (tail_of q) (codes "overrides" ∷ [])) (not-true (path_eq (tail_of q) (codes "overrides" ∷ [])) other) ((path_decides (tail_of q) (codes "overrides" ∷ [])).1 (sym (ap tail_of e)))
   | inr named ↦ off (ap head_of e ∙ (bytes_eq-Decides (head_of q) (codes "global")).0 named)
 ]
 
@@ -312,18 +308,10 @@ override_gone : (name : List ℕ) → name ≢ codes "global" → deployed_disk 
 unfolding override_test
 override_gone name off = none_at (override_path name) override_test deployed_rows (override_apart name off) refl
 
-no_override : (name : List ℕ) → override_at name gone ≡ away
-unfolding override_at
-no_override name = refl
-
-layer_away : {A : Type 0} (b : Bool) (x : Seen A) → x ≡ away → if b then x else away ≡ away
-layer_away true x e = e
-layer_away false x e = refl
-
 other_layers : (name : List ℕ) → at_name override_key (layer ∷ []) name ≡ None → override_seen deployed_disk name ≡ away
 other_layers name none =
     let off : name ≢ codes "global" = λ same. some_none (sym (ap (at_name override_key (layer ∷ [])) same) ∙ none) in
-    layer_away (is_override name) (override_at name (deployed_disk (override_path name))) (ap (override_at name) (override_gone name off) ∙ no_override name)
+    layer_away (is_override name) (override_at name (deployed_disk (override_path name))) (ap (override_at name) (override_gone name off) ∙ override_away name)
 
 pub deployed_shows : Shows deployed_disk deployed_state
 deployed_shows = record {

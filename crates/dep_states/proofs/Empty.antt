@@ -1,29 +1,21 @@
 -- The empty image shows the empty state of layout 2, and is Sound.
-use Rattle.std.proofs.Common.{◌≡◌, inl, inr, ℕ, List, [], ◌∷◌, ◌++◌, Bool, true, false, Option, Some, None, refl, sym, ◌∙◌, arith}
-use Rattle.std.specs.Prelude.{if◌then◌else◌}
+use Rattle.std.proofs.Common.{◌≡◌, inl, inr, ℕ, List, [], ◌∷◌, ◌++◌, Option, Some, None, refl, sym, ◌∙◌, arith}
 use Rattle.fp_host.specs.Paths.{Elements}
 use Rattle.fp_host.specs.Outcome.{gone}
 use Rattle.fp_name.specs.Refs.{Ref, is_ref, ref_of}
 use Rattle.fp_small.specs.declared.state.RefRow.{RefRow}
 use Rattle.fp_name.specs.Grammar.{is_override}
-use Rattle.dep_states.specs.Shown.{Seen, away, there, ref_seen, row_seen, override_at, remotes_at, pins_at, Shows}
+use Rattle.dep_states.specs.Shown.{away, there, ref_seen, row_seen, override_at, remotes_at, pins_at, Shows}
 use Rattle.dep_states.specs.Zones.{Zone, anything, a_file, a_link, a_leaf, a_folder, a_prefix, an_object, Fits, Allowed, zone, outward}
 use Rattle.fp_small.specs.Places.{tmp}
 use Rattle.dep_states.specs.Settled.{Settled}
 use Rattle.dep_states.specs.Sound.{Keeps, Sound}
 use Rattle.dep_states.specs.Samples.{empty_disk, empty_state}
-
-if_away : {A : Type 0} (b : Bool) → if◌then◌else◌ {A = Seen A} b away away ≡ away
-if_away true = refl
-if_away false = refl
+use Rattle.dep_states.proofs.Away.{if_away}
 
 row_away : (name : Option Ref) → row_seen empty_disk name ≡ away
 row_away None = refl
 row_away (Some name) = if_away (is_ref name)
-
-override_away : (name : List ℕ) → override_at name gone ≡ away
-unfolding override_at
-override_away name = refl
 
 pub empty_shows : Shows empty_disk empty_state
 unfolding override_at remotes_at pins_at

@@ -4,6 +4,8 @@ use Rattle.std.specs.Prelude.{IfOk, IsTrue}
 use Rattle.std.specs.List.{AllByRecursion}
 use Rattle.std.specs.Str.{bytes_eq}
 use Rattle.std.proofs.lemmas.Bool.{cases_Bool, and_parts}
+use Rattle.fp_base.proofs.Options.{some_none}
+use Rattle.fp_base.proofs.Texts.{bytes_eq-true}
 use Rattle.fp_host.specs.Outcome.{Spot, Disk, gone, folder, holds, points}
 use Rattle.fp_host.specs.Reads.{comes_first, is_ascending}
 use Rattle.fp_keyfile.specs.declared.group.Group.{Group}
@@ -21,7 +23,6 @@ use Rattle.fp_small.specs.declared.state.RemoteRow.{RemoteRow}
 use Rattle.fp_small.specs.declared.state.OverrideRow.{OverrideRow}
 use Rattle.fp_small.proofs.ConfigReads.{read_good}
 use Rattle.fp_small.proofs.OldReads.{remotes_good, pins_good}
-use Rattle.fp_small.proofs.Ordered.{bytes_eq-is}
 use Rattle.dep_states.specs.declared.deploy.DeployData.{DeployData}
 use Rattle.dep_states.specs.declared.setup.Setup.{Setup}
 use Rattle.dep_states.specs.Names.{config, remotes_conf, pins_file, override_path, active}
@@ -31,7 +32,7 @@ use Rattle.dep_states.specs.Shown.{Seen, away, bad, there, read_of, seen_of, rea
 use Rattle.dep_states.specs.After.{IsGoodRow, IsGoodLayer, IsGood}
 use Rattle.dep_states.proofs.Deploys.{IsRead, deploy_reads}
 use Rattle.dep_states.proofs.Listed.{IsThere}
-use Rattle.dep_states.proofs.Single.{there_is, some_is, some_none, none_before, at_head}
+use Rattle.dep_states.proofs.Single.{there_is, some_is, none_before, at_head}
 use Rattle.dep_states.proofs.Total.{row_there}
 
 -- ---- files
@@ -170,7 +171,7 @@ module _ {A : Type 0} (name : A → List ℕ) (P : A → Type 0) where
     where
       further : (a : A) → at_name name xs (name a) ≡ Some a → comes_first (name x) (map name xs) ≡ true → is_ascending (map name xs) ≡ true → at_name name (x ∷ xs) (name a) ≡ Some a
       further a e first others = elim (cases_Bool (bytes_eq (name x) (name a))) [
-        | inl t ↦ absurd (some_none (sym e ∙ ap (at_name name xs) (sym (bytes_eq-is (name x) (name a) t)) ∙ none_before name (name x) xs first others))
+        | inl t ↦ absurd (some_none (sym e ∙ ap (at_name name xs) (sym (bytes_eq-true (name x) (name a) t)) ∙ none_before name (name x) xs first others))
         | inr f ↦ rw f e
       ]
 

@@ -1,10 +1,10 @@
 -- Worked images are sound, and show what they have to.
-use Rattle.std.proofs.Common.{◌≡◌, ◌≤◌, inl, inr, ℕ, List, [], ◌∷◌, length, Bool, true, false, Option, Some, None, refl, sym, ◌∙◌, ap, subst, arith}
+use Rattle.std.proofs.Common.{◌≡◌, ◌≤◌, inl, inr, ℕ, List, [], ◌∷◌, length, Option, Some, None, refl, sym, ◌∙◌, ap, subst, arith}
 use Rattle.std.specs.Prelude.{if◌then◌else◌}
 use Rattle.std.proofs.lemmas.Bool.{le-leb}
 use Rattle.fp_host.specs.Paths.{Elements, absent}
 use Rattle.fp_host.specs.View.{View, IsTree}
-use Rattle.fp_host.specs.Outcome.{Disk, Leaves, IsSettled, gone, folder, holds, spot_of}
+use Rattle.fp_host.specs.Outcome.{Disk, Leaves, IsSettled, folder, holds, spot_of}
 use Rattle.fp_host.proofs.Settled.{settled_disk}
 use Rattle.fp_name.specs.Refs.{Ref, is_ref, ref_of}
 use Rattle.fp_small.specs.Config.{config_of, config_text, IsSettings}
@@ -13,7 +13,7 @@ use Rattle.fp_small.specs.declared.state.RefRow.{RefRow}
 use Rattle.fp_small.proofs.ConfigTexts.{written_back}
 use Rattle.dep_states.specs.Names.{config, override_path}
 use Rattle.fp_name.specs.Grammar.{is_override}
-use Rattle.dep_states.specs.Shown.{Seen, away, bad, there, setup_of, layout_two, read_of, config_most, config_at, ref_seen, row_seen, override_at, Shows}
+use Rattle.dep_states.specs.Shown.{away, bad, there, setup_of, layout_two, read_of, config_most, config_at, ref_seen, row_seen, override_at, Shows}
 use Rattle.dep_states.specs.Zones.{Zone, anything, Fits, zone, outward, Allowed}
 use Rattle.dep_states.specs.Sound.{Sound, IsSound, Opens}
 use Rattle.dep_states.specs.Samples.{no_disk, empty_disk, empty_state, config_rows, config_disk, settings_state}
@@ -21,12 +21,9 @@ use Rattle.dep_states.proofs.Empty.{allowed_gone, empty_shows, empty_sound}
 use Rattle.dep_states.proofs.Law.{shows_same, sound_same}
 use Rattle.dep_states.proofs.Rows.{each_at}
 use Rattle.dep_states.proofs.Worked.{none_at}
+use Rattle.dep_states.proofs.Away.{override_away, layer_away, if_away}
 
 -- ---- nothing at all
-
-if_away : {A : Type 0} (b : Bool) → if◌then◌else◌ {A = Seen A} b away away ≡ away
-if_away true = refl
-if_away false = refl
 
 away_there : {X : Type 0} {row : RefRow} → away ≡ there row → X
 away_there e = absurd (cc e)
@@ -65,14 +62,6 @@ read_whole : (bytes : List ℕ) (s : Settings) → length bytes ≤ config_most 
 unfolding config_at
 read_whole bytes s short reads =
     ap (λ b. layout_two (if b then read_of (config_of bytes) else bad)) (le-leb (length bytes) config_most short) ∙ ap (λ o. layout_two (read_of o)) reads
-
-override_away : (name : List ℕ) → override_at name gone ≡ away
-unfolding override_at
-override_away name = refl
-
-layer_away : {A : Type 0} (b : Bool) (x : Seen A) → x ≡ away → if b then x else away ≡ away
-layer_away true x e = e
-layer_away false x e = refl
 
 pub config_shows : (s : Settings) → IsSettings s → length (config_text s) ≤ config_most → Shows (config_disk (config_text s)) (settings_state s)
 config_shows s good short =

@@ -1,15 +1,16 @@
 -- What lasts: none of the work, and in a commit's folder the record alone.
-use Rattle.std.proofs.Common.{◌≡◌, ◌≢◌, inl, inr, ℕ, List, [], ◌∷◌, ◌++◌, false, length, refl, sym, ◌∙◌, ap, codes, arith}
-use Rattle.std.specs.Str.{bytes_eq}
+use Rattle.std.proofs.Common.{◌≡◌, inl, inr, ℕ, List, [], ◌∷◌, ◌++◌, length, refl, sym, ◌∙◌, ap, codes, arith}
 use Rattle.std.proofs.lemmas.List.{length-append}
 use Rattle.fp_base.specs.declared.object.ObjKind.{ObjKind}
+use Rattle.fp_base.proofs.Texts.{bytes_eq-false}
 use Rattle.fp_host.specs.Paths.{Elements, IsAbove}
-use Rattle.fp_name.specs.declared.kind.RefKind.{RefKind}
-use Rattle.fp_name.specs.declared.kind.RefKind.TheVariants.{App, Runtime}
+use Rattle.fp_host.proofs.Above.{above_rest}
 use Rattle.fp_name.specs.Kinds.{kind_word}
 use Rattle.fp_name.specs.Refs.{Ref}
+use Rattle.fp_name.proofs.Refs.{word_apart}
 use Rattle.fp_small.specs.Clear.{IsWithin}
 use Rattle.fp_small.specs.Places.{repo, tmp}
+use Rattle.fp_small.proofs.Within.{within_rest}
 use Rattle.ost_model.specs.Objects.{object_path}
 use Rattle.ost_model.specs.Stores.{objects_folder}
 use Rattle.ost_refs.specs.Places.{place_path}
@@ -20,18 +21,8 @@ use Rattle.dep_states.specs.Lasting.IsLasting.{an_object, store_config, a_ref, a
 use Rattle.dep_states.specs.Names.{commit_dir, deploy}
 use Rattle.dep_states.specs.Zones.{outward}
 use Rattle.dep_states.proofs.Deployed.{outward_append, top}
-use Rattle.dep_states.proofs.Rows.{text_apart, head_of}
+use Rattle.dep_states.proofs.Rows.{head_of}
 use Rattle.dep_states.proofs.Switching.{second, word_no_repo}
-
--- a path below another ends with it
-pub above_rest : (t q : Elements) → IsAbove t q → (rest : Elements) × (q ≡ rest ++ t)
-above_rest t [] above = absurd above
-above_rest t (x ∷ up) (inl same) = (x ∷ [], ap (λ (l : Elements). x ∷ l) (sym same))
-above_rest t (x ∷ up) (inr above) = let more = above_rest t up above in (x ∷ more.0, ap (λ (l : Elements). x ∷ l) more.1)
-
-pub within_rest : (t q : Elements) → IsWithin t q → (rest : Elements) × (q ≡ rest ++ t)
-within_rest t q (inl same) = ([], same)
-within_rest t q (inr above) = above_rest t q above
 
 -- ---- by the first name of a path, and the second
 
@@ -54,20 +45,16 @@ lasting_no_work q work lasts = case lasts
     in_repo = top_in_repo (codes "tmp") q work
 
     case : IsLasting q → ⊥
-    case (an_object above) = text_apart (codes "objects") (codes "tmp") refl (sym (second_below (codes "objects") q (inr above)) ∙ in_tmp)
-    case (store_config at) = text_apart (codes "config") (codes "tmp") refl (sym (ap (λ (p : Elements). second (outward p)) at) ∙ in_tmp)
-    case (a_ref above) = text_apart (codes "refs") (codes "tmp") refl (sym (second_below (codes "refs") q (inr above)) ∙ in_tmp)
-    case (a_made_one above) = text_apart (codes "made") (codes "repo") refl (sym (top_below (codes "made") q above) ∙ in_repo)
-    case (an_export above) = text_apart (codes "exports") (codes "repo") refl (sym (top_below (codes "exports") q above) ∙ in_repo)
+    case (an_object above) = bytes_eq-false (codes "objects") (codes "tmp") refl (sym (second_below (codes "objects") q (inr above)) ∙ in_tmp)
+    case (store_config at) = bytes_eq-false (codes "config") (codes "tmp") refl (sym (ap (λ (p : Elements). second (outward p)) at) ∙ in_tmp)
+    case (a_ref above) = bytes_eq-false (codes "refs") (codes "tmp") refl (sym (second_below (codes "refs") q (inr above)) ∙ in_tmp)
+    case (a_made_one above) = bytes_eq-false (codes "made") (codes "repo") refl (sym (top_below (codes "made") q above) ∙ in_repo)
+    case (an_export above) = bytes_eq-false (codes "exports") (codes "repo") refl (sym (top_below (codes "exports") q above) ∙ in_repo)
     case (a_record name commit at) = word_no_repo name.kind (sym (ap top at) ∙ in_repo)
-    case (the_settings at) = text_apart (codes "config") (codes "repo") refl (sym (ap top at) ∙ in_repo)
-    case (an_override name at) = text_apart (codes "overrides") (codes "repo") refl (sym (ap top at) ∙ in_repo)
+    case (the_settings at) = bytes_eq-false (codes "config") (codes "repo") refl (sym (ap top at) ∙ in_repo)
+    case (an_override name at) = bytes_eq-false (codes "overrides") (codes "repo") refl (sym (ap top at) ∙ in_repo)
 
 -- ---- in a commit's folder
-
-word_apart : (k : RefKind) (word : List ℕ) → bytes_eq (codes "app") word ≡ false → bytes_eq (codes "runtime") word ≡ false → kind_word k ≢ word
-word_apart App word no_app no_runtime = text_apart (codes "app") word no_app
-word_apart Runtime word no_app no_runtime = text_apart (codes "runtime") word no_runtime
 
 one_below : (d : List ℕ) (rest dir other : Elements) → length dir ≡ length other → d ∷ other ≡ rest ++ dir → other ≡ dir
 one_below d [] dir other same e = absurd (omega (arith, ap length e, same))

@@ -27,3 +27,6 @@ pub mod Linked
 pub mod Elsewhere
 pub mod Texts
 pub mod BranchPaths
+pub mod Away
+pub mod Zones
+pub mod Work

@@ -4,20 +4,21 @@ use Rattle.std.proofs.Common.{◌≡◌, inl, inr, ℕ, List, [], ◌∷◌, tru
 use Rattle.std.specs.Str.{bytes_eq}
 use Rattle.std.specs.List.{AllByRecursion}
 use Rattle.std.proofs.lemmas.Bool.{cases_Bool}
+use Rattle.fp_base.proofs.Options.{none_some}
+use Rattle.fp_base.proofs.Texts.{bytes_eq-true}
 use Rattle.fp_host.specs.Outcome.{Disk}
 use Rattle.fp_name.specs.Refs.{Ref, ref_of, is_ref, ref_text}
 use Rattle.fp_name.proofs.Refs.{ref_of-ref_text, ref_of-some}
-use Rattle.fp_small.proofs.Ordered.{bytes_eq-is}
 use Rattle.fp_small.specs.declared.state.RefRow.{RefRow}
 use Rattle.fp_small.specs.declared.state.OverrideRow.{OverrideRow}
 use Rattle.dep_states.specs.Shown.{away, there, seen_of, ref_seen, row_seen, override_seen, at_name, ref_key, override_key}
-use Rattle.dep_states.proofs.Single.{some_is, none_some}
+use Rattle.dep_states.proofs.Single.{some_is}
 
 module _ {A : Type 0} (name : A → List ℕ) (P : A → Type 0) where
   pub at_found : (xs : List A) (t : List ℕ) (a : A) → AllByRecursion P xs → at_name name xs t ≡ Some a → P a × (name a ≡ t)
   at_found [] t a all e = absurd (none_some e)
   at_found (x ∷ xs) t a all e = elim (cases_Bool (bytes_eq (name x) t)) [
-    | inl same ↦ let is : x ≡ a = some_is (rw same at e) in subst (λ z. P z × (name z ≡ t)) is (all.0, bytes_eq-is (name x) t same)
+    | inl same ↦ let is : x ≡ a = some_is (rw same at e) in subst (λ z. P z × (name z ≡ t)) is (all.0, bytes_eq-true (name x) t same)
     | inr other ↦ at_found xs t a all.1 (rw other at e)
   ]
 

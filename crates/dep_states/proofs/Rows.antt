@@ -1,24 +1,11 @@
 -- Images that are listed row by row.
-use Rattle.std.proofs.Common.{◌≡◌, ◌≢◌, ◌⊎◌, inl, inr, ℕ, List, [], ◌∷◌, Bool, true, false, not, ◌||◌, refl, sym, subst}
+use Rattle.std.proofs.Common.{◌≡◌, ◌≢◌, inl, inr, ℕ, List, [], ◌∷◌, Bool, true, refl, sym, subst}
 use Rattle.std.specs.List.{AllByRecursion, list_all}
-use Rattle.std.specs.Str.{bytes_eq}
-use Rattle.std.proofs.lemmas.Bool.{cases_Bool, both_ways, and_parts}
-use Rattle.std.proofs.lemmas.Slice.Eq.{bytes_eq-Decides}
+use Rattle.std.proofs.lemmas.Bool.{cases_Bool, and_parts}
 use Rattle.fp_host.specs.Paths.{Elements, path_eq}
 use Rattle.fp_host.specs.Outcome.{Spot, gone}
 use Rattle.fp_host.proofs.Separate.{path_decides}
 use Rattle.dep_states.specs.Samples.{rows_at}
-
-pub text_apart : (a b : List ℕ) → bytes_eq a b ≡ false → a ≢ b
-text_apart a b f e = both_ways (bytes_eq a b) f ((bytes_eq-Decides a b).1 e)
-
-pub not_true : (b : Bool) → not b ≡ true → b ≡ false
-not_true true e = absurd cc
-not_true false e = refl
-
-pub or_cases : (a b : Bool) → (a || b) ≡ true → (a ≡ true) ⊎ (b ≡ true)
-or_cases true b e = inl refl
-or_cases false b e = inr e
 
 -- what no row has is gone
 pub none_at : (p : Elements) (test : Elements → Bool) (rs : List (Elements × Spot)) → ((q : Elements) → test q ≡ true → p ≢ q) → list_all (λ row. test row.0) rs ≡ true → rows_at rs p ≡ gone

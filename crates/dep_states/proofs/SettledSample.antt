@@ -3,17 +3,19 @@ use Rattle.std.proofs.Common.{◌≡◌, ◌≢◌, inl, inr, ℕ, List, [], ◌
 use Rattle.std.specs.Prelude.{codes}
 use Rattle.std.specs.Str.{bytes_eq, is_utf8, chars}
 use Rattle.std.specs.List.{list_all}
-use Rattle.std.proofs.lemmas.Bool.{cases_Bool, both_ways, leb-true}
+use Rattle.std.proofs.lemmas.Bool.{cases_Bool, both_ways, leb-true, or_cases, not-true}
 use Rattle.std.proofs.lemmas.List.{length-append}
 use Rattle.std.proofs.lemmas.Slice.Eq.{bytes_eq-Decides}
 use lib.Utf8.{encode}
 use Rattle.fp_base.specs.declared.object.ObjKind.{ObjKind}
 use Rattle.fp_base.specs.declared.object.ObjKind.TheVariants as kinds
+use Rattle.fp_base.proofs.Texts.{bytes_eq-false}
 use Rattle.fp_host.specs.Paths.{Elements, path_eq}
 use Rattle.fp_host.specs.Outcome.{gone}
 use Rattle.fp_host.proofs.Separate.{path_decides}
 use Rattle.fp_name.specs.Hex.{hex, is_digest}
 use Rattle.fp_name.specs.Refs.{Ref}
+use Rattle.fp_name.proofs.Refs.{word_apart}
 use Rattle.fp_small.specs.Places.{repo, tmp}
 use Rattle.fp_small.specs.declared.state.RefRow.{RefRow}
 use Rattle.ost_model.specs.Objects.{object_path}
@@ -25,9 +27,9 @@ use Rattle.dep_states.specs.Sound.{Keeps}
 use Rattle.dep_states.specs.Settled.{Used, HasBytes, HasOrigin, Settled}
 use Rattle.dep_states.specs.Deployed.{platform, file_digest, tree_digest, dir_digest, commit, deployed_rows, deployed_disk, deployed_row}
 use Rattle.dep_states.proofs.Deployed.{outward_append, top, the_dir, ref_cases, row_is, other_away, away_there, dir_is}
-use Rattle.dep_states.proofs.Rows.{none_at, head_of, tail_of, text_apart, not_true, or_cases}
+use Rattle.dep_states.proofs.Rows.{none_at, head_of, tail_of}
 use Rattle.dep_states.proofs.Single.{there_is}
-use Rattle.dep_states.proofs.Sparing.{word_apart, hex_exact}
+use Rattle.dep_states.proofs.Sparing.{hex_exact}
 use Rattle.dep_states.proofs.Switch.{digits_no_active}
 use Rattle.dep_states.proofs.Switching.{second}
 use Rattle.dep_states.proofs.Worked.{active_same}
@@ -45,9 +47,9 @@ unfolding work_test
 work_apart x rest q t e =
     let outer = outward_append rest (x ∷ tmp) [] in
     elim (or_cases (not (bytes_eq (top q) (codes "repo"))) _ t) [
-      | inl other ↦ text_apart (top q) (codes "repo") (not_true _ other) (sym (ap top e) ∙ ap head_of outer)
+      | inl other ↦ bytes_eq-false (top q) (codes "repo") (not-true _ other) (sym (ap top e) ∙ ap head_of outer)
       | inr more ↦ elim (or_cases (not (bytes_eq (under_top q) (codes "tmp"))) _ more) [
-        | inl other ↦ text_apart (under_top q) (codes "tmp") (not_true _ other) (sym (ap under_top e) ∙ ap second outer)
+        | inl other ↦ bytes_eq-false (under_top q) (codes "tmp") (not-true _ other) (sym (ap under_top e) ∙ ap second outer)
         | inr few ↦ absurd (omega (arith, ap length e, length-append rest (x ∷ tmp), leb-true (length q) 2 few))
       ]
     ]
@@ -80,11 +82,11 @@ object_apart : (d : List ℕ) (kind : ObjKind) → is_one (object_path repo d ki
 unfolding object_test
 object_apart d kind off q t e =
     elim (or_cases (not (eqb (length q) 4)) _ t) [
-      | inl other ↦ both_ways (eqb (length q) 4) (not_true _ other) (ap (λ p. eqb (length p) 4) (sym e))
+      | inl other ↦ both_ways (eqb (length q) 4) (not-true _ other) (ap (λ p. eqb (length p) 4) (sym e))
       | inr more ↦ elim (or_cases (not (bytes_eq (top q) (codes "repo"))) _ more) [
-        | inl other ↦ text_apart (top q) (codes "repo") (not_true _ other) (sym (ap top e))
+        | inl other ↦ bytes_eq-false (top q) (codes "repo") (not-true _ other) (sym (ap top e))
         | inr rest ↦ elim (or_cases (not (bytes_eq (under_top q) (codes "objects"))) _ rest) [
-          | inl other ↦ text_apart (under_top q) (codes "objects") (not_true _ other) (sym (ap under_top e))
+          | inl other ↦ bytes_eq-false (under_top q) (codes "objects") (not-true _ other) (sym (ap under_top e))
           | inr one ↦ both_ways (is_one q) (ap is_one (sym e) ∙ off) one
         ]
       ]
@@ -151,7 +153,7 @@ dir_apart : (name : Ref) (c : List ℕ) → is_digest c ≡ true → ((name ≡ 
 unfolding dir_test
 dir_apart name c good off q t e =
     elim (or_cases (not (eqb (length q) 5)) _ t) [
-      | inl other ↦ both_ways (eqb (length q) 5) (not_true _ other) (ap (λ p. eqb (length p) 5) (sym e))
+      | inl other ↦ both_ways (eqb (length q) 5) (not-true _ other) (ap (λ p. eqb (length p) 5) (sym e))
       | inr more ↦ elim (or_cases (bytes_eq (top q) (codes "repo")) _ more) [
         | inl is ↦ word_apart name.kind (codes "repo") refl refl (ap top e ∙ (bytes_eq-Decides (top q) (codes "repo")).0 is)
         | inr rest ↦ elim (or_cases (bytes_eq (head_of q) (codes "active")) _ rest) [
@@ -170,7 +172,7 @@ dirs name c good is = elim (ref_cases name) [
   | inr off ↦ absurd (is (none_at (commit_dir name c) dir_test deployed_rows (dir_apart name c good (λ both. off both.0)) refl))
   | inl same ↦ elim (cases_Bool (bytes_eq c commit)) [
     | inl t ↦ subst (λ (n : Ref). Keeps deployed_disk n c) (sym same) (subst (Keeps deployed_disk platform) (sym ((bytes_eq-Decides c commit).0 t)) kept)
-    | inr f ↦ absurd (is (none_at (commit_dir name c) dir_test deployed_rows (dir_apart name c good (λ both. text_apart c commit f both.1)) refl))
+    | inr f ↦ absurd (is (none_at (commit_dir name c) dir_test deployed_rows (dir_apart name c good (λ both. bytes_eq-false c commit f both.1)) refl))
   ]
 ]
 
@@ -195,7 +197,7 @@ file_apart : (origin : List ℕ) (name : Ref) → ((origin ≡ codes "hub") × (
 unfolding file_test
 file_apart origin name off q t e =
     elim (or_cases (not (eqb (length q) 8)) _ t) [
-      | inl other ↦ both_ways (eqb (length q) 8) (not_true _ other) (ap (λ p. eqb (length p) 8) (sym e))
+      | inl other ↦ both_ways (eqb (length q) 8) (not-true _ other) (ap (λ p. eqb (length p) 8) (sym e))
       | inr is ↦ off (the_one (e ∙ (path_decides q (ref_file (codes "hub") platform)).0 is))
     ]
   where
@@ -216,7 +218,7 @@ no_other origin name is = elim (ref_cases name) [
   | inr off ↦ absurd (is (none_at (ref_file origin name) file_test deployed_rows (file_apart origin name (λ both. off both.1)) refl))
   | inl same ↦ elim (cases_Bool (bytes_eq origin (codes "hub"))) [
     | inl t ↦ (deployed_row, ap (ref_seen deployed_disk) same ∙ row_is, sym ((bytes_eq-Decides origin (codes "hub")).0 t))
-    | inr f ↦ absurd (is (none_at (ref_file origin name) file_test deployed_rows (file_apart origin name (λ both. text_apart origin (codes "hub") f both.0)) refl))
+    | inr f ↦ absurd (is (none_at (ref_file origin name) file_test deployed_rows (file_apart origin name (λ both. bytes_eq-false origin (codes "hub") f both.0)) refl))
   ]
 ]
 

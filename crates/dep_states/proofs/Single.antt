@@ -3,13 +3,15 @@ use Rattle.std.proofs.Common.{◌≡◌, ◌≢◌, inl, inr, ℕ, List, [], ◌
 use Rattle.std.specs.Prelude.{if◌then◌else◌}
 use Rattle.std.specs.Str.{bytes_eq}
 use Rattle.std.proofs.lemmas.Bool.{cases_Bool, and_parts, both_ways}
+use Rattle.fp_base.proofs.Options.{some_none, none_some}
+use Rattle.fp_base.proofs.Texts.{bytes_eq-true, bytes_eq-same}
 use Rattle.fp_host.specs.Paths.{Elements, path_text}
 use Rattle.fp_host.specs.Outcome.{Spot, gone, Disk}
 use Rattle.fp_host.specs.Reads.{comes_first, is_ascending}
 use Rattle.fp_name.specs.Refs.{Ref, is_ref, ref_text}
 use Rattle.fp_name.proofs.Refs.{ref_of-ref_text}
 use Rattle.fp_small.specs.Order.{comes_before}
-use Rattle.fp_small.proofs.Ordered.{bytes_eq-itself, bytes_eq-is, before_on, not_before_itself, before_differs}
+use Rattle.fp_small.proofs.Ordered.{before_on, not_before_itself, before_differs}
 use Rattle.fp_small.specs.declared.state.State.{State}
 use Rattle.dep_states.specs.Names.{config, remotes_conf, pins_file}
 use Rattle.dep_states.specs.Shown.{Seen, away, bad, there, seen_of, settings_at, layout_one, remotes_at, pins_at, ref_seen, row_seen, at_name, ref_key, override_key, setup_of, Shows}
@@ -20,12 +22,6 @@ there_is e = cc
 
 pub some_is : {A : Type 0} {x y : A} → Some x ≡ Some y → x ≡ y
 some_is e = cc
-
-pub some_none : {A : Type 0} {x : A} → Some x ≡ None → ⊥
-some_none e = cc
-
-pub none_some : {A : Type 0} {x : A} → None ≡ Some x → ⊥
-none_some e = cc
 
 seen_is : {A : Type 0} (a b : Option A) → seen_of a ≡ seen_of b → a ≡ b
 seen_is None None e = refl
@@ -52,7 +48,7 @@ module _ {A : Type 0} (name : A → List ℕ) where
       on x y (z ∷ zs) b c = before_on x (name y) (name z) b c
 
   pub at_head : (y : A) (ys : List A) → at_name name (y ∷ ys) (name y) ≡ Some y
-  at_head y ys = rw (bytes_eq-itself (name y)) refl
+  at_head y ys = rw (bytes_eq-same (name y)) refl
 
   -- what a tail has, the head comes before
   after_head : (x : List ℕ) (ys : List A) (a : A) → comes_first x (map name ys) ≡ true → is_ascending (map name ys) ≡ true → at_name name ys (name a) ≡ Some a → comes_before x (name a) ≡ true
@@ -60,7 +56,7 @@ module _ {A : Type 0} (name : A → List ℕ) where
   after_head x (y ∷ ys) a b up e =
       let u = and_parts (comes_first (name y) (map name ys)) (is_ascending (map name ys)) up in
       elim (cases_Bool (bytes_eq (name y) (name a))) [
-        | inl t ↦ subst (λ z. comes_before x z ≡ true) (bytes_eq-is (name y) (name a) t) b
+        | inl t ↦ subst (λ z. comes_before x z ≡ true) (bytes_eq-true (name y) (name a) t) b
         | inr f ↦ before_on x (name y) (name a) b (after_head (name y) ys a u.0 u.1 (rw f at e))
       ]
 
@@ -83,7 +79,7 @@ module _ {A : Type 0} (name : A → List ℕ) where
   tail_at x xs t up =
       let u = and_parts (comes_first (name x) (map name xs)) (is_ascending (map name xs)) up in
       elim (cases_Bool (bytes_eq (name x) t)) [
-        | inl e ↦ rw e (subst (λ z. at_name name xs z ≡ None) (bytes_eq-is (name x) t e) (none_before (name x) xs u.0 u.1))
+        | inl e ↦ rw e (subst (λ z. at_name name xs z ≡ None) (bytes_eq-true (name x) t e) (none_before (name x) xs u.0 u.1))
         | inr f ↦ rw f refl
       ]
 

@@ -3,10 +3,12 @@ use Rattle.std.proofs.Common.{◌≡◌, ◌≢◌, ◌⊎◌, inl, inr, ℕ, Li
 use Rattle.std.specs.Str.{bytes_eq}
 use Rattle.std.proofs.lemmas.Bool.{cases_Bool}
 use Rattle.std.proofs.lemmas.Slice.Eq.{bytes_eq-Decides}
+use Rattle.fp_base.proofs.Texts.{bytes_eq-false}
 use Rattle.fp_host.specs.Paths.{Elements}
 use Rattle.fp_host.specs.Outcome.{Disk}
 use Rattle.fp_host.specs.Reads.{is_ascending}
 use Rattle.fp_name.specs.Refs.{Ref, ref_of}
+use Rattle.fp_name.proofs.Refs.{word_apart}
 use Rattle.fp_small.specs.Places.{repo}
 use Rattle.fp_small.specs.declared.state.State.{State}
 use Rattle.ost_model.specs.Objects.{object_path}
@@ -16,8 +18,7 @@ use Rattle.dep_states.specs.Sound.{Sound, Fixed, is_remotes, is_pins, is_config,
 use Rattle.dep_states.specs.Small.{IsSetting, IsLayered}
 use Rattle.dep_states.proofs.Deployed.{outward_append, top}
 use Rattle.dep_states.proofs.Law.{settings_same, ref_same, override_same, sound_still}
-use Rattle.dep_states.proofs.Rows.{head_of, text_apart}
-use Rattle.dep_states.proofs.Sparing.{word_apart}
+use Rattle.dep_states.proofs.Rows.{head_of}
 
 module _ {i j : Disk} (still : (p : Elements) → Fixed i p → (IsSetting p → ⊥) → j p ≡ i p) where
   no_setting : {x y : List ℕ} {up : Elements} → IsSetting (x ∷ (y ∷ up)) → ⊥
@@ -74,7 +75,7 @@ module _ {i j : Disk} (layer : List ℕ) (still : (p : Elements) → Fixed i p �
   layer_cases : (name : List ℕ) → (name ≡ layer) ⊎ (name ≢ layer)
   layer_cases name = elim (cases_Bool (bytes_eq name layer)) [
     | inl t ↦ inl ((bytes_eq-Decides name layer).0 t)
-    | inr f ↦ inr (λ e. text_apart name layer f e)
+    | inr f ↦ inr (λ e. bytes_eq-false name layer f e)
   ]
 
   pub shows_layer : {s t : State} → IsLayered s layer t → override_seen j layer ≡ seen_of (at_name override_key t.overrides layer) → Shows i s → Shows j t

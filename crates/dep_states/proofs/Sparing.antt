@@ -13,13 +13,14 @@ use Rattle.fp_host.specs.Paths.{Slot}
 use Rattle.fp_host.proofs.Goes.{knowing}
 use Rattle.fp_host.proofs.Settled.{at_tree, settled_disk}
 use Rattle.fp_base.specs.declared.object.ObjKind.{ObjKind}
+use Rattle.fp_base.proofs.Texts.{bytes_eq-false}
 use Rattle.fp_name.specs.declared.kind.RefKind.{RefKind}
 use Rattle.fp_name.specs.declared.kind.RefKind.TheVariants.{App, Runtime}
 use Rattle.fp_name.specs.Grammar.{is_id, is_arch, is_branch}
 use Rattle.fp_name.specs.Hex.{hex, unhex, is_digest}
 use Rattle.fp_name.specs.Kinds.{kind_word}
 use Rattle.fp_name.specs.Refs.{Ref, is_ref, ref_text}
-use Rattle.fp_name.proofs.Refs.{ref_of-ref_text}
+use Rattle.fp_name.proofs.Refs.{ref_of-ref_text, kind_same, word_apart}
 use Rattle.fp_name.proofs.HexTexts.{unhex-hex}
 use Rattle.fp_small.specs.Places.{repo}
 use Rattle.fp_small.specs.declared.state.State.{State}
@@ -30,19 +31,19 @@ use Rattle.ost_model.specs.Order.{Place, In, order}
 use Rattle.dep_states.specs.Names.{active, text_dir, commit_dir, deploy}
 use Rattle.dep_states.specs.Shown.{Seen, away, bad, there, seen_of, row_of, row_in, deploy_at, by_active, ref_seen, row_seen, Shows}
 use Rattle.dep_states.specs.Zones.{anything, a_folder, a_link, here, is, IsFolderOrGone, Fits, zone, outward, outward_onto}
-use Rattle.dep_states.specs.Sound.{IsKeptBy, Keeps, Sound, Fixed, IsOld, is_remotes, is_pins, is_config, is_old, is_active, is_deploy, is_layer, is_inside, is_object, Opens, Spares}
+use Rattle.dep_states.specs.Sound.{IsKeptBy, Keeps, Sound, Fixed, is_remotes, is_pins, is_config, is_old, is_active, is_deploy, is_layer, is_inside, is_object, Opens, Spares}
 use Rattle.dep_states.specs.After.{row_at, IsGoodPrevious, IsGoodRow}
 use Rattle.dep_states.specs.Frames.{Either, KeptIn, InDir, IsUnused, ObjectGone}
 use Rattle.dep_states.specs.declared.deploy.DeployData.{DeployData}
 use Rattle.dep_states.proofs.Deployed.{outward_append, top}
 use Rattle.dep_states.proofs.Good.{row_good}
 use Rattle.dep_states.proofs.Law.{frame_law}
-use Rattle.dep_states.proofs.Rows.{head_of, text_apart}
+use Rattle.dep_states.proofs.Rows.{head_of}
 use Rattle.dep_states.proofs.Single.{there_is, some_is}
 use Rattle.dep_states.proofs.Switch.{inside_apart, digits_no_active}
-use Rattle.dep_states.proofs.Switching.{word_no_repo, permits_gone, second}
+use Rattle.dep_states.proofs.Switching.{word_no_repo, permits_gone, second, old_no_repo}
 use Rattle.dep_states.proofs.Total.{row_there}
-use Rattle.dep_states.proofs.Worked.{word_same}
+use Rattle.dep_states.proofs.Away.{seen_there}
 
 -- ---- frames
 
@@ -89,17 +90,13 @@ pub record IsOfOrder (i : Disk) (p : Elements) : Type 0 where
   pub within : In (order (store repo i) commit) place
   pub is : p ≡ object_path repo place.digest place.kind
 
-old_no_repo : {p : Elements} → IsOld p → top p ≡ codes "repo" → ⊥
-old_no_repo (is_remotes e) t = text_apart (codes "remotes.conf") (codes "repo") refl (sym (ap top e) ∙ t)
-old_no_repo (is_pins e) t = text_apart (codes "pins") (codes "repo") refl (sym (ap top e) ∙ t)
-
 -- below `repo` the object names alone are fixed
 pub fixed_in_repo : {i : Disk} {p : Elements} → Fixed i p → top p ≡ codes "repo" → IsOfOrder i p
-fixed_in_repo (is_config e) t = absurd (text_apart (codes "config") (codes "repo") refl (sym (ap top e) ∙ t))
+fixed_in_repo (is_config e) t = absurd (bytes_eq-false (codes "config") (codes "repo") refl (sym (ap top e) ∙ t))
 fixed_in_repo (is_old none old) t = absurd (old_no_repo old t)
 fixed_in_repo (is_active name good e) t = absurd (word_no_repo name.kind (sym (ap top e) ∙ t))
 fixed_in_repo (is_deploy name text good at e) t = absurd (word_no_repo name.kind (sym (ap top e) ∙ t))
-fixed_in_repo (is_layer name good e) t = absurd (text_apart (codes "overrides") (codes "repo") refl (sym (ap top e) ∙ t))
+fixed_in_repo (is_layer name good e) t = absurd (bytes_eq-false (codes "overrides") (codes "repo") refl (sym (ap top e) ∙ t))
 fixed_in_repo (is_inside name commit rest k off e) t = absurd (word_no_repo name.kind (sym (ap head_of (outward_append rest (commit_dir name commit) [])) ∙ sym (ap top e) ∙ t))
 fixed_in_repo (is_object name commit place k h e) t = record { name = name; commit = commit; place = place; kept = k; within = h; is = e }
 
@@ -116,10 +113,6 @@ prune_spares d kind unused = record {
 }
 
 -- ---- the folder of a commit that the state doesn't keep
-
-seen_there : {A : Type 0} {a : A} (o : Option A) → seen_of o ≡ there a → o ≡ Some a
-seen_there None e = absurd (cc e)
-seen_there (Some b) e = ap Some (there_is e)
 
 pub shown_good : (i : Disk) (n : Ref) {row : RefRow} → ref_seen i n ≡ there row → is_ref n ≡ true
 shown_good i n e = go (is_ref n) e
@@ -161,13 +154,9 @@ named_commit name text (there d) (Some r) e = (r, refl, if_is (bytes_eq (hex d.c
     if_is true t h = ap (λ (k : RefRow). hex k.commit) (sym (there_is h)) ∙ (bytes_eq-Decides (hex d.commit) text).0 t
     if_is false t h = absurd (cc h)
 
-deploy_commit : (name : Ref) (text : List ℕ) (spot : Spot) (q : Option RefRow) → deploy_at name text spot ≡ seen_of q → (row : RefRow) × (q ≡ Some row) × (hex row.commit ≡ text)
+pub deploy_commit : (name : Ref) (text : List ℕ) (spot : Spot) (q : Option RefRow) → deploy_at name text spot ≡ seen_of q → (row : RefRow) × (q ≡ Some row) × (hex row.commit ≡ text)
 unfolding deploy_at
 deploy_commit name text spot q e = named_commit name text _ q e
-
-pub word_apart : (k : RefKind) (w : List ℕ) → bytes_eq (codes "app") w ≡ false → bytes_eq (codes "runtime") w ≡ false → kind_word k ≢ w
-word_apart App w a r = text_apart (codes "app") w a
-word_apart Runtime w a r = text_apart (codes "runtime") w r
 
 dir_same : (a b : Ref) (x y : List ℕ) (l m : List (List ℕ)) → kind_word a.kind ∷ (a.id ∷ (a.arch ∷ (a.branch ∷ (x ∷ l)))) ≡ kind_word b.kind ∷ (b.id ∷ (b.arch ∷ (b.branch ∷ (y ∷ m)))) → (a ≡ b) × (x ≡ y)
 dir_same a b x y l m e =
@@ -175,7 +164,7 @@ dir_same a b x y l m e =
     let id : a.id ≡ b.id = cc in
     let arch : a.arch ≡ b.arch = cc in
     let branch : a.branch ≡ b.branch = cc in
-    let kind = word_same a.kind b.kind word in
+    let kind = kind_same a.kind b.kind word in
     (λ k. record { kind = kind k; id = id k; arch = arch k; branch = branch k }, cc)
 
 fits_if : (b : Bool) (z : _) (p : Elements) (spot : Spot) → Fits z p spot → Fits (if b then z else anything) p spot
@@ -257,3 +246,6 @@ dir_spares {s = s} {v = v} {name = name} {commit = commit} digest opens off = re
         let row = deploy_commit n text (disk (deploy (text_dir n text))) (row_at s n) (sym (ap (by_active disk n) link) ∙ told) in
         let k : Keeps disk n row.0.commit = state_of_kept good (opens.shown disk left) (record { row = row.0; has = row.1; of_row = inl refl }) in
         kept disk left n row.0.commit k d.0 (row.2 ∙ d.1)
+
+pub repo_spared : (i : Disk) (p : Elements) → p ≡ repo → Fixed i p → ⊥
+repo_spared i p at f = let o = fixed_in_repo f (ap top at) in cc (sym at ∙ o.is)

@@ -4,26 +4,27 @@ use Rattle.std.specs.Prelude.{if◌then◌else◌, map, ◌/◌}
 use Rattle.fp_host.specs.Reads.{is_ascending}
 use Rattle.std.proofs.lemmas.Bool.{both_ways, cases_Bool, cond-true}
 use Rattle.std.proofs.lemmas.List.{length-append}
+use Rattle.fp_base.proofs.Options.{some_none}
+use Rattle.fp_base.proofs.Texts.{bytes_eq-false}
 use Rattle.fp_host.specs.Paths.{Elements, path_eq}
 use Rattle.fp_host.specs.Outcome.{Spot, gone, folder, holds, points, Disk}
-use Rattle.fp_host.proofs.Separate.{path_decides}
+use Rattle.fp_host.proofs.Separate.{path_decides, head_of, tail_of}
 use Rattle.fp_name.specs.Hex.{hex, digit}
-use Rattle.fp_name.specs.Refs.{Ref, is_ref, ref_of, ref_text}
-use Rattle.fp_name.proofs.Refs.{ref_of-ref_text, ref_of-some}
+use Rattle.fp_name.specs.Refs.{Ref, is_ref, ref_of, ref_text, ref_with}
+use Rattle.fp_name.proofs.Refs.{ref_of-ref_text, ref_of-some, kind_same}
 use Rattle.fp_small.specs.Places.{repo}
 use Rattle.fp_small.specs.declared.state.State.{State}
 use Rattle.fp_small.specs.declared.state.RefRow.{RefRow}
 use Rattle.ost_model.specs.Objects.{object_path}
 use Rattle.ost_model.specs.Standing.{Stands}
 use Rattle.ost_model.proofs.Local.{stands_same}
-use Rattle.dep_states.specs.Names.{config, remotes_conf, pins_file, override_path, active, branch_dir, text_dir, commit_dir, deploy}
+use Rattle.dep_states.specs.Names.{config, remotes_conf, pins_file, override_path, active, branch_dir, text_dir, commit_dir, deploy, ref_file}
 use Rattle.dep_states.specs.Shown.{Seen, away, there, seen_of, deploy_at, by_active, ref_seen, row_seen, at_name, ref_key, override_key, Shows}
 use Rattle.dep_states.specs.Zones.{IsFileOrGone, Allowed}
 use Rattle.dep_states.specs.Sound.{reads_as, IsKeptBy, Keeps, Sound, IsOld, is_remotes, is_pins, Fixed, is_config, is_old, is_active, is_deploy, is_layer, is_inside, is_object, Permits}
 use Rattle.dep_states.specs.Switch.{IsWith, Changed, Prepared, Wanted, is_fixed, is_new_path, is_new_object, is_new_deploy}
 use Rattle.dep_states.proofs.Law.{settings_same, override_same, ref_same}
-use Rattle.dep_states.proofs.Rows.{text_apart}
-use Rattle.dep_states.proofs.Single.{there_is, some_is, some_none}
+use Rattle.dep_states.proofs.Single.{there_is, some_is}
 use Rattle.dep_states.proofs.Worked.{active_same}
 
 -- ---- paths
@@ -67,20 +68,14 @@ ref_cases a b = elim (cases_Bool (path_eq (active a) (active b))) [
   | inr f ↦ inr (λ e. both_ways (path_eq (active a) (active b)) f ((path_decides (active a) (active b)).1 (ap active e)))
 ]
 
-pub tail_same : {x y : List ℕ} {p q : Elements} → x ∷ p ≡ y ∷ q → p ≡ q
-tail_same e = cc
-
-pub head_same : {x y : List ℕ} {p q : Elements} → x ∷ p ≡ y ∷ q → x ≡ y
-head_same e = cc
-
 pub active_apart : {n name : Ref} → n ≢ name → active n ≢ active name
 active_apart {n = n} {name = name} off e = off (active_same n name e)
 
 -- a path in a commit's directory is no `active`
 pub inside_apart : (rest : Elements) (n name : Ref) (commit : List ℕ) → rest ++ commit_dir n commit ≢ active name
-inside_apart [] n name commit e = digits_no_active commit (head_same e)
+inside_apart [] n name commit e = digits_no_active commit (head_of e)
 inside_apart (x ∷ rest) n name commit e =
-    let long : length (rest ++ commit_dir n commit) ≡ length (branch_dir name) = ap length (tail_same e) in
+    let long : length (rest ++ commit_dir n commit) ≡ length (branch_dir name) = ap length (tail_of e) in
     let sum = length-append rest (commit_dir n commit) in
     absurd (omega (arith, long, sum))
 
@@ -88,7 +83,7 @@ pub length_apart : {a b c d : List ℕ} (name : Ref) → a ∷ (b ∷ (c ∷ (d 
 length_apart name e = cc
 
 pub deploy_apart : (n name : Ref) (text : List ℕ) → deploy (text_dir n text) ≢ active name
-deploy_apart n name text e = text_apart (codes "deploy") (codes "active") refl (head_same e)
+deploy_apart n name text e = bytes_eq-false (codes "deploy") (codes "active") refl (head_of e)
 
 old_apart : (name : Ref) (p : Elements) → IsOld p → p ≢ active name
 old_apart name p (is_remotes e) at = cc (sym e ∙ at)
@@ -205,3 +200,11 @@ module _ {i j : Disk} {name : Ref} where
 
       seen : ref_seen j name ≡ away
       seen = ap (λ n. if◌then◌else◌ {A = Seen RefRow} (is_ref name) (by_active j name n) away) now ∙ if_away (is_ref name)
+
+pub file_same : (o p : List ℕ) (r s : Ref) → ref_file o r ≡ ref_file p s → (o ≡ p) × (r ≡ s)
+file_same o p r s h =
+    let arch = tail_of h in
+    let id = tail_of arch in
+    let kind = tail_of id in
+    let kinds = kind_same r.kind s.kind (head_of kind) in
+    (head_of (tail_of kind), λ i. ref_with (kinds i) (head_of id i) (head_of arch i) (head_of h i))

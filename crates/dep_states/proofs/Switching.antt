@@ -1,6 +1,7 @@
 -- The rename onto `active`: old or new, and Sound.
 use Rattle.std.proofs.Common.{◌≡◌, ◌≢◌, ◌⊎◌, inl, inr, ℕ, List, [], ◌∷◌, ◌++◌, Bool, true, false, Some, refl, sym, ◌∙◌, ap, subst, codes, arith}
 use Rattle.std.specs.Prelude.{if◌then◌else◌}
+use Rattle.fp_base.proofs.Texts.{bytes_eq-false}
 use Rattle.fp_host.specs.Paths.{Elements}
 use Rattle.fp_host.specs.View.{View}
 use Rattle.fp_host.specs.Outcome.{Spot, gone, points, Disk, Leaves, Follows}
@@ -22,7 +23,7 @@ use Rattle.dep_states.specs.Sound.{Sound, IsOld, is_remotes, is_pins, Fixed, is_
 use Rattle.dep_states.specs.Switch.{IsWith, Wanted, is_fixed, is_new_path, is_new_object, is_new_deploy, Stages, SwitchesAt, OpensEither}
 use Rattle.dep_states.proofs.Empty.{allowed_gone}
 use Rattle.dep_states.proofs.Law.{shows_same, sound_same}
-use Rattle.dep_states.proofs.Rows.{text_apart, head_of}
+use Rattle.dep_states.proofs.Rows.{head_of}
 use Rattle.dep_states.proofs.Deployed.{outward_append, top}
 use Rattle.dep_states.proofs.Switch.{shows_changed, sound_changed, switched, inside_apart, deploy_apart, length_apart}
 
@@ -31,12 +32,12 @@ second [] = []
 second (x ∷ rest) = head_of rest
 
 pub word_no_repo : (k : RefKind) → kind_word k ≢ codes "repo"
-word_no_repo App = text_apart (codes "app") (codes "repo") refl
-word_no_repo Runtime = text_apart (codes "runtime") (codes "repo") refl
+word_no_repo App = bytes_eq-false (codes "app") (codes "repo") refl
+word_no_repo Runtime = bytes_eq-false (codes "runtime") (codes "repo") refl
 
-old_no_repo : {p : Elements} → IsOld p → top p ≡ codes "repo" → ⊥
-old_no_repo (is_remotes e) t = text_apart (codes "remotes.conf") (codes "repo") refl (sym (ap top e) ∙ t)
-old_no_repo (is_pins e) t = text_apart (codes "pins") (codes "repo") refl (sym (ap top e) ∙ t)
+pub old_no_repo : {p : Elements} → IsOld p → top p ≡ codes "repo" → ⊥
+old_no_repo (is_remotes e) t = bytes_eq-false (codes "remotes.conf") (codes "repo") refl (sym (ap top e) ∙ t)
+old_no_repo (is_pins e) t = bytes_eq-false (codes "pins") (codes "repo") refl (sym (ap top e) ∙ t)
 
 -- nothing at or below repo/tmp is fixed
 module _ {p : Elements} (rest : Elements) (e : p ≡ rest ++ tmp) where
@@ -50,14 +51,14 @@ module _ {p : Elements} (rest : Elements) (e : p ≡ rest ++ tmp) where
   inside_no_tmp name commit r at = word_no_repo name.kind (sym (ap head_of (outward_append r (commit_dir name commit) [])) ∙ sym (ap top at) ∙ in_repo)
 
   object_no_tmp : (place : Place) → p ≡ object_path repo place.digest place.kind → ⊥
-  object_no_tmp place at = text_apart (codes "objects") (codes "tmp") refl (sym (ap (λ q. second (outward q)) at) ∙ in_tmp)
+  object_no_tmp place at = bytes_eq-false (codes "objects") (codes "tmp") refl (sym (ap (λ q. second (outward q)) at) ∙ in_tmp)
 
   pub none_in_tmp : {i : Disk} → Fixed i p → ⊥
-  none_in_tmp (is_config at) = text_apart (codes "config") (codes "repo") refl (sym (ap top at) ∙ in_repo)
+  none_in_tmp (is_config at) = bytes_eq-false (codes "config") (codes "repo") refl (sym (ap top at) ∙ in_repo)
   none_in_tmp (is_old none old) = old_no_repo old in_repo
   none_in_tmp (is_active name good at) = word_no_repo name.kind (sym (ap top at) ∙ in_repo)
   none_in_tmp (is_deploy name text good link at) = word_no_repo name.kind (sym (ap top at) ∙ in_repo)
-  none_in_tmp (is_layer name good at) = text_apart (codes "overrides") (codes "repo") refl (sym (ap top at) ∙ in_repo)
+  none_in_tmp (is_layer name good at) = bytes_eq-false (codes "overrides") (codes "repo") refl (sym (ap top at) ∙ in_repo)
   none_in_tmp (is_inside name commit r k off at) = inside_no_tmp name commit r at
   none_in_tmp (is_object name commit place k h at) = object_no_tmp place at
 

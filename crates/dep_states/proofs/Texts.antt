@@ -7,7 +7,7 @@ use Rattle.fp_host.proofs.PathTexts.{child_root, child_below}
 use Rattle.fp_name.specs.Grammar.{is_id, is_arch, is_branch}
 use Rattle.fp_name.specs.Refs.{Ref, is_ref}
 use Rattle.fp_name.specs.Kinds.{kind_word}
-use Rattle.ost_refs.proofs.Elements.{element_id, element_arch, element_branch, element_kind}
+use Rattle.fp_small.proofs.Elements.{element_id, element_arch, element_branch, element_kind}
 use Rattle.dep_states.specs.Names.{branch_dir}
 
 turned_more : (p done : Elements) → turned_onto p done ≡ turned_onto p [] ++ done

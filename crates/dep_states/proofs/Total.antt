@@ -4,6 +4,8 @@ use Rattle.std.specs.Prelude.{if◌then◌else◌}
 use Rattle.std.specs.List.{AllByRecursion}
 use Rattle.std.specs.Str.{bytes_eq}
 use Rattle.std.proofs.lemmas.Bool.{cases_Bool}
+use Rattle.fp_base.proofs.Options.{some_none}
+use Rattle.fp_base.proofs.Texts.{bytes_eq-same}
 use Rattle.fp_host.specs.Paths.{Elements, path_text}
 use Rattle.fp_host.specs.Outcome.{Spot, gone, folder, holds, points, Disk}
 use Rattle.fp_host.specs.Reads.{is_ascending}
@@ -12,7 +14,6 @@ use Rattle.fp_name.specs.Hex.{hex}
 use Rattle.fp_name.specs.Refs.{Ref, is_ref, ref_of, ref_text}
 use Rattle.fp_name.proofs.Refs.{ref_of-ref_text}
 use Rattle.fp_small.specs.Order.{comes_before, inserted, removed, replaced}
-use Rattle.fp_small.proofs.Ordered.{bytes_eq-itself}
 use Rattle.fp_small.specs.declared.state.RefRow.{RefRow}
 use Rattle.fp_small.specs.declared.state.RemoteRow.{RemoteRow}
 use Rattle.fp_small.specs.declared.state.OverrideRow.{OverrideRow}
@@ -26,7 +27,8 @@ use Rattle.dep_states.specs.Shown.{Seen, away, bad, there, layout_one, layout_tw
 use Rattle.dep_states.specs.Damaged.{Damages, bad_config, bad_remotes, bad_pins, bad_ref, bad_override}
 use Rattle.dep_states.proofs.Changes.{at_replaced, replaced_ascends}
 use Rattle.dep_states.proofs.Listed.{IsThere, refs_listed, IsLayer, overrides_listed}
-use Rattle.dep_states.proofs.Single.{there_is, some_none}
+use Rattle.dep_states.proofs.Single.{there_is}
+use Rattle.dep_states.proofs.Away.{override_away, layer_away}
 
 -- ---- lists
 
@@ -75,7 +77,7 @@ module _ {A : Type 0} (name : A → List ℕ) (P : A → Type 0) where
       by false h = h
 
   now_there : (a : A) (xs : List A) → at_name name (with_seen (there a) xs) (name a) ≡ Some a
-  now_there a xs = at_replaced name xs a (name a) ∙ rw (bytes_eq-itself (name a)) refl
+  now_there a xs = at_replaced name xs a (name a) ∙ rw (bytes_eq-same (name a)) refl
 
 -- ---- rows of refs
 
@@ -153,10 +155,6 @@ rows_have disk (p ∷ ps) name row (inl is) e none =
     some_none (sym (now_there ref_key (IsThere disk) row (rows_of disk ps)) ∙ ap (at_name ref_key (with_seen ref_key (IsThere disk) (there row) (rows_of disk ps))) key
     ∙ ap (λ s. at_name ref_key (with_seen ref_key (IsThere disk) s (rows_of disk ps)) (ref_text name)) (sym seen) ∙ none)
 
-if_away : {A : Type 0} (b : Bool) (x : Seen A) → x ≡ away → if b then x else away ≡ away
-if_away true x e = e
-if_away false x e = refl
-
 away_there : {A : Type 0} {x : Seen A} {a : A} → x ≡ away → x ≡ there a → ⊥
 away_there a b = cc (a, b)
 
@@ -208,10 +206,6 @@ layers_have disk (p ∷ ps) name row (inl is) e none =
     some_none (sym (now_there override_key (IsLayer disk) row (layers_of disk ps)) ∙ ap (at_name override_key (with_seen override_key (IsLayer disk) (there row) (layers_of disk ps))) (override_is disk name row e)
     ∙ ap (λ s. at_name override_key (with_seen override_key (IsLayer disk) s (layers_of disk ps)) name) (sym seen) ∙ none)
 
-away_at : (name : List ℕ) → override_at name gone ≡ away
-unfolding override_at
-away_at name = refl
-
 -- ---- settings
 
 two_there : (s : Seen Settings) → (layout_two s ≡ bad) ⊎ ((k : Setup) × (layout_two s ≡ there k))
@@ -256,7 +250,7 @@ module _ (disk : Disk) (names : List Elements) (all : (p : Elements) → disk p 
       by away e = refl
       by bad e = absurd (whole (active name) (bad_ref name e refl))
       by (there row) e = absurd (rows_have disk names name row
-          (all (active name) (λ none_there. away_there (if_away (is_ref name) (by_active disk name (disk (active name))) (ap (by_active disk name) none_there)) e)) e none)
+          (all (active name) (λ none_there. away_there (layer_away (is_ref name) (by_active disk name (disk (active name))) (ap (by_active disk name) none_there)) e)) e none)
 
   other_layers : (name : List ℕ) → at_name override_key (layers_of disk names) name ≡ None → override_seen disk name ≡ away
   other_layers name none = by (override_seen disk name) refl
@@ -265,7 +259,7 @@ module _ (disk : Disk) (names : List Elements) (all : (p : Elements) → disk p 
       by away e = refl
       by bad e = absurd (whole (override_path name) (bad_override name e refl))
       by (there row) e = absurd (layers_have disk names name row
-          (all (override_path name) (λ none_there. away_there (if_away (is_override name) (override_at name (disk (override_path name))) (ap (override_at name) none_there ∙ away_at name)) e)) e none)
+          (all (override_path name) (λ none_there. away_there (layer_away (is_override name) (override_at name (disk (override_path name))) (ap (override_at name) none_there ∙ override_away name)) e)) e none)
 
   pub state_there : IsShown disk
   state_there = let k = settings_there disk whole (disk config) refl in record {

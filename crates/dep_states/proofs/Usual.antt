@@ -1,5 +1,6 @@
 -- What the usual steps spare, and what holds of a sound image.
 use Rattle.std.proofs.Common.{◌≡◌, ◌≢◌, inr, ℕ, List, [], ◌∷◌, ◌++◌, codes, refl, sym, ◌∙◌, ap, subst}
+use Rattle.fp_base.proofs.Texts.{bytes_eq-false}
 use Rattle.fp_host.specs.Paths.{Elements}
 use Rattle.fp_host.specs.View.{View, IsTree}
 use Rattle.fp_host.specs.Outcome.{Spot, Disk, Follows, IsSettled, gone, shows, spot_of}
@@ -15,7 +16,7 @@ use Rattle.dep_states.specs.Zones.{Zone, anything, a_folder, an_object, here, Fi
 use Rattle.dep_states.specs.Sound.{Sound, IsOld, is_remotes, is_pins, Fixed, is_config, is_old, is_active, is_deploy, is_layer, is_inside, is_object, Opens, IsSound, Spares, HasConfig, OldGone, InTmp}
 use Rattle.dep_states.proofs.Deployed.{outward_append, top}
 use Rattle.dep_states.proofs.Law.{still}
-use Rattle.dep_states.proofs.Rows.{head_of, text_apart}
+use Rattle.dep_states.proofs.Rows.{head_of}
 use Rattle.dep_states.proofs.Switching.{none_in_tmp, permits_gone, word_no_repo}
 
 -- ---- work
@@ -42,12 +43,12 @@ tmp_spares = record {
 -- ---- the files of layout 1
 
 word_no_remotes : (k : RefKind) → kind_word k ≢ codes "remotes.conf"
-word_no_remotes App = text_apart (codes "app") (codes "remotes.conf") refl
-word_no_remotes Runtime = text_apart (codes "runtime") (codes "remotes.conf") refl
+word_no_remotes App = bytes_eq-false (codes "app") (codes "remotes.conf") refl
+word_no_remotes Runtime = bytes_eq-false (codes "runtime") (codes "remotes.conf") refl
 
 word_no_pins : (k : RefKind) → kind_word k ≢ codes "pins"
-word_no_pins App = text_apart (codes "app") (codes "pins") refl
-word_no_pins Runtime = text_apart (codes "runtime") (codes "pins") refl
+word_no_pins App = bytes_eq-false (codes "app") (codes "pins") refl
+word_no_pins Runtime = bytes_eq-false (codes "runtime") (codes "pins") refl
 
 no_word : (k : RefKind) {p : Elements} → IsOld p → top p ≡ kind_word k → ⊥
 no_word k (is_remotes e) t = word_no_remotes k (sym t ∙ ap top e)
@@ -58,13 +59,13 @@ no_text text a b (is_remotes e) t = a (sym t ∙ ap top e)
 no_text text a b (is_pins e) t = b (sym t ∙ ap top e)
 
 unfixed : {disk : Disk} {p : Elements} → (disk config ≡ gone → ⊥) → IsOld p → Fixed disk p → ⊥
-unfixed has old (is_config e) = no_text (codes "config") (text_apart (codes "config") (codes "remotes.conf") refl) (text_apart (codes "config") (codes "pins") refl) old (ap top e)
+unfixed has old (is_config e) = no_text (codes "config") (bytes_eq-false (codes "config") (codes "remotes.conf") refl) (bytes_eq-false (codes "config") (codes "pins") refl) old (ap top e)
 unfixed has old (is_old none same) = has none
 unfixed has old (is_active name good e) = no_word name.kind old (ap top e)
 unfixed has old (is_deploy name text good link e) = no_word name.kind old (ap top e)
-unfixed has old (is_layer name good e) = no_text (codes "overrides") (text_apart (codes "overrides") (codes "remotes.conf") refl) (text_apart (codes "overrides") (codes "pins") refl) old (ap top e)
+unfixed has old (is_layer name good e) = no_text (codes "overrides") (bytes_eq-false (codes "overrides") (codes "remotes.conf") refl) (bytes_eq-false (codes "overrides") (codes "pins") refl) old (ap top e)
 unfixed has old (is_inside name commit rest k off e) = no_word name.kind old (ap top e ∙ ap head_of (outward_append rest (commit_dir name commit) []))
-unfixed has old (is_object name commit place k h e) = no_text (codes "repo") (text_apart (codes "repo") (codes "remotes.conf") refl) (text_apart (codes "repo") (codes "pins") refl) old (ap top e)
+unfixed has old (is_object name commit place k h e) = no_text (codes "repo") (bytes_eq-false (codes "repo") (codes "remotes.conf") refl) (bytes_eq-false (codes "repo") (codes "pins") refl) old (ap top e)
 
 pub old_go : (v : View) → HasConfig v → Spares v OldGone
 old_go v has = record {

@@ -4,6 +4,7 @@ use Rattle.std.specs.Prelude.{if◌then◌else◌, leb}
 use Rattle.std.specs.Str.{bytes_eq}
 use Rattle.std.proofs.lemmas.Bool.{le-leb}
 use Rattle.fp_base.specs.declared.object.ObjKind.{ObjKind}
+use Rattle.fp_base.proofs.Texts.{bytes_eq-same}
 use Rattle.fp_host.specs.Paths.{Elements, Slot, absent, dir, file, link}
 use Rattle.fp_host.specs.View.{View, IsTree}
 use Rattle.fp_host.specs.Calls.{HasFolder, IsFile}
@@ -13,13 +14,13 @@ use Rattle.fp_host.specs.Moments.{Moments, Goes}
 use Rattle.fp_host.proofs.Ending.{ends_in_tree, goes_known}
 use Rattle.fp_host.proofs.Framed.{IsTold}
 use Rattle.fp_host.proofs.Goes.{begins}
+use Rattle.fp_host.proofs.Shown.{now_left}
 use Rattle.fp_name.specs.Hex.{hex, is_digest}
 use Rattle.fp_name.specs.Refs.{Ref, is_ref}
 use Rattle.fp_small.specs.Folders.{ancestors, AreFree, IsFree}
 use Rattle.fp_small.specs.Places.{repo, tmp}
 use Rattle.fp_small.specs.declared.state.State.{State}
 use Rattle.fp_small.specs.declared.state.RefRow.{RefRow}
-use Rattle.fp_small.proofs.Ordered.{bytes_eq-itself}
 use Rattle.ost_model.specs.Look.{Found, nothing, directory, file_at, look, next, at_root}
 use Rattle.ost_model.specs.Fields.{CommitView, DirRow}
 use Rattle.ost_model.specs.Objects.{object_path, store}
@@ -43,7 +44,7 @@ use Rattle.dep_switch.specs.Staging.{row_deploy, IsPreparation, CanStage, Readie
 use Rattle.dep_switch.specs.declared.staged.Preparation.{Preparation}
 use Rattle.dep_switch.proofs.Prepared.{prepares_start}
 use Rattle.dep_switch.proofs.Sparing.{deploy_spares, prepares_spares, inside_deploy, which}
-use Rattle.dep_switch.proofs.Spots.{now_left, shown_at, folder_dir, folder_free, same_shown}
+use Rattle.dep_switch.proofs.Spots.{shown_at, folder_dir, folder_free, same_shown}
 
 -- ---- at every moment
 
@@ -90,7 +91,7 @@ unfolding deploy_at
 bytes_read name id bytes row is says short =
     ap (λ b. row_in name (hex row.commit) (if b then read_of (deploy_of bytes) else bad)) (le-leb (length bytes) small_most short)
     ∙ ap (λ o. row_in name (hex row.commit) (read_of o)) says
-    ∙ ap (λ b. if b then there (record { name = name; origin = row.origin; commit = row.commit; timestamp = row.timestamp; previous = row.previous }) else bad) (bytes_eq-itself (hex row.commit))
+    ∙ ap (λ b. if b then there (record { name = name; origin = row.origin; commit = row.commit; timestamp = row.timestamp; previous = row.previous }) else bad) (bytes_eq-same (hex row.commit))
     ∙ ap (λ n. there (record { name = n; origin = row.origin; commit = row.commit; timestamp = row.timestamp; previous = row.previous })) (sym is)
 
 file_shown : {p : Elements} {bytes : List ℕ} {w : View} → IsTree w → (made : HasFile p bytes w) → shows w p ≡ holds made.id 420 bytes

@@ -14,6 +14,7 @@ use Rattle.fp_host.specs.Moments.{Moments, Makes}
 use Rattle.fp_host.proofs.Framed.{IsTold}
 use Rattle.fp_host.proofs.Goes.{begins, makes_goes}
 use Rattle.fp_host.proofs.Settled.{settled_disk}
+use Rattle.fp_host.proofs.Shown.{now_left}
 use Rattle.fp_name.specs.Refs.{Ref, is_ref, ref_text}
 use Rattle.fp_name.proofs.Refs.{ref_of-ref_text}
 use Rattle.fp_small.specs.declared.state.State.{State}
@@ -33,7 +34,7 @@ use Rattle.dep_states.proofs.Switching.{permits_gone}
 use Rattle.dep_switch.specs.Rows.{without_row}
 use Rattle.dep_switch.specs.Retiring.{RetiresAt, IsPlanOf, CanRetire, Retires, WasRetired}
 use Rattle.dep_switch.specs.declared.retiring.RetirePlan.{RetirePlan}
-use Rattle.dep_switch.proofs.Spots.{now_left, shown_at, link_free}
+use Rattle.dep_switch.proofs.Spots.{shown_at, link_free}
 use Rattle.dep_switch.proofs.Switches.{either_follows, active_link}
 
 -- ---- the law

@@ -1,14 +1,13 @@
 -- What is made before a switch spares what is shown.
-use Rattle.std.proofs.Common.{◌≡◌, ◌≢◌, ◌⊎◌, inl, inr, ℕ, List, [], ◌∷◌, ◌++◌, Bool, true, false, Option, Some, None, codes, length, refl, sym, ◌∙◌, ap, subst, arith, Contains}
+use Rattle.std.proofs.Common.{◌≡◌, ◌≢◌, ◌⊎◌, inl, inr, ℕ, List, [], ◌∷◌, ◌++◌, Bool, true, false, Some, codes, length, sym, ◌∙◌, ap, subst, arith, Contains}
 use Rattle.std.specs.Prelude.{if◌then◌else◌, is_some}
-use Rattle.std.specs.Str.{bytes_eq}
 use Rattle.std.proofs.lemmas.Bool.{cond-true}
 use Rattle.std.proofs.lemmas.List.{length-append}
 use Rattle.std.proofs.lemmas.List.Elements.{Contains-push_cases}
-use Rattle.std.proofs.lemmas.Slice.Eq.{bytes_eq-Decides}
 use Rattle.fp_host.specs.Paths.{Elements}
 use Rattle.fp_host.specs.View.{View}
 use Rattle.fp_host.specs.Outcome.{Spot, gone, folder, points, Disk, Leaves, Follows}
+use Rattle.fp_host.proofs.Separate.{head_of, tail_of}
 use Rattle.fp_name.specs.declared.kind.RefKind.{RefKind}
 use Rattle.fp_name.specs.declared.kind.RefKind.TheVariants.{App, Runtime}
 use Rattle.fp_name.specs.Grammar.{is_id, is_arch, is_branch}
@@ -19,47 +18,24 @@ use Rattle.fp_name.proofs.Refs.{ref_of-ref_text}
 use Rattle.fp_small.specs.Folders.{ancestors}
 use Rattle.fp_small.specs.Places.{repo, tmp}
 use Rattle.fp_small.specs.declared.state.State.{State}
-use Rattle.fp_small.specs.declared.state.RefRow.{RefRow}
 use Rattle.ost_model.specs.Standing.{deploy_name}
 use Rattle.dep_states.specs.Names.{active, branch_dir, text_dir, commit_dir, deploy}
-use Rattle.dep_states.specs.Shown.{Seen, away, bad, there, seen_of, row_of, row_in, deploy_at, by_active, ref_seen, row_seen, Shows}
-use Rattle.dep_states.specs.Zones.{Zone, anything, is, IsFileOrGone, Fits, zone, outward, Allowed}
+use Rattle.dep_states.specs.Shown.{there, seen_of, by_active, ref_seen, row_seen, Shows}
+use Rattle.dep_states.specs.Zones.{anything, is, IsFileOrGone, Fits, zone, outward, Allowed}
 use Rattle.dep_states.specs.Sound.{Keeps, Sound, Fixed, is_remotes, is_pins, is_config, is_old, is_active, is_deploy, is_layer, is_inside, is_object, Permits, Opens, Spares}
 use Rattle.dep_states.specs.After.{row_at}
-use Rattle.dep_states.specs.declared.deploy.DeployData.{DeployData}
 use Rattle.dep_states.proofs.Deployed.{top}
 use Rattle.dep_states.proofs.Good.{row_good}
 use Rattle.dep_states.proofs.Law.{frame_law}
-use Rattle.dep_states.proofs.Single.{there_is}
-use Rattle.dep_states.proofs.Sparing.{fixed_in_repo, hex_exact}
-use Rattle.dep_states.proofs.Switch.{tail_same, head_same}
+use Rattle.dep_states.proofs.Sparing.{hex_exact, deploy_commit, repo_spared}
 use Rattle.dep_states.proofs.Switching.{none_in_tmp, word_no_repo}
 use Rattle.dep_states.proofs.Total.{row_there}
 use Rattle.dep_states.proofs.Worked.{active_same}
+use Rattle.dep_states.proofs.Zones.{fits_if}
 use Rattle.dep_switch.specs.Rows.{IsAt}
 use Rattle.dep_switch.specs.Writing.{new_link, FileAt, PreparesAt, a_deploy, a_folder, a_link}
 
 -- ---- what is shown at an `active`
-
-named_commit : (name : Ref) (text : List ℕ) (x : Seen DeployData) (q : Option RefRow) → row_in name text x ≡ seen_of q → (row : RefRow) × (q ≡ Some row) × (hex row.commit ≡ text)
-named_commit name text away None e = absurd (cc e)
-named_commit name text bad None e = absurd (cc e)
-named_commit name text (there d) None e = absurd (no_away (bytes_eq (hex d.commit) text) e)
-  where
-    no_away : (b : Bool) → if b then there (row_of name d) else bad ≡ away → ⊥
-    no_away true h = cc h
-    no_away false h = cc h
-named_commit name text away (Some r) e = absurd (cc e)
-named_commit name text bad (Some r) e = absurd (cc e)
-named_commit name text (there d) (Some r) e = (r, refl, if_is (bytes_eq (hex d.commit) text) refl e)
-  where
-    if_is : (b : Bool) → bytes_eq (hex d.commit) text ≡ b → if b then there (row_of name d) else bad ≡ there r → hex r.commit ≡ text
-    if_is true t h = ap (λ (k : RefRow). hex k.commit) (sym (there_is h)) ∙ (bytes_eq-Decides (hex d.commit) text).0 t
-    if_is false t h = absurd (cc h)
-
-deploy_commit : (name : Ref) (text : List ℕ) (spot : Spot) (q : Option RefRow) → deploy_at name text spot ≡ seen_of q → (row : RefRow) × (q ≡ Some row) × (hex row.commit ≡ text)
-unfolding deploy_at
-deploy_commit name text spot q e = named_commit name text _ q e
 
 -- a link of the commit's digits at `active` is that of a ref at the commit
 pub linked_at : {s : State} {disk : Disk} (name : Ref) (commit : List ℕ) → is_ref name ≡ true → is_digest commit ≡ true → Shows disk s → disk (active name) ≡ points (hex commit) → IsAt s name commit
@@ -71,10 +47,6 @@ linked_at {s = s} {disk = disk} name commit good digest shows link =
     (row.0, row.1, hex_exact row.0.commit commit (row_good disk row.0 (row_there disk (Some name) row.0 found)).commit digest row.2)
 
 -- ---- the `deploy` of a commit that isn't deployed
-
-fits_if : (b : Bool) (z : Zone) (p : Elements) (spot : Spot) → Fits z p spot → Fits (if b then z else anything) p spot
-fits_if true z p spot f = f
-fits_if false z p spot f = tt
 
 fits_any : (b c : Bool) (p : Elements) (spot : Spot) → Fits (if b then anything else (if c then anything else anything)) p spot
 fits_any true c p spot = tt
@@ -88,14 +60,14 @@ fits_deploy Runtime id arch branch text p spot = fits_if (is_id id) _ p spot (fi
 -- a path in the folder of a commit that is a `deploy` is just that
 pub inside_deploy : (rest : Elements) (n name : Ref) (c commit : List ℕ) → deploy (commit_dir name commit) ≡ rest ++ commit_dir n c → rest ≡ deploy_name
 inside_deploy [] n name c commit e = absurd (cc e)
-inside_deploy (x ∷ []) n name c commit e = ap (λ y. y ∷ []) (sym (head_same e))
+inside_deploy (x ∷ []) n name c commit e = ap (λ y. y ∷ []) (sym (head_of e))
 inside_deploy (x ∷ (y ∷ rest)) n name c commit e =
     let long : length (deploy (commit_dir name commit)) ≡ length ((x ∷ (y ∷ rest)) ++ commit_dir n c) = ap length e in
     let sum = length-append (x ∷ (y ∷ rest)) (commit_dir n c) in
     absurd (omega (arith, long, sum))
 
 same_branch : (a b : Ref) (x y : List ℕ) → deploy (text_dir a x) ≡ deploy (text_dir b y) → (a ≡ b) × (x ≡ y)
-same_branch a b x y e = (active_same a b (ap (λ p. codes "active" ∷ p) (tail_same (tail_same e))), head_same (tail_same e))
+same_branch a b x y e = (active_same a b (ap (λ p. codes "active" ∷ p) (tail_of (tail_of e))), head_of (tail_of e))
 
 avoid : {s : State} {v : View} (name : Ref) (commit : List ℕ) → is_digest commit ≡ true → Opens s v → (IsAt s name commit → ⊥) → (disk : Disk) → Leaves v disk → (p : Elements) → Fixed disk p → p ≡ deploy (commit_dir name commit) → ⊥
 avoid name commit digest opens off disk left p (is_config e) at = cc (sym at ∙ e)
@@ -129,9 +101,6 @@ which q has = elim (Contains-push_cases (repo ∷ []) tmp q has) [
 no_deploy_in_repo : (p : Elements) → top p ≡ codes "repo" → (n : Ref) (c : List ℕ) → p ≡ deploy (commit_dir n c) → ⊥
 no_deploy_in_repo p in_repo n c at = word_no_repo n.kind (sym (ap top at) ∙ in_repo)
 
-unfixed_repo : (i : Disk) (p : Elements) → p ≡ repo → Fixed i p → ⊥
-unfixed_repo i p at f = let o = fixed_in_repo f (ap top at) in cc (sym at ∙ o.is)
-
 folder_permitted : (i : Disk) (p : Elements) → (p ≡ repo) ⊎ (p ≡ tmp) → Permits i p folder
 folder_permitted i p (inl at) = record { allowed = subst (λ q. Allowed q folder) (sym at) (record { fits = tt; short = inr (omega arith) }); deploy = λ n c k is. absurd (no_deploy_in_repo p (ap top at) n c is) }
 folder_permitted i p (inr at) = record { allowed = subst (λ q. Allowed q folder) (sym at) (record { fits = tt; short = inr (omega arith) }); deploy = λ n c k is. absurd (no_deploy_in_repo p (ap top at) n c is) }
@@ -139,7 +108,7 @@ folder_permitted i p (inr at) = record { allowed = subst (λ q. Allowed q folder
 module _ {v : View} {path : Elements} (text : List ℕ) (spares : Spares v (FileAt path)) where
   avoids : (disk : Disk) → Leaves v disk → (p : Elements) (spot : Spot) → Fixed disk p → PreparesAt path text p spot → ⊥
   avoids disk left p spot f (a_deploy at fits) = spares.avoids disk left p spot f (at, fits)
-  avoids disk left p spot f (a_folder has at) = elim (which p has) [ inl here ↦ unfixed_repo disk p here f | inr here ↦ none_in_tmp [] here f ]
+  avoids disk left p spot f (a_folder has at) = elim (which p has) [ inl here ↦ repo_spared disk p here f | inr here ↦ none_in_tmp [] here f ]
   avoids disk left p spot f (a_link at here) = none_in_tmp (codes "active" ∷ []) at f
 
   permits : (disk : Disk) → Leaves v disk → (p : Elements) (spot : Spot) → PreparesAt path text p spot → Permits disk p spot

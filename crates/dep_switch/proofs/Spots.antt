@@ -3,16 +3,12 @@ use Rattle.std.proofs.Common.{◌≡◌, ◌≢◌, ◌⊎◌, inl, inr, ℕ, Li
 use Rattle.fp_host.specs.Paths.{Elements, Slot, absent, dir, file, link, at}
 use Rattle.fp_host.specs.View.{View, Inode, IsTree}
 use Rattle.fp_host.specs.Calls.{IsFile, IsNoDir}
-use Rattle.fp_host.specs.Outcome.{Spot, gone, folder, holds, points, Disk, holding, spot_of, Leaves, shows}
+use Rattle.fp_host.specs.Outcome.{Spot, gone, folder, holds, points, Disk, holding, spot_of, shows}
 use Rattle.fp_host.proofs.Settled.{at_tree}
 use Rattle.fp_small.specs.Files.{KeepsFiles}
 use Rattle.fp_small.specs.Folders.{IsFree}
 use Rattle.fp_small.specs.Replace.{IsFreeFile}
 use Rattle.dep_states.specs.Zones.{IsFileOrGone, IsLinkOrGone, IsFolderOrGone}
-
--- what stands now is an outcome
-pub now_left : (v : View) → Leaves v (shows v)
-now_left v = record { names = v.names; files = v.files; may_be = λ p. inl refl; rows = λ id. inl refl; seen = λ p. refl }
 
 file_there : (id : ℕ) (row : Option Inode) → (row ≡ None → ⊥) → (f : Inode) × (row ≡ Some f)
 file_there id None some = absurd (some refl)

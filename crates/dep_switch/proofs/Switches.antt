@@ -1,6 +1,5 @@
 -- The rename of the link onto `active`.
-use Rattle.std.proofs.Common.{◌≡◌, ◌≢◌, ◌⊎◌, inl, inr, ℕ, List, [], ◌∷◌, ◌++◌, Option, Some, None, Result, Ok, Bool, true, false, ◌&&◌, codes, refl, sym, ◌∙◌, ap, subst}
-use Rattle.std.specs.Prelude.{if◌then◌else◌}
+use Rattle.std.proofs.Common.{◌≡◌, ◌≢◌, ◌⊎◌, inl, inr, ℕ, List, [], ◌∷◌, ◌++◌, Option, Some, None, Result, Ok, true, ◌&&◌, codes, refl, sym, ◌∙◌, ap, subst}
 use Rattle.std.proofs.lemmas.Bool.{and_parts}
 use Rattle.fp_host.specs.Paths.{Elements, Slot, absent, dir, file, link, set_at}
 use Rattle.fp_host.specs.View.{View, IsTree}
@@ -17,6 +16,7 @@ use Rattle.fp_host.specs.Moments.{Moments, Makes}
 use Rattle.fp_host.proofs.Framed.{IsTold}
 use Rattle.fp_host.proofs.Goes.{begins, makes_goes}
 use Rattle.fp_host.proofs.Settled.{settled_disk}
+use Rattle.fp_host.proofs.Shown.{now_left}
 use Rattle.fp_name.specs.declared.kind.RefKind.{RefKind}
 use Rattle.fp_name.specs.declared.kind.RefKind.TheVariants.{App, Runtime}
 use Rattle.fp_name.specs.Grammar.{is_id, is_arch, is_branch}
@@ -33,18 +33,19 @@ use Rattle.dep_states.specs.Deploy.{deploy_of}
 use Rattle.dep_states.specs.Shown.{there, deploy_at, small_most, Shows}
 use Rattle.dep_states.specs.Sound.{Sound, Opens}
 use Rattle.dep_states.specs.Switch.{IsWith, SwitchesAt, Stages, Prepared, OpensEither}
-use Rattle.dep_states.specs.Zones.{Zone, anything, a_link, IsLinkOrGone, Fits, zone, outward, Allowed}
+use Rattle.dep_states.specs.Zones.{a_link, IsLinkOrGone, Fits, zone, outward, Allowed}
 use Rattle.dep_states.proofs.Changes as changes
 use Rattle.dep_states.proofs.Deploys.{deploy_reads}
 use Rattle.dep_states.proofs.Good.{row_in_good, file_says}
 use Rattle.dep_states.proofs.Switching.{switch_law}
+use Rattle.dep_states.proofs.Zones.{unless_any}
 use Rattle.dep_switch.specs.Rows.{with_row, IsAt}
 use Rattle.dep_switch.specs.Writing.{new_link}
 use Rattle.dep_switch.specs.Staging.{IsStaged, LeadsTo, CanSwitch, SwitchesName, Switches, WasSwitched}
 use Rattle.dep_switch.specs.declared.staged.Staged.{Staged}
 use Rattle.dep_switch.proofs.Readying.{folder_stands}
 use Rattle.dep_switch.proofs.Sparing.{linked_at}
-use Rattle.dep_switch.proofs.Spots.{now_left, folder_dir, link_free, leaf_no_dir}
+use Rattle.dep_switch.proofs.Spots.{folder_dir, link_free, leaf_no_dir}
 
 -- what stands at the end of nothing
 pub either_follows : {s t : State} {v w : View} → Follows Nothing v w → OpensEither s t v → OpensEither s t w
@@ -137,10 +138,6 @@ module _ {staged : Staged} {u v w : View} (tree : IsTree v) (after : IsTree w) (
   was_switched = record { opens = opens_new; settled = synced step }
 
 -- ---- where it may be
-
-unless_any : (b : Bool) (z : Zone) (p : Elements) (spot : Spot) → b ≡ true → Fits (if b then z else anything) p spot → Fits z p spot
-unless_any true z p spot e fits = fits
-unless_any false z p spot e fits = absurd (cc e)
 
 active_fits : (k : RefKind) (id arch branch : List ℕ) (p : Elements) (spot : Spot) → is_id id ≡ true → is_arch arch ≡ true → is_branch branch ≡ true
     → Fits (zone (outward (codes "active" ∷ (branch ∷ (arch ∷ (id ∷ (kind_word k ∷ []))))))) p spot → IsLinkOrGone spot

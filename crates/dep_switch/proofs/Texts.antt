@@ -8,29 +8,10 @@ use Rattle.std.proofs.lemmas.Bool.{and_parts, and_from, eqb-true, ltb-true, agre
 use Rattle.std.proofs.lemmas.Str.{is_utf8-from_IsUtf8, IsUtf8-from_ascii}
 use Rattle.fp_host.specs.Paths.{is_element, is_link_text}
 use Rattle.fp_host.proofs.LinkTexts.{link_text_is}
-use Rattle.fp_name.specs.Grammar.{is_id, is_arch, is_branch}
-use Rattle.fp_name.specs.Kinds.{kind_word}
-use Rattle.fp_name.specs.declared.kind.RefKind.{RefKind}
-use Rattle.ost_refs.proofs.Elements.{element_kind, element_id, element_arch, element_branch}
-use Rattle.fp_name.specs.FileNames.{is_file_name}
 use Rattle.fp_name.specs.Hex.{hex, digit, is_byte, is_digest}
 use Rattle.fp_name.proofs.Files.{file_digest}
 use Rattle.fp_name.proofs.HexTexts.{length-hex}
-
-pub kind_element : (kind : RefKind) → is_element (kind_word kind) ≡ true
-kind_element kind = element_kind kind
-
-pub id_element : (text : List ℕ) → is_id text ≡ true → is_element text ≡ true
-id_element text h = element_id text h
-
-pub arch_element : (text : List ℕ) → is_arch text ≡ true → is_element text ≡ true
-arch_element text h = element_arch text h
-
-pub branch_element : (text : List ℕ) → is_branch text ≡ true → is_element text ≡ true
-branch_element text h = element_branch text h
-
-element_file : (text : List ℕ) → is_file_name text ≡ true → is_element text ≡ true
-element_file text h = h
+use Rattle.fp_small.proofs.Elements.{element_file}
 
 pub element_digits : (d : List ℕ) → is_digest d ≡ true → is_element (hex d) ≡ true
 element_digits d h = element_file (hex d) (file_digest d h)

@@ -3,7 +3,7 @@ use Rattle.std.proofs.Common.{◌≡◌, ◌≢◌, ◌⊎◌, inl, inr, ℕ, Li
 use Rattle.std.proofs.lemmas.Bool.{cases_eq}
 use Rattle.fp_host.specs.Paths.{Elements, Slot, absent, dir, file, link}
 use Rattle.fp_host.specs.View.{View, Inode, IsTree}
-use Rattle.fp_host.specs.Calls.{appends, creates, Step, Creates, CanCreate, HasFolder, IsFile, IsNoDir}
+use Rattle.fp_host.specs.Calls.{appends, creates, Step, Creates, CanCreate, HasFolder, IsFile}
 use Rattle.fp_host.specs.Outcome.{Spot, gone, Follows}
 use Rattle.fp_host.specs.Frame.{Keeps, NoPath}
 use Rattle.fp_host.specs.declared.host.HostError.{HostError}
@@ -17,7 +17,6 @@ use Rattle.fp_host.proofs.Framed.{IsTold, frame_start, frame_within, frame_creat
 use Rattle.fp_host.proofs.Goes.{begins, goes_on, makes_goes}
 use Rattle.fp_small.specs.Clear.{GoneAt, AbsentAt}
 use Rattle.fp_small.specs.Files.{KeepsFiles}
-use Rattle.fp_small.specs.Replace.{IsFreeFile}
 use Rattle.fp_small.proofs.Keeping as keeping
 use Rattle.fp_small.proofs.Sharing.{shares_empty}
 use Rattle.fp_small.proofs.Staging.{Written, begun_create, written_append}
@@ -91,10 +90,6 @@ pub file_written : {p : Elements} {bytes : List ℕ} {u v w : View} → IsBegun 
 file_written new step = has_file (written_append new.written step)
 
 -- ---- where it may be
-
-pub no_dir : (p : Elements) (v : View) → IsFreeFile p v → IsNoDir (v.names p)
-no_dir p v (inl none) = subst IsNoDir (sym none) tt
-no_dir p v (inr is) = subst IsNoDir (sym is.1) tt
 
 folder_stays : {G : Elements → Spot → Type 0} {A : Elements → Type 0} (p : Elements) {u v : View} → Keeps G (AbsentAt p) A u v → HasFolder u p → HasFolder v p
 folder_stays [] keeps above = above

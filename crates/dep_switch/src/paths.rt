@@ -20,7 +20,7 @@ pub fn new_link_path(alloc: Global) -> Result<Path, AllocError>
 }
 
 /// The branch directory of a ref.
-#[tactic(auto, using(crate::proofs::Texts::kind_element, crate::proofs::Texts::id_element, crate::proofs::Texts::arch_element, crate::proofs::Texts::branch_element))]
+#[tactic(auto, using(fp_small::proofs::Elements::element_kind, fp_small::proofs::Elements::element_id, fp_small::proofs::Elements::element_arch, fp_small::proofs::Elements::element_branch))]
 fn branch_path(alloc: Global, name: &RefName) -> Result<Path, AllocError>
     ensures path { IfOk result (λ p. p ≡ branch_dir name.now) }
     ensures good { OnOk result (is_ref name.now ≡ true) }

@@ -1,17 +1,8 @@
 -- A host that tells nothing of its content, and never fails.
 use Rattle.std.proofs.Common.{◌≡◌, refl, None, Result, Ok, Err, IsOk, IsErr, IsErrOf, arith}
-use Rattle.std.proofs.lemmas.Option.{none-some}
-use Rattle.fp_host.specs.View.{View}
-use Rattle.fp_host.specs.Moments.{Makes, HasCause, NeedsNoMemory}
+use Rattle.fp_host.specs.Moments.{HasCause, NeedsNoMemory}
 use Rattle.fp_host.specs.declared.host.HostError.{HostError}
 use Rattle.fp_host.specs.declared.host.HostError.TheVariants.{Failed, Clash, NoMemory}
-
--- what tells nothing goes on telling nothing
-pub untold : {S : View → View → Type 0} → Makes S None None
-untold = record {
-  untold = λ e. e;
-  told = λ m e. absurd (none-some m e);
-}
 
 no_error : {T : Type 0} (result : Result T HostError) (e : HostError) → IsOk result → IsErrOf result e → ⊥
 no_error (Ok t) e ok is = cc

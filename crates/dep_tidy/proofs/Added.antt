@@ -1,8 +1,10 @@
 -- A ref that came gets its file.
 use Rattle.std.proofs.Common.{◌≡◌, ◌≢◌, ◌⊎◌, inl, inr, true, ℕ, arith, List, [], ◌∷◌, ◌++◌, length, take, Some, refl, sym, ◌∙◌, ap, subst, codes, Contains}
-use Rattle.fp_host.specs.Paths.{Elements, Slot, absent, dir, file, link, under, at, IsAbove}
+use Rattle.fp_host.specs.Paths.{Elements, Slot, absent, dir, under, at, IsAbove}
 use Rattle.fp_host.specs.View.{View, IsTree}
 use Rattle.fp_host.specs.Outcome.{gone, spot_of, shows}
+use Rattle.fp_host.proofs.Separate.{under_absent}
+use Rattle.fp_host.proofs.Shown.{now_left}
 use Rattle.fp_base.specs.declared.object.ObjKind.{ObjKind}
 use Rattle.fp_name.specs.Grammar.{is_remote_name}
 use Rattle.fp_name.specs.Hex.{hex, is_digest}
@@ -25,14 +27,16 @@ use Rattle.dep_states.proofs.Single.{some_is}
 use Rattle.dep_states.proofs.Sparing.{state_of_kept}
 use Rattle.dep_states.proofs.Switching.{second, word_no_repo}
 use Rattle.dep_states.proofs.Total.{ref_is}
+use Rattle.dep_states.proofs.Switch.{file_same}
 use Rattle.fp_small.proofs.Sharing.{shares_start}
+use Rattle.ost_store.proofs.Staying.{same_shows}
 use Rattle.dep_tidy.specs.Tidy.{MayTidy, some_work, ref_written, ref_folder, Tidies, SettledButWork, SettledButRef}
 use Rattle.dep_tidy.specs.Steps.{Alters, RefAt, RefName, file_name, folder_name, work_name, HasRefFiles, Writes, rows_named}
-use Rattle.dep_tidy.proofs.Views.{now_left, same_shows, shows_along}
+use Rattle.dep_tidy.proofs.Views.{shows_along}
 use Rattle.dep_tidy.proofs.Apart.{IsBeside, folder_shorter, name_above, old_no_repo, repo_no_config, tmp_no_refs}
 use Rattle.dep_tidy.proofs.Clearing.{refs_spare}
 use Rattle.dep_tidy.proofs.RowsKept.{in_at}
-use Rattle.dep_tidy.proofs.RefFiles.{file_same, fewer_files, named_in, in_named}
+use Rattle.dep_tidy.proofs.RefFiles.{fewer_files, named_in, in_named}
 use Rattle.dep_tidy.proofs.Pruned.{row_by_seen, seen_by_row, used_on}
 use Rattle.dep_tidy.proofs.Joined.{tidy_links, beside_no_object, name_beside, settled_files}
 use Rattle.dep_tidy.proofs.Ended.{says_bytes}
@@ -54,12 +58,6 @@ module _ {rows : List RefRow} {u w : View} (step : Alters (RefAt rows) (RefName 
 
 abbrev objects : Elements
 objects = codes "objects" ∷ repo
-
-under_absent : (s : Slot) → under s absent ≡ absent
-under_absent dir = refl
-under_absent absent = refl
-under_absent (file id) = refl
-under_absent (link text) = refl
 
 -- no object is where their folder isn't
 none_below : (n : Elements → Slot) (d : List ℕ) (kind : ObjKind) → n objects ≡ absent → at n (object_path repo d kind) ≡ absent

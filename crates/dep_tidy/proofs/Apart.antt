@@ -1,44 +1,31 @@
 -- Paths that are told apart by their outermost elements.
-use Rattle.std.proofs.Common.{◌≡◌, ◌≢◌, ◌⊎◌, inl, inr, ℕ, List, [], ◌∷◌, ◌++◌, refl, sym, ◌∙◌, ap, subst, codes, length, Contains, arith}
+use Rattle.std.proofs.Common.{◌≡◌, ◌≢◌, ◌⊎◌, inl, inr, ℕ, List, [], ◌∷◌, refl, sym, ◌∙◌, ap, subst, codes, length, Contains, arith}
 use Rattle.std.specs.List.{AllByRecursion}
 use Rattle.fp_host.specs.Paths.{Elements, IsAbove}
 use Rattle.fp_base.specs.declared.object.ObjKind.{ObjKind}
+use Rattle.fp_base.proofs.Lists.{in_none, in_cases}
+use Rattle.fp_base.proofs.Texts.{bytes_eq-false}
 use Rattle.fp_name.specs.declared.kind.RefKind.{RefKind}
 use Rattle.fp_name.specs.Kinds.{kind_word}
 use Rattle.fp_name.specs.Refs.{Ref}
+use Rattle.fp_name.proofs.Refs.{word_apart}
 use Rattle.fp_small.specs.Places.{repo, tmp}
 use Rattle.fp_small.specs.Clear.{IsWithin}
 use Rattle.fp_small.specs.Replace.{folders_of}
+use Rattle.fp_small.proofs.Within.{within_rest}
 use Rattle.ost_model.specs.Objects.{object_path}
-use Rattle.ost_store.proofs.Lists.{in_none, in_cases}
 use Rattle.dep_states.specs.Names.{config, commit_dir, ref_file}
 use Rattle.dep_states.specs.Zones.{outward}
 use Rattle.dep_states.specs.Sound.{IsOld, is_remotes, is_pins}
 use Rattle.dep_states.proofs.Deployed.{outward_append, top}
-use Rattle.dep_states.proofs.Rows.{text_apart, head_of}
-use Rattle.dep_states.proofs.Sparing.{word_apart}
+use Rattle.dep_states.proofs.Rows.{head_of}
 use Rattle.dep_states.proofs.Switching.{second}
+use Rattle.dep_states.proofs.Work.{work_second, no_second}
 
 -- ---- below a folder
 
-pub above_is : (t q : Elements) → IsAbove t q → (rest : Elements) × (q ≡ rest ++ t)
-above_is t [] above = absurd above
-above_is t (x ∷ up) (inl same) = (x ∷ [], ap (λ (l : Elements). x ∷ l) (sym same))
-above_is t (x ∷ up) (inr above) = let more = above_is t up above in (x ∷ more.0, ap (λ (l : Elements). x ∷ l) more.1)
-
-pub within_is : (t q : Elements) → IsWithin t q → (rest : Elements) × (q ≡ rest ++ t)
-within_is t q (inl same) = ([], same)
-within_is t q (inr above) = above_is t q above
-
--- the outermost elements of what is below work
-pub work_top : (q : Elements) → IsWithin tmp q → top q ≡ codes "repo"
-work_top q within = let is = within_is tmp q within in ap top is.1 ∙ ap head_of (outward_append is.0 tmp [])
-
-pub work_second : (q : Elements) → IsWithin tmp q → second (outward q) ≡ codes "tmp"
-work_second q within = let is = within_is tmp q within in ap (λ (p : Elements). second (outward p)) is.1 ∙ ap second (outward_append is.0 tmp [])
-
 pub dir_top : (name : Ref) (commit : List ℕ) (q : Elements) → IsWithin (commit_dir name commit) q → top q ≡ kind_word name.kind
-dir_top name commit q within = let is = within_is (commit_dir name commit) q within in ap top is.1 ∙ ap head_of (outward_append is.0 (commit_dir name commit) [])
+dir_top name commit q within = let is = within_rest (commit_dir name commit) q within in ap top is.1 ∙ ap head_of (outward_append is.0 (commit_dir name commit) [])
 
 -- ---- told apart
 
@@ -49,16 +36,16 @@ pub by_second : {p q : Elements} {x y : List ℕ} → second (outward p) ≡ x �
 by_second a b off same = off (sym a ∙ ap (λ (l : Elements). second (outward l)) same ∙ b)
 
 pub tmp_no_objects : codes "tmp" ≢ codes "objects"
-tmp_no_objects = text_apart (codes "tmp") (codes "objects") refl
+tmp_no_objects = bytes_eq-false (codes "tmp") (codes "objects") refl
 
 pub refs_no_objects : codes "refs" ≢ codes "objects"
-refs_no_objects = text_apart (codes "refs") (codes "objects") refl
+refs_no_objects = bytes_eq-false (codes "refs") (codes "objects") refl
 
 pub tmp_no_refs : codes "tmp" ≢ codes "refs"
-tmp_no_refs = text_apart (codes "tmp") (codes "refs") refl
+tmp_no_refs = bytes_eq-false (codes "tmp") (codes "refs") refl
 
 pub repo_no_config : codes "repo" ≢ codes "config"
-repo_no_config = text_apart (codes "repo") (codes "config") refl
+repo_no_config = bytes_eq-false (codes "repo") (codes "config") refl
 
 pub word_no_config : (k : RefKind) → kind_word k ≢ codes "config"
 word_no_config k = word_apart k (codes "config") refl refl
@@ -71,10 +58,10 @@ pub old_apart : {p : Elements} {x : List ℕ} → IsOld p → x ≢ codes "remot
 old_apart {p = p} old a b at = elim (old_top p old) [ inl r ↦ a (sym at ∙ r) | inr q ↦ b (sym at ∙ q) ]
 
 pub old_no_repo : {p : Elements} → IsOld p → top p ≢ codes "repo"
-old_no_repo old = old_apart old (text_apart (codes "repo") (codes "remotes.conf") refl) (text_apart (codes "repo") (codes "pins") refl)
+old_no_repo old = old_apart old (bytes_eq-false (codes "repo") (codes "remotes.conf") refl) (bytes_eq-false (codes "repo") (codes "pins") refl)
 
 pub old_no_config : IsOld config → ⊥
-old_no_config old = old_apart old (text_apart (codes "config") (codes "remotes.conf") refl) (text_apart (codes "config") (codes "pins") refl) refl
+old_no_config old = old_apart old (bytes_eq-false (codes "config") (codes "remotes.conf") refl) (bytes_eq-false (codes "config") (codes "pins") refl) refl
 
 -- ---- the folders above a ref file
 
@@ -119,10 +106,6 @@ folder_beside origin name = each_of IsBeside (folders_of (ref_file origin name))
 -- none of them is as long as a ref file
 pub folder_shorter : (origin : List ℕ) (name : Ref) (q : Elements) → Contains (folders_of (ref_file origin name)) q → length q ≢ 8
 folder_shorter origin name = each_of (λ q. length q ≢ 8) (folders_of (ref_file origin name)) ((λ e. omega (arith, e)), ((λ e. omega (arith, e)), ((λ e. omega (arith, e)), ((λ e. omega (arith, e)), ((λ e. omega (arith, e)), ((λ e. omega (arith, e)), ((λ e. omega (arith, e)), ((λ e. omega (arith, e)), ((λ e. omega (arith, e)), tt)))))))))
-
--- none is below work
-no_second : (p : Elements) → second (outward p) ≢ codes "tmp" → IsAbove tmp p → ⊥
-no_second p off up = off (work_second p (inr up))
 
 refs_off : codes "refs" ≢ codes "tmp"
 refs_off e = tmp_no_refs (sym e)

@@ -5,6 +5,8 @@ use Rattle.std.proofs.lemmas.Bool.{and_parts}
 use Rattle.fp_host.specs.Paths.{Elements}
 use Rattle.fp_host.specs.View.{View, IsTree}
 use Rattle.fp_host.specs.Outcome.{Spot, Follows, gone, folder, holds, shows}
+use Rattle.fp_host.proofs.Above.{above_rest}
+use Rattle.fp_host.proofs.Shown.{now_left}
 use Rattle.fp_name.specs.declared.kind.RefKind.{RefKind}
 use Rattle.fp_name.specs.declared.kind.RefKind.TheVariants.{App, Runtime}
 use Rattle.fp_name.specs.Grammar.{is_id, is_arch, is_branch, is_remote_name}
@@ -16,6 +18,7 @@ use Rattle.fp_small.specs.Folders.{IsFree}
 use Rattle.fp_small.specs.Replace.{folders_of, IsFreeFile}
 use Rattle.fp_small.specs.declared.state.State.{State}
 use Rattle.fp_small.specs.declared.state.RefRow.{RefRow}
+use Rattle.fp_small.proofs.Within.{within_rest}
 use Rattle.ost_refs.specs.Files.{ref_bytes}
 use Rattle.ost_refs.specs.Changes.{CanWrite}
 use Rattle.ost_refs.specs.declared.place.RefPlace.TheVariants.{Remote}
@@ -29,38 +32,24 @@ use Rattle.dep_states.proofs.Law.{frame_law}
 use Rattle.dep_states.proofs.Sparing.{dir_spares, none_in_repo, spares_to, spares_both}
 use Rattle.dep_states.proofs.Switching.{none_in_tmp, permits_gone, word_no_repo}
 use Rattle.dep_states.proofs.Usual.{tmp_spares}
+use Rattle.dep_states.proofs.Zones.{fits_if}
+use Rattle.dep_states.proofs.Openings.{short_follows}
 use Rattle.dep_tidy.specs.Steps.{InUnkept, UnkeptGone, OtherGone, RefAt, file_at, folder_at, work_at, CanTakeOld}
-use Rattle.dep_tidy.proofs.Views.{now_left, gone_absent, no_dir_by, free_file_by, free_by}
-use Rattle.dep_tidy.proofs.Apart.{above_is, within_is, IsBeside, each_of, file_beside, folder_beside}
+use Rattle.dep_tidy.proofs.Views.{gone_absent, no_dir_by, free_file_by, free_by}
+use Rattle.dep_tidy.proofs.Apart.{IsBeside, each_of, file_beside, folder_beside}
 
 -- ---- work
 
 pub work_goes : (v : View) → Spares v (GoneBelow tmp)
 work_goes v = record {
-  avoids = λ disk left p spot fixed given. let below = above_is tmp p given.0 in none_in_tmp below.0 below.1 fixed;
+  avoids = λ disk left p spot fixed given. let below = above_rest tmp p given.0 in none_in_tmp below.0 below.1 fixed;
   permits = λ disk left p spot given. permits_gone p spot given.1;
 }
 
 -- ---- folders
 
--- what is too deep was gone before
-pub short_follows : {s : State} {G : Elements → Spot → Type 0} {u w : View} → ((q : Elements) (spot : Spot) → G q spot → spot ≡ gone) → Opens s u → Follows G u w → Follows (λ q spot. G q spot × (length q ≤ 128)) u w
-short_follows goes opens follows = record {
-  from = λ disk left. let b = follows.from disk left in (
-    b.0,
-    b.1,
-    λ p. elim (b.2 p) [
-      | inl same ↦ inl same
-      | inr given ↦ elim (((opens.sound b.0 b.1).kinds p).short) [
-        | inl none ↦ inl (goes p (disk p) given ∙ sym none)
-        | inr short ↦ inr (given, short)
-      ]
-    ],
-  );
-}
-
 in_dir : {s : State} {p : Elements} {spot : Spot} (u : InUnkept s p) → spot ≡ gone → length p ≤ 128 → InDir u.name u.commit p spot
-in_dir {p = p} u is short = let w = within_is (commit_dir u.name u.commit) p u.within in
+in_dir {p = p} u is short = let w = within_rest (commit_dir u.name u.commit) p u.within in
     record { rest = w.0; is = w.1; short = short; itself = λ e. subst IsFolderOrGone (sym is) tt }
 
 pub unkept_spares : {s : State} {v : View} → Opens s v → Spares v (λ q spot. UnkeptGone s q spot × (length q ≤ 128))
@@ -93,10 +82,6 @@ other_spares = harmless_spares (λ q spot given. record {
   beside = subst IsBeside (sym given.0.at) (file_beside given.0.origin given.0.name);
   allowed = subst (Allowed q) (sym given.1) (allowed_gone q);
 })
-
-fits_if : (b : Bool) (z : Zone) (p : Elements) (spot : Spot) → Fits z p spot → Fits (if b then z else anything) p spot
-fits_if true z p spot f = f
-fits_if false z p spot f = tt
 
 -- a file at a ref's place
 file_fits : (kind : RefKind) (origin id arch branch : List ℕ) (p : Elements) (spot : Spot) → IsFileOrGone spot → Fits (zone (codes "repo" ∷ (codes "refs" ∷ (codes "remotes" ∷ (origin ∷ (kind_word kind ∷ (id ∷ (arch ∷ (branch ∷ []))))))))) p spot

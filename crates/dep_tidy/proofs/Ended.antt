@@ -7,6 +7,7 @@ use Rattle.fp_host.specs.Calls.{IsFile}
 use Rattle.fp_host.specs.Outcome.{Spot, gone, folder, holds, points, shows}
 use Rattle.fp_host.specs.Frame.{Keeps, NoPath}
 use Rattle.fp_host.specs.Reads.{is_ascending}
+use Rattle.fp_host.proofs.Shown.{now_left}
 use Rattle.fp_name.specs.Grammar.{is_remote_name}
 use Rattle.fp_name.specs.Hex.{hex, is_digest}
 use Rattle.fp_name.specs.Refs.{Ref, is_ref, ref_text}
@@ -19,6 +20,7 @@ use Rattle.ost_prune.specs.Prune.{Prunes}
 use Rattle.ost_refs.specs.Files.{ref_in}
 use Rattle.ost_refs.specs.declared.place.RefFile.TheVariants.{Digest}
 use Rattle.ost_refs.proofs.Files.{read}
+use Rattle.ost_store.proofs.Staying.{same_shows}
 use Rattle.dep_states.specs.Names.{config, remotes_conf, pins_file, commit_dir, ref_file}
 use Rattle.dep_states.specs.Shown.{there, ref_seen, ref_key, Shows}
 use Rattle.dep_states.specs.After.{row_at}
@@ -29,16 +31,16 @@ use Rattle.dep_states.proofs.Deployed.{top}
 use Rattle.dep_states.proofs.Sparing.{state_of_kept}
 use Rattle.dep_states.proofs.Switching.{second, word_no_repo}
 use Rattle.dep_states.proofs.Total.{ref_is}
+use Rattle.dep_states.proofs.Switch.{file_same}
 use Rattle.dep_tidy.specs.Kept.{kept_of}
 use Rattle.dep_tidy.specs.Tidy.{IsFrom}
 use Rattle.dep_tidy.specs.Steps.{Alters, UnkeptGone, UnkeptAbsent, HasNoUnkept, TakesOld, HasNoOld, OtherGone, OtherAbsent, HasNoOther, RefAt, RefName, file_name, folder_name, work_name, WroteFiles, IsSteady, IsCleared, HasRefs}
 use Rattle.dep_tidy.specs.Pruned.{IsPruned}
-use Rattle.dep_tidy.proofs.Views.{now_left, some_there, absent_gone, same_shows}
+use Rattle.dep_tidy.proofs.Views.{some_there, absent_gone}
 use Rattle.dep_tidy.proofs.Apart.{old_no_repo, repo_no_config, refs_no_objects, tmp_no_refs}
 use Rattle.dep_tidy.proofs.Clearing.{can_drop}
 use Rattle.dep_tidy.proofs.Joined.{name_beside}
 use Rattle.dep_tidy.proofs.Pruned.{opens_pruned, used_end, row_by_seen, seen_by_row}
-use Rattle.dep_tidy.proofs.RefFiles.{file_same}
 use Rattle.dep_tidy.proofs.RowsKept.{at_in, in_at, kept_cases, from_cases}
 
 -- ---- names that stay absent

@@ -3,7 +3,7 @@ use Rattle.std.proofs.Common.{◌≡◌, ◌≢◌, ◌⊎◌, inl, inr, true, t
 use Rattle.fp_host.specs.Paths.{Elements, Slot, absent, file, IsAbove}
 use Rattle.fp_host.specs.View.{View, IsTree}
 use Rattle.fp_host.specs.Calls.{syncs, Step}
-use Rattle.fp_host.specs.Outcome.{Spot, Disk, Leaves, Nothing, IsSettled, gone, shows, spot_of}
+use Rattle.fp_host.specs.Outcome.{Spot, Disk, Leaves, Nothing, gone, shows, spot_of}
 use Rattle.fp_host.specs.Frame.{Keeps, NoPath, NoName}
 use Rattle.fp_host.specs.Moments.{Moments, Goes, Makes}
 use Rattle.fp_host.specs.declared.host.HostError.{HostError}
@@ -13,6 +13,7 @@ use Rattle.fp_host.proofs.Framed.{IsTold, keeps_call}
 use Rattle.fp_host.proofs.Goes.{begins, goes_on, knowing, makes_goes, ends_tree}
 use Rattle.fp_host.proofs.Settled.{settled_disk, at_tree}
 use Rattle.fp_base.specs.declared.object.ObjKind.{ObjKind}
+use Rattle.fp_base.proofs.Lists.{all_has}
 use Rattle.fp_small.specs.Places.{repo, tmp}
 use Rattle.fp_small.specs.Clear.{GoneBelow, AbsentBelow, IsWithin}
 use Rattle.fp_small.specs.Files.{KeepsFiles, SameFiles}
@@ -40,8 +41,8 @@ use Rattle.dep_tidy.specs.Kept.{kept_of}
 use Rattle.dep_tidy.specs.Tidy.{MayTidy, some_work, commit_gone, old_gone, ref_gone, ref_written, ref_folder, object_gone, Tidies, WasTidied}
 use Rattle.dep_tidy.specs.Steps.{Alters, InUnkept, UnkeptGone, UnkeptAbsent, OldAbsent, TakesOld, IsOtherFile, OtherGone, OtherAbsent, RefAt, file_at, folder_at, work_at, RefName, file_name, folder_name, work_name, HasRefFiles, Writes, IsSteady, Steadily, IsReady}
 use Rattle.dep_tidy.proofs.Alter.{alters_kept}
-use Rattle.dep_tidy.proofs.Views.{now_left, shown_there, gone_absent, all_shows, SameTo, shows_along, all_same_to}
-use Rattle.dep_tidy.proofs.Apart.{work_top, work_second, dir_top, word_no_config, repo_no_config, tmp_no_objects, old_no_repo, old_no_config, IsBeside, file_beside, folder_beside, name_above}
+use Rattle.dep_tidy.proofs.Views.{shown_there, gone_absent, all_shows, SameTo, shows_along, all_same_to}
+use Rattle.dep_tidy.proofs.Apart.{dir_top, word_no_config, repo_no_config, tmp_no_objects, old_no_repo, old_no_config, IsBeside, file_beside, folder_beside, name_above}
 use Rattle.dep_tidy.proofs.Clearing.{work_goes, opens_unkept, other_spares, refs_spare}
 use Rattle.dep_tidy.proofs.Pruned.{opens_pruned, used_stays, used_on, none_unused}
 use Rattle.dep_states.proofs.Switching.{word_no_repo}
@@ -52,18 +53,20 @@ use Rattle.ost_refs.specs.declared.place.RefPlace.TheVariants.{Remote}
 use Rattle.ost_refs.proofs.Files.{written}
 use Rattle.fp_host.specs.Outcome.{folder, holds, points}
 use Rattle.fp_host.proofs.Separate.{absent_cases}
+use Rattle.fp_host.proofs.Shown.{now_left}
 use Rattle.fp_name.specs.Hex.{hex, is_digest}
 use Rattle.fp_name.specs.Kinds.{kind_word}
 use Rattle.fp_small.specs.Places.{new_name}
 use Rattle.fp_small.proofs.Emptying.{cleared_absent}
+use Rattle.fp_small.proofs.Staging.{synced}
 use Rattle.dep_states.specs.After.{IsGoodRow}
 use Rattle.dep_states.specs.Lasting.{IsLasting}
 use Rattle.dep_states.specs.Settled.{HasBytes}
 use Rattle.dep_states.specs.Sound.{is_remotes, is_pins}
 use Rattle.dep_states.proofs.Good.{shown_good as state_good}
 use Rattle.dep_states.proofs.Sparing.{kept_of_state}
+use Rattle.dep_states.proofs.Work.{no_second, no_config_above, no_object_above}
 use Rattle.dep_tidy.proofs.Pruned.{row_shown, row_by_seen}
-use Rattle.dep_tidy.proofs.RefFiles.{row_good}
 
 -- ---- files
 
@@ -104,13 +107,10 @@ tidies_sync {u = u} {w = w} tree step =
     let keeps : Keeps Nothing NoName NoPath u w = keeps_call tree (λ q spot h. absurd h) (λ q e h. absurd h) (λ x i h. absurd h) tt tt (called step) in
     tidies_still tree (λ o. frame_law (spares_nothing u) keeps.follows o) (λ q. elim (keeps.names q) [ inl same ↦ same | inr none ↦ absurd none ]) (files_kept keeps) (shares_empty keeps) keeps.printed
 
-pub settled_synced : {u w : View} → Step syncs (Ok tt) u w → IsSettled w
-settled_synced {u = u} step = subst IsSettled (sym step.how.1) (record { earlier = λ q. refl; dirty = λ id. refl })
-
 -- after it all is steady
 pub steady_synced : {u w : View} → IsTree w → Step syncs (Ok tt) u w → IsSteady w
 steady_synced {w = w} next step =
-    let settled = settled_synced step in
+    let settled = synced step in
     record {
       config = λ some. settled_config w next settled (shown_there next config some);
       objects = λ disk left d kind. let p = object_path repo d kind in settled_disk w next settled disk left p ∙ sym (ap (spot_of w.files) (at_tree w next p));
@@ -195,15 +195,6 @@ split_above [] above = absurd above
 split_above (x ∷ up) (inl same) = (x, [], ap (λ (l : Elements). x ∷ l) (sym same))
 split_above (y ∷ up) (inr above) = let more = split_above up above in (more.0, y ∷ more.1, ap (λ (l : Elements). y ∷ l) more.2)
 
-no_config_above : IsAbove tmp config → ⊥
-no_config_above above = repo_no_config (sym (work_top config (inr above)))
-
-no_object_above : (d : List ℕ) (kind : ObjKind) → IsAbove tmp (object_path repo d kind) → ⊥
-no_object_above d kind above = tmp_no_objects (sym (work_second (object_path repo d kind) (inr above)))
-
-second_off : (q : Elements) → second (outward q) ≢ codes "tmp" → IsAbove tmp q → ⊥
-second_off q off above = off (work_second q (inr above))
-
 module _ {u w : View} (tree : IsTree u) (keeps : Keeps (GoneBelow tmp) (AbsentBelow tmp) NoPath u w) where
   work_idle : Settled (shows u) → (q : Elements) → w.names q ≡ u.names q
   work_idle settled = none_goes {W = AbsentBelow tmp} u w keeps.names (λ q e put. put.1) (λ q e put. let is = split_above q put.0 in gone_absent tree q (ap (shows u) is.2 ∙ settled.no_work is.0 is.1))
@@ -220,7 +211,7 @@ module _ {u w : View} (tree : IsTree u) (keeps : Keeps (GoneBelow tmp) (AbsentBe
   along d kind =
       let xx : Elements = take 2 (hex d) ∷ (codes "objects" ∷ repo) in
       let objects : Elements = codes "objects" ∷ repo in
-      (off_work (object_path repo d kind) (no_object_above d kind), (off_work xx (second_off xx (λ e. tmp_no_objects (sym e))), (off_work objects (second_off objects (λ e. tmp_no_objects (sym e))), (off_work repo (second_off repo (λ e. cc e)), off_work [] (λ above. above)))))
+      (off_work (object_path repo d kind) (no_object_above d kind), (off_work xx (no_second xx (λ e. tmp_no_objects (sym e))), (off_work objects (no_second objects (λ e. tmp_no_objects (sym e))), (off_work repo (no_second repo (λ e. cc e)), off_work [] (λ above. above)))))
 
   -- alone
   pub tidies_work : {s : State} → Tidies s u w
@@ -330,7 +321,7 @@ pub settled_files : {s : State} {v : View} → Opens s v → Settled (shows v) �
 settled_files {s = s} {v = v} opens settled = record {
   each = λ row has.
       let shown = opens.shown (shows v) (now_left v) in
-      bytes_say row.commit (shows v (ref_file row.origin row.name)) ((row_good IsGoodRow s.refs ((state_good (shows v) s shown).rows) row has).commit) (settled.ref_files row.name row ((row_shown shown row has).is));
+      bytes_say row.commit (shows v (ref_file row.origin row.name)) ((all_has IsGoodRow s.refs ((state_good (shows v) s shown).rows) row has).commit) (settled.ref_files row.name row ((row_shown shown row has).is));
 }
 
 module _ {s : State} {u w : View} (step : Writes s.refs u w) where
@@ -441,7 +432,7 @@ tidies_going {s = s} told between first second_ each last = knowing {P = IsTree}
 pub was_tidied : {s : State} {u v w : View} → (Opens s u → Settled (shows v)) → Lasts u v → Step syncs (Ok tt) v w → WasTidied s u w
 was_tidied {v = v} {w = w} settled so_far step = record {
   settled = λ opens. subst Settled (sym (ap shows step.how.1)) (settled opens);
-  lasts = settled_synced step;
+  lasts = synced step;
   shares = shares_on so_far.shares (shares_same same) kept;
   creates = creates_on so_far.creates (creates_none NoName (λ x had. inl (puts_none step x had)) (λ q id below none. none)) so_far.files kept;
 }

@@ -1,5 +1,5 @@
 -- Objects that no kept commit uses go, and the others stay.
-use Rattle.std.proofs.Common.{◌≡◌, ◌≢◌, ◌⊎◌, inl, inr, ℕ, List, [], ◌∷◌, ◌++◌, Bool, true, false, Option, Some, None, drop, get_or, refl, sym, ◌∙◌, ap, subst, Contains, codes, arith}
+use Rattle.std.proofs.Common.{◌≡◌, ◌≢◌, ◌⊎◌, inl, inr, ℕ, List, [], ◌∷◌, ◌++◌, true, Option, Some, None, drop, get_or, refl, sym, ◌∙◌, ap, subst, Contains, codes, arith}
 use Rattle.std.specs.Option.{option_or}
 use Rattle.std.specs.Prelude.{is_some}
 use Rattle.std.specs.Str.{bytes_eq}
@@ -13,27 +13,31 @@ use Rattle.fp_host.specs.Moments.{Moments, Goes}
 use Rattle.fp_host.proofs.Framed.{IsTold, keeps_same}
 use Rattle.fp_host.proofs.Goes.{stays}
 use Rattle.fp_host.proofs.Ending.{ends_to}
+use Rattle.fp_host.proofs.Shown.{now_left}
 use Rattle.fp_base.specs.declared.object.ObjKind.{ObjKind}
 use Rattle.fp_base.specs.declared.object.ObjKind.TheVariants as kinds
 use Rattle.fp_name.specs.Hex.{hex, is_digest}
 use Rattle.fp_name.specs.Refs.{Ref, is_ref, ref_of, ref_text}
 use Rattle.fp_small.specs.Places.{repo}
 use Rattle.fp_small.proofs.Keeping.{files_kept}
-use Rattle.fp_small.proofs.Ordered.{bytes_eq-is}
 use Rattle.fp_small.specs.declared.state.State.{State}
 use Rattle.fp_small.specs.declared.state.RefRow.{RefRow}
 use Rattle.ost_model.specs.declared.object.Object.{Object}
-use Rattle.ost_model.specs.Objects.{Have, Fault, unless, object_path, object_at, object_fault, name_fault, dir_mode_fault, kind_fault, content_fault, length_fault, mode_fault, digest_fault, digest_of, rule_fault, corrupt, store}
+use Rattle.ost_model.specs.Objects.{Have, object_path, object_at, object_fault, name_fault, dir_mode_fault, kind_fault, content_fault, length_fault, mode_fault, digest_fault, digest_of, rule_fault, corrupt, store}
 use Rattle.fp_base.specs.Objects.{kind_text}
+use Rattle.fp_base.proofs.Options.{some_none}
+use Rattle.fp_base.proofs.Lists.{in_none, in_first, in_rest, in_cases}
+use Rattle.fp_base.proofs.Texts.{bytes_eq-true}
 use Rattle.ost_model.specs.Order.{Place, In, order}
 use Rattle.ost_model.specs.Stores.{IsStore}
 use Rattle.ost_model.specs.Used.{IsUsed}
 use Rattle.ost_model.proofs.Places.{or_none, faultless, order_same}
 use Rattle.ost_model.proofs.Stores.{objects_are_named}
+use Rattle.ost_model.proofs.Faults.{unless_none}
 use Rattle.ost_prune.specs.Prune.{IsUnused, IsUnusedName, PrunesAt, Prunes, WasPruned}
 use Rattle.ost_prune.specs.Texts.{AreWhole, UnlessFaulty}
 use Rattle.ost_store.specs.Names.{CanList}
-use Rattle.ost_store.proofs.Lists.{in_none, in_cases, in_first, in_rest}
+use Rattle.ost_store.proofs.Staying.{same_shows}
 use Rattle.dep_states.specs.Shown.{there, seen_of, ref_seen, row_seen, ref_key, Shows}
 use Rattle.dep_states.specs.Sound.{IsKeptBy, Keeps, Opens, Spares}
 use Rattle.dep_states.specs.Settled.{Used}
@@ -41,7 +45,7 @@ use Rattle.dep_states.specs.Frames.{IsUnused as IsUnusedBy}
 use Rattle.dep_states.proofs.Law.{frame_law}
 use Rattle.dep_states.proofs.Listed.{IsThere}
 use Rattle.dep_states.specs.After.{row_at}
-use Rattle.dep_states.proofs.Single.{there_is, some_is, some_none}
+use Rattle.dep_states.proofs.Single.{there_is, some_is}
 use Rattle.fp_name.proofs.Refs.{ref_of-ref_text}
 use Rattle.dep_states.proofs.Sparing.{prune_spares, kept_of_state, state_of_kept, shown_good}
 use Rattle.dep_states.proofs.Switching.{permits_gone}
@@ -51,7 +55,7 @@ use Rattle.dep_tidy.specs.Kept.{kept_of}
 use Rattle.dep_tidy.specs.Pruned.{IsPruned}
 use Rattle.dep_tidy.specs.Steps.{IsSteady}
 use Rattle.dep_tidy.proofs.RowsKept.{at_in, in_at, from_kept, to_kept}
-use Rattle.dep_tidy.proofs.Views.{now_left, some_there, same_shows}
+use Rattle.dep_tidy.proofs.Views.{some_there}
 use Rattle.dep_tidy.proofs.Clearing.{sound_now, can_empty}
 
 -- ---- the name of an object says its kind
@@ -98,17 +102,13 @@ kind_cases kinds.File kinds.File = inl refl
 last_name : (d : List ℕ) (k : ObjKind) → last_two (get_or (object_path repo d k) 0 []) 0 0 ≡ ends k
 last_name d k = let two = last_two (drop 2 (hex d)) 0 0 in last_on (drop 2 (hex d)) (codes "." ++ kind_text k) 0 0 ∙ last_kind k two.0 two.1
 
-kinds_same : (d e : List ℕ) (k m : ObjKind) → object_path repo d k ≡ object_path repo e m → k ≡ m
+pub kinds_same : (d e : List ℕ) (k m : ObjKind) → object_path repo d k ≡ object_path repo e m → k ≡ m
 kinds_same d e k m same = elim (kind_cases k m) [
   | inl is ↦ is
   | inr off ↦ absurd (off (sym (last_name d k) ∙ ap (λ (p : Elements). last_two (get_or p 0 []) 0 0) same ∙ last_name e m))
 ]
 
 -- ---- and its digest, where it has no fault
-
-unless_none : (b : Bool) (f : Fault) → unless b f ≡ None → b ≡ true
-unless_none true f e = refl
-unless_none false f e = absurd (cc e)
 
 -- the object that a name without a fault has
 record IsNamedBy (d : List ℕ) (o : Option Object) : Type 0 where
@@ -123,7 +123,7 @@ named_by d kind (Some x) e =
     let mode = (or_none (length_fault x) (option_or (mode_fault x) (option_or (digest_fault d x) (rule_fault kind x))) content).1 in
     let digest = (or_none (mode_fault x) (option_or (digest_fault d x) (rule_fault kind x)) mode).1 in
     let same = (or_none (digest_fault d x) (rule_fault kind x) digest).0 in
-    record { object = x; is = refl; digest = bytes_eq-is (digest_of x) d (unless_none (bytes_eq (digest_of x) d) (corrupt (digest_of x)) same) }
+    record { object = x; is = refl; digest = bytes_eq-true (digest_of x) d (unless_none (bytes_eq (digest_of x) d) (corrupt (digest_of x)) same) }
 
 module _ (disk : Disk) (sound : IsStore repo disk) (d : List ℕ) (kind : ObjKind) (digits : is_digest d ≡ true) where
   -- what is there is an object
@@ -251,7 +251,7 @@ object_cases d e k m = elim (cases_Bool (bytes_eq d e)) [
   | inr f ↦ inr (λ dd kk. cc (f, (bytes_eq-Decides d e).1 dd))
   | inl t ↦ elim (kind_cases k m) [
     | inr off ↦ inr (λ dd kk. off (ap ends kk))
-    | inl kk ↦ inl (bytes_eq-is d e t, kk)
+    | inl kk ↦ inl (bytes_eq-true d e t, kk)
   ]
 ]
 

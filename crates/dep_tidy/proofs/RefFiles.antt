@@ -1,7 +1,6 @@
 -- Ref files that are dropped and written.
 use Rattle.std.proofs.Common.{◌≡◌, ◌⊎◌, inl, inr, ℕ, ◌+◌, ◌<◌, ◌≤◌, List, [], ◌∷◌, length, take, drop, get_or, true, Option, Some, None, refl, sym, ◌∙◌, ap, subst, Contains}
 use Rattle.std.specs.Prelude.{map}
-use Rattle.std.specs.List.{AllByRecursion}
 use Rattle.std.proofs.lemmas.List.{take-append-drop}
 use Rattle.std.proofs.lemmas.List.Elements.{Contains-append_left, Contains-get_or}
 use Rattle.fp_host.specs.Paths.{Elements, Slot, absent, IsAbove}
@@ -11,7 +10,7 @@ use Rattle.fp_host.specs.Moments.{Moments, Always}
 use Rattle.fp_host.specs.Reads.{is_ascending}
 use Rattle.fp_host.specs.Outcome.{Spot, shows}
 use Rattle.fp_name.specs.Grammar.{is_remote_name}
-use Rattle.fp_name.specs.Refs.{Ref, is_ref, ref_text, ref_with}
+use Rattle.fp_name.specs.Refs.{Ref, is_ref, ref_text}
 use Rattle.fp_small.specs.Places.{repo, tmp}
 use Rattle.fp_small.specs.Clear.{GoneAt, AbsentAt}
 use Rattle.fp_small.specs.Replace.{IsFreeFile, ReplacesAt, ReplacesName, Replaces, WasReplaced}
@@ -25,8 +24,10 @@ use Rattle.ost_refs.specs.declared.place.RefFile.TheVariants.{Digest}
 use Rattle.ost_refs.specs.declared.place.RefPlace.{RefPlace}
 use Rattle.ost_refs.specs.declared.place.RefPlace.TheVariants.{Head, Remote}
 use Rattle.ost_refs.proofs.Files.{written}
-use Rattle.ost_store.proofs.Lists.{in_none, in_cases, in_one, in_first}
+use Rattle.ost_store.proofs.Lists.{in_one}
+use Rattle.ost_store.proofs.Staying.{same_shows}
 use Rattle.std.proofs.lemmas.Bool.{and_from}
+use Rattle.fp_base.proofs.Lists.{in_none, in_first, all_has}
 use Rattle.dep_states.specs.Names.{ref_file}
 use Rattle.dep_states.specs.Shown.{at_name, ref_key}
 use Rattle.dep_states.specs.Sound.{Opens}
@@ -37,32 +38,16 @@ use Rattle.dep_states.proofs.Law.{frame_law}
 use Rattle.dep_tidy.proofs.Lasted.{lasts_same, lasts_on, lasts_ref}
 use Rattle.dep_tidy.proofs.Clearing.{can_drop, can_write, refs_spare}
 use Rattle.dep_states.proofs.Single.{some_is}
-use Rattle.dep_states.proofs.Worked.{word_same}
 use Rattle.dep_tidy.specs.Steps.{Alters, IsWanted, HasGoodNames, IsOther, IsOtherFile, OtherGone, OtherAbsent, HasNoOther, HasNoneAt, RefAt, file_at, folder_at, work_at, RefName, file_name, folder_name, work_name, HasRefFiles, Writes, WroteFile, WroteSome, rows_by, rows_named}
 use Rattle.fp_host.proofs.Follow.{follows_to}
+use Rattle.fp_host.proofs.Shown.{now_left}
 use Rattle.dep_tidy.proofs.Alter.{alters_none, alters_same, alters_on, alters_to}
 use Rattle.dep_tidy.proofs.Apart.{folder_shorter, folder_no_work, file_no_work, tmp_no_refs}
 use Rattle.dep_tidy.proofs.UnkeptFolders.{took_cases, all_taken}
 use Rattle.dep_tidy.proofs.RowsKept.{at_in, in_at}
-use Rattle.dep_tidy.proofs.Views.{now_left, same_shows}
 use Rattle.dep_states.proofs.Switching.{second}
+use Rattle.dep_states.proofs.Switch.{file_same}
 use Rattle.dep_states.specs.Zones.{outward}
-
--- ---- two places have two paths
-
-pub first_same : {x y : List ℕ} {up down : Elements} → x ∷ up ≡ y ∷ down → x ≡ y
-first_same h = cc h
-
-pub rest_same : {x y : List ℕ} {up down : Elements} → x ∷ up ≡ y ∷ down → up ≡ down
-rest_same h = cc h
-
-pub file_same : (o p : List ℕ) (r s : Ref) → ref_file o r ≡ ref_file p s → (o ≡ p) × (r ≡ s)
-file_same o p r s h =
-    let arch = rest_same h in
-    let id = rest_same arch in
-    let kind = rest_same id in
-    let kinds = word_same r.kind s.kind (first_same kind) in
-    (first_same (rest_same kind), λ i. ref_with (kinds i) (first_same id i) (first_same arch i) (first_same h i))
 
 -- ---- files that are dropped
 
@@ -210,14 +195,10 @@ opens_refs step opens = frame_law refs_spare step.alters.follows opens
 pub writes_start : {rows : List RefRow} {v : View} → Writes rows v v
 writes_start = record { alters = alters_none; idle = λ files. refl }
 
-pub row_good : (P : RefRow → Type 0) (rows : List RefRow) → AllByRecursion P rows → (row : RefRow) → Contains rows row → P row
-row_good P [] all row has = absurd (in_none row has)
-row_good P (r ∷ rows) all row has = elim (in_cases r rows row has) [ inl is ↦ subst P (sym is) all.0 | inr later ↦ row_good P rows all.1 row later ]
-
 -- a row of the state that opens is good, and its place is one
 module _ (s : State) (row : RefRow) (has : Contains s.refs row) {v : View} (opens : Opens s v) where
   pub row_of_state : IsGoodRow row
-  row_of_state = row_good IsGoodRow s.refs ((state_good (shows v) s (opens.shown (shows v) (now_left v))).rows) row has
+  row_of_state = all_has IsGoodRow s.refs ((state_good (shows v) s (opens.shown (shows v) (now_left v))).rows) row has
 
 pub can_write_row : (s : State) (row : RefRow) → Contains s.refs row → {v : View} → IsTree v → Opens s v → CanWrite repo (Remote row.origin row.name) v
 can_write_row s row has tree opens = let good = row_of_state s row has opens in can_write tree opens row.origin row.name good.origin good.name

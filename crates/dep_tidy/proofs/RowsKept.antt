@@ -6,18 +6,20 @@ use Rattle.std.proofs.lemmas.Bool.{cases_Bool, and_parts}
 use Rattle.std.proofs.lemmas.List.{take_more, take_all}
 use Rattle.std.proofs.lemmas.List.Elements.{Contains-append_left, Contains-append_right, Contains-append_cases}
 use Rattle.std.proofs.lemmas.Slice.Eq.{bytes_eq-Decides}
+use Rattle.fp_base.proofs.Options.{some_none, none_some}
+use Rattle.fp_base.proofs.Lists.{in_none, in_first, in_rest, in_cases}
+use Rattle.fp_base.proofs.Texts.{bytes_eq-true}
 use Rattle.fp_host.specs.Reads.{comes_first, is_ascending}
 use Rattle.fp_name.specs.Refs.{Ref}
-use Rattle.fp_small.proofs.Ordered.{bytes_eq-is}
 use Rattle.fp_small.specs.declared.state.State.{State}
 use Rattle.fp_small.specs.declared.state.RefRow.{RefRow}
 use Rattle.fp_small.specs.declared.state.Previous.{Previous}
-use Rattle.ost_store.proofs.Lists.{in_none, in_cases, in_one, in_first, in_rest}
+use Rattle.ost_store.proofs.Lists.{in_one}
 use Rattle.dep_states.specs.Shown.{at_name, ref_key}
 use Rattle.dep_states.specs.After.{row_at}
 use Rattle.dep_states.specs.Frames.{KeptIn}
 use Rattle.dep_states.specs.Sound.{IsPrevious, IsKeptBy}
-use Rattle.dep_states.proofs.Single.{some_is, some_none, none_some, none_before, at_head}
+use Rattle.dep_states.proofs.Single.{some_is, none_before, at_head}
 use Rattle.dep_tidy.specs.Kept.{previous_commits, kept_by, kept_of}
 use Rattle.dep_tidy.specs.Tidy.{IsFrom}
 
@@ -78,7 +80,7 @@ kept_end rows i kept high so_far = so_far ∙ ap kept_of (take_all i rows high)
 pub at_in : (rows : List RefRow) (text : List ℕ) (row : RefRow) → at_name ref_key rows text ≡ Some row → Contains rows row × (ref_key row ≡ text)
 at_in [] text row is = absurd (none_some is)
 at_in (r ∷ rows) text row is = elim (cases_Bool (bytes_eq (ref_key r) text)) [
-  | inl t ↦ let one : r ≡ row = some_is (rw t at is) in (subst (Contains (r ∷ rows)) one (in_first r rows), ap ref_key (sym one) ∙ bytes_eq-is (ref_key r) text t)
+  | inl t ↦ let one : r ≡ row = some_is (rw t at is) in (subst (Contains (r ∷ rows)) one (in_first r rows), ap ref_key (sym one) ∙ bytes_eq-true (ref_key r) text t)
   | inr f ↦ let more = at_in rows text row (rw f at is) in (in_rest r rows row more.0, more.1)
 ]
 
@@ -90,7 +92,7 @@ in_at (r ∷ rows) row up has =
     elim (in_cases r rows row has) [
       | inl is ↦ subst (λ (x : RefRow). at_name ref_key (r ∷ rows) (ref_key x) ≡ Some x) (sym is) (at_head ref_key r rows)
       | inr later ↦ let rest = in_at rows row u.1 later in elim (cases_Bool (bytes_eq (ref_key r) (ref_key row))) [
-        | inl t ↦ absurd (some_none (sym rest ∙ ap (at_name ref_key rows) (sym (bytes_eq-is (ref_key r) (ref_key row) t)) ∙ none_before ref_key (ref_key r) rows u.0 u.1))
+        | inl t ↦ absurd (some_none (sym rest ∙ ap (at_name ref_key rows) (sym (bytes_eq-true (ref_key r) (ref_key row) t)) ∙ none_before ref_key (ref_key r) rows u.0 u.1))
         | inr f ↦ rw f rest
       ]
     ]
@@ -100,7 +102,7 @@ in_at (r ∷ rows) row up has =
 previous_cases : (o : Option Previous) (commit : List ℕ) → IsPrevious o commit ⊎ (IsPrevious o commit → ⊥)
 previous_cases None commit = inr (λ h. none_some h.1)
 previous_cases (Some p) commit = elim (cases_Bool (bytes_eq p.commit commit)) [
-  | inl t ↦ inl (p, refl, bytes_eq-is p.commit commit t)
+  | inl t ↦ inl (p, refl, bytes_eq-true p.commit commit t)
   | inr f ↦ inr (λ h. off f (ap (λ (q : Previous). q.commit) (some_is h.1) ∙ h.2))
 ]
   where
@@ -109,7 +111,7 @@ previous_cases (Some p) commit = elim (cases_Bool (bytes_eq p.commit commit)) [
 
 kept_by_cases : (row : RefRow) (commit : List ℕ) → IsKeptBy row commit ⊎ (IsKeptBy row commit → ⊥)
 kept_by_cases row commit = elim (cases_Bool (bytes_eq row.commit commit)) [
-  | inl t ↦ inl (inl (bytes_eq-is row.commit commit t))
+  | inl t ↦ inl (inl (bytes_eq-true row.commit commit t))
   | inr f ↦ elim (previous_cases row.previous commit) [
     | inl p ↦ inl (inr p)
     | inr off ↦ inr (λ by. elim by [ inl is ↦ differs f is | inr p ↦ off p ])
@@ -135,7 +137,7 @@ from_cases s origin name = go (row_at s name) refl
     go : (o : Option RefRow) → row_at s name ≡ o → IsFrom s origin name ⊎ (IsFrom s origin name → ⊥)
     go None is = inr (λ k. some_none (sym k.has ∙ is))
     go (Some row) is = elim (cases_Bool (bytes_eq row.origin origin)) [
-      | inl t ↦ inl (record { row = row; has = is; is = bytes_eq-is row.origin origin t })
+      | inl t ↦ inl (record { row = row; has = is; is = bytes_eq-true row.origin origin t })
       | inr f ↦ inr (λ k. off f (ap (λ (r : RefRow). r.origin) (some_is (sym is ∙ k.has)) ∙ k.is))
     ]
       where
@@ -155,7 +157,7 @@ kept_none s name commit is k = some_none (sym k.has ∙ is)
 
 pub from_some : (s : State) (origin : List ℕ) (name : Ref) (row : RefRow) (b : Bool) → row_at s name ≡ Some row → b ≡ bytes_eq row.origin origin → (b ≡ true) ↔ IsFrom s origin name
 from_some s origin name row b is same = (
-  λ t. record { row = row; has = is; is = bytes_eq-is row.origin origin (sym same ∙ t) },
+  λ t. record { row = row; has = is; is = bytes_eq-true row.origin origin (sym same ∙ t) },
   λ k. same ∙ (bytes_eq-Decides row.origin origin).1 (ap (λ (r : RefRow). r.origin) (some_is (sym is ∙ k.has)) ∙ k.is),
 )
 

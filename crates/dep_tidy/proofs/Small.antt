@@ -6,14 +6,18 @@ use Rattle.fp_host.specs.View.{View, IsTree}
 use Rattle.fp_host.specs.Outcome.{Disk, gone, shows}
 use Rattle.fp_host.specs.Frame.{Keeps, NoPath}
 use Rattle.fp_base.specs.declared.object.ObjKind.{ObjKind}
+use Rattle.fp_base.proofs.Texts.{bytes_eq-false}
 use Rattle.fp_name.specs.Hex.{hex}
 use Rattle.fp_name.specs.Kinds.{kind_word}
 use Rattle.fp_name.specs.Refs.{Ref}
+use Rattle.fp_name.proofs.Refs.{word_apart}
 use Rattle.fp_small.specs.Places.{repo, tmp}
 use Rattle.fp_small.specs.Clear.{IsWithin, GoneBelow, AbsentBelow, IsEmptied}
 use Rattle.fp_small.proofs.Keeping.{files_kept}
+use Rattle.fp_small.proofs.Within.{within_rest}
 use Rattle.ost_model.specs.Objects.{object_path, object_at, store}
 use Rattle.ost_model.specs.Order.{In, order}
+use Rattle.ost_store.proofs.Staying.{same_shows}
 use Rattle.dep_states.specs.Names.{config, remotes_conf, pins_file, overrides_folder, branch_dir, active, text_dir, commit_dir, deploy, ref_file}
 use Rattle.dep_states.specs.Shown.{ref_seen}
 use Rattle.dep_states.specs.Sound.{Keeps as KeepsCommit, IsOld, is_remotes, is_pins}
@@ -21,12 +25,12 @@ use Rattle.dep_states.specs.Settled.{Settled, Used, HasBytes}
 use Rattle.dep_states.specs.Zones.{outward}
 use Rattle.dep_states.proofs.Deployed.{top, outward_append}
 use Rattle.dep_states.proofs.Law.{ref_same}
-use Rattle.dep_states.proofs.Rows.{text_apart, head_of}
-use Rattle.dep_states.proofs.Sparing.{word_apart}
+use Rattle.dep_states.proofs.Rows.{head_of}
 use Rattle.dep_states.proofs.Switching.{second, word_no_repo}
+use Rattle.dep_states.proofs.Work.{work_top, work_second}
 use Rattle.dep_tidy.specs.Tidy.{SettledButWork, IsSmallPlace, is_config, is_layer, is_repo, is_work}
-use Rattle.dep_tidy.proofs.Apart.{within_is, work_top, work_second, old_no_repo, old_apart, tmp_no_objects, tmp_no_refs, repo_no_config, word_no_config}
-use Rattle.dep_tidy.proofs.Views.{same_shows, absent_gone}
+use Rattle.dep_tidy.proofs.Apart.{old_no_repo, old_apart, tmp_no_objects, tmp_no_refs, repo_no_config, word_no_config}
+use Rattle.dep_tidy.proofs.Views.{absent_gone}
 
 pub work_apart : (disk : Disk) → Settled disk ↔ (SettledButWork disk × ((x : List ℕ) (rest : Elements) → disk (rest ++ (x ∷ tmp)) ≡ gone))
 work_apart disk = (
@@ -37,10 +41,10 @@ work_apart disk = (
 -- ---- paths that are no small places
 
 layer_top : (p : Elements) → IsWithin overrides_folder p → top p ≡ codes "overrides"
-layer_top p within = let is = within_is overrides_folder p within in ap top is.1 ∙ ap head_of (outward_append is.0 overrides_folder [])
+layer_top p within = let is = within_rest overrides_folder p within in ap top is.1 ∙ ap head_of (outward_append is.0 overrides_folder [])
 
 repo_no_layer : codes "repo" ≢ codes "overrides"
-repo_no_layer = text_apart (codes "repo") (codes "overrides") refl
+repo_no_layer = bytes_eq-false (codes "repo") (codes "overrides") refl
 
 -- below `repo`, in another folder than work
 in_repo_off : {p : Elements} {x : List ℕ} → top p ≡ codes "repo" → second (outward p) ≡ x → x ≢ [] → x ≢ codes "tmp" → IsSmallPlace p → ⊥
@@ -69,8 +73,8 @@ in_ref_off name rest =
 
 old_off : {p : Elements} → IsOld p → IsSmallPlace p → ⊥
 old_off old = top_off (old_no_repo old)
-    (old_apart old (text_apart (codes "config") (codes "remotes.conf") refl) (text_apart (codes "config") (codes "pins") refl))
-    (old_apart old (text_apart (codes "overrides") (codes "remotes.conf") refl) (text_apart (codes "overrides") (codes "pins") refl))
+    (old_apart old (bytes_eq-false (codes "config") (codes "remotes.conf") refl) (bytes_eq-false (codes "config") (codes "pins") refl))
+    (old_apart old (bytes_eq-false (codes "overrides") (codes "remotes.conf") refl) (bytes_eq-false (codes "overrides") (codes "pins") refl))
 
 -- ---- what they read
 

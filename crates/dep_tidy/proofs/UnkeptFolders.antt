@@ -1,27 +1,24 @@
 -- Folders of commits that go.
-use Rattle.std.proofs.Common.{◌≡◌, ◌≢◌, ◌⊎◌, inl, inr, ℕ, ◌+◌, ◌<◌, ◌≤◌, List, [], ◌∷◌, length, take, get_or, true, Option, Some, None, Result, Ok, refl, sym, ◌∙◌, ap, subst, Contains}
-use Rattle.std.specs.Prelude.{ok_or}
+use Rattle.std.proofs.Common.{◌≡◌, ◌≢◌, ◌⊎◌, inl, inr, ℕ, ◌+◌, ◌<◌, ◌≤◌, List, [], ◌∷◌, length, take, get_or, true, Some, None, sym, ◌∙◌, ap, subst, Contains}
 use Rattle.std.proofs.lemmas.List.{take_more, take_all}
 use Rattle.std.proofs.lemmas.List.Elements.{Contains-push_cases}
-use Rattle.fp_host.specs.Paths.{Elements, Slot, absent, is_element, path_text}
+use Rattle.fp_base.proofs.Options.{some_none}
+use Rattle.fp_base.proofs.Lists.{in_none, in_first}
+use Rattle.fp_host.specs.Paths.{Elements, Slot, absent, path_text}
 use Rattle.fp_host.specs.View.{View, IsTree}
 use Rattle.fp_host.specs.Outcome.{Spot}
 use Rattle.fp_host.proofs.Separate.{absent_cases}
-use Rattle.fp_name.specs.declared.fault.NameError.{NameError}
-use Rattle.fp_name.specs.declared.fault.NameError.TheVariants.{Bad}
 use Rattle.fp_name.specs.Hex.{hex, unhex}
 use Rattle.fp_name.specs.Refs.{Ref, is_ref, ref_of}
-use Rattle.fp_name.proofs.Files.{file_digest}
 use Rattle.fp_name.proofs.HexTexts.{unhex-hex, unhex-some}
 use Rattle.fp_name.proofs.Refs.{ref_of-ref_text}
 use Rattle.fp_small.specs.Clear.{IsWithin, GoneWithin, AbsentWithin, IsCleared}
 use Rattle.fp_small.specs.Naming.{ListsIn}
 use Rattle.fp_small.specs.declared.state.State.{State}
-use Rattle.ost_store.proofs.Lists.{in_none, in_one, in_first}
+use Rattle.ost_store.proofs.Lists.{in_one}
 use Rattle.dep_states.specs.Branches.{AreBranches}
 use Rattle.dep_states.specs.Names.{branch_dir, commit_dir}
 use Rattle.dep_states.specs.Frames.{KeptIn}
-use Rattle.dep_states.proofs.Single.{some_none}
 use Rattle.dep_states.proofs.Sparing.{hex_exact}
 use Rattle.dep_states.proofs.BranchPaths.{branch_same, branch_level}
 use Rattle.dep_tidy.specs.Steps.{IsUnkept, InUnkept, UnkeptGone, UnkeptAbsent, HasNoUnkept, HasNoneIn, HasNoneOf}
@@ -40,23 +37,6 @@ pub all_taken : {A : Type 0} (items : List A) (i : ℕ) (k : A) → length items
 all_taken items i k high has = subst (λ l. Contains l k) (sym (take_all i items high)) has
 
 -- ---- the name of a commit's folder
-
-pub unhex_ok : (text : List ℕ) (r : Result (List ℕ) NameError) (d : List ℕ) → r ≡ ok_or (unhex text) Bad → r ≡ Ok d → unhex text ≡ Some d
-unhex_ok text r d is ok = go (unhex text) (sym is ∙ ok)
-  where
-    go : (o : Option (List ℕ)) → ok_or o Bad ≡ Ok d → o ≡ Some d
-    go None e = absurd (cc e)
-    go (Some x) e = let same : x ≡ d = cc e in ap Some same
-
-pub unhex_err : (text : List ℕ) (r : Result (List ℕ) NameError) → r ≡ ok_or (unhex text) Bad → ((d : List ℕ) → r ≡ Ok d → ⊥) → unhex text ≡ None
-unhex_err text r is none = go (unhex text) refl
-  where
-    go : (o : Option (List ℕ)) → unhex text ≡ o → o ≡ None
-    go None e = refl
-    go (Some x) e = absurd (none x (is ∙ ap (λ o. ok_or o Bad) e))
-
-pub digest_element : (text d : List ℕ) → unhex text ≡ Some d → is_element text ≡ true
-digest_element text d is = let t = unhex-some text d is in subst (λ x. is_element x ≡ true) (sym t.0) (file_digest d t.1)
 
 -- a name that goes on to be absent
 pub still_absent : {s : State} (v w : View) → ((q : Elements) → (w.names q ≡ v.names q) ⊎ UnkeptAbsent s q (w.names q)) → (q : Elements) → v.names q ≡ absent → w.names q ≡ absent

@@ -3,18 +3,15 @@ use Rattle.std.proofs.Common.{◌≡◌, ◌≢◌, ◌⊎◌, inl, inr, ℕ, []
 use Rattle.fp_host.specs.Paths.{Elements, Slot, absent, dir, file, link, under, at}
 use Rattle.fp_host.specs.View.{View, Inode, IsTree}
 use Rattle.fp_host.specs.Calls.{IsNoDir, IsFile}
-use Rattle.fp_host.specs.Outcome.{Leaves, gone, folder, holding, spot_of, shows}
+use Rattle.fp_host.specs.Outcome.{gone, folder, holding, spot_of, shows}
 use Rattle.fp_host.proofs.Separate.{absent_cases}
 use Rattle.fp_host.proofs.Settled.{at_tree}
 use Rattle.fp_small.specs.Files.{KeepsFiles}
 use Rattle.fp_small.specs.Folders.{IsFree}
 use Rattle.fp_small.specs.Replace.{IsFreeFile}
-use Rattle.ost_store.proofs.Staying.{shown_stays}
+use Rattle.ost_store.proofs.Staying.{same_shows}
 use Rattle.dep_states.specs.Zones.{IsFileOrGone, IsFolderOrGone}
-
--- what stands now is an outcome
-pub now_left : (v : View) → Leaves v (shows v)
-now_left v = record { names = v.names; files = v.files; may_be = λ p. inl refl; rows = λ id. inl refl; seen = λ p. refl }
+use Rattle.dep_states.proofs.Zones.{free_of}
 
 held_there : (id : ℕ) (row : Option Inode) → row ≢ None → holding id row ≡ gone → ⊥
 held_there id None some is = some refl
@@ -41,16 +38,6 @@ free_file_of files absent fits = inl refl
 free_file_of files dir fits = absurd fits
 free_file_of files (file id) fits = inr (id, refl)
 free_file_of files (link text) fits = absurd fits
-
-free_of : (files : ℕ → Option Inode) (e : Slot) → ((id : ℕ) → e ≡ file id → files id ≢ None) → IsFolderOrGone (spot_of files e) → (e ≡ absent) ⊎ (e ≡ dir)
-free_of files absent known fits = inl refl
-free_of files dir known fits = inr refl
-free_of files (link text) known fits = absurd fits
-free_of files (file id) known fits = absurd (held (files id) (known id refl) fits)
-  where
-    held : (row : Option Inode) → row ≢ None → IsFolderOrGone (holding id row) → ⊥
-    held None some f = some refl
-    held (Some x) some f = f
 
 module _ {v : View} (tree : IsTree v) (q : Elements) where
   shown_at : shows v q ≡ spot_of v.files (v.names q)
@@ -80,10 +67,6 @@ module _ {v : View} (tree : IsTree v) (q : Elements) where
 
   pub free_by : IsFolderOrGone (shows v q) → IsFree v q
   free_by fits = free_of v.files (v.names q) known_at (subst IsFolderOrGone shown_at fits)
-
--- where a name is the same and files stay, the same shows
-pub same_shows : {u v : View} → IsTree u → IsTree v → KeepsFiles u v → (q : Elements) → v.names q ≡ u.names q → shows v q ≡ shows u q
-same_shows {u = u} {v = v} tree next files q name = shown_stays q u v (record { name = name; row = λ id f is some. files.rows id f some }) tree next
 
 pub all_shows : {u v : View} → IsTree u → IsTree v → KeepsFiles u v → ((q : Elements) → v.names q ≡ u.names q) → shows v ≡ shows u
 all_shows {u = u} {v = v} tree next files names = λ i q. same_shows tree next files q (names q) i

@@ -8,16 +8,21 @@ use Rattle.std.proofs.lemmas.Slice.Eq.{bytes_eq-Decides}
 use Rattle.fp_host.specs.Paths.{Elements, Slot}
 use Rattle.fp_host.specs.View.{View, IsTree}
 use Rattle.fp_host.specs.Outcome.{Spot, gone, shows}
+use Rattle.fp_host.proofs.Above.{above_longer}
+use Rattle.fp_host.proofs.Separate.{head_of, tail_of}
+use Rattle.fp_host.proofs.Shown.{now_left}
 use Rattle.fp_base.specs.declared.object.ObjKind.{ObjKind}
+use Rattle.fp_base.proofs.Texts.{bytes_eq-true, bytes_eq-false}
+use Rattle.fp_base.proofs.Lists.{in_first}
+use Rattle.fp_base.proofs.Options.{none_some}
 use Rattle.fp_name.specs.Hex.{is_byte, is_digest, hex}
 use Rattle.fp_name.specs.Kinds.{kind_word}
 use Rattle.fp_name.specs.Refs.{Ref, is_ref, ref_text, ref_with}
 use Rattle.fp_name.specs.declared.kind.RefKind.{RefKind}
+use Rattle.fp_name.proofs.Refs.{word_apart, kind_same}
 use Rattle.fp_small.specs.Clear.{IsWithin}
 use Rattle.fp_small.specs.Files.{KeepsFiles}
 use Rattle.fp_small.specs.Places.{repo, tmp}
-use Rattle.fp_small.proofs.Emptying.{above_longer}
-use Rattle.fp_small.proofs.Ordered.{bytes_eq-is}
 use Rattle.fp_small.specs.declared.op.Op.{Op}
 use Rattle.fp_small.specs.declared.op.Op.TheVariants.{Install}
 use Rattle.fp_small.specs.declared.state.State.{State}
@@ -25,7 +30,8 @@ use Rattle.fp_small.specs.declared.state.RefRow.{RefRow}
 use Rattle.ost_model.specs.Objects.{Have, object_path, object_at, store}
 use Rattle.ost_model.specs.Order.{Place, In, Agree, order}
 use Rattle.ost_model.proofs.Places.{order_same}
-use Rattle.ost_store.proofs.Lists.{in_first, in_one}
+use Rattle.ost_store.proofs.Lists.{in_one}
+use Rattle.ost_store.proofs.Staying.{same_shows}
 use Rattle.ost_walk.specs.Steps.{place_name}
 use Rattle.dep_states.specs.Names.{config, remotes_conf, pins_file, commit_dir, ref_file}
 use Rattle.dep_states.specs.After.{May, state_after, after_op, row_at}
@@ -33,27 +39,23 @@ use Rattle.dep_states.specs.Settled.{Used, HasBytes}
 use Rattle.dep_states.specs.Shown.{Shows, at_name, ref_key, there, ref_seen}
 use Rattle.dep_states.specs.Sound.{Keeps, Opens}
 use Rattle.dep_states.proofs.Changes.{at_inserted}
-use Rattle.dep_states.proofs.Rows.{text_apart}
-use Rattle.dep_states.proofs.Single.{some_is, none_some}
-use Rattle.dep_states.proofs.Sparing.{word_apart, state_of_kept, shown_good}
+use Rattle.dep_states.proofs.Single.{some_is}
+use Rattle.dep_states.proofs.Sparing.{state_of_kept, shown_good}
 use Rattle.dep_states.proofs.Switch.{digits_no_active}
 use Rattle.dep_states.proofs.Switching.{word_no_repo}
 use Rattle.dep_states.proofs.Total.{ref_is}
 use Rattle.dep_states.proofs.Usual.{sound_store}
-use Rattle.dep_states.proofs.Worked.{word_same}
+use Rattle.dep_states.proofs.Work.{work_top, work_second}
 use Rattle.dep_tidy.specs.Kept.{kept_of}
 use Rattle.dep_tidy.specs.Tidy.{SettledButRef}
-use Rattle.dep_tidy.proofs.Apart.{work_top, work_second, dir_top, tmp_no_refs}
+use Rattle.dep_tidy.proofs.Apart.{dir_top, tmp_no_refs}
 use Rattle.dep_tidy.proofs.Pruned.{object_there, row_by_seen, seen_by_row, keeps_listed, used_cases, from_list}
-use Rattle.dep_tidy.proofs.RefFiles.{first_same, rest_same}
 use Rattle.dep_tidy.proofs.RowsKept.{from_kept, to_kept, at_in, in_at}
-use Rattle.dep_tidy.proofs.Views.{same_shows}
 use Rattle.op_change.specs.Applied.{ChangesBy, HasObjectsFor, done_with}
 use Rattle.op_change.specs.Bringing.{IsFolderFor, above_commit, above_object, above_head, for_work, BringsName, some_work, in_folder, a_record, at_active, an_object, a_config, a_folder}
 use Rattle.op_change.specs.Brought.{HasObjects, commit_time}
 use Rattle.op_change.specs.Readying.{a_head}
 use Rattle.fl_change.specs.Performs.{Rests, OfAdded}
-use Rattle.dep_tidy.proofs.Views.{now_left}
 use Rattle.fl_change.proofs.Stored.{hex_same, kept_had, kept_digest}
 use Rattle.fl_change.proofs.Worlds.{contains_in}
 
@@ -62,11 +64,11 @@ use Rattle.fl_change.proofs.Worlds.{contains_in}
 -- two folders of commits with one path
 dir_same : (r s : Ref) (c d : List ℕ) → commit_dir r c ≡ commit_dir s d → (r ≡ s) × (hex c ≡ hex d)
 dir_same r s c d h =
-    let branch = rest_same h in
-    let arch = rest_same branch in
-    let id = rest_same arch in
-    let kinds = word_same r.kind s.kind (first_same (rest_same id)) in
-    (λ i. ref_with (kinds i) (first_same id i) (first_same arch i) (first_same branch i), first_same h)
+    let branch = tail_of h in
+    let arch = tail_of branch in
+    let id = tail_of arch in
+    let kinds = kind_same r.kind s.kind (head_of (tail_of id)) in
+    (λ i. ref_with (kinds i) (head_of id i) (head_of arch i) (head_of branch i), head_of h)
 
 module _ (name : Ref) (commit : List ℕ) where
   -- a folder that is made is above a commit's folder, or shorter
@@ -92,17 +94,17 @@ module _ (name : Ref) (commit : List ℕ) where
     no_folder x r k (above_commit (inl is)) = omega (arith, ap length is)
     no_folder x r k (above_commit (inr (inl is))) = omega (arith, ap length is)
     no_folder x r k (above_commit (inr (inr (inl is)))) = omega (arith, ap length is)
-    no_folder x r k (above_commit (inr (inr (inr (inl is))))) = k name.kind (sym (first_same is))
+    no_folder x r k (above_commit (inr (inr (inr (inl is))))) = k name.kind (sym (head_of is))
     no_folder x r k (above_commit (inr (inr (inr (inr (inl is)))))) = omega (arith, ap length is)
     no_folder x r k (above_commit (inr (inr (inr (inr (inr none)))))) = none
     no_folder x r k (above_object d kind digits (inl is)) = omega (arith, ap length is)
     no_folder x r k (above_object d kind digits (inr (inl is))) = omega (arith, ap length is)
-    no_folder x r k (above_object d kind digits (inr (inr (inl is)))) = r (sym (first_same is))
+    no_folder x r k (above_object d kind digits (inr (inr (inl is)))) = r (sym (head_of is))
     no_folder x r k (above_object d kind digits (inr (inr (inr (inl is))))) = omega (arith, ap length is)
     no_folder x r k (above_object d kind digits (inr (inr (inr (inr none))))) = none
     no_folder x r k (above_head (inl is)) = omega (arith, ap length is)
     no_folder x r k (above_head (inr (inl is))) = omega (arith, ap length is)
-    no_folder x r k (above_head (inr (inr (inl is)))) = r (sym (first_same is))
+    no_folder x r k (above_head (inr (inr (inl is)))) = r (sym (head_of is))
     no_folder x r k (above_head (inr (inr (inr (inl is))))) = omega (arith, ap length is)
     no_folder x r k (above_head (inr (inr (inr (inr none))))) = none
     no_folder x r k (for_work is) = omega (arith, ap length is)
@@ -126,7 +128,7 @@ module _ (name : Ref) (commit : List ℕ) where
     same_dir other c (in_folder unkept (inl is)) = dir_same other name c commit is
     same_dir other c (in_folder unkept (inr above)) = absurd (omega (arith, above_longer (commit_dir name commit) (commit_dir other c) above))
     same_dir other c (a_record is put) = absurd (omega (arith, ap length is))
-    same_dir other c (at_active is put) = absurd (digits_no_active c (first_same is))
+    same_dir other c (at_active is put) = absurd (digits_no_active c (head_of is))
     same_dir other c (an_object d kind digits is) = absurd (omega (arith, ap length is))
     same_dir other c (a_config is put) = absurd (omega (arith, ap length is))
     same_dir other c (a_folder folder put) = absurd (omega (arith, folder_short (commit_dir other c) folder))
@@ -161,7 +163,7 @@ module _ (s : State) (name : Ref) (origin commit : List ℕ) (time : ℕ) (have 
 
   row_stays : (other : Ref) (row : RefRow) → row_at s other ≡ Some row → row_at t other ≡ Some row
   row_stays other row is = elim (cases_Bool (bytes_eq (ref_text name) (ref_text other))) [
-    | inl same ↦ absurd (none_some (sym none ∙ ap (at_name ref_key s.refs) (bytes_eq-is (ref_text name) (ref_text other) same) ∙ is))
+    | inl same ↦ absurd (none_some (sym none ∙ ap (at_name ref_key s.refs) (bytes_eq-true (ref_text name) (ref_text other) same) ∙ is))
     | inr off ↦ at_after other ∙ cond-false (bytes_eq (ref_text name) (ref_text other)) (Some new) (row_at s other) off ∙ is
   ]
 
@@ -245,13 +247,13 @@ module _ (s : State) (name : Ref) (origin commit : List ℕ) (time : ℕ) (have 
   top_still x r k = same_at (x ∷ []) (no_top name commit s _ x r k)
 
   config_still : shows w config ≡ shows v config
-  config_still = top_still (codes "config") (text_apart (codes "repo") (codes "config") refl) (λ k. word_apart k (codes "config") refl refl)
+  config_still = top_still (codes "config") (bytes_eq-false (codes "repo") (codes "config") refl) (λ k. word_apart k (codes "config") refl refl)
 
   remotes_still : shows w remotes_conf ≡ shows v remotes_conf
-  remotes_still = top_still (codes "remotes.conf") (text_apart (codes "repo") (codes "remotes.conf") refl) (λ k. word_apart k (codes "remotes.conf") refl refl)
+  remotes_still = top_still (codes "remotes.conf") (bytes_eq-false (codes "repo") (codes "remotes.conf") refl) (λ k. word_apart k (codes "remotes.conf") refl refl)
 
   pins_still : shows w pins_file ≡ shows v pins_file
-  pins_still = top_still (codes "pins") (text_apart (codes "repo") (codes "pins") refl) (λ k. word_apart k (codes "pins") refl refl)
+  pins_still = top_still (codes "pins") (bytes_eq-false (codes "repo") (codes "pins") refl) (λ k. word_apart k (codes "pins") refl refl)
 
   dirs_now : (other : Ref) (c : List ℕ) → is_ref other ≡ true → is_digest c ≡ true → shows w (commit_dir other c) ≢ gone → Keeps (shows w) other c
   dirs_now other c good_ref good_digest some = elim (names (commit_dir other c)) [

@@ -1,7 +1,8 @@
 -- Which names the parts of a run change.
 use Rattle.std.proofs.Common.{◌≡◌, ◌≤◌, inl, inr, ℕ, List, [], ◌∷◌, length, get_or, false, Contains, refl, sym, ◌∙◌, ap, subst, arith}
 use Rattle.std.proofs.lemmas.Bool.{false≢true}
-use Rattle.fp_host.specs.Paths.{Elements, Slot, IsAbove}
+use Rattle.fp_base.proofs.Lists.{in_none, in_cases}
+use Rattle.fp_host.specs.Paths.{Elements, Slot}
 use Rattle.fp_host.specs.View.{View}
 use Rattle.fp_host.specs.Outcome.{shows}
 use Rattle.fp_name.specs.Refs.{Ref}
@@ -19,11 +20,11 @@ use Rattle.fp_small.specs.declared.state.State.{State}
 use Rattle.fp_small.specs.declared.op.Op.{Op}
 use Rattle.dep_states.specs.Effects.{Effect, Write, effect_of, is_of_config, writes_config, brings, writes, moves, leaves, sets, migrates, layers, bares}
 use Rattle.fp_name.specs.Kinds.{kind_word}
-use Rattle.ost_store.proofs.Lists.{in_none, in_cases}
 use Rattle.dep_states.specs.Names.{config, commit_dir, override_path}
 use Rattle.dep_states.specs.Settled.{Settled}
 use Rattle.dep_states.specs.Sound.{Opens}
 use Rattle.dep_states.proofs.Linked.{links_still, links_on}
+use Rattle.dep_states.proofs.Work.{no_config_above}
 use Rattle.dep_switch.specs.Writing.{new_deploy, new_folder, the_link, new_link}
 use Rattle.dep_tidy.specs.Tidy.{MayTidy, Tidies}
 use Rattle.dep_tidy.proofs.Left.{config_left}
@@ -159,10 +160,6 @@ config_tidied {s = s} tidies = elim (tidies.names config) [ inl same ↦ same | 
 differs : (q : Elements) → config ≡ q → get_or (get_or q 0 []) 0 0 ≡ 99
 differs q same = sym (ap (λ (p : Elements). get_or (get_or p 0 []) 0 0) same)
 
-no_work : IsAbove tmp config → ⊥
-no_work (inl is) = omega (arith, ap length is)
-no_work (inr none) = none
-
 no_kind : (kind : RefKind) → config ≡ kind_word kind ∷ [] → ⊥
 no_kind App same = omega (arith, differs (kind_word App ∷ []) same)
 no_kind Runtime same = omega (arith, differs (kind_word Runtime ∷ []) same)
@@ -192,7 +189,7 @@ no_folder name commit (above_head (inr (inr (inr (inr none))))) = none
 no_folder name commit (for_work is) = omega (arith, ap length is)
 
 no_bring : (s : State) (name : Ref) (commit : List ℕ) (e : Slot) → BringsName s name commit config e → ⊥
-no_bring s name commit e (some_work above) = no_work above
+no_bring s name commit e (some_work above) = no_config_above above
 no_bring s name commit e (in_folder unkept within) = no_within (commit_dir name commit) (omega arith) within
 no_bring s name commit e (a_record is put) = omega (arith, ap length is)
 no_bring s name commit e (at_active is put) = omega (arith, ap length is)

@@ -1,11 +1,13 @@
 -- One operation on an opened installation, and its line.
-use Rattle.std.proofs.Common.{◌≡◌, inl, inr, ℕ, List, [], ◌∷◌, ◌++◌, Bool, true, false, ◌||◌, Option, Some, None, Ok, Err, refl, sym, ◌∙◌, ap, subst}
+use mathlib.Core.Bool.{or-false}
+use Rattle.std.proofs.Common.{◌≡◌, inl, inr, ℕ, List, [], ◌∷◌, ◌++◌, Bool, true, false, Option, Some, None, Ok, Err, refl, sym, ◌∙◌, ap, subst}
 use Rattle.std.proofs.lemmas.Bool.{false≢true}
 use Rattle.std.proofs.lemmas.List.{append-nil}
 use Rattle.fp_host.specs.Paths.{Slot, absent, dir, file, link, under}
 use Rattle.fp_host.specs.Remote.{Holdings}
 use Rattle.fp_host.specs.View.{View, Inode, IsTree}
 use Rattle.fp_host.specs.Outcome.{Disk, Leaves, holds as standing, holding, spot_of, shows}
+use Rattle.fp_host.proofs.Shown.{now_left}
 use Rattle.fp_small.specs.Config.{config_text}
 use Rattle.fp_small.specs.Files.{KeepsFiles}
 use Rattle.fp_small.specs.Move.{HasNew, IsNew}
@@ -45,15 +47,10 @@ use Rattle.fl_change.proofs.Created.{none_created, no_ops_created, lacks_is, bro
 use Rattle.fl_change.proofs.Pulled.{op_pulls}
 use Rattle.fl_change.proofs.Resting.{small_rest}
 use Rattle.fl_change.proofs.Adding.{added_rest}
-use Rattle.dep_tidy.proofs.Views.{now_left}
 use Rattle.fl_change.proofs.Same.{same_opens, same_rest}
 use Rattle.fl_change.proofs.Worlds.{holds_on, holds_tidied, same_objects}
 
 -- ---- nothing is done
-
-or_false : (b : Bool) → (b || false) ≡ b
-or_false true = refl
-or_false false = refl
 
 -- nothing is printed yet
 pub none_yet : (a : Answer) {u w : View} → w.printed ≡ u.printed → Printed a [] u w
@@ -355,7 +352,7 @@ module _ (held : Holdings) (op : Op) (s t : State) (v : View) where
   })
 
   sets : (b : Bool) → set_config (d ∷ []) ≡ b → sets_config op ≡ b
-  sets b is = ap sets_config (sym op_is) ∙ sym (or_false (sets_config d.op)) ∙ is
+  sets b is = ap sets_config (sym op_is) ∙ sym (or-false (sets_config d.op)) ∙ is
 
   pub tidied : (t' : State) {w z : View} → t' ≡ t → WasDone held op s t v w → Tidies t w z → WasTidiedAfter op t w z → Performed held (op_over op held x) x (Ok t') v z
   tidied t' {w = w} {z = z} same done tidies was = subst (λ (q : Answer). Performed held q x (Ok t') v z) (allowed_is done.allowed) (

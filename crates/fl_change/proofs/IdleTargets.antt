@@ -1,11 +1,11 @@
 -- A target of an update: what it leaves, and when there is nothing to do for it.
 use Rattle.std.proofs.Common.{◌≡◌, ◌⊎◌, inl, inr, ℕ, List, [], map, Bool, true, false, Option, Some, None, Result, Ok, Err, refl, sym, ◌∙◌, ap, subst}
 use Rattle.std.specs.Prelude.{if◌then◌else◌}
+use Rattle.fp_base.proofs.Texts.{bytes_eq-true, bytes_eq-same}
 use Rattle.fp_host.specs.Reads.{is_ascending}
 use Rattle.fp_host.specs.Remote.{Holdings}
 use Rattle.fp_name.specs.Refs.{Ref}
 use Rattle.fp_small.specs.Config.{name_of}
-use Rattle.fp_small.proofs.Ordered.{bytes_eq-itself, bytes_eq-is}
 use Rattle.fp_small.specs.declared.op.Op.{Op}
 use Rattle.fp_small.specs.declared.refusal.Refusal.{Refusal}
 use Rattle.fp_small.specs.declared.refusal.Refusal.TheVariants as refusals
@@ -73,7 +73,7 @@ module _ (held : Holdings) (x : World) where
 
       deployed_current : (commit : List ℕ) → offered held remote name ≡ Ok commit → is_at commit (row_of x.state name) ≡ true → Current held x.state name
       deployed_current commit offers at =
-          let same : row.commit ≡ commit = bytes_eq-is row.commit commit (sym (ap (is_at commit) (deployed_row x.state name ∙ is)) ∙ at) in
+          let same : row.commit ≡ commit = bytes_eq-true row.commit commit (sym (ap (is_at commit) (deployed_row x.state name ∙ is)) ∙ at) in
           by_row (subst (IsCurrentFrom held row) (sym there) (inr (ap (offered held remote) said ∙ offers ∙ ap (λ (c : List ℕ). Ok c) (sym same))))
 
   module _ (ascend : is_ascending (map name_of x.state.remotes) ≡ true) (name : Ref) where
@@ -134,7 +134,7 @@ module _ (held : Holdings) (x : World) where
           let refused = own_refusal held x.have x.state remote name (refusals.NoSuchRef none.0 none.1) (ap (offered held remote) (sym (named row is)) ∙ none.2) in
           subst IsStill (sym (ap (λ (said : Result (List Op) Refusal). unless_skipped name said held x) refused)) (record { ops = refl; refusal = refl })
       offered_still row is remote there (inr at) =
-          let deployed_is : is_at row.commit (row_of x.state name) ≡ true = ap (is_at row.commit) (deployed_row x.state name ∙ is) ∙ bytes_eq-itself row.commit in
+          let deployed_is : is_at row.commit (row_of x.state name) ≡ true = ap (is_at row.commit) (deployed_row x.state name ∙ is) ∙ bytes_eq-same row.commit in
           let none = up_to_date held x.have x.state remote name row.commit (ap (offered held remote) (sym (named row is)) ∙ at) deployed_is in
           subst IsStill (sym (ap (λ (said : Result (List Op) Refusal). unless_skipped name said held x) none)) (record { ops = refl; refusal = refl })
 

@@ -1,5 +1,5 @@
 -- The commits that a state keeps after an operation.
-use Rattle.std.proofs.Common.{◌≡◌, ◌⊎◌, inl, inr, ℕ, List, [], ◌∷◌, ◌++◌, Bool, true, false, Option, Some, None, if◌then◌else◌, refl, sym, subst}
+use Rattle.std.proofs.Common.{◌≡◌, ◌⊎◌, inl, inr, ℕ, List, [], ◌∷◌, Bool, true, false, Option, Some, None, if◌then◌else◌, refl, sym, subst}
 use Rattle.std.specs.Str.{bytes_eq}
 use Rattle.fp_name.specs.Refs.{Ref, ref_text}
 use Rattle.fp_small.specs.Order.{comes_before, inserted, removed, replaced}
@@ -9,7 +9,7 @@ use Rattle.fp_small.specs.declared.state.Previous.{Previous}
 use Rattle.fp_small.specs.declared.op.Op.{Op}
 use Rattle.fp_small.specs.declared.op.Op.TheVariants.{Install, Update, Uninstall, AddPin, DropPin, AddRemote, ModifyRemote, DropRemote, SetOverride, DropOverride, Migrate, Rollback}
 use Rattle.ost_model.specs.Order.{In}
-use Rattle.ost_model.proofs.Places.{in_left, in_right}
+use Rattle.ost_model.proofs.Members.{in_append, in_left, in_right}
 use Rattle.dep_states.specs.Shown.{at_name, ref_key}
 use Rattle.dep_states.specs.After.{row_at, after_op, updated, rolled_back, back, moved, exchanged}
 use Rattle.dep_states.specs.Effects.{Effect, effect_of, brings, writes}
@@ -17,11 +17,6 @@ use Rattle.dep_tidy.specs.Kept.{previous_commits, kept_by, kept_of}
 use Rattle.fl_change.specs.World.{kept_commits}
 
 -- ---- rows
-
-in_append : {A : Type 0} (xs ys : List A) (a : A) → In (xs ++ ys) a → In xs a ⊎ In ys a
-in_append [] ys a has = inr has
-in_append (x ∷ xs) ys a (inl is) = inl (inl is)
-in_append (x ∷ xs) ys a (inr more) = elim (in_append xs ys a more) [ inl first ↦ inl (inr first) | inr second ↦ inr second ]
 
 -- the commit is kept by the one row, or by one of the others
 abbrev OneOf : RefRow → List RefRow → List ℕ → Type 0

@@ -1,12 +1,14 @@
 -- What an operation that changes no commit leaves: all is settled but for work.
 use Rattle.std.proofs.Common.{◌≡◌, ◌≢◌, ◌⊎◌, inl, inr, ℕ, List, [], ◌∷◌, Bool, true, false, Option, Some, None, Result, Ok, Err, OnOk, Contains, if◌then◌else◌, refl, sym, ◌∙◌, ap, subst}
 use Rattle.std.proofs.lemmas.Bool.{false≢true}
+use Rattle.fp_base.proofs.Lists.{in_cases}
 use Rattle.fp_host.specs.Paths.{Elements, Slot, file}
 use Rattle.fp_host.specs.View.{View, IsTree}
 use Rattle.fp_host.specs.Frame.{AtEnd, Frame, NoPath}
 use Rattle.fp_host.specs.Moments.{Moments}
 use Rattle.fp_host.proofs.Ending.{ends_to, ends_both, ends_frame}
 use Rattle.fp_host.proofs.Framed.{IsTold}
+use Rattle.fp_host.proofs.Shown.{now_left}
 use Rattle.fp_host.specs.Outcome.{Spot, gone, folder, holds, points, shows}
 use Rattle.fp_small.specs.Clear.{IsWithin}
 use Rattle.fp_name.specs.Refs.{Ref}
@@ -19,7 +21,8 @@ use Rattle.fp_small.specs.declared.op.Op.{Op}
 use Rattle.fp_small.specs.declared.op.Op.TheVariants.{Install}
 use Rattle.fp_small.proofs.Sharing.{shares_empty}
 use Rattle.ost_store.proofs.Creating.{creates_frame}
-use Rattle.ost_store.proofs.Lists.{in_cases, in_one}
+use Rattle.ost_store.proofs.Lists.{in_one}
+use Rattle.ost_store.proofs.Staying.{same_shows}
 use Rattle.dep_states.specs.Names.{config, remotes_conf, pins_file, overrides_folder, override_path}
 use Rattle.dep_states.specs.After.{May}
 use Rattle.dep_states.specs.Effects.{Effect, Write, effect_of, is_small, keeps_refs, layout_before, brings, writes, moves, leaves, sets, migrates, layers, bares}
@@ -30,11 +33,9 @@ use Rattle.dep_states.specs.Sound.{Opens}
 use Rattle.dep_tidy.specs.Lasts.{Lasts}
 use Rattle.dep_tidy.specs.Tidy.{SettledButWork, SettledButRef, IsSmallPlace, is_config, is_layer, is_repo, is_work}
 use Rattle.dep_tidy.proofs.Small.{small_changes, work_apart}
-use Rattle.dep_tidy.proofs.Views.{same_shows}
 use Rattle.op_change.specs.Applied.{MayChange, MayWrite, ChangesName, ChangesBy}
 use Rattle.fl_change.specs.Answer.{keeps_commits}
 use Rattle.fl_change.specs.Performs.{Rests, OfAdded, WasTidiedAfter}
-use Rattle.dep_tidy.proofs.Views.{now_left}
 
 -- ---- in layout 2 without `config` there are no files of layout 1
 

@@ -4,8 +4,9 @@ use Rattle.std.specs.Prelude.{cond, filter, if◌then◌else◌}
 use Rattle.std.specs.List.{AllByRecursion}
 use Rattle.std.specs.Str.{bytes_eq}
 use Rattle.std.proofs.lemmas.Bool.{cases_Bool}
+use Rattle.fp_base.proofs.Texts.{bytes_eq-true}
 use Rattle.fp_small.specs.Order.{comes_before, inserted}
-use Rattle.fp_small.proofs.Ordered.{bytes_eq-is, before_differs}
+use Rattle.fp_small.proofs.Ordered.{before_differs}
 use Rattle.dep_states.specs.Shown.{at_name}
 
 module _ {A : Type 0} (name : A → List ℕ) where
@@ -15,7 +16,7 @@ module _ {A : Type 0} (name : A → List ℕ) where
   at_put (y ∷ ys) a t =
       elim (cases_Bool (comes_before (name y) (name a))) [
         | inl before ↦ elim (cases_Bool (bytes_eq (name y) t)) [
-          | inl here ↦ let off : bytes_eq (name a) t ≡ false = ap (bytes_eq (name a)) (sym (bytes_eq-is (name y) t here)) ∙ before_differs (name y) (name a) before in rw (before, here, off) refl
+          | inl here ↦ let off : bytes_eq (name a) t ≡ false = ap (bytes_eq (name a)) (sym (bytes_eq-true (name y) t here)) ∙ before_differs (name y) (name a) before in rw (before, here, off) refl
           | inr other ↦ rw (before, other) (at_put ys a t)
         ]
         | inr last ↦ rw last refl
@@ -25,7 +26,7 @@ module _ {A : Type 0} (name : A → List ℕ) where
   pub at_has_name : (xs : List A) (t : List ℕ) (a : A) → at_name name xs t ≡ Some a → name a ≡ t
   at_has_name [] t a is = absurd (cc is)
   at_has_name (y ∷ ys) t a is = elim (cases_Bool (bytes_eq (name y) t)) [
-    | inl here ↦ let same : y ≡ a = cc (rw here at is) in ap name (sym same) ∙ bytes_eq-is (name y) t here
+    | inl here ↦ let same : y ≡ a = cc (rw here at is) in ap name (sym same) ∙ bytes_eq-true (name y) t here
     | inr other ↦ at_has_name ys t a (rw other at is)
   ]
 

@@ -4,11 +4,11 @@ use Rattle.std.specs.Prelude.{if◌then◌else◌}
 use Rattle.std.specs.List.{AllByRecursion}
 use Rattle.std.specs.Str.{bytes_eq}
 use Rattle.std.proofs.lemmas.Bool.{cases_Bool}
+use Rattle.fp_base.proofs.Texts.{bytes_eq-same}
 use Rattle.fp_host.specs.Remote.{Holdings}
 use Rattle.fp_name.specs.Refs.{Ref, ref_text}
 use Rattle.fp_small.specs.Config.{name_of}
 use Rattle.fp_small.specs.Order.{inserted, replaced}
-use Rattle.fp_small.proofs.Ordered.{bytes_eq-itself}
 use Rattle.fp_small.specs.declared.op.Op.{Op}
 use Rattle.fp_small.specs.declared.op.Op.TheVariants.{Install, Update, Uninstall, AddPin, DropPin, AddRemote, ModifyRemote, DropRemote, SetOverride, DropOverride, Migrate, Rollback}
 use Rattle.fp_small.specs.declared.refusal.Refusal.{Refusal}
@@ -102,7 +102,7 @@ module _ (held : Holdings) where
             | inr other ↦ inr (row_at_name name false other)
           ];
         };
-        own_current = new_current own (ap (λ (n : Ref). bytes_eq (ref_text n) (ref_text own)) named ∙ bytes_eq-itself (ref_text own));
+        own_current = new_current own (ap (λ (n : Ref). bytes_eq (ref_text n) (ref_text own)) named ∙ bytes_eq-same (ref_text own));
       }
 
     pub install_brings : Brought (after_op s time (Install own origin commit))

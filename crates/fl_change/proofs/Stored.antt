@@ -1,16 +1,17 @@
 -- The objects of an installation that is settled are those that its commits use.
-use Rattle.std.proofs.Common.{◌≡◌, ◌≢◌, ◌⊎◌, inl, inr, ℕ, ◌<◌, ◌≤◌, ◌/◌, ◌%◌, eqb, List, [], ◌∷◌, ◌++◌, take, drop, get_or, length, Bool, true, false, Option, Some, None, unwrap_or, if◌then◌else◌, ⊎_elim, refl, sym, ◌∙◌, ap, subst, arith}
+use Rattle.std.proofs.Common.{◌≡◌, ◌≢◌, ◌⊎◌, inl, inr, ℕ, ◌<◌, ◌≤◌, ◌/◌, ◌%◌, eqb, List, [], ◌∷◌, ◌++◌, take, drop, get_or, length, Bool, true, false, Option, Some, None, if◌then◌else◌, ⊎_elim, refl, sym, ◌∙◌, ap, subst, arith}
 use Rattle.std.specs.Prelude.{codes}
 use Rattle.std.specs.List.{list_all}
-use Rattle.std.proofs.lemmas.Bool.{and_parts, agree_below_at, cases_lt, ltb-true, eqb-true}
+use Rattle.std.proofs.lemmas.Bool.{and_parts, cases_lt, ltb-true}
 use Rattle.std.proofs.lemmas.List.{append_cancel_right, take-append-drop, get_or_past}
 use Rattle.std.proofs.lemmas.Option.{same_Some, none-some}
 use Rattle.fp_host.specs.Paths.{Elements}
 use Rattle.fp_host.specs.View.{View}
-use Rattle.fp_host.specs.Outcome.{Spot, Disk, gone, folder, holds, points, shows}
+use Rattle.fp_host.specs.Outcome.{Disk, gone, shows}
+use Rattle.fp_host.proofs.Shown.{now_left, gone_cases}
 use Rattle.fp_base.specs.declared.object.ObjKind.{ObjKind}
-use Rattle.fp_base.specs.declared.object.ObjKind.TheVariants as kinds
 use Rattle.fp_name.specs.Hex.{is_byte, is_digest, digit, digit_value, hex}
+use Rattle.fp_name.proofs.HexTexts.{digit_back}
 use Rattle.fp_small.specs.Places.{repo}
 use Rattle.fp_small.specs.declared.state.State.{State}
 use Rattle.ost_model.specs.declared.object.Object.{Object}
@@ -19,28 +20,16 @@ use Rattle.fp_base.specs.Objects.{kind_text}
 use Rattle.ost_model.specs.Order.{Place, In, order}
 use Rattle.ost_model.specs.Stores.{IsObject}
 use Rattle.ost_model.proofs.Places.{faultless, or_none}
+use Rattle.ost_model.proofs.Members.{in_contains}
 use Rattle.dep_states.specs.Sound.{Opens}
 use Rattle.dep_states.proofs.Usual.{sound_store}
 use Rattle.dep_tidy.proofs.RowsKept.{kept_both}
-use Rattle.dep_tidy.proofs.Pruned.{row_keeps, keeps_listed}
+use Rattle.dep_tidy.proofs.Pruned.{row_keeps, keeps_listed, kinds_same}
 use Rattle.fl_change.specs.World.{kept_commits, is_used, used_of}
 use Rattle.fl_change.specs.Performs.{Rests}
-use Rattle.dep_tidy.proofs.Views.{now_left}
-use Rattle.fl_change.proofs.Worlds.{in_contains, contains_in, used_place}
+use Rattle.fl_change.proofs.Worlds.{contains_in, used_place}
 
 -- ---- names say digests
-
-abbrev reads_back : ℕ → Bool
-reads_back n = eqb (unwrap_or (digit_value (digit n)) 16) n
-
-some_from_unwrap : (o : Option ℕ) (n : ℕ) → n < 16 → unwrap_or o 16 ≡ n → o ≡ Some n
-some_from_unwrap None n small e = absurd (omega arith)
-some_from_unwrap (Some m) n small e = ap Some e
-
--- the number of a digit is the digit's
-digit_back : (n : ℕ) → n < 16 → digit_value (digit n) ≡ Some n
-digit_back n small =
-    some_from_unwrap (digit_value (digit n)) n small (eqb-true _ n (agree_below_at reads_back (λ _. true) 16 n refl small))
 
 -- what is no digit's number has none
 no_digit : (n : ℕ) → 16 ≤ n → digit_value (digit n) ≡ None
@@ -69,44 +58,6 @@ hex_same (x ∷ xs) (y ∷ ys) bytes same =
     let upper : x / 16 ≡ y / 16 = same_number (x / 16) (y / 16) (omega arith) high in
     let lower : x % 16 ≡ y % 16 = same_number (x % 16) (y % 16) (omega arith) low in
     cons_same (omega (arith, upper, lower)) (hex_same xs ys both.1 rest)
-
--- the last two of a list, after two others
-abbrev last_two : List ℕ → ℕ → ℕ → ℕ × ℕ
-last_two [] a b = (a, b)
-last_two (x ∷ xs) a b = last_two xs b x
-
-last_on : (xs ys : List ℕ) (a b : ℕ) → last_two (xs ++ ys) a b ≡ last_two ys (last_two xs a b).0 (last_two xs a b).1
-last_on [] ys a b = refl
-last_on (x ∷ xs) ys a b = last_on xs ys b x
-
-abbrev ends : ObjKind → ℕ × ℕ
-ends kinds.Commit = (105, 116)
-ends kinds.DirTree = (101, 101)
-ends kinds.DirMeta = (116, 97)
-ends kinds.File = (108, 101)
-
-last_kind : (k : ObjKind) (a b : ℕ) → last_two (codes "." ++ kind_text k) a b ≡ ends k
-last_kind kinds.Commit a b = refl
-last_kind kinds.DirTree a b = refl
-last_kind kinds.DirMeta a b = refl
-last_kind kinds.File a b = refl
-
--- the kind with this end
-abbrev kind_back : ℕ → ObjKind
-kind_back n = if eqb n 105 then kinds.Commit else (if eqb n 101 then kinds.DirTree else (if eqb n 116 then kinds.DirMeta else kinds.File))
-
-kind_is_back : (k : ObjKind) → kind_back (ends k).0 ≡ k
-kind_is_back kinds.Commit = refl
-kind_is_back kinds.DirTree = refl
-kind_is_back kinds.DirMeta = refl
-kind_is_back kinds.File = refl
-
-last_name : (d : List ℕ) (k : ObjKind) → last_two (get_or (object_path repo d k) 0 []) 0 0 ≡ ends k
-last_name d k = let two = last_two (drop 2 (hex d)) 0 0 in last_on (drop 2 (hex d)) (codes "." ++ kind_text k) 0 0 ∙ last_kind k two.0 two.1
-
-kinds_same : (d e : List ℕ) (k m : ObjKind) → object_path repo d k ≡ object_path repo e m → k ≡ m
-kinds_same d e k m same =
-    sym (kind_is_back k) ∙ ap (λ (p : ℕ × ℕ). kind_back p.0) (sym (last_name d k) ∙ ap (λ (p : Elements). last_two (get_or p 0 []) 0 0) same ∙ last_name e m) ∙ kind_is_back m
 
 -- an object's name says its digest, and its kind
 name_is : (d e : List ℕ) (kind m : ObjKind) → is_digest e ≡ true → object_path repo d kind ≡ object_path repo e m → (d ≡ e) × (kind ≡ m)
@@ -157,12 +108,6 @@ used_there s {v = v} rests d kind digits some =
     subst (λ (x : List ℕ). is_used s (store repo (shows v)) x kind ≡ true) used.digest_is
     (subst (λ (k : ObjKind). is_used s (store repo (shows v)) used.place.digest k ≡ true) used.kind_is is)
 
-is_gone : (spot : Spot) → (spot ≡ gone) ⊎ (spot ≢ gone)
-is_gone gone = inl refl
-is_gone folder = inr (λ same. cc same)
-is_gone (holds id mode bytes) = inr (λ same. cc same)
-is_gone (points text) = inr (λ same. cc same)
-
 -- all that a settled installation has is used
 pub settled_store : (s : State) {v : View} → Rests s v → used_of s (store repo (shows v)) ≡ store repo (shows v)
 settled_store s {v = v} rests = λ i d kind. each d kind i
@@ -176,7 +121,7 @@ settled_store s {v = v} rests = λ i d kind. each d kind i
     each : (d : List ℕ) (kind : ObjKind) → used_of s h d kind ≡ h d kind
     each d kind = elim (there_or_not s rests.opens d kind) [
       | inl none ↦ nothing_there d kind none
-      | inr digits ↦ elim (is_gone (shows v (object_path repo d kind))) [
+      | inr digits ↦ elim (gone_cases (shows v (object_path repo d kind))) [
         | inl none ↦ nothing_there d kind none
         | inr some ↦ used_then s h d kind (used_there s rests d kind digits some)
       ]

@@ -4,6 +4,7 @@ use Rattle.std.proofs.lemmas.List.{append-nil}
 use Rattle.std.proofs.lemmas.List.Folds.{list_any-append}
 use Rattle.std.proofs.lemmas.Grind.{flat_map-append}
 use Rattle.std.proofs.lemmas.List.Elements.{filter_map-append}
+use Rattle.std.proofs.lemmas.Bool.{or_parts}
 use Rattle.fp_host.specs.Remote.{Holdings}
 use Rattle.fp_host.specs.View.{View}
 use Rattle.fp_host.specs.Outcome.{Disk}
@@ -214,18 +215,13 @@ settings_after s (ModifyRemote row) timestamp not = absurd (cc not)
 settings_after s (DropRemote name) timestamp not = absurd (cc not)
 settings_after s Migrate timestamp not = absurd (cc not)
 
-both_false : (b c : Bool) → (b || c) ≡ false → (b ≡ false) × (c ≡ false)
-both_false false false is = (refl, refl)
-both_false false true is = absurd (cc is)
-both_false true c is = absurd (cc is)
-
 first_true : (b c : Bool) → (b || c) ≡ true → c ≡ false → b ≡ true
 first_true true c is none = refl
 first_true false c is none = absurd (let both : false ≡ true = sym none ∙ is in cc both)
 
 settings_kept : (s : State) (ops : List Done) → set_config ops ≡ false → settings_of (after_all s ops) ≡ settings_of s
 settings_kept s [] not = refl
-settings_kept s (d ∷ ops) not = let none = both_false (sets_config d.op) (set_config ops) not in settings_kept (state_after s d) ops none.1 ∙ settings_after s d.op d.timestamp none.0
+settings_kept s (d ∷ ops) not = let none = or_parts (sets_config d.op) (set_config ops) not in settings_kept (state_after s d) ops none.1 ∙ settings_after s d.op d.timestamp none.0
 
 text_same : {s t : State} {v : View} → settings_of t ≡ settings_of s → HasText s v → HasText t v
 text_same {v = v} same text = record { id = text.id; name = text.name; row = text.row ∙ ap (λ (x : Settings). Some (record { mode = 420; bytes = config_text x })) (sym same) }
@@ -259,7 +255,7 @@ done_onto held pieces b x y {v = v} {w = w} {z = z} is done next before kept = r
     set_both some = sym ops_both ∙ some
 
     none_set : set_config (ops_of (continued pieces None b)) ≡ false → (set_config (ops_in pieces) ≡ false) × (set_config (ops_of b) ≡ false)
-    none_set not = both_false (set_config (ops_in pieces)) (set_config (ops_of b)) (sym ops_both ∙ not)
+    none_set not = or_parts (set_config (ops_in pieces)) (set_config (ops_of b)) (sym ops_both ∙ not)
 
     -- by the second, or by the first where the second leaves it
     text_by : (c : Bool) → set_config (ops_of b) ≡ c → (set_config (ops_in pieces) || set_config (ops_of b)) ≡ true → HasText (after_all y.state (ops_of b)) z

@@ -1,22 +1,23 @@
 -- The objects that a state's commits use, and the views that hold a world.
-use Rattle.std.proofs.Common.{◌≡◌, ◌≢◌, inl, inr, ℕ, suc, List, [], ◌∷◌, Bool, true, false, ◌&&◌, ◌||◌, Option, Some, None, if◌then◌else◌, Contains, refl, sym, ◌∙◌, ap, arith}
+use Rattle.std.proofs.Common.{◌≡◌, ◌≢◌, inl, inr, ℕ, List, [], ◌∷◌, Bool, true, false, ◌&&◌, ◌||◌, Option, Some, None, if◌then◌else◌, Contains, refl, sym, ◌∙◌, ap}
 use Rattle.std.specs.List.{list_any}
 use Rattle.std.specs.Str.{bytes_eq}
 use Rattle.std.proofs.lemmas.Slice.Eq.{bytes_eq-Decides}
+use Rattle.std.proofs.lemmas.Bool.{and_parts}
 use Rattle.fp_host.specs.Paths.{Elements, Slot, absent, dir, file, link}
 use Rattle.fp_host.specs.Remote.{Holdings}
 use Rattle.fp_host.specs.View.{View, Inode, IsTree}
 use Rattle.fp_host.specs.Outcome.{spot_of, holding, shows}
 use Rattle.fp_host.proofs.Settled.{at_tree}
+use Rattle.fp_host.proofs.Shown.{now_left}
 use Rattle.fp_base.specs.declared.object.ObjKind.{ObjKind}
-use Rattle.fp_base.specs.declared.object.ObjKind.TheVariants as kinds
 use Rattle.fp_small.specs.Places.{repo}
 use Rattle.fp_small.specs.Files.{KeepsFiles}
 use Rattle.fp_small.specs.declared.state.State.{State}
 use Rattle.ost_model.specs.Objects.{Have, object_path, object_at, store}
 use Rattle.ost_model.specs.Order.{Place, In, order, Agree}
 use Rattle.ost_model.proofs.Places.{order_same}
-use Rattle.ost_store.proofs.Lists.{in_none, in_cases}
+use Rattle.ost_model.proofs.Members.{in_contains}
 use Rattle.dep_states.specs.Sound.{Opens}
 use Rattle.dep_states.specs.After.{Done, after_all}
 use Rattle.dep_states.specs.Settled.{Used}
@@ -26,8 +27,9 @@ use Rattle.dep_tidy.proofs.RowsKept.{kept_both}
 use Rattle.dep_tidy.proofs.Pruned.{row_keeps}
 use Rattle.fl_change.specs.World.{World, world_at, world_after, worlds_after, is_at, kept_commits, is_used, used_of}
 use Rattle.fp_base.specs.Objects.{is_kind}
+use Rattle.fp_base.proofs.Lists.{in_none, in_cases}
+use Rattle.fp_base.proofs.Kinds.{kind_is, kind_same}
 use Rattle.fl_change.specs.Performs.{Holds}
-use Rattle.dep_tidy.proofs.Views.{now_left}
 
 -- ---- what a list has
 
@@ -62,37 +64,8 @@ any_same f g (x ∷ xs) same = ap (λ (b : Bool). b || list_any f xs) (same x (i
 
 -- ---- kinds
 
-kind_is : (a b : ObjKind) → is_kind a b ≡ true → a ≡ b
-kind_is kinds.Commit kinds.Commit is = refl
-kind_is kinds.DirTree kinds.DirTree is = refl
-kind_is kinds.DirMeta kinds.DirMeta is = refl
-kind_is kinds.File kinds.File is = refl
-kind_is kinds.Commit kinds.DirTree is = absurd (cc is)
-kind_is kinds.Commit kinds.DirMeta is = absurd (cc is)
-kind_is kinds.Commit kinds.File is = absurd (cc is)
-kind_is kinds.DirTree kinds.Commit is = absurd (cc is)
-kind_is kinds.DirTree kinds.DirMeta is = absurd (cc is)
-kind_is kinds.DirTree kinds.File is = absurd (cc is)
-kind_is kinds.DirMeta kinds.Commit is = absurd (cc is)
-kind_is kinds.DirMeta kinds.DirTree is = absurd (cc is)
-kind_is kinds.DirMeta kinds.File is = absurd (cc is)
-kind_is kinds.File kinds.Commit is = absurd (cc is)
-kind_is kinds.File kinds.DirTree is = absurd (cc is)
-kind_is kinds.File kinds.DirMeta is = absurd (cc is)
-
-kind_own : (a : ObjKind) → is_kind a a ≡ true
-kind_own kinds.Commit = refl
-kind_own kinds.DirTree = refl
-kind_own kinds.DirMeta = refl
-kind_own kinds.File = refl
-
 at_own : (p : Place) → is_at p.digest p.kind p ≡ true
-at_own p = ap (λ (b : Bool). b && is_kind p.kind p.kind) ((bytes_eq-Decides p.digest p.digest).1 refl) ∙ kind_own p.kind
-
-both_true : (b c : Bool) → (b && c) ≡ true → (b ≡ true) × (c ≡ true)
-both_true true true is = (refl, refl)
-both_true true false is = absurd (cc is)
-both_true false c is = absurd (cc is)
+at_own p = ap (λ (b : Bool). b && is_kind p.kind p.kind) ((bytes_eq-Decides p.digest p.digest).1 refl) ∙ kind_same p.kind
 
 -- ---- the objects that are used
 
@@ -115,7 +88,7 @@ used_same s h k agree = λ i d kind. each d kind i
     value d kind is =
         let commit = found (λ c. list_any (is_at d kind) (order h c)) (kept_commits s) is in
         let place = found (is_at d kind) (order h commit.one) commit.holds in
-        let both = both_true (bytes_eq place.one.digest d) (is_kind place.one.kind kind) place.holds in
+        let both = and_parts (bytes_eq place.one.digest d) (is_kind place.one.kind kind) place.holds in
         let digest : place.one.digest ≡ d = (bytes_eq-Decides place.one.digest d).0 both.0 in
         let kinds_are : place.one.kind ≡ kind = kind_is place.one.kind kind both.1 in
         ap (λ (x : List ℕ). k x kind) (sym digest) ∙ ap (k place.one.digest) (sym kinds_are) ∙ agree commit.one commit.inside place.one place.inside ∙ ap (h place.one.digest) kinds_are ∙ ap (λ (x : List ℕ). h x kind) digest
@@ -192,11 +165,6 @@ worlds_state held x [] = refl
 worlds_state held x (op ∷ ops) = worlds_state held (world_after held x op) ops
 
 -- ---- tidying
-
-pub in_contains : {A : Type 0} (xs : List A) (a : A) → In xs a → Contains xs a
-in_contains [] a none = absurd none
-in_contains (x ∷ xs) a (inl is) = (0, omega arith, is)
-in_contains (x ∷ xs) a (inr more) = let c = in_contains xs a more in (suc c.0, omega (arith, c.1), c.2)
 
 pub contains_in : {A : Type 0} (xs : List A) (a : A) → Contains xs a → In xs a
 contains_in [] a has = absurd (in_none a has)

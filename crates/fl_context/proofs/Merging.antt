@@ -127,7 +127,7 @@ value_in-merged_onto [] front p = refl
 value_in-merged_onto (m ∷ ms) front p =
     value_in-merged_onto ms (with_mention front m) p ∙ ap (later (last_mention ms p)) (value_in-with_mention front m p) ∙ later-by (last_mention ms p) (said m p) (value_in front p)
 
-later-none : (o : Option Value) → later o None ≡ o
+pub later-none : (o : Option Value) → later o None ≡ o
 later-none (Some v) = refl
 later-none None = refl
 
@@ -172,7 +172,7 @@ last-one (m ∷ ms) p h =
 no_value : (v : Value) → None ≡ Some v → ⊥
 no_value v e = cc
 
-first_value : (m : Mention) (ms : List Mention) → value_in (m ∷ ms) m.permission ≡ Some m.value
+pub first_value : (m : Mention) (ms : List Mention) → value_in (m ∷ ms) m.permission ≡ Some m.value
 first_value m ms = rw (same_law.refl m.permission) refl
 
 tail-by : (a : Bool) (v w : Value) (x y : Option Value) → or_next (cond a (Some v) None) x ≡ or_next (cond a (Some w) None) y → (a ≡ true → x ≡ None) → (a ≡ true → y ≡ None) → x ≡ y

@@ -2,10 +2,7 @@
 use Rattle.std.proofs.Common.{◌≡◌, ◌<◌, ◌+◌, ℕ, List, [], ◌∷◌, ◌++◌, length, get_or, take, map, Result, Ok, Err, OnOk, refl, sym, ◌∙◌, ap, append-nil, append_assoc}
 use Rattle.std.specs.List.{flat_map}
 use Rattle.std.proofs.lemmas.Grind.{flat_map-append}
-use Rattle.std.proofs.lemmas.List.{take_more}
-
-pub taken : {A : Type 0} (xs : List A) (i : ℕ) (x : A) → i < length xs → x ≡ get_or xs i x → take (i + 1) xs ≡ take i xs ++ x ∷ []
-taken xs i x within is = take_more xs i x within ∙ ap (λ y. take i xs ++ y ∷ []) (sym is)
+use Rattle.fp_base.proofs.Lists.{take_read}
 
 pub flat_next : {A B : Type 0} (f : A → List B) (xs : List A) (i : ℕ) (x : A) → i < length xs → x ≡ get_or xs i x → (out more : List B) → out ≡ flat_map f (take i xs) → more ≡ out ++ f x → more ≡ flat_map f (take (i + 1) xs)
 flat_next f xs i x within is out more so_far grown =
@@ -13,7 +10,7 @@ flat_next f xs i x within is out more so_far grown =
     ∙ ap (λ l. l ++ f x) so_far
     ∙ ap (λ l. flat_map f (take i xs) ++ l) (sym (append-nil (f x)))
     ∙ sym (flat_map-append f (take i xs) (x ∷ []))
-    ∙ ap (flat_map f) (sym (taken xs i x within is))
+    ∙ ap (flat_map f) (sym (take_read xs i x within is))
 
 -- the same after other items
 pub flat_grows : {A B : Type 0} (f : A → List B) (xs : List A) (i : ℕ) (x : A) → i < length xs → x ≡ get_or xs i x → (start out more : List B) → out ≡ start ++ flat_map f (take i xs) → more ≡ out ++ f x → more ≡ start ++ flat_map f (take (i + 1) xs)

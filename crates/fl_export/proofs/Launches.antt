@@ -19,6 +19,7 @@ use Rattle.fp_keyfile.specs.declared.group.Group.{Group}
 use Rattle.fp_keyfile.specs.Grammar.{is_return, ends_so, is_value_byte, is_value}
 use Rattle.fp_keyfile.specs.KeyFile.{names_of, keys_of, are_distinct, is_good_pair, is_good_group, is_good}
 use Rattle.fp_keyfile.proofs.Good.{good_pair_parts, good_pair_from, good_group_parts, good_group_from, good_parts, good_from}
+use Rattle.fp_small.proofs.ConfigTexts.{ends_by}
 use Rattle.fl_export.specs.Keys.{is_left_out}
 use Rattle.fl_export.specs.Rewritten.{first_word, is_command_byte, is_command, command_option, launch_line, launching, rewritten_pair, rewritten_group, rewritten_file}
 
@@ -79,11 +80,6 @@ unfolding is_plain
 line_bytes r value good =
     list_all-append is_plain (ref_text r) (command_option (first_word value))
     ∙ and_from (list_all is_plain (ref_text r)) (list_all is_plain (command_option (first_word value))) (ref_bytes r good) (option_by (first_word value) (is_command (first_word value)) refl)
-
-ends_by : (p q : ℕ → Bool) (text : List ℕ) → ((c : ℕ) → p c ≡ true → q c ≡ false) → list_all p text ≡ true → ends_so q text ≡ false
-ends_by p q [] none h = refl
-ends_by p q (c ∷ []) none h = none c (and_parts (p c) true h).0
-ends_by p q (c ∷ d ∷ cs) none h = ends_by p q (d ∷ cs) none (and_parts (p c) (list_all p (d ∷ cs)) h).1
 
 line_value : (r : Ref) (value : List ℕ) → is_ref r ≡ true → is_value (launch_line r value) ≡ true
 line_value r value good =

@@ -1,13 +1,15 @@
 -- The texts of links to icons.
-use Rattle.std.proofs.Common.{◌≡◌, inl, inr, ℕ, ◌≤◌, List, [], ◌∷◌, ◌++◌, length, Bool, true, not, leb, codes, refl, sym, ◌∙◌, subst, arith, length-append, Contains}
+use Rattle.std.proofs.Common.{◌≡◌, ℕ, ◌≤◌, List, ◌∷◌, ◌++◌, length, Bool, true, not, leb, codes, refl, sym, ◌∙◌, subst, arith, length-append, Contains}
 use Rattle.std.specs.Prelude.{◌==◌, ◌&&◌}
-use Rattle.std.specs.List.{list_all, AllByRecursion}
-use Rattle.std.proofs.lemmas.Bool.{and_parts, and_from}
+use Rattle.std.specs.List.{list_all}
+use Rattle.std.proofs.lemmas.Bool.{and_parts, and_from, leb-true}
 use Rattle.std.proofs.lemmas.Bool.Decides.{nat_tests}
 use Rattle.std.proofs.lemmas.List.Folds.{list_all-append}
+use Rattle.fp_base.proofs.Lists.{all_has}
 use Rattle.fp_host.specs.Paths.{is_element, is_name_byte, path_text}
 use Rattle.fp_host.specs.View.{View}
 use Rattle.fp_host.specs.Outcome.{shows}
+use Rattle.fp_host.proofs.Shown.{now_left}
 use Rattle.fp_name.specs.Bytes.{is_dotted}
 use Rattle.fp_name.specs.Grammar.{is_id, is_arch, is_branch}
 use Rattle.fp_name.specs.Kinds.{kind_word}
@@ -15,9 +17,8 @@ use Rattle.fp_name.specs.Refs.{Ref, is_ref, ref_text}
 use Rattle.fp_name.specs.declared.kind.RefKind.{RefKind}
 use Rattle.fp_name.specs.declared.kind.RefKind.TheVariants.{App, Runtime}
 use Rattle.fp_name.proofs.Bytes.{list_all-wider, dotted_id, dotted_arch, dotted_branch}
-use Rattle.ost_store.proofs.Lists.{in_none, in_cases}
+use Rattle.fp_name.proofs.Lengths.{id_short, arch_short, branch_short, word_short}
 use Rattle.fp_small.specs.declared.state.State.{State}
-use Rattle.fp_small.specs.declared.state.RefRow.{RefRow}
 use Rattle.ost_model.specs.Objects.{Have}
 use Rattle.dep_states.specs.After.{IsGoodRow}
 use Rattle.dep_states.specs.Sound.{Opens}
@@ -26,7 +27,6 @@ use Rattle.fl_export.specs.declared.rows.ExportRow.{ExportRow}
 use Rattle.fl_export.specs.Texts.{icon_path, link_text}
 use Rattle.fl_export.specs.Exported.{exported}
 use Rattle.fl_export.specs.Steps.{HasLinkText}
-use Rattle.fl_export.proofs.Putting.{now_left}
 use Rattle.fl_export.proofs.Rowed.{IsOf, is_desktop_row, is_icon_row, of_state}
 
 abbrev is_set : ℕ → Bool
@@ -38,37 +38,18 @@ dotted_set c h = grind (arith, nat_tests)
 name_set : (c : ℕ) → is_name_byte c ≡ true → is_set c ≡ true
 name_set c h = grind (arith, nat_tests)
 
-low : (n m : ℕ) → leb n m ≡ true → n ≤ m
-low n m h = grind (arith, nat_tests)
-
 -- ---- parts
 
 element_short : (x : List ℕ) → is_element x ≡ true → length x ≤ 255
 element_short x h =
     let a = and_parts (leb 1 (length x)) _ h in
-    low (length x) 255 (and_parts (leb (length x) 255) _ a.1).0
+    leb-true (length x) 255 (and_parts (leb (length x) 255) _ a.1).0
 
 element_set : (x : List ℕ) → is_element x ≡ true → list_all is_set x ≡ true
 element_set x h =
     let a = and_parts (leb 1 (length x)) _ h in
     let b = and_parts (leb (length x) 255) _ a.1 in
     list_all-wider is_name_byte is_set name_set x (and_parts (list_all is_name_byte x) _ b.1).0
-
-id_short : (x : List ℕ) → is_id x ≡ true → length x ≤ 255
-unfolding is_id
-id_short x h = low (length x) 255 (and_parts (leb (length x) 255) _ h).0
-
-arch_short : (x : List ℕ) → is_arch x ≡ true → length x ≤ 255
-unfolding is_arch
-arch_short x h = low (length x) 255 (and_parts (leb (length x) 255) _ h).0
-
-branch_short : (x : List ℕ) → is_branch x ≡ true → length x ≤ 255
-unfolding is_branch
-branch_short x h = low (length x) 255 (and_parts (leb (length x) 255) _ h).0
-
-kind_short : (kind : RefKind) → length (kind_word kind) ≤ 7
-kind_short App = omega arith
-kind_short Runtime = omega arith
 
 kind_set : (kind : RefKind) → list_all is_set (kind_word kind) ≡ true
 kind_set App = refl
@@ -86,7 +67,7 @@ module _ (name : Ref) (good : is_ref name ≡ true) where
 
   ref_length : length (ref_text name) ≤ 780
   ref_length =
-      let k = kind_short name.kind in
+      let k = word_short name.kind in
       let i = id_short name.id parts.0 in
       let a = arch_short name.arch parts.1 in
       let b = branch_short name.branch parts.2 in
@@ -116,11 +97,7 @@ module _ (name : Ref) (good : is_ref name ≡ true) where
 
 -- ---- the rows of a state
 
-row_good : (P : RefRow → Type 0) (rows : List RefRow) → AllByRecursion P rows → (row : RefRow) → Contains rows row → P row
-row_good P [] all row has = absurd (in_none row has)
-row_good P (r ∷ rows) all row has = elim (in_cases r rows row has) [ inl is ↦ subst P (sym is) all.0 | inr later ↦ row_good P rows all.1 row later ]
-
 pub texts_good : (have : Have) (s : State) {v : View} → Opens s v → (r : ExportRow) → Contains (exported have s) r → HasLinkText r.what
 texts_good have s {v = v} opens r has =
     let m = of_state have s r has in
-    text_of m.0.name (row_good IsGoodRow s.refs ((shown_good (shows v) s (opens.shown (shows v) (now_left v))).rows) m.0 m.1).name r m.2
+    text_of m.0.name (all_has IsGoodRow s.refs ((shown_good (shows v) s (opens.shown (shows v) (now_left v))).rows) m.0 m.1).name r m.2

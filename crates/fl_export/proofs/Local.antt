@@ -1,9 +1,8 @@
 -- What is exported depends on the objects of the orders of the commits, also where they have
 -- faults.
-use Rattle.std.proofs.Common.{◌≡◌, ◌⊎◌, inl, inr, ℕ, zero, suc, List, [], ◌∷◌, ◌++◌, Bool, true, false, Option, Some, None, refl, sym, ◌∙◌, ap, subst}
+use Rattle.std.proofs.Common.{◌≡◌, inl, inr, ℕ, zero, suc, List, [], ◌∷◌, ◌++◌, Option, Some, None, refl, sym, ◌∙◌, ap, subst}
 use Rattle.std.specs.Prelude.{if◌then◌else◌, option_and_then, option_map, option_to_list, ◌&&◌, codes}
 use Rattle.std.specs.List.{flat_map}
-use Rattle.std.specs.Str.{bytes_eq}
 use Rattle.fp_base.specs.declared.object.ObjKind.TheVariants as kinds
 use Rattle.fp_host.specs.Paths.{Elements, is_element}
 use Rattle.fp_name.specs.Refs.{Ref}
@@ -17,7 +16,9 @@ use Rattle.ost_model.specs.Readers.{tree_of, commit_of}
 use Rattle.ost_model.specs.Objects.{Have}
 use Rattle.ost_model.specs.Order.{In, Agree, read_as, tree_at, commit_at, tree_place, file_place, file_places, each_in, inside, dir_places, commit_place, below_commit, order}
 use Rattle.ost_model.specs.Look.{Found, nothing, directory, file_at, find_dir, find_file, either, entry_in, next, at_root, look}
-use Rattle.ost_model.proofs.Places.{in_left, in_right, in_each}
+use Rattle.ost_model.proofs.Places.{in_each}
+use Rattle.ost_model.proofs.Looked.{dir_found}
+use Rattle.ost_model.proofs.Members.{in_left, in_right}
 use Rattle.fl_export.specs.Rewritten.{rewritten}
 use Rattle.fl_export.specs.Texts.{is_own, is_desktop, applications, hicolor}
 use Rattle.fl_export.specs.Trees.{tree_found, tree_look, files_in, dirs_in, is_file, short_content}
@@ -26,14 +27,6 @@ use Rattle.fl_export.specs.Exported.{in_export, desktop_row, desktop_of, desktop
 flat_same : {A B : Type 0} (f g : A → List B) (xs : List A) → ((x : A) → In xs x → f x ≡ g x) → flat_map f xs ≡ flat_map g xs
 flat_same f g [] same = refl
 flat_same f g (x ∷ xs) same = ap (λ l. l ++ flat_map f xs) (same x (inl refl)) ∙ ap (λ l. g x ++ l) (flat_same f g xs (λ y h. same y (inr h)))
-
-if_some : {A : Type 0} (b : Bool) (d e : A) (r : Option A) → if b then Some d else r ≡ Some e → (d ≡ e) ⊎ (r ≡ Some e)
-if_some true d e r is = let same : d ≡ e = cc is in inl same
-if_some false d e r is = inr is
-
-dir_in : (x : List ℕ) (es : List DirRow) (e : DirRow) → find_dir x es ≡ Some e → In es e
-dir_in x [] e is = absurd (cc is)
-dir_in x (d ∷ es) e is = elim (if_some (bytes_eq d.name x) d e (find_dir x es) is) [ inl h ↦ inl h | inr h ↦ inr (dir_in x es e h) ]
 
 file_in : (depth : ℕ) (fs : List FileRow) (f : FileRow) → In fs f → In (file_places depth fs) (file_place depth f)
 file_in depth [] f none = absurd none
@@ -69,7 +62,7 @@ module _ (i j : Have) where
   IsAlike fuel (directory e) = IsHeld fuel e
 
   either_alike : (fuel : ℕ) (e : DirRow) (h : IsHeld (suc fuel) e) (v : TreeView) → tree_at i e.tree ≡ Some v → (x : List ℕ) (d : Option DirRow) (f : Option FileRow) → find_dir x v.dirs ≡ d → IsAlike fuel (either d f)
-  either_alike fuel e h v at x (Some d) f is = dir_held fuel e h v at d (dir_in x v.dirs d is)
+  either_alike fuel e h v at x (Some d) f is = dir_held fuel e h v at d (dir_found x v.dirs d is)
   either_alike fuel e h v at x None (Some f) is = tt
   either_alike fuel e h v at x None None is = tt
 

@@ -2,32 +2,29 @@
 use Rattle.std.proofs.Common.{◌≡◌, ◌≢◌, ◌⊎◌, ◌≤◌, ◌<◌, ◌+◌, inl, inr, ℕ, List, [], ◌∷◌, ◌++◌, length, take, drop, get_or, codes, refl, sym, ◌∙◌, ap, subst, arith, Contains}
 use Rattle.std.proofs.lemmas.List.{append_cancel_right, take-append-drop, take_all}
 use Rattle.std.proofs.lemmas.List.Elements.{Contains-append_cases, Contains-append_left, Contains-get_or}
+use Rattle.fp_base.proofs.Lists.{in_none, in_first, in_cases}
+use Rattle.fp_base.proofs.Texts.{bytes_eq-false}
 use Rattle.fp_host.specs.Paths.{Elements, Slot, absent, dir, IsAbove}
 use Rattle.fp_host.specs.View.{View, IsTree}
 use Rattle.fp_host.specs.Outcome.{shows}
+use Rattle.fp_host.proofs.Above.{above_longer}
 use Rattle.fp_small.specs.Places.{repo, tmp, new_name}
 use Rattle.fp_small.specs.Clear.{IsWithin, CanEmpty}
 use Rattle.fp_small.specs.Folders.{ancestors, IsFree}
 use Rattle.fp_small.specs.Replace.{folders_of}
 use Rattle.fp_small.proofs.Replacement.{ancestors_above}
-use Rattle.fp_small.proofs.Emptying.{above_longer}
-use Rattle.ost_store.proofs.Lists.{in_none, in_cases, in_one, in_first}
-use Rattle.ost_store.proofs.Staying.{shown_stays}
-use Rattle.fp_small.specs.Files.{KeepsFiles}
+use Rattle.ost_store.proofs.Lists.{in_one}
+use Rattle.ost_store.proofs.Staying.{same_shows}
 use Rattle.fp_small.proofs.Sharing.{shares_refl, shares_on, shares_to}
-use Rattle.dep_states.proofs.Rows.{text_apart}
+use Rattle.fp_small.proofs.Within.{within_on, within_from}
 use Rattle.fl_export.specs.declared.rows.ExportRow.{ExportRow}
 use Rattle.fl_export.specs.Texts.{desktop_path, icon_path}
 use Rattle.fl_export.specs.Placed.{exports, place_of, IsExported}
 use Rattle.fl_export.specs.Steps.{PutName, it_name, gone_name, folder_name, work_name, PutsAt, WasPut, CanPut, HasRows, PutsRows, HasForm, AreRows, WereThere, WereAllPut, CanPutRows}
 use Rattle.fl_export.proofs.Alter.{alters_none, alters_on, alters_to}
-use Rattle.fl_export.proofs.Spared.{within_from, apart_from_work, apart_from_repo}
-use Rattle.fl_export.proofs.Putting.{within_trans, above_within, root_above}
+use Rattle.fl_export.proofs.Spared.{apart_from_work, apart_from_repo}
+use Rattle.fl_export.proofs.Putting.{above_within, root_above}
 use Rattle.fl_export.proofs.Swept.{took_cases, earlier_in, took_here}
-
--- where a name is the same and files stay, the same shows
-pub same_shows : {u v : View} → IsTree u → IsTree v → KeepsFiles u v → (q : Elements) → v.names q ≡ u.names q → shows v q ≡ shows u q
-same_shows {u = u} {v = v} tree next files q name = shown_stays q u v (record { name = name; row = λ id f is some. files.rows id f some }) tree next
 
 -- ---- places
 
@@ -47,7 +44,7 @@ pub path_back : (p q : Elements) → p ++ exports ≡ q ++ exports → p ≡ q
 path_back p q is = append_cancel_right p q exports is
 
 applications_no_icons : codes "applications" ≢ codes "icons"
-applications_no_icons = text_apart (codes "applications") (codes "icons") refl
+applications_no_icons = bytes_eq-false (codes "applications") (codes "icons") refl
 
 second_of : {x y a b : List ℕ} {up down : Elements} → x ∷ (y ∷ up) ≡ a ∷ (b ∷ down) → y ≡ b
 second_of h = cc h
@@ -115,7 +112,7 @@ module _ (row : ExportRow) where
 
     pub can_put : {v : View} → IsTree v → CanPutRows one v → CanPut place row.what v
     can_put {v = v} tree can = subst (λ (p : Elements). CanPut p row.what v) (sym at) (record {
-      clear = record { no_root = some_place row.path; below = record { short = λ q above. deep q (within_trans exports (place_of row) q (place_within row) (inr above)) } };
+      clear = record { no_root = some_place row.path; below = record { short = λ q above. deep q (within_on exports (place_of row) q (place_within row) (inr above)) } };
       folders = record { free = free };
       within = place_within row;
       text = can.texts row (in_first row []);

@@ -1,10 +1,10 @@
 -- What is put at its place.
-use Rattle.std.proofs.Common.{◌≡◌, ◌≢◌, ◌⊎◌, inl, inr, ℕ, List, [], ◌∷◌, true, Option, Ok, arith, refl, sym, ◌∙◌, ap, subst, Contains}
+use Rattle.std.proofs.Common.{◌≡◌, ◌≢◌, ◌⊎◌, inl, inr, ℕ, List, [], ◌∷◌, true, Option, Ok, refl, sym, ◌∙◌, ap, subst, Contains}
 use Rattle.std.proofs.lemmas.List.Elements.{Contains-append_left, Contains-append_cases}
 use Rattle.fp_host.specs.Paths.{Elements, Slot, absent, dir, file, link, is_link_text, IsAbove}
 use Rattle.fp_host.specs.View.{View, IsTree}
 use Rattle.fp_host.specs.Calls.{Can, HasFolder, IsFile, makes_link, Step}
-use Rattle.fp_host.specs.Outcome.{Spot, Leaves, points, shows, spot_of}
+use Rattle.fp_host.specs.Outcome.{Spot, points, shows, spot_of}
 use Rattle.fp_host.specs.Reads.{IsStat, StatOf}
 use Rattle.fp_host.specs.declared.host.Stat.{Stat}
 use Rattle.fp_host.specs.Frame.{Keeps, Frame, NoPath}
@@ -12,30 +12,28 @@ use Rattle.fp_host.specs.Moments.{Moments, Always}
 use Rattle.std.specs.Str.{is_utf8}
 use Rattle.std.specs.List.{list_all}
 use Rattle.std.specs.Prelude.{◌==◌, not}
+use Rattle.fp_base.proofs.Lists.{in_none, in_cases}
 use Rattle.fp_host.proofs.LinkTexts.{link_text_is}
 use Rattle.fp_host.proofs.Follow.{follows_to}
 use Rattle.fp_host.proofs.Framed.{IsTold}
 use Rattle.fp_host.proofs.Goes.{begins}
 use Rattle.fp_host.proofs.Separate.{set_same}
 use Rattle.fp_host.proofs.Settled.{at_tree}
+use Rattle.fp_host.proofs.Above.{not_above}
+use Rattle.fp_host.proofs.Shown.{now_left}
 use Rattle.fp_small.specs.Places.{repo, tmp}
 use Rattle.fp_small.specs.Clear.{IsWithin, GoneWithin, AbsentWithin, IsCleared, CanClear}
 use Rattle.fp_small.specs.Folders.{ancestors, FoldersAt, DirsAt, IsFree, AreFree, AreDirs}
 use Rattle.fp_small.specs.Replace.{folders_of, IsFreeFile, ReplacesAt, ReplacesName, Replaces, WasReplaced, CanReplace}
 use Rattle.fp_small.proofs.Replacement.{ancestors_above, parent_in}
-use Rattle.fp_small.proofs.Emptying.{above_longer}
 use Rattle.fp_small.proofs.Sharing.{shares_on, shares_empty, shares_made}
-use Rattle.ost_store.proofs.Lists.{in_none, in_cases}
+use Rattle.fp_small.proofs.Within.{within_on}
 use Rattle.fl_export.specs.declared.rows.ExportWhat.{ExportWhat}
 use Rattle.fl_export.specs.declared.rows.ExportWhat.TheVariants as what
 use Rattle.fl_export.specs.Placed.{exports}
 use Rattle.fl_export.specs.Steps.{Alters, PutAt, it_at, gone_at, folder_at, work_at, PutName, it_name, gone_name, folder_name, work_name, MayStay, PutsAt, WasPut, HasLinkText}
 use Rattle.fl_export.proofs.Alter.{alters_kept, alters_to}
 use Rattle.fl_export.proofs.Spared.{apart_from_work, apart_from_repo}
-
--- what stands now is an outcome
-pub now_left : (v : View) → Leaves v (shows v)
-now_left v = record { names = v.names; files = v.files; may_be = λ p. inl refl; rows = λ id. inl refl; seen = λ p. refl }
 
 -- a frame holds at every moment
 pub always_kept : {G : Elements → Spot → Type 0} {W : Elements → Slot → Type 0} {a b : Option Moments} → IsTold a → Frame G W NoPath a b → Always (Alters G W) a b
@@ -93,16 +91,6 @@ root_above q (inr none) = absurd none
 root_no_work : IsAbove tmp [] → ⊥
 root_no_work above = above
 
-below_on : (t : Elements) (x : List ℕ) (up : Elements) → IsWithin t up → IsWithin t (x ∷ up)
-below_on t x up (inl same) = inr (inl (sym same))
-below_on t x up (inr above) = inr (inr above)
-
-pub within_trans : (t p q : Elements) → IsWithin t p → IsWithin p q → IsWithin t q
-within_trans t p q within (inl same) = subst (IsWithin t) (sym same) within
-within_trans t p [] within (inr none) = absurd none
-within_trans t p (x ∷ up) within (inr (inl is)) = below_on t x up (subst (IsWithin t) is within)
-within_trans t p (x ∷ up) within (inr (inr more)) = below_on t x up (within_trans t p up within (inr more))
-
 module _ (place : Elements) (within : IsWithin exports place) where
   -- a folder that is made isn't one of work
   pub folder_no_work : (q : Elements) → Contains (folders_of place) q → IsAbove tmp q → ⊥
@@ -126,7 +114,7 @@ module _ (place : Elements) (within : IsWithin exports place) where
       no_tmp (inr e) = no_repo e
 
   pub within_no_work : (q : Elements) → IsWithin place q → IsAbove tmp q → ⊥
-  within_no_work q below work = apart_from_work q (within_trans exports place q within below) (inr work)
+  within_no_work q below work = apart_from_work q (within_on exports place q within below) (inr work)
 
   -- ---- where it may be put
 
@@ -177,9 +165,6 @@ link_puts q e (link_it is) = it_name is
 link_puts q e (link_gone h) = gone_name h.0 h.1
 link_puts q e (link_folder h) = folder_name (Contains-append_left _ (repo ∷ (tmp ∷ [])) q h.0) h.1
 
-not_above_itself : (p : Elements) → IsAbove p p → ⊥
-not_above_itself p above = omega (arith, above_longer p p above)
-
 module _ (place : Elements) (within : IsWithin exports place) where
   pub link_work : {G : Elements → Spot → Type 0} {u w : View} → Keeps G (LinkName place) NoPath u w → (q : Elements) → IsAbove tmp q → w.names q ≡ u.names q
   link_work {w = w} keeps q work = elim (keeps.names q) [ inl same ↦ same | inr put ↦ absurd (none (w.names q) put) ]
@@ -213,7 +198,7 @@ pub record IsHousedAt (place : Elements) (w : View) : Type 0 where
 
 pub housed : {place : Elements} {v w : View} → IsCleanAt place v → Keeps (FoldersAt (ancestors place)) (DirsAt (ancestors place)) NoPath v w → (AreFree (ancestors place) v → AreDirs (ancestors place) w) → IsHousedAt place w
 housed {place = place} clean keeps made = record {
-  none = elim (keeps.names place) [ inl same ↦ same ∙ clean.none | inr put ↦ absurd (not_above_itself place (ancestors_above place place put.0)) ];
+  none = elim (keeps.names place) [ inl same ↦ same ∙ clean.none | inr put ↦ absurd (not_above place (ancestors_above place place put.0)) ];
   dirs = made clean.dirs;
 }
 

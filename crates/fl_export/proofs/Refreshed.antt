@@ -2,6 +2,7 @@
 use Rattle.std.proofs.Common.{◌≡◌, ◌≢◌, ◌⊎◌, ◌≤◌, inl, inr, ℕ, List, [], ◌∷◌, length, refl, sym, ◌∙◌, ap, subst, arith, Contains}
 use Rattle.std.specs.Prelude.{Option, Some, None, Result, Ok}
 use Rattle.fp_base.specs.declared.object.ObjKind.{ObjKind}
+use Rattle.fp_base.proofs.Lists.{in_none, in_cases, in_map, from_map}
 use Rattle.std.proofs.lemmas.List.Elements.{Contains-append_cases}
 use Rattle.fp_host.specs.Paths.{Elements, Slot, absent, dir, file, link, IsAbove}
 use Rattle.fp_host.specs.View.{View, Inode, IsTree}
@@ -15,23 +16,27 @@ use Rattle.fp_host.proofs.Ending.{ends_both, ends_call, ends_frame, ends_goes, e
 use Rattle.fp_host.proofs.Framed.{IsTold, frame_start, frame_sync}
 use Rattle.fp_host.proofs.Goes.{begins, goes_on}
 use Rattle.fp_host.proofs.Settled.{at_tree}
+use Rattle.fp_host.proofs.Above.{above_longer}
+use Rattle.fp_host.proofs.Shown.{now_left}
 use Rattle.fp_small.specs.Places.{repo, tmp}
 use Rattle.fp_small.specs.Clear.{IsWithin, CanEmpty, Reaches}
 use Rattle.fp_small.specs.Folders.{ancestors, IsFree}
 use Rattle.fp_small.specs.Shares.{Shares}
 use Rattle.fp_small.specs.declared.state.State.{State}
 use Rattle.fp_small.proofs.Replacement.{ancestors_above}
-use Rattle.fp_small.proofs.Emptying.{above_longer}
 use Rattle.fp_small.proofs.Keeping.{files_on, files_stay}
 use Rattle.fp_small.proofs.Sharing.{shares_empty, shares_on, shares_refl, shares_start, shares_to}
+use Rattle.fp_small.proofs.Within.{within_on}
 use Rattle.ost_model.specs.Objects.{Have, object_at, object_path, store}
 use Rattle.ost_model.specs.Remotes.{Stores}
 use Rattle.ost_store.proofs.Creating.{creates_none}
-use Rattle.ost_store.proofs.Lists.{in_none, in_cases, in_one, in_map, from_map}
+use Rattle.ost_store.proofs.Lists.{in_one}
+use Rattle.ost_store.proofs.Staying.{same_shows}
 use Rattle.dep_states.specs.Sound.{Opens, Sound}
 use Rattle.dep_states.specs.Zones.{Fits, IsFolderOrGone, outward, zone}
 use Rattle.dep_states.proofs.Law.{frame_law}
 use Rattle.dep_states.proofs.Linked.{links_refl, links_still, links_on}
+use Rattle.dep_states.proofs.Zones.{free_of}
 use Rattle.fl_export.specs.declared.rows.ExportRow.{ExportRow}
 use Rattle.fl_export.specs.Exported.{exported}
 use Rattle.fl_export.specs.Placed.{exports, place_of, places_of, IsExported, ExportsAre}
@@ -40,8 +45,8 @@ use Rattle.fl_export.specs.Steps.{Alters, Exports, in_exports, in_store, in_work
 use Rattle.fl_export.proofs.Alter.{alters_on, alters_to, alters_kept}
 use Rattle.fl_export.proofs.Elsewhere.{refresh_links, no_object_put}
 use Rattle.fl_export.proofs.Spared.{exports_spare, apart_from_work}
-use Rattle.fl_export.proofs.Putting.{now_left, within_trans, above_within, root_above}
-use Rattle.fl_export.proofs.PutRows.{apart, place_within, place_above, some_path, short_place, same_shows}
+use Rattle.fl_export.proofs.Putting.{above_within, root_above}
+use Rattle.fl_export.proofs.PutRows.{apart, place_within, place_above, some_path, short_place}
 use Rattle.fl_export.proofs.Rowed.{are_rows}
 
 -- ---- what rows give
@@ -67,7 +72,7 @@ folder_within r q has = elim (above_within exports (place_of r) q (place_within 
 module _ (rows : List ExportRow) (are : AreRows rows) where
   export_given : (r : ExportRow) → Contains rows r → (q : Elements) (spot : Spot) → PutAt (place_of r) r.what q spot → Exports q spot
   export_given r has q spot (it_at at is) = in_exports (subst (IsWithin exports) (sym at) (place_within r)) (inr (subst (λ (x : Elements). length x ≤ 128) (sym at) (short_place r.path (are.forms r has))))
-  export_given r has q spot (gone_at within is) = in_exports (within_trans exports (place_of r) q (place_within r) within) (inl is)
+  export_given r has q spot (gone_at within is) = in_exports (within_on exports (place_of r) q (place_within r) within) (inl is)
   export_given r has q spot (work_at k at) = in_work k at
   export_given r has q spot (folder_at among is) = elim (Contains-append_cases (ancestors (place_of r)) (repo ∷ (tmp ∷ [])) q among) [
     | inl above ↦ in_exports (folder_within r q above) (inr (omega (arith, above_longer q (place_of r) (ancestors_above (place_of r) q above), short_place r.path (are.forms r has))))
@@ -76,7 +81,7 @@ module _ (rows : List ExportRow) (are : AreRows rows) where
 
   export_name : (r : ExportRow) (q : Elements) (e : Slot) → PutName (place_of r) q e → MayRefresh q e
   export_name r q e (it_name at) = some_export (subst (IsWithin exports) (sym at) (place_within r))
-  export_name r q e (gone_name within is) = some_export (within_trans exports (place_of r) q (place_within r) within)
+  export_name r q e (gone_name within is) = some_export (within_on exports (place_of r) q (place_within r) within)
   export_name r q e (work_name k at) = some_work (subst (IsAbove tmp) (sym at) (inl refl))
   export_name r q e (folder_name among is) = elim (Contains-append_cases (ancestors (place_of r)) (repo ∷ (tmp ∷ [])) q among) [
     | inl above ↦ some_export (folder_within r q above)
@@ -325,16 +330,6 @@ slot_there files (file id) known is = absurd (held (files id) (known id refl) is
 
 gone_absent : {v : View} → IsTree v → (q : Elements) → shows v q ≡ gone → v.names q ≡ absent
 gone_absent {v = v} tree q is = slot_there v.files (v.names q) (λ id at. tree.known q id (inl (sym at))) (sym (ap (spot_of v.files) (at_tree v tree q)) ∙ is)
-
-free_of : (files : ℕ → Option Inode) (e : Slot) → ((id : ℕ) → e ≡ file id → files id ≢ None) → IsFolderOrGone (spot_of files e) → (e ≡ absent) ⊎ (e ≡ dir)
-free_of files absent known fits = inl refl
-free_of files dir known fits = inr refl
-free_of files (link text) known fits = absurd fits
-free_of files (file id) known fits = absurd (held (files id) (known id refl) fits)
-  where
-    held : (row : Option Inode) → row ≢ None → IsFolderOrGone (spot_of (λ n. row) (file id)) → ⊥
-    held None some f = some refl
-    held (Some x) some f = f
 
 free_by : {v : View} → IsTree v → (q : Elements) → IsFolderOrGone (shows v q) → IsFree v q
 free_by {v = v} tree q fits = free_of v.files (v.names q) (λ id at. tree.known q id (inl (sym at))) (subst IsFolderOrGone (ap (spot_of v.files) (at_tree v tree q)) fits)

@@ -11,18 +11,20 @@ use Rattle.std.proofs.lemmas.Bool.{and_parts, and_from}
 use Rattle.std.proofs.lemmas.List.Elements.{Contains-append_cases}
 use Rattle.std.proofs.lemmas.Map.Text.{is_eq-slice_cmp}
 use Rattle.fp_base.specs.declared.object.ObjKind.TheVariants as kinds
+use Rattle.fp_base.proofs.Lists.{in_none, in_first, in_rest, in_cases}
+use Rattle.fp_base.proofs.Texts.{bytes_eq-true, bytes_eq-same}
 use Rattle.fp_host.specs.Paths.{is_element, path_text}
 use Rattle.fp_host.specs.Reads.{comes_first, is_ascending}
 use Rattle.fp_name.specs.Refs.{Ref}
 use Rattle.fp_name.specs.declared.kind.RefKind.{RefKind}
 use Rattle.fp_name.specs.declared.kind.RefKind.TheVariants.{App, Runtime}
 use Rattle.fp_small.specs.Order.{comes_before}
-use Rattle.fp_small.proofs.Ordered.{before_back, before_on, before_differs, bytes_eq-is, bytes_eq-itself}
+use Rattle.fp_small.proofs.Ordered.{before_back, before_on, before_differs}
 use Rattle.fp_small.specs.declared.state.State.{State}
 use Rattle.fp_small.specs.declared.state.RefRow.{RefRow}
 use Rattle.ost_model.specs.Fields.{FileRow, DirRow}
 use Rattle.ost_model.specs.Objects.{Have}
-use Rattle.ost_store.proofs.Lists.{in_none, in_cases, in_one, in_first, in_rest}
+use Rattle.ost_store.proofs.Lists.{in_one}
 use Rattle.fl_export.specs.declared.rows.ExportRow.{ExportRow}
 use Rattle.fl_export.specs.Rewritten.{rewritten}
 use Rattle.fl_export.specs.Texts.{is_own, is_desktop, applications, hicolor}
@@ -157,7 +159,7 @@ put_up x (y ∷ rows) up = by_case (put_up x rows above.1) (slice_cmp nat_cmp (k
 
     by_case : is_ascending (keys (put_in x rows)) ≡ true → (o : Ordering) → slice_cmp nat_cmp (key x) (key y) ≡ o → is_ascending (keys (by_order o x y rows (put_in x rows))) ≡ true
     by_case more Less is = and_from (comes_first (key x) (keys (y ∷ rows))) (is_ascending (keys (y ∷ rows))) (ap is_lt is) up
-    by_case more Equal is = and_from (comes_first (key x) (keys rows)) (is_ascending (keys rows)) (same_first rows (bytes_eq-is (key x) (key y) (sym (is_eq-slice_cmp (key x) (key y)) ∙ ap is_eq is)) above.0) above.1
+    by_case more Equal is = and_from (comes_first (key x) (keys rows)) (is_ascending (keys rows)) (same_first rows (bytes_eq-true (key x) (key y) (sym (is_eq-slice_cmp (key x) (key y)) ∙ ap is_eq is)) above.0) above.1
     by_case more Greater is = and_from (comes_first (key y) (keys (put_in x rows))) (is_ascending (keys (put_in x rows)))
         (first_put y x rows (before_back (key x) (key y) (ap is_lt is) (sym (is_eq-slice_cmp (key x) (key y)) ∙ ap is_eq is)) above.0) more
 
@@ -183,7 +185,7 @@ one_of (x ∷ rows) up r o has other same =
     ]
   where
     apart : (y : ExportRow) → comes_before (key x) (key y) ≡ true → key x ≡ key y → ⊥
-    apart y before is = cc (sym (before_differs (key x) (key y) before) ∙ ap (bytes_eq (key y)) is ∙ bytes_eq-itself (key y))
+    apart y before is = cc (sym (before_differs (key x) (key y) before) ∙ ap (bytes_eq (key y)) is ∙ bytes_eq-same (key y))
 
 pub are_rows : (have : Have) (s : State) → AreRows (exported have s)
 unfolding exported

@@ -1,46 +1,30 @@
 -- What may come and go below `exports`.
-use Rattle.std.proofs.Common.{◌≡◌, ◌≢◌, ◌⊎◌, ◌≤◌, inl, inr, ℕ, [], ◌∷◌, ◌++◌, codes, length, refl, sym, ◌∙◌, ap, subst, arith}
-use Rattle.fp_host.specs.Paths.{Elements, IsAbove}
+use Rattle.std.proofs.Common.{◌≡◌, ◌≢◌, ◌⊎◌, ◌≤◌, inl, inr, ℕ, [], ◌∷◌, codes, length, refl, sym, ◌∙◌, ap, subst, arith}
+use Rattle.fp_base.proofs.Texts.{bytes_eq-false as text_apart}
+use Rattle.fp_host.specs.Paths.{Elements}
 use Rattle.fp_host.specs.View.{View}
 use Rattle.fp_host.specs.Outcome.{Spot, Disk, Leaves, gone, folder}
 use Rattle.fp_name.specs.declared.kind.RefKind.{RefKind}
 use Rattle.fp_name.specs.Kinds.{kind_word}
+use Rattle.fp_name.proofs.Refs.{word_apart}
 use Rattle.fp_small.specs.Places.{repo, tmp, new_name}
 use Rattle.fp_small.specs.Clear.{IsWithin}
 use Rattle.dep_states.specs.Names.{commit_dir}
-use Rattle.dep_states.specs.Zones.{Zone, Fits, Allowed, zone, outward, outward_onto}
+use Rattle.dep_states.specs.Zones.{Zone, Fits, Allowed, zone, outward}
 use Rattle.dep_states.specs.Sound.{IsOld, is_remotes, is_pins, Fixed, InTmp, is_config, is_old, is_active, is_deploy, is_layer, is_inside, is_object, Permits, Spares}
 use Rattle.dep_states.proofs.Deployed.{outward_append, top}
-use Rattle.dep_states.proofs.Rows.{head_of, text_apart}
-use Rattle.dep_states.proofs.Sparing.{none_in_repo, word_apart}
+use Rattle.dep_states.proofs.Rows.{head_of}
+use Rattle.dep_states.proofs.Sparing.{none_in_repo}
 use Rattle.dep_states.proofs.Switching.{word_no_repo, second}
 use Rattle.dep_states.proofs.Usual.{tmp_spares}
+use Rattle.dep_states.proofs.Work.{outward_is, work_top}
 use Rattle.fl_export.specs.Placed.{exports}
 use Rattle.fl_export.specs.Steps.{Exports, in_exports, in_store, in_work}
 
 -- ---- below a folder
 
-pub above_is : (t q : Elements) → IsAbove t q → (rest : Elements) × (q ≡ rest ++ t)
-above_is t [] above = absurd above
-above_is t (x ∷ up) (inl same) = (x ∷ [], ap (λ (l : Elements). x ∷ l) (sym same))
-above_is t (x ∷ up) (inr above) = let more = above_is t up above in (x ∷ more.0, ap (λ (l : Elements). x ∷ l) more.1)
-
-pub within_is : (t q : Elements) → IsWithin t q → (rest : Elements) × (q ≡ rest ++ t)
-within_is t q (inl same) = ([], same)
-within_is t q (inr above) = above_is t q above
-
-pub within_from : (t rest : Elements) → IsWithin t (rest ++ t)
-within_from t [] = inl refl
-within_from t (x ∷ rest) = inr (elim (within_from t rest) [ inl same ↦ inl (sym same) | inr above ↦ inr above ])
-
-pub outward_is : (t q : Elements) → IsWithin t q → (rest : Elements) × (outward q ≡ outward_onto t (outward rest))
-outward_is t q within = let is = within_is t q within in (is.0, ap outward is.1 ∙ outward_append is.0 t [])
-
 pub exports_top : (q : Elements) → IsWithin exports q → top q ≡ codes "exports"
 exports_top q within = ap head_of (outward_is exports q within).1
-
-pub work_top : (q : Elements) → IsWithin tmp q → top q ≡ codes "repo"
-work_top q within = ap head_of (outward_is tmp q within).1
 
 pub no_repo : codes "exports" ≢ codes "repo"
 no_repo = text_apart (codes "exports") (codes "repo") refl

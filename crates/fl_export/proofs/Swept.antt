@@ -2,15 +2,18 @@
 use Rattle.std.proofs.Common.{◌≡◌, ◌≢◌, ◌⊎◌, inl, inr, ℕ, ◌+◌, ◌-◌, ◌<◌, List, [], ◌∷◌, ◌++◌, length, take, get_or, refl, sym, ◌∙◌, ap, subst, Contains, arith}
 use Rattle.std.proofs.lemmas.List.{take_more}
 use Rattle.std.proofs.lemmas.List.Elements.{Contains-append_cases, Contains-append_left, Contains-push, Contains-get_or}
-use Rattle.fp_host.specs.Paths.{Elements, Slot, absent, file, link, dir, IsAbove}
+use Rattle.fp_base.proofs.Lists.{in_none}
+use Rattle.fp_host.specs.Paths.{Elements, Slot, absent, dir, IsAbove}
 use Rattle.fp_host.specs.View.{View, IsTree}
-use Rattle.fp_host.specs.Calls.{IsLeaf, IsNoDir}
+use Rattle.fp_host.specs.Calls.{IsLeaf}
 use Rattle.fp_host.specs.Frame.{Keeps, NoPath, Only}
+use Rattle.fp_host.proofs.Slots.{leaf_no_folder, leaf_there}
 use Rattle.fp_small.specs.Clear.{GoneAt, AbsentAt, IsWithin, AbsentWithin, Reaches}
 use Rattle.fp_small.specs.Naming.{ListsIn}
 use Rattle.fp_small.proofs.Emptying.{within_child, reaches_child, emptied_no_dir}
 use Rattle.fp_small.proofs.Sharing.{shares_refl, shares_on, shares_empty}
-use Rattle.ost_store.proofs.Lists.{in_none, in_one}
+use Rattle.fp_small.proofs.Within.{child_above}
+use Rattle.ost_store.proofs.Lists.{in_one}
 use Rattle.fl_export.specs.Steps.{IsStale, Sweeps, SweepsAt, HasNoStaleIn}
 use Rattle.fl_export.proofs.Alter.{alters_none, alters_on, alters_to, alters_kept}
 
@@ -63,12 +66,6 @@ still_none s before = record {
 
 -- ---- one path
 
-no_dir_leaf : (e : Slot) → IsLeaf e → e ≡ dir → ⊥
-no_dir_leaf absent leaf is = leaf
-no_dir_leaf (file id) leaf is = cc is
-no_dir_leaf (link text) leaf is = cc is
-no_dir_leaf dir leaf is = leaf
-
 module _ {places : List Elements} {path : Elements} where
   pub wanted_swept : Contains places path → (w : View) → HasNoStaleIn (Only path) places w
   wanted_swept wanted w = record { none = λ q is off leaf. off (subst (Contains places) (sym is) wanted) }
@@ -97,7 +94,7 @@ module _ {places : List Elements} {path : Elements} where
   leaf_swept {w = w} same leaf s = sweeps_to (λ q is. inl is) ((subst (λ (x : View). SweepsAt path places x w) same s).sweeps leaf)
 
   still_no_dir : {u w : View} → IsLeaf (u.names path) → Sweeps (Only path) places u w → w.names path ≡ dir → ⊥
-  still_no_dir {u = u} leaf s is = elim (s.alters.names path) [ inl same ↦ no_dir_leaf (u.names path) leaf (sym same ∙ is) | inr put ↦ absent_no_dir (sym put.1 ∙ is) ]
+  still_no_dir {u = u} leaf s is = elim (s.alters.names path) [ inl same ↦ leaf_no_folder (u.names path) leaf (sym same ∙ is) | inr put ↦ absent_no_dir (sym put.1 ∙ is) ]
     where
       absent_no_dir : absent ≡ dir → ⊥
       absent_no_dir e = cc e
@@ -127,7 +124,7 @@ module _ {places : List Elements} {path : Elements} where
     none = λ q within off leaf. elim within [
       | inr above ↦ none.none q above off leaf
       | inl at ↦ elim (s.alters.names path) [
-        | inl kept ↦ no_dir_leaf (w.names path) (subst IsLeaf (ap w.names at) leaf) (kept ∙ ap (λ (x : View). x.names path) same ∙ is)
+        | inl kept ↦ leaf_no_folder (w.names path) (subst IsLeaf (ap w.names at) leaf) (kept ∙ ap (λ (x : View). x.names path) same ∙ is)
         | inr put ↦ leaf_absent put.1 (subst IsLeaf (ap w.names at) leaf)
       ]
     ];
@@ -167,12 +164,6 @@ module _ (p : Elements) (places : List Elements) (names : List (List ℕ)) (i : 
 pub reach_on : (p : Elements) (places : List Elements) (x : List ℕ) {u v : View} {depth : ℕ} → Sweeps (IsAbove p) places u v → Reaches p depth u → depth ≢ 0 → Reaches (x ∷ p) (depth - 1) v
 reach_on p places x s reaches some = (reaches_child p x (λ q. elim (s.alters.names q) [ inl same ↦ inl same | inr put ↦ inr (put.0.within, put.1) ]) reaches some).below
 
--- what stands below a folder stands in one of its names
-child_above : (p q : Elements) → IsAbove p q → (x : List ℕ) × IsWithin (x ∷ p) q
-child_above p [] above = absurd above
-child_above p (y ∷ up) (inl is) = (y, inl (ap (λ (r : Elements). y ∷ r) (sym is)))
-child_above p (y ∷ up) (inr higher) = let c = child_above p up higher in (c.0, inr (elim c.1 [ inl is ↦ inl (sym is) | inr above ↦ inr above ]))
-
 folder_above : {w : View} → IsTree w → (r q : Elements) → IsAbove r q → w.names q ≢ absent → w.names r ≢ absent
 folder_above tree r [] above some = absurd above
 folder_above {w = w} tree r (x ∷ up) above some = elim (tree.above x up) [
@@ -186,17 +177,11 @@ folder_above {w = w} tree r (x ∷ up) above some = elim (tree.above x up) [
     there : dir ≡ absent → ⊥
     there e = cc e
 
-leaf_some : (e : Slot) → IsLeaf e → e ≢ absent
-leaf_some (file id) leaf is = cc is
-leaf_some (link text) leaf is = cc is
-leaf_some absent leaf is = leaf
-leaf_some dir leaf is = leaf
-
 pub all_swept : {p : Elements} {places : List Elements} {names : List (List ℕ)} {u w : View} → IsTree w → ListsIn p u names → Sweeps (IsAbove p) places u w → AreSwept p places names w → HasNoStaleIn (IsAbove p) places w
 all_swept {p = p} {w = w} tree lists s swept = record {
   none = λ q above off leaf.
       let c = child_above p q above in
-      let some : w.names (c.0 ∷ p) ≢ absent = elim c.1 [ inl is ↦ subst (λ (r : Elements). w.names r ≢ absent) is (leaf_some (w.names q) leaf) | inr higher ↦ folder_above tree (c.0 ∷ p) q higher (leaf_some (w.names q) leaf) ] in
+      let some : w.names (c.0 ∷ p) ≢ absent = elim c.1 [ inl is ↦ subst (λ (r : Elements). w.names r ≢ absent) is (leaf_there (w.names q) leaf) | inr higher ↦ folder_above tree (c.0 ∷ p) q higher (leaf_there (w.names q) leaf) ] in
       elim (s.alters.names (c.0 ∷ p)) [
         | inl same ↦ (swept.each c.0 ((lists.each c.0).1 (λ gone. some (same ∙ gone)))).none q c.1 off leaf
         | inr put ↦ some put.1
@@ -205,12 +190,6 @@ all_swept {p = p} {w = w} tree lists s swept = record {
 
 pub from_same : {region : Elements → Type 0} {places : List Elements} {u v w : View} → v ≡ u → Sweeps region places v w → Sweeps region places u w
 from_same {region = region} {places = places} {w = w} same s = subst (λ (x : View). Sweeps region places x w) same s
-
-pub leaf_is_no_dir : (e : Slot) → IsLeaf e → IsNoDir e
-leaf_is_no_dir (file id) leaf = tt
-leaf_is_no_dir (link text) leaf = tt
-leaf_is_no_dir absent leaf = absurd leaf
-leaf_is_no_dir dir leaf = absurd leaf
 
 -- what comes to be otherwise at or below the path comes to be absent
 pub names_swept : {p : Elements} {places : List Elements} {v w : View} → Sweeps (IsWithin p) places v w → (q : Elements) → (w.names q ≡ v.names q) ⊎ AbsentWithin p q (w.names q)

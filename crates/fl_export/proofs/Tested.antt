@@ -1,9 +1,10 @@
 -- What stands at a place already.
-use Rattle.std.proofs.Common.{◌≡◌, ℕ, List, Bool, true, false, Err, length, leb, Option, Some, None, Ok, refl, sym, ◌∙◌, ap, arith}
+use Rattle.std.proofs.Common.{◌≡◌, ℕ, List, Bool, true, false, length, leb, Option, Some, None, Ok, refl, sym, ◌∙◌, ap, arith}
 use Rattle.std.specs.Prelude.{◌&&◌, ◌==◌, if◌then◌else◌}
 use Rattle.std.specs.Str.{bytes_eq}
 use Rattle.std.proofs.lemmas.Bool.{and_parts}
 use Rattle.std.proofs.lemmas.Bool.Decides.{nat_tests}
+use Rattle.fp_base.proofs.Texts.{bytes_eq-true, bytes_eq-same}
 use Rattle.fp_host.specs.Paths.{Elements, Slot, absent, dir, file, link}
 use Rattle.fp_host.specs.View.{View, Inode, IsTree}
 use Rattle.fp_host.specs.Outcome.{Spot, gone, folder, holds, points, holding, spot_of, shows}
@@ -12,9 +13,6 @@ use Rattle.fp_host.specs.declared.host.Stat.{Stat}
 use Rattle.fp_host.specs.declared.host.Stat.TheVariants.{File as StatFile, Link}
 use Rattle.fp_host.specs.Moments.{Makes}
 use Rattle.fp_host.specs.Frame.{AtEnd}
-use Rattle.fp_host.specs.declared.host.HostError.{HostError}
-use Rattle.fp_host.specs.declared.host.HostError.TheVariants.{Clash}
-use Rattle.fp_host.proofs.Cause.{clash_reads}
 use Rattle.fp_host.proofs.Framed.{IsTold}
 use Rattle.fp_host.proofs.Goes.{begins, makes_goes}
 use Rattle.fp_host.proofs.Settled.{at_tree}
@@ -22,7 +20,6 @@ use Rattle.fp_small.specs.Load.{loaded_of, Loads}
 use Rattle.fp_small.specs.Move.{IsNew}
 use Rattle.fp_small.specs.declared.loading.Loaded.{Loaded}
 use Rattle.fp_small.specs.declared.loading.Loaded.TheVariants.{Bytes, TooLong}
-use Rattle.fp_small.proofs.Ordered.{bytes_eq-is, bytes_eq-itself}
 use Rattle.fl_export.specs.declared.rows.ExportWhat.{ExportWhat}
 use Rattle.fl_export.specs.declared.rows.ExportWhat.TheVariants as what
 use Rattle.fl_export.specs.Placed.{IsExported, has_bits, has_bytes, is_text, is_link, is_exported}
@@ -38,19 +35,19 @@ text_is bytes folder h = absurd (cc h)
 text_is bytes (points text) h = absurd (cc h)
 text_is bytes (holds id mode found) h =
     let a = and_parts (mode == 420) (bytes_eq found bytes) h in
-    (id, λ i. holds id (same_number mode a.0 i) (bytes_eq-is found bytes a.1 i))
+    (id, λ i. holds id (same_number mode a.0 i) (bytes_eq-true found bytes a.1 i))
 
 text_back : (bytes : List ℕ) (spot : Spot) → IsNew bytes spot → is_text bytes spot ≡ true
-text_back bytes spot new = ap (is_text bytes) new.1 ∙ bytes_eq-itself bytes
+text_back bytes spot new = ap (is_text bytes) new.1 ∙ bytes_eq-same bytes
 
 link_is : (text : List ℕ) (spot : Spot) → is_link text spot ≡ true → spot ≡ points text
 link_is text gone h = absurd (cc h)
 link_is text folder h = absurd (cc h)
 link_is text (holds id mode bytes) h = absurd (cc h)
-link_is text (points found) h = ap points (bytes_eq-is found text h)
+link_is text (points found) h = ap points (bytes_eq-true found text h)
 
 link_back : (text : List ℕ) (spot : Spot) → spot ≡ points text → is_link text spot ≡ true
-link_back text spot is = ap (is_link text) is ∙ bytes_eq-itself text
+link_back text spot is = ap (is_link text) is ∙ bytes_eq-same text
 
 pub there_is : (w : ExportWhat) (spot : Spot) → is_exported w spot ≡ true → IsExported w spot
 there_is (what.Text bytes) spot h = text_is bytes spot h
@@ -128,7 +125,7 @@ long_differs bytes content long = by_test (bytes_eq content bytes) refl
   where
     by_test : (b : Bool) → bytes_eq content bytes ≡ b → bytes_eq content bytes ≡ false
     by_test false is = is
-    by_test true is = absurd (too_long (ap length (bytes_eq-is content bytes is)))
+    by_test true is = absurd (too_long (ap length (bytes_eq-true content bytes is)))
       where
         too_long : length content ≡ length bytes → ⊥
         too_long same = grind (arith, nat_tests)
@@ -151,17 +148,3 @@ unload_told p bytes l {v = v} off loads = unloaded_by bytes l (shows v p) off lo
 
 pub text_told : (p : Elements) (bytes : List ℕ) (u v : View) (bits is : Bool) → bits ≡ true → bits ≡ has_bits (shows u p) → v ≡ u → is ≡ has_bytes bytes (shows v p) → is ≡ is_text bytes (shows u p)
 text_told p bytes u v bits is so at same told = told ∙ ap (λ (x : View). has_bytes bytes (shows x p)) same ∙ ap (λ b. b && has_bytes bytes (shows u p)) (sym so ∙ at)
-
--- ---- links
-
-link_of : (v : View) (e : Slot) → IsStat v e Link → (text : List ℕ) × (e ≡ link text)
-link_of v absent s = absurd (cc s)
-link_of v dir s = absurd (cc s)
-link_of v (link text) s = (text, refl)
-link_of v (file id) s = absurd (cc s.2)
-
-pub stat_link : {p : Elements} {v w : View} → StatOf p (Ok Link) v w → (text : List ℕ) × (v.names p ≡ link text)
-stat_link {p = p} {v = v} stat = link_of v (v.names p) stat.tells.1
-
-pub clash_link : {p : Elements} {e : HostError} {v w : View} → LinkOf p (Err e) v w → e ≡ Clash → (text : List ℕ) × (v.names p ≡ link text) → ⊥
-clash_link {p = p} {e = e} {v = v} step is can = clash_reads {T = List ℕ} ((text : List ℕ) × (v.names p ≡ link text)) (λ text. v.names p ≡ link text) e step.tells is can

@@ -11,12 +11,13 @@ use Rattle.std.specs.Cmp.Lexicographic.{slice_cmp, texts_ties}
 use Rattle.std.specs.Ordering.{is_eq, nat_cmp, match_ordering}
 use Rattle.std.proofs.lemmas.Bool.{cases_Bool, false≢true, not-true, or_parts, and_parts, and_from, ne_eqb}
 use Rattle.std.proofs.lemmas.List.Folds.{list_all-append}
+use Rattle.fp_base.proofs.Booleans.{or-swap, or-same}
+use Rattle.fp_base.proofs.Texts.{bytes_eq-true, bytes_eq-same}
 use Rattle.fp_host.specs.Paths.{is_element, cut}
 use Rattle.fp_keyfile.specs.declared.group.Group.{Group}
 use Rattle.fp_keyfile.specs.Grammar.{is_key, is_key_byte, is_blank, ends_so}
 use Rattle.fp_keyfile.specs.KeyFile.{are_distinct}
 use Rattle.fp_keyfile.proofs.Texts.{ends_so-append}
-use Rattle.fp_small.proofs.Ordered.{bytes_eq-is, bytes_eq-itself}
 use Rattle.fp_name.specs.Grammar.{is_branch}
 use Rattle.fp_name.specs.Refs.{Ref}
 use Rattle.fl_extension.specs.Points.{is_directory, branch_of, candidate_of, candidates_of, versions_of, each_new, each_once}
@@ -33,18 +34,8 @@ has keys text = list_any (λ key. bytes_eq text key.now) keys
 
 -- ---- the set
 
-or-swap : (a b c : Bool) → (b || (a || c)) ≡ (a || (b || c))
-or-swap true true c = refl
-or-swap true false c = refl
-or-swap false true c = refl
-or-swap false false c = refl
-
-or-same : (a c : Bool) → (a || c) ≡ (a || (a || c))
-or-same true c = refl
-or-same false c = refl
-
 same_text : (x y : List ℕ) → slice_cmp nat_cmp x y ≡ orders.Equal → x ≡ y
-same_text x y e = bytes_eq-is x y (texts_ties x y ∙ ap is_eq e)
+same_text x y e = bytes_eq-true x y (texts_ties x y ∙ ap is_eq e)
 
 pub has_inserted : (keys : Texts) (x : Bor (List ℕ)) (text : List ℕ) → has (insert_key text_cmp keys x) text ≡ (bytes_eq text x.now || has keys text)
 has_inserted [] x text = refl
@@ -64,7 +55,7 @@ contains_is (y ∷ ys) x = ap₂ ◌||◌ (sym (texts_ties x.now y.now)) (contai
 or_seen : (seen : List ℕ → Bool) (text : List ℕ) → seen text ≡ true → (other : List ℕ) → (bytes_eq other text || seen other) ≡ seen other
 or_seen seen text e other =
     elim (cases_Bool (bytes_eq other text)) [
-      | inl f ↦ rw f (sym (ap seen (bytes_eq-is other text f) ∙ e))
+      | inl f ↦ rw f (sym (ap seen (bytes_eq-true other text f) ∙ e))
       | inr f ↦ rw f refl
     ]
 
@@ -111,7 +102,7 @@ avoids seen [] t h = refl
 avoids seen (x ∷ xs) t h = elim (cases_Bool (seen x)) [
   | inl e ↦ rw e (avoids seen xs t h)
   | inr e ↦ elim (cases_Bool (bytes_eq t x)) [
-    | inl f ↦ absurd (false≢true (sym e ∙ ap seen (sym (bytes_eq-is t x f)) ∙ h))
+    | inl f ↦ absurd (false≢true (sym e ∙ ap seen (sym (bytes_eq-true t x f)) ∙ h))
     | inr f ↦ rw (e, f) (avoids (with_seen seen x) xs t (seen_again seen x t h))
   ]
 ]
@@ -120,14 +111,14 @@ distinct_new : (seen : List ℕ → Bool) (texts : List (List ℕ)) → are_dist
 distinct_new seen [] = refl
 distinct_new seen (x ∷ xs) = elim (cases_Bool (seen x)) [
   | inl e ↦ rw e (distinct_new seen xs)
-  | inr e ↦ rw e (rw (avoids (with_seen seen x) xs x (rw (bytes_eq-itself x) refl)) (distinct_new (with_seen seen x) xs))
+  | inr e ↦ rw e (rw (avoids (with_seen seen x) xs x (rw (bytes_eq-same x) refl)) (distinct_new (with_seen seen x) xs))
 ]
 
 among_new : (seen : List ℕ → Bool) (texts : List (List ℕ)) (t : List ℕ) → seen t ≡ false → among (each_new seen texts) t ≡ among texts t
 among_new seen [] t h = refl
 among_new seen (x ∷ xs) t h = elim (cases_Bool (bytes_eq t x)) [
   | inl f ↦ elim (cases_Bool (seen x)) [
-    | inl e ↦ absurd (false≢true (sym h ∙ ap seen (bytes_eq-is t x f) ∙ e))
+    | inl e ↦ absurd (false≢true (sym h ∙ ap seen (bytes_eq-true t x f) ∙ e))
     | inr e ↦ rw (e, f) refl
   ]
   | inr f ↦ elim (cases_Bool (seen x)) [

@@ -1,33 +1,17 @@
 -- Of the orders of a list whose names are distinct, one ascends.
-use Rattle.std.proofs.Common.{◌≡◌, ⊎_elim, ◌⊎◌, ℕ, zero, suc, ◌<◌, ◌≤◌, Bool, true, false, cond, not, List, [], ◌∷◌, ◌++◌, length, map, get_or, sum_by, Contains, IsPermutation, IsSortedBy, refl, sym, ap, ap₂, subst, ◌∙◌, inl, inr, arith, add-one, append-nil}
+use Rattle.std.proofs.Common.{◌≡◌, ⊎_elim, ℕ, suc, ◌≤◌, Bool, true, false, cond, not, List, [], ◌∷◌, map, sum_by, Contains, IsPermutation, IsSortedBy, refl, sym, ap, ap₂, subst, ◌∙◌, inl, inr, arith, add-one}
 use Rattle.std.specs.List.{list_any}
 use Rattle.std.specs.Str.{bytes_eq}
 use Rattle.std.proofs.lemmas.Bool.{cases_Bool, and_parts, and_from, or_parts, not-true, both_ways, false_from_ne_true}
-use Rattle.std.proofs.lemmas.List.Sorted.{IsPermutation-refl, IsPermutation-sym, IsPermutation-cons, IsPermutation-middle, IsPermutation-trans, IsPermutation-append_right, IsPermutation-map, Contains-permutation, sum_by-IsPermutation}
+use Rattle.std.proofs.lemmas.List.Sorted.{IsPermutation-sym, IsPermutation-map, Contains-permutation, sum_by-IsPermutation}
 use Rattle.std.proofs.lemmas.List.Sums.{sum_by-cons}
+use Rattle.fp_base.proofs.Lists.{in_first, in_rest, in_cases}
+use Rattle.fp_base.proofs.Texts.{bytes_eq-true, bytes_eq-same}
 use Rattle.fp_host.specs.Reads.{comes_first, is_ascending}
 use Rattle.fp_keyfile.specs.KeyFile.{are_distinct}
-use Rattle.fp_small.specs.Order.{comes_before, inserted, sorted_onto, sorted_by}
-use Rattle.fp_small.proofs.Ordered.{bytes_eq-itself, bytes_eq-is, before_back, before_on, not_before_itself, is_ascending-sorted_by}
-
--- ---- what sorting by insertion does is an order of the list
-
-inserted_moves : {A : Type 0} (name : A → List ℕ) (xs : List A) (x : A) → IsPermutation (x ∷ xs) (inserted name xs x)
-inserted_moves name [] x = IsPermutation-refl (x ∷ [])
-inserted_moves name (y ∷ ys) x =
-    elim (comes_before (name y) (name x)) as (λ b. IsPermutation (x ∷ y ∷ ys) (cond b (y ∷ inserted name ys x) (x ∷ y ∷ ys))) [
-      | true ↦ IsPermutation-trans _ _ _ (IsPermutation-middle (x ∷ []) y ys) (IsPermutation-cons y _ _ (inserted_moves name ys x))
-      | false ↦ IsPermutation-refl (x ∷ y ∷ ys)
-    ]
-
-onto_moves : {A : Type 0} (name : A → List ℕ) (ys xs : List A) → IsPermutation (xs ++ ys) (sorted_onto name ys xs)
-onto_moves name ys [] = IsPermutation-refl ys
-onto_moves name ys (x ∷ xs) =
-    IsPermutation-trans _ _ _ (IsPermutation-sym _ _ (IsPermutation-middle xs x ys))
-    (IsPermutation-trans _ _ _ (IsPermutation-append_right xs _ _ (inserted_moves name ys x)) (onto_moves name (inserted name ys x) xs))
-
-pub sorted_moves : {A : Type 0} (name : A → List ℕ) (xs : List A) → IsPermutation xs (sorted_by name xs)
-sorted_moves {A} name xs = subst (λ (zs : List A). IsPermutation zs (sorted_by name xs)) (append-nil xs) (onto_moves name [] xs)
+use Rattle.fp_small.specs.Order.{comes_before, sorted_by}
+use Rattle.fp_small.proofs.Ordered.{before_back, before_on, not_before_itself, is_ascending-sorted_by}
+use Rattle.fp_small.proofs.Sorted.{permuted_by}
 
 -- ---- how often a name stands in a list
 
@@ -47,7 +31,7 @@ hits_distinct n (m ∷ ms) d =
     let a = and_parts (not (list_any (bytes_eq m) ms)) (are_distinct ms) d in
     let more = sum_by-cons (hit n) m ms in
     elim (cases_Bool (bytes_eq n m)) [
-      | inl e ↦ let one : hit n m ≡ 1 = ap (λ (b : Bool). cond b 1 0) e in let none = hits_none n ms (subst (λ (k : List ℕ). list_any (bytes_eq k) ms ≡ false) (sym (bytes_eq-is n m e)) (not-true _ a.0)) in omega (arith, more, one, none)
+      | inl e ↦ let one : hit n m ≡ 1 = ap (λ (b : Bool). cond b 1 0) e in let none = hits_none n ms (subst (λ (k : List ℕ). list_any (bytes_eq k) ms ≡ false) (sym (bytes_eq-true n m e)) (not-true _ a.0)) in omega (arith, more, one, none)
       | inr e ↦ let miss : hit n m ≡ 0 = ap (λ (b : Bool). cond b 1 0) e in omega (arith, more, miss, hits_distinct n ms a.1)
     ]
 
@@ -64,23 +48,10 @@ ascends_once {A} name (x ∷ y ∷ ys) sorted once =
     twice : (n m : List ℕ) (ms : List (List ℕ)) → bytes_eq n m ≡ true → sum_by (hit n) (m ∷ n ∷ ms) ≤ 1 → ⊥
     twice n m ms e h =
         let first : hit n m ≡ 1 = ap (λ (b : Bool). cond b 1 0) e in
-        let second : hit n n ≡ 1 = ap (λ (b : Bool). cond b 1 0) (bytes_eq-itself n) in
+        let second : hit n n ≡ 1 = ap (λ (b : Bool). cond b 1 0) (bytes_eq-same n) in
         omega (arith, sum_by-cons (hit n) m (n ∷ ms), sum_by-cons (hit n) n ms, first, second, h)
 
 -- ---- two lists of the same items whose names ascend are one
-
-pub contains_first : {A : Type 0} (x : A) (xs : List A) → Contains (x ∷ xs) x
-contains_first x xs = (0, omega arith, refl)
-
-pub contains_later : {A : Type 0} (x : A) (xs : List A) (z : A) → Contains xs z → Contains (x ∷ xs) z
-contains_later x xs z has = (suc has.0, omega (arith, has.1), has.2)
-
-contains_cases : {A : Type 0} (x : A) (xs : List A) (z : A) → Contains (x ∷ xs) z → (z ≡ x) ⊎ Contains xs z
-contains_cases {A} x xs z has = at has.0 has.1 has.2
-  where
-    at : (k : ℕ) → k < length (x ∷ xs) → get_or (x ∷ xs) k z ≡ z → (z ≡ x) ⊎ Contains xs z
-    at zero low is = inl (sym is)
-    at (suc k) low is = inr (k, omega arith, is)
 
 first_before : {A : Type 0} (name : A → List ℕ) (x : A) (xs : List A) (z : A) → is_ascending (map name (x ∷ xs)) ≡ true → Contains xs z → comes_before (name x) (name z) ≡ true
 first_before name x [] z h has = absurd (omega (arith, has.1))
@@ -89,7 +60,7 @@ first_before {A} name x (y ∷ ys) z h has =
     ⊎_elim
     (λ e. subst (λ (w : A). comes_before (name x) (name w) ≡ true) (sym e) a.0)
     (λ later. before_on (name x) (name y) (name z) a.0 (first_before name y ys z a.1 later))
-    (contains_cases y ys z has)
+    (in_cases y ys z has)
 
 rest_ascends : {A : Type 0} (name : A → List ℕ) (x : A) (xs : List A) → is_ascending (map name (x ∷ xs)) ≡ true → is_ascending (map name xs) ≡ true
 rest_ascends name x xs h = (and_parts (comes_first (name x) (map name xs)) (is_ascending (map name xs)) h).1
@@ -103,12 +74,12 @@ rest_has {A} name x y xs ys z same up has both =
     ⊎_elim
     (λ e. absurd (both_ways (comes_before (name x) (name x)) (not_before_itself (name x)) (subst (λ (w : A). comes_before (name x) (name w) ≡ true) (e ∙ sym same) (first_before name x xs z up has))))
     (λ later. later)
-    (contains_cases y ys z both)
+    (in_cases y ys z both)
 
 pub same_list : {A : Type 0} (name : A → List ℕ) (xs ys : List A) → is_ascending (map name xs) ≡ true → is_ascending (map name ys) ≡ true → ((z : A) → Contains xs z → Contains ys z) → ((z : A) → Contains ys z → Contains xs z) → xs ≡ ys
 same_list name [] [] up more there back = refl
-same_list name [] (y ∷ ys) up more there back = absurd (omega (arith, (back y (contains_first y ys)).1))
-same_list name (x ∷ xs) [] up more there back = absurd (omega (arith, (there x (contains_first x xs)).1))
+same_list name [] (y ∷ ys) up more there back = absurd (omega (arith, (back y (in_first y ys)).1))
+same_list name (x ∷ xs) [] up more there back = absurd (omega (arith, (there x (in_first x xs)).1))
 same_list {A} name (x ∷ xs) (y ∷ ys) up more there back =
     let first : x ≡ y =
     ⊎_elim
@@ -116,11 +87,11 @@ same_list {A} name (x ∷ xs) (y ∷ ys) up more there back =
     (λ later. ⊎_elim
     (λ e. sym e)
     (λ other. absurd (not_both (name x) (name y) (first_before name x xs y up other) (first_before name y ys x more later)))
-    (contains_cases x xs y (back y (contains_first y ys))))
-    (contains_cases y ys x (there x (contains_first x xs))) in
+    (in_cases x xs y (back y (in_first y ys))))
+    (in_cases y ys x (there x (in_first x xs))) in
     ap₂ ◌∷◌ first (same_list name xs ys (rest_ascends name x xs up) (rest_ascends name y ys more)
-    (λ z has. rest_has name x y xs ys z first up has (there z (contains_later x xs z has)))
-    (λ z has. rest_has name y x ys xs z (sym first) more has (back z (contains_later y ys z has))))
+    (λ z has. rest_has name x y xs ys z first up has (there z (in_rest x xs z has)))
+    (λ z has. rest_has name y x ys xs z (sym first) more has (back z (in_rest y ys z has))))
 
 -- ---- hence what a sort makes of a list is what sorting by insertion makes of it
 
@@ -128,5 +99,5 @@ pub sort_is : {A : Type 0} (name : A → List ℕ) (xs ys : List A) → are_dist
 sort_is name xs ys distinct moved sorted =
     let once : (n : List ℕ) → sum_by (hit n) (map name ys) ≤ 1 = λ n. let same = sum_by-IsPermutation (hit n) (map name xs) (map name ys) (IsPermutation-map name xs ys moved) in omega (arith, same, hits_distinct n (map name xs) distinct) in
     same_list name ys (sorted_by name xs) (ascends_once name ys sorted once) (is_ascending-sorted_by name xs distinct)
-    (λ z has. Contains-permutation xs (sorted_by name xs) z (sorted_moves name xs) (Contains-permutation ys xs z (IsPermutation-sym xs ys moved) has))
-    (λ z has. Contains-permutation xs ys z moved (Contains-permutation (sorted_by name xs) xs z (IsPermutation-sym _ _ (sorted_moves name xs)) has))
+    (λ z has. Contains-permutation xs (sorted_by name xs) z (permuted_by name xs) (Contains-permutation ys xs z (IsPermutation-sym xs ys moved) has))
+    (λ z has. Contains-permutation xs ys z moved (Contains-permutation (sorted_by name xs) xs z (IsPermutation-sym _ _ (permuted_by name xs)) has))

@@ -1,25 +1,13 @@
 -- A path above another, as a test.
-use Rattle.std.proofs.Common.{◌≡◌, ◌↔◌, ◌⊎◌, inl, inr, [], ◌∷◌, Bool, true, false, refl, sym, ap, IsTrue}
-use Rattle.std.specs.Prelude.{◌||◌}
-use Rattle.std.proofs.lemmas.Bool.{cases_Bool, false≢true}
+use Rattle.std.proofs.Common.{◌≡◌, ◌↔◌, inl, inr, [], ◌∷◌, Bool, true, false, refl, sym, IsTrue}
+use Rattle.std.proofs.lemmas.Bool.{cases_Bool, false≢true, or_right, or_left, or_cases}
 use Rattle.fp_host.specs.Paths.{Elements, path_eq, IsAbove}
 use Rattle.fp_host.proofs.Separate.{path_decides}
 use Rattle.ost_commit.specs.Rows.{is_above}
 
-one_of : (a b : Bool) → (a || b) ≡ true → (a ≡ true) ⊎ (b ≡ true)
-one_of true b is = inl refl
-one_of false b is = inr is
-
-or_left : (a b : Bool) → a ≡ true → (a || b) ≡ true
-or_left a b is = ap (λ (x : Bool). x || b) is
-
-or_right : (a b : Bool) → b ≡ true → (a || b) ≡ true
-or_right true b is = refl
-or_right false b is = is
-
 pub is_above_it : (q p : Elements) → is_above q p ≡ true → IsAbove q p
 is_above_it q [] is = absurd (false≢true is)
-is_above_it q (x ∷ up) is = elim (one_of (path_eq q up) (is_above q up) is) [
+is_above_it q (x ∷ up) is = elim (or_cases (path_eq q up) (is_above q up) is) [
   | inl same ↦ inl ((path_decides q up).0 same)
   | inr higher ↦ inr (is_above_it q up higher)
 ]

@@ -1,10 +1,10 @@
 -- Lists that are made from numbers.
-use Rattle.std.proofs.Common.{◌≡◌, ◌⊎◌, inl, inr, ◌+◌, ◌<◌, ℕ, zero, suc, List, [], ◌∷◌, ◌++◌, refl, sym, ◌∙◌, ap, subst, append_assoc, arith}
+use Rattle.std.proofs.Common.{◌≡◌, inl, inr, ◌+◌, ◌<◌, ℕ, zero, suc, List, [], ◌∷◌, ◌++◌, refl, sym, ◌∙◌, ap, subst, append_assoc, arith}
 use Rattle.std.proofs.lemmas.Bool.{cases_lt}
 use Rattle.std.proofs.lemmas.List.{append-nil}
 use Rattle.std.proofs.lemmas.List.FromFn.{map-range_with_len_more}
 use Rattle.ost_model.specs.Order.{In}
-use Rattle.ost_model.proofs.Places.{in_left}
+use Rattle.ost_model.proofs.Members.{in_last, in_cases, in_left}
 use Rattle.fl_gen.specs.Made.{each_of}
 
 pub one_more : {A : Type 0} (f : ℕ → A) (n : ℕ) → each_of f (n + 1) ≡ each_of f n ++ f n ∷ []
@@ -18,20 +18,10 @@ pub none_yet : {A : Type 0} (f : ℕ → A) → each_of f 0 ≡ []
 unfolding each_of
 none_yet f = refl
 
-pub in_more : {A : Type 0} (xs : List A) (y a : A) → In (xs ++ y ∷ []) a → In xs a ⊎ (y ≡ a)
-in_more [] y a (inl is) = inr is
-in_more [] y a (inr has) = absurd has
-in_more (x ∷ xs) y a (inl is) = inl (inl is)
-in_more (x ∷ xs) y a (inr has) = elim (in_more xs y a has) [ inl old ↦ inl (inr old) | inr is ↦ inr is ]
-
-in_last : {A : Type 0} (xs : List A) (y : A) → In (xs ++ y ∷ []) y
-in_last [] y = inl refl
-in_last (x ∷ xs) y = inr (in_last xs y)
-
 -- what is in a series is made of a number
 pub in_series : {A : Type 0} (f : ℕ → A) (n : ℕ) (a : A) → In (each_of f n) a → (k : ℕ) × (k < n) × (f k ≡ a)
 in_series f zero a has = absurd (subst (λ l. In l a) (none_yet f) has)
-in_series f (suc n) a has = elim (in_more (each_of f n) (f n) a (subst (λ l. In l a) (next f n) has)) [
+in_series f (suc n) a has = elim (in_cases (each_of f n) (f n) a (subst (λ l. In l a) (next f n) has)) [
   | inl old ↦ let made = in_series f n a old in (made.0, omega (arith, made.1), made.2)
   | inr is ↦ (n, omega arith, is)
 ]

@@ -1,17 +1,19 @@
 -- Entries that come one after another.
 use Rattle.std.proofs.Common.{◌≡◌, ◌⊎◌, inl, inr, List, [], ◌∷◌, ◌++◌, Bool, true, false, cond, Option, Some, None, refl, sym, ◌∙◌, ap, subst, append_assoc, Bor}
-use Rattle.std.specs.Prelude.{◌||◌, OnOk, IfSome, Result, Ok, Err}
+use Rattle.std.specs.Prelude.{◌||◌, IfSome}
 use Rattle.std.specs.Option.{option_or, option_copied}
 use Rattle.std.specs.List.{list_any, list_all}
+use mathlib.Core.Bool.{or-false, or-true}
 use Rattle.std.proofs.lemmas.Bool.{cases_Bool, cond-true, cond-false, and_parts}
 use Rattle.std.proofs.lemmas.List.{append-nil}
 use Rattle.std.proofs.lemmas.List.Folds.{find-append, list_any-append}
+use Rattle.fp_base.proofs.Options.{or_alone}
 use Rattle.fp_host.specs.Paths.{Elements, path_eq}
 use Rattle.fp_host.specs.Outcome.{Spot}
 use Rattle.fp_host.proofs.Separate.{path_decides}
+use Rattle.ost_model.proofs.Members.{in_cases}
 use Rattle.ost_commit.specs.Rows.{is_above}
 use Rattle.fl_gen.specs.declared.store.Row.{Row}
-use Rattle.fl_gen.proofs.Counting.{in_more}
 use Rattle.fl_gen.specs.Stores.{Entry, entry_spot, has_below, AreSettled}
 use Rattle.fl_gen.specs.Keeping.{has_bits, is_row, covers, row_at, row_spot, row_spot_of, spot_in, leaf_spot, Keeps, Adds}
 
@@ -21,10 +23,6 @@ or_cond : {A : Type 0} (b : Bool) (s : A) (a c : Option A) → cond b (Some s) (
 or_cond true s a c = refl
 or_cond false s a c = refl
 
-or_none : {A : Type 0} (a : Option A) → option_or a None ≡ a
-or_none None = refl
-or_none (Some x) = refl
-
 map_or : (a b : Option Row) → row_spot_of (option_or a b) ≡ option_or (row_spot_of a) (row_spot_of b)
 map_or None b = refl
 map_or (Some x) b = refl
@@ -32,14 +30,6 @@ map_or (Some x) b = refl
 map_cond : (b : Bool) (row : Row) → row_spot_of (cond b (Some row) None) ≡ cond b (Some (row_spot row)) None
 map_cond true row = refl
 map_cond false row = refl
-
-or_false : (b : Bool) → (b || false) ≡ b
-or_false true = refl
-or_false false = refl
-
-or_true : (a : Bool) → (a || true) ≡ true
-or_true true = refl
-or_true false = refl
 
 -- ---- one entry more
 
@@ -62,13 +52,13 @@ below_found (x ∷ es) p q s is above = elim (cases_Bool (path_eq p x.0)) [
       ap (λ (b : Bool). b || has_below es q) one
   | inr other ↦
       let rest = below_found es p q s (sym (cond-false (path_eq p x.0) (Some x.1) (entry_spot es p) other) ∙ is) above in
-      ap (λ (b : Bool). is_above q x.0 || b) rest ∙ or_true (is_above q x.0)
+      ap (λ (b : Bool). is_above q x.0 || b) rest ∙ or-true (is_above q x.0)
 ]
 
 -- it is new at its path, or the same stands there
 settled_more : (es : List Entry) (e : Entry) → AreSettled es → (entry_spot es e.0 ≡ None) ⊎ (entry_spot es e.0 ≡ Some e.1) → AreSettled (es ++ e ∷ [])
 settled_more es e settled was = record {
-  each = λ x has. elim (in_more es e x has) [
+  each = λ x has. elim (in_cases es e x has) [
     | inl old ↦ found_more es e x.0 ∙ ap (λ (o : Option Spot). option_or o (entry_spot (e ∷ []) x.0)) (settled.each x old)
     | inr is ↦ subst (λ (y : Entry). entry_spot (es ++ e ∷ []) y.0 ≡ Some y.1) is (own was)
   ];
@@ -112,7 +102,7 @@ module _ (es : List Entry) (e : Entry) (there : entry_spot es e.0 ≡ Some e.1) 
         hit ∙ sym (found_more es e q ∙ ap (λ (o : Option Spot). option_or o (entry_spot (e ∷ []) q)) hit)
     | inr other ↦
         let miss : entry_spot (e ∷ []) q ≡ None = cond-false (path_eq q e.0) (Some e.1) None other in
-        sym (found_more es e q ∙ (ap (option_or (entry_spot es q)) miss ∙ or_none (entry_spot es q)))
+        sym (found_more es e q ∙ (ap (option_or (entry_spot es q)) miss ∙ or_alone (entry_spot es q)))
   ]
 
   below_again : (q : Elements) → has_below es q ≡ has_below (es ++ e ∷ []) q
@@ -120,7 +110,7 @@ module _ (es : List Entry) (e : Entry) (there : entry_spot es e.0 ≡ Some e.1) 
       sym (list_any-append (λ (x : Entry). is_above q x.0) es (e ∷ [])
       ∙ elim (cases_Bool (is_above q e.0)) [
         | inl above ↦ let one = below_found es e.0 q e.1 there above in ap (λ (b : Bool). b || (is_above q e.0 || false)) one ∙ sym one
-        | inr off ↦ ap (λ (b : Bool). has_below es q || (b || false)) off ∙ or_false (has_below es q)
+        | inr off ↦ ap (λ (b : Bool). has_below es q || (b || false)) off ∙ or-false (has_below es q)
       ])
 
 pub adds_again : (rows : List Row) (p : Elements) (s : Spot) (row : Row) → row_at rows p ≡ Some row → row_spot row ≡ s → Adds ((p, s) ∷ []) rows rows
@@ -147,10 +137,6 @@ pub keeps_nothing : Keeps [] []
 keeps_nothing = record { spots = λ q. refl; folders = λ q. refl; settled = record { each = λ e has. absurd has } }
 
 -- ---- answers
-
-pub on_ok : {T E P Q : Type 0} (r : Result T E) → (P → Q) → OnOk r P → OnOk r Q
-on_ok (Ok t) f p = f p
-on_ok (Err e) f p = tt
 
 pub adds_as : {p q : Elements} {s t : Spot} {old new : List Row} → p ≡ q → s ≡ t → Adds ((p, s) ∷ []) old new → Adds ((q, t) ∷ []) old new
 adds_as {q = q} {s = s} {old = old} {new = new} same like adds = subst (λ x. Adds ((q, x) ∷ []) old new) like (subst (λ x. Adds ((x, s) ∷ []) old new) same adds)

@@ -1,17 +1,13 @@
 -- The commands of a run.
-use Rattle.std.proofs.Common.{◌≡◌, ◌⊎◌, inl, inr, ◌<◌, ℕ, List, [], ◌∷◌, ◌++◌, sym, ◌∙◌, ap, append_assoc, codes}
+use Rattle.std.proofs.Common.{◌≡◌, inl, inr, ◌<◌, ℕ, List, [], ◌∷◌, ◌++◌, sym, ◌∙◌, ap, append_assoc, codes}
 use Rattle.fp_name.specs.Refs.{Ref}
 use Rattle.ost_model.specs.Order.{In}
+use Rattle.ost_model.proofs.Members.{in_append}
 use Rattle.fl_words.specs.declared.command.Change.{Change}
 use Rattle.fl_words.specs.declared.command.Change.TheVariants as changes
 use Rattle.fl_gen.specs.Made.{each_of, app_ref}
 use Rattle.fl_gen.specs.Exercise.{exercise_changes, install_of, uninstall_of}
 use Rattle.fl_gen.proofs.Counting.{in_series}
-
-in_cut : {A : Type 0} (xs ys : List A) (a : A) → In (xs ++ ys) a → In xs a ⊎ In ys a
-in_cut [] ys a has = inr has
-in_cut (x ∷ xs) ys a (inl is) = inl (inl is)
-in_cut (x ∷ xs) ys a (inr has) = elim (in_cut xs ys a has) [ inl left ↦ inl (inr left) | inr right ↦ inr right ]
 
 abbrev named_of : Change → Ref
 named_of (changes.Install remote name) = name
@@ -34,11 +30,11 @@ no_uninstall half remote name is = cc is
 
 pub installs : (apps : ℕ) (remote : List ℕ) (name : Ref) → In (exercise_changes apps) (changes.Install remote name) → IsInstallOf apps remote name
 installs apps remote name (inl is) = absurd (cc is)
-installs apps remote name (inr has) = elim (in_cut (each_of install_of apps) _ (changes.Install remote name) has) [
+installs apps remote name (inr has) = elim (in_append (each_of install_of apps) _ (changes.Install remote name) has) [
   | inl made ↦ is_install apps remote name made
   | inr (inl is) ↦ absurd (cc is)
   | inr (inr (inl is)) ↦ absurd (cc is)
-  | inr (inr (inr more)) ↦ elim (in_cut (each_of uninstall_of _) _ (changes.Install remote name) more) [
+  | inr (inr (inr more)) ↦ elim (in_append (each_of uninstall_of _) _ (changes.Install remote name) more) [
     | inl away ↦ let made = in_series uninstall_of _ (changes.Install remote name) away in absurd (no_uninstall made.0 remote name made.2)
     | inr (inl is) ↦ absurd (cc is)
     | inr (inr none) ↦ absurd none

@@ -1,7 +1,6 @@
 -- What a store of wares offers.
-use Rattle.std.proofs.Common.{◌≡◌, inl, inr, ◌*◌, ◌<◌, ℕ, List, [], ◌∷◌, map, true, Option, Some, None, Ok, refl, sym, ◌∙◌, ap, subst}
+use Rattle.std.proofs.Common.{◌≡◌, inl, inr, ◌*◌, ◌<◌, ℕ, List, [], ◌∷◌, map, true, Option, Some, Ok, refl, sym, ◌∙◌, ap, subst}
 use Rattle.std.specs.Prelude.{◌&&◌, flat_map}
-use Rattle.std.specs.List.{AllByRecursion}
 use Rattle.std.specs.Str.{bytes_eq}
 use Rattle.std.proofs.lemmas.Bool.{and_parts, cases_Bool, cond-true, cond-false}
 use Rattle.std.proofs.lemmas.Slice.Eq.{bytes_eq-Decides}
@@ -11,18 +10,19 @@ use Rattle.fp_host.specs.Remote.{Held, Holdings}
 use Rattle.fp_name.specs.Hex.{is_digest}
 use Rattle.fp_name.specs.Refs.{Ref}
 use Rattle.fp_base.specs.declared.object.ObjKind.{ObjKind}
-use Rattle.fp_base.specs.declared.object.ObjKind.TheVariants as kinds
 use Rattle.fp_small.specs.declared.state.RemoteRow.{RemoteRow}
 use Rattle.fp_small.specs.Move.{IsNew}
 use Rattle.ost_model.specs.declared.object.Object.{Object}
-use Rattle.ost_model.specs.Objects.{Have, object_fault, object_path, object_at, store}
-use Rattle.ost_model.specs.Order.{Place, In, order, first_fault}
+use Rattle.ost_model.specs.Objects.{Have, object_path, object_at, store}
+use Rattle.ost_model.specs.Order.{In}
 use Rattle.ost_model.specs.Remotes.{remote_at, as_spot}
-use Rattle.ost_model.proofs.Places.{in_left, in_right, faultless, first_same}
+use Rattle.ost_model.proofs.Members.{all_here, in_left, in_right}
+use Rattle.ost_model.proofs.Faults.{clean_more}
 use Rattle.ost_refs.specs.Files.{ref_bytes}
 use Rattle.ost_commit.specs.declared.built.BuiltObject.{BuiltObject}
 use Rattle.ost_commit.specs.Objects.{have_of}
 use Rattle.fp_base.specs.Objects.{is_kind}
+use Rattle.fp_base.proofs.Kinds.{kind_is}
 use Rattle.ost_head.specs.Offers.{small_file, mode_in, ref_said, commit_said, after_mode, offered, config_path, ref_path}
 use Rattle.ost_export.specs.Exports.{IsOffered}
 use Rattle.ost_export.specs.Remotes.{held_of, held_at}
@@ -45,30 +45,7 @@ in_map f [] x h = absurd h
 in_map f (y ∷ xs) x (inl e) = inl (ap f e)
 in_map f (y ∷ xs) x (inr h) = inr (in_map f xs x h)
 
-all_here : {A : Type 0} (P : A → Type 0) (xs : List A) (a : A) → AllByRecursion P xs → In xs a → P a
-all_here P [] a all has = absurd has
-all_here P (x ∷ xs) a all (inl is) = subst P is all.0
-all_here P (x ∷ xs) a all (inr has) = all_here P xs a all.1 has
-
 -- ---- an object is one of the list
-
-kind_is : (k m : ObjKind) → is_kind k m ≡ true → k ≡ m
-kind_is kinds.Commit kinds.Commit is = refl
-kind_is kinds.Commit kinds.DirTree is = absurd (cc is)
-kind_is kinds.Commit kinds.DirMeta is = absurd (cc is)
-kind_is kinds.Commit kinds.File is = absurd (cc is)
-kind_is kinds.DirTree kinds.Commit is = absurd (cc is)
-kind_is kinds.DirTree kinds.DirTree is = refl
-kind_is kinds.DirTree kinds.DirMeta is = absurd (cc is)
-kind_is kinds.DirTree kinds.File is = absurd (cc is)
-kind_is kinds.DirMeta kinds.Commit is = absurd (cc is)
-kind_is kinds.DirMeta kinds.DirTree is = absurd (cc is)
-kind_is kinds.DirMeta kinds.DirMeta is = refl
-kind_is kinds.DirMeta kinds.File is = absurd (cc is)
-kind_is kinds.File kinds.Commit is = absurd (cc is)
-kind_is kinds.File kinds.DirTree is = absurd (cc is)
-kind_is kinds.File kinds.DirMeta is = absurd (cc is)
-kind_is kinds.File kinds.File is = refl
 
 -- what holds of each object, holds of what is there
 have_each : (P : List ℕ → ObjKind → Object → Type 0) (os : List BuiltObject) → ((o : BuiltObject) → In os o → P o.digest o.kind o.object)
@@ -84,21 +61,6 @@ have_each P (x ∷ os) each d kind object is = elim (cases_Bool (bytes_eq x.dige
       subst (P d kind) of_object (subst (λ k. P d k x.object) of_kind (subst (λ c. P c x.kind x.object) of_digest (each x (inl refl))))
   | inr off ↦ have_each P os (λ o has. each o (inr has)) d kind object (sym (cond-false (bytes_eq x.digest d && is_kind x.kind kind) (Some x.object) (have_of os d kind) off) ∙ is)
 ]
-
--- ---- a commit without a fault has none where there is more
-
-there_of : (d : List ℕ) (kind : ObjKind) (o : Option Object) → object_fault d kind o ≡ None → (object : Object) × (o ≡ Some object)
-there_of d kind None good = absurd (cc good)
-there_of d kind (Some object) good = (object, refl)
-
-clean_more : (have other : Have) (commit : List ℕ) → first_fault have commit ≡ None → ((d : List ℕ) (kind : ObjKind) (object : Object) → have d kind ≡ Some object → other d kind ≡ Some object) → first_fault other commit ≡ None
-clean_more have other commit clean more = first_same have other commit agree ∙ clean
-  where
-    agree : (p : Place) → In (order have commit) p → other p.digest p.kind ≡ have p.digest p.kind
-    agree p has =
-        let good = (faultless have 0 (order have commit) clean p has).1 in
-        let o = there_of p.digest p.kind (have p.digest p.kind) good in
-        more p.digest p.kind o.0 o.1 ∙ sym o.1
 
 -- ---- an offer of a store
 

@@ -7,10 +7,10 @@ use Rattle.std.proofs.lemmas.Bool.{cases_Bool, and_parts, and_from, or_parts, no
 use Rattle.std.proofs.lemmas.Bool.Decides.{Decides-eqb}
 use Rattle.std.proofs.lemmas.Slice.Eq.{starts_is, bytes_eq-Decides}
 use Rattle.fp_base.specs.declared.meta_rule.MetaRule.TheVariants as rules
+use Rattle.fp_base.proofs.Texts.{bytes_eq-true}
 use Rattle.fp_keyfile.specs.KeyFile.{names_of, are_distinct, is_good_group, is_good}
 use Rattle.fp_keyfile.specs.declared.group.Group.{Group}
 use Rattle.fp_name.specs.Refs.{Ref}
-use Rattle.fp_small.proofs.Ordered.{bytes_eq-is}
 use Rattle.fl_meta.specs.Entries.{is_empty}
 use Rattle.fl_meta.specs.Metadata.{has_group, kind_group, meta_of, meta_in, meta_with, app_of, runtime_meta, runtime_in, command_in, extension_of, extensions_of}
 use Rattle.fl_meta.specs.declared.meta.Meta.{Meta}
@@ -50,7 +50,7 @@ lacks_name (g ∷ file) name none =
     or_none b c p q = rw (p, q) refl
 
     other : (n : List ℕ) → g.name ≡ header n → bytes_eq (header name) g.name ≡ false → bytes_eq name n ≡ false
-    other n is differ = false_from_ne_true (bytes_eq name n) (λ e. both_ways (bytes_eq (header name) g.name) differ ((bytes_eq-Decides (header name) g.name).1 (ap header (bytes_eq-is name n e) ∙ sym is)))
+    other n is differ = false_from_ne_true (bytes_eq name n) (λ e. both_ways (bytes_eq (header name) g.name) differ ((bytes_eq-Decides (header name) g.name).1 (ap header (bytes_eq-true name n e) ∙ sym is)))
 
 names_distinct : (file : List Group) → are_distinct (names_of file) ≡ true → are_distinct (flat_map extension_of file) ≡ true
 names_distinct [] distinct = refl

@@ -1,8 +1,9 @@
 -- What is said of rows depends on the files of their commits, and is gathered row by row.
-use Rattle.std.proofs.Common.{◌≡◌, ◌<◌, ◌+◌, ℕ, suc, List, [], ◌∷◌, ◌++◌, length, get_or, take, drop, Bool, false, cond, Option, Some, None, refl, sym, ◌∙◌, ap, append-nil, add-one, drop-cons}
+use Rattle.std.proofs.Common.{◌≡◌, ◌<◌, ◌+◌, ℕ, List, [], ◌∷◌, ◌++◌, length, get_or, take, drop, Bool, false, cond, Option, Some, None, refl, sym, ◌∙◌, ap, append-nil}
 use Rattle.std.specs.Prelude.{find, option_map, option_to_list, if◌then◌else◌}
 use Rattle.std.proofs.lemmas.Grind.{flat_map-append}
-use Rattle.std.proofs.lemmas.List.{map-append, take_more}
+use Rattle.std.proofs.lemmas.List.{map-append}
+use Rattle.fp_base.proofs.Lists.{drop_read, take_read}
 use Rattle.fl_extension.specs.declared.point.Point.{Point}
 use Rattle.fl_meta.specs.declared.meta.Meta.{Meta}
 use Rattle.fp_name.specs.Refs.{Ref}
@@ -36,19 +37,13 @@ points_are_local i j (row ∷ rows) same =
 
 -- ---- rows in turn
 
-at_row : {A : Type 0} (xs : List A) (i : ℕ) (x : A) → i < length xs → x ≡ get_or xs i x → drop i xs ≡ x ∷ drop (i + 1) xs
-at_row xs i x within is = drop-cons xs i x within ∙ ap (λ y. y ∷ drop (suc i) xs) (sym is) ∙ ap (λ (n : ℕ). x ∷ drop n xs) (sym (add-one i))
-
 module _ (have : Have) (runtime : Ref) (rows : List RefRow) (i : ℕ) where
   -- the row at hand doesn't name it
   pub user_later : (row : RefRow) → i < length rows → row ≡ get_or rows i row → false ≡ names_it have runtime row
       → first_user have runtime rows ≡ first_user have runtime (drop i rows) → first_user have runtime rows ≡ first_user have runtime (drop (i + 1) rows)
   user_later row within is names so_far =
-      so_far ∙ ap (first_user have runtime) (at_row rows i row within is)
+      so_far ∙ ap (first_user have runtime) (drop_read rows i row within is)
       ∙ ap (λ (b : Bool). option_map (λ (r : RefRow). r.name) (cond b (Some row) (find (names_it have runtime) (drop (i + 1) rows)))) (sym names)
-
-taken : {A : Type 0} (xs : List A) (i : ℕ) (x : A) → i < length xs → x ≡ get_or xs i x → take (i + 1) xs ≡ take i xs ++ x ∷ []
-taken xs i x within is = take_more xs i x within ∙ ap (λ y. take i xs ++ y ∷ []) (sym is)
 
 module _ (have : Have) (rows : List RefRow) (i : ℕ) (row : RefRow) (within : i < length rows) (is : row ≡ get_or rows i row) where
   -- the list goes on by what the row says
@@ -60,7 +55,7 @@ module _ (have : Have) (rows : List RefRow) (i : ℕ) (row : RefRow) (within : i
       ∙ ap (λ (f : Option (Ref × Meta)). installed_metas have (take i rows) ++ option_to_list f) told
       ∙ ap (λ (ms : List (Ref × Meta)). installed_metas have (take i rows) ++ ms) (sym (append-nil (option_to_list (meta_at have row))))
       ∙ sym (flat_map-append (λ (r : RefRow). option_to_list (meta_at have r)) (take i rows) (row ∷ []))
-      ∙ ap (installed_metas have) (sym (taken rows i row within is))
+      ∙ ap (installed_metas have) (sym (take_read rows i row within is))
 
   pub points_next : (points more : List (Ref × List Point)) (found : Ref × List Point) → points ≡ installed_points have (take i rows) → found ≡ points_at have row
       → more ≡ points ++ found ∷ [] → more ≡ installed_points have (take (i + 1) rows)
@@ -69,4 +64,4 @@ module _ (have : Have) (rows : List RefRow) (i : ℕ) (row : RefRow) (within : i
       ∙ ap (λ (ps : List (Ref × List Point)). ps ++ found ∷ []) so_far
       ∙ ap (λ (f : Ref × List Point). installed_points have (take i rows) ++ f ∷ []) told
       ∙ sym (map-append (points_at have) (take i rows) (row ∷ []))
-      ∙ ap (installed_points have) (sym (taken rows i row within is))
+      ∙ ap (installed_points have) (sym (take_read rows i row within is))

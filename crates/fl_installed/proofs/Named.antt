@@ -5,6 +5,7 @@ use Rattle.std.specs.List.{join_with_byte}
 use Rattle.std.specs.Str.{bytes_eq}
 use Rattle.std.proofs.lemmas.Bool.{false_from_ne_true}
 use Rattle.fp_base.specs.declared.meta_rule.MetaRule.TheVariants as rules
+use Rattle.fp_base.proofs.Texts.{bytes_eq-true}
 use Rattle.fp_keyfile.specs.declared.group.Group.{Group}
 use Rattle.fp_keyfile.specs.KeyFile.{file_of, value_at}
 use Rattle.fp_name.specs.Kinds.{kind_word}
@@ -13,7 +14,6 @@ use Rattle.fp_name.specs.Refs.{Ref, ref_text}
 use Rattle.fp_name.specs.declared.kind.RefKind.{RefKind}
 use Rattle.fp_name.specs.declared.kind.RefKind.TheVariants.{App, Runtime}
 use Rattle.fp_name.proofs.Refs.{ref_of-some}
-use Rattle.fp_small.proofs.Ordered.{bytes_eq-is}
 use Rattle.fl_meta.specs.Metadata.{has_group, meta_of, app_of, runtime_meta, runtime_of, runtime_in as runtime_said, meta_kind}
 use Rattle.fl_installed.specs.Metadata.{groups_in, runtime_in, runtime_named}
 use Rattle.fl_installed.specs.Standing.{ApplicationsName}
@@ -24,7 +24,7 @@ first_text r k is = ap (λ (j : RefKind). get_or (join_with_byte 47 (kind_word j
 
 texts_differ : (a b : Ref) → a.kind ≡ Runtime → b.kind ≡ App → bytes_eq (ref_text a) (ref_text b) ≡ false
 texts_differ a b runtime app = false_from_ne_true (bytes_eq (ref_text a) (ref_text b)) (λ t.
-    let same = ap (λ (xs : List ℕ). get_or xs 0 0) (bytes_eq-is (ref_text a) (ref_text b) t) in
+    let same = ap (λ (xs : List ℕ). get_or xs 0 0) (bytes_eq-true (ref_text a) (ref_text b) t) in
     let x : get_or (ref_text a) 0 0 ≡ 114 = first_text a Runtime runtime in
     let y : get_or (ref_text b) 0 0 ≡ 97 = first_text b App app in
     absurd (omega (arith, same, x, y)))

@@ -12,8 +12,9 @@ use Rattle.std.proofs.lemmas.List.{take_more}
 use Rattle.std.proofs.lemmas.List.Concat.{flat_map-append}
 use Rattle.std.proofs.lemmas.List.Folds.{list_any-append}
 use Rattle.std.proofs.lemmas.List.Sums.{fold-append}
+use Rattle.fp_base.proofs.Booleans.{or-swap, or-same}
+use Rattle.fp_base.proofs.Texts.{bytes_eq-true}
 use Rattle.fp_host.specs.Reads.{comes_first, is_ascending}
-use Rattle.fp_small.proofs.Ordered.{bytes_eq-is}
 use Rattle.fp_small.specs.declared.state.State.{State}
 use Rattle.fl_extension.specs.declared.point.Point.{Point}
 use Rattle.fl_launch.specs.Extensions.{mount_of, mounts_of, with_line, with_lines, mount_lines}
@@ -78,16 +79,6 @@ mounts_ascend state app_points runtime_points =
 abbrev has : List (List ℕ) → List ℕ → Bool
 has lines line = list_any (bytes_eq line) lines
 
-or-swap : (a b c : Bool) → (b || (a || c)) ≡ (a || (b || c))
-or-swap true true c = refl
-or-swap true false c = refl
-or-swap false true c = refl
-or-swap false false c = refl
-
-or-same : (a c : Bool) → (a || c) ≡ (a || (a || c))
-or-same true c = refl
-or-same false c = refl
-
 or-move : (a b c : Bool) → ((a || b) || c) ≡ (b || (a || c))
 or-move true true c = refl
 or-move true false c = refl
@@ -99,7 +90,7 @@ or-none true = refl
 or-none false = refl
 
 same_text : (x y : List ℕ) → text_cmp x y ≡ orders.Equal → x ≡ y
-same_text x y e = bytes_eq-is x y (texts_ties x y ∙ ap is_eq e)
+same_text x y e = bytes_eq-true x y (texts_ties x y ∙ ap is_eq e)
 
 has_with : (ys : List (List ℕ)) (x line : List ℕ) → has (with_line ys x) line ≡ (bytes_eq line x || has ys line)
 has_with [] x line = refl

@@ -5,6 +5,7 @@ use Rattle.std.proofs.lemmas.Bool.{and_parts, and_from, or_left, or_right, false
 use Rattle.std.proofs.lemmas.Bool.Decides.{nat_tests}
 use Rattle.fp_name.specs.Bytes.{is_word_start, is_word, is_dashed, is_dot, begins_with}
 use Rattle.fp_name.specs.Grammar.{is_element, is_last_element, are_elements, is_id}
+use Rattle.fp_name.proofs.Bytes.{word_dashed}
 use Rattle.fl_meta.specs.Patterns.{is_bus_start, is_bus_element, are_bus_elements, is_bus_name, is_pattern}
 use Rattle.bus_frame.specs.Names as names
 use Rattle.bus_frame.specs.declared.names.Alphabet.TheVariants.{WellKnown}
@@ -74,9 +75,6 @@ same_pattern text h = pattern_by (levels.is_open text) text refl h
 
 start_of_word : (c : ℕ) → is_word_start c ≡ true → is_bus_start c ≡ true
 start_of_word c h = or_left (is_word_start c) _ h
-
-word_dashed : (c : ℕ) → is_word c ≡ true → is_dashed c ≡ true
-word_dashed c h = or_left (is_word c) _ h
 
 begins_so : (text : List ℕ) → begins_with is_word_start text ≡ true → begins_with is_bus_start text ≡ true
 begins_so [] h = h

@@ -10,6 +10,8 @@ use Rattle.fp_keyfile.proofs.Good.{good_pair_from}
 use Rattle.fp_name.specs.Refs.{Ref, ref_text}
 use Rattle.fp_small.specs.declared.state.State.{State}
 use Rattle.fl_meta.specs.declared.permission.Mention.{Mention}
+use Rattle.fl_context.proofs.Ascending.{merged_ascends}
+use Rattle.fl_context.proofs.Merging.{value_in-merged}
 use Rattle.fl_extension.specs.declared.point.Point.{Point}
 use Rattle.fl_override.specs.Overrides.{AllCanWrite}
 use Rattle.fl_override.specs.Written.{pair_if}
@@ -20,7 +22,6 @@ use Rattle.fl_launch.specs.Granted.{has_session_bus}
 use Rattle.fl_launch.specs.Groups.{pair_of, command_pairs, application_pairs, instance_pairs, IsCommand, IsLaunchable, LaunchReadsBack}
 use Rattle.fl_launch.specs.Launch.{word}
 use Rattle.fl_launch.specs.Layers.{granted_by}
-use Rattle.fl_launch.proofs.Granting.{merged_ascends, merged_last}
 use Rattle.fl_launch.proofs.GoodGroups.{groups_read_back}
 use Rattle.fl_launch.proofs.Values.{is_dark, value_dark, utf8_dark, ref_dark, commit_dark, extensions_dark}
 
@@ -80,4 +81,4 @@ launch_reads_back state name runtime app_points runtime_points command mentions 
     groups_read_back state name runtime app_points runtime_points command grants
     (application_good name runtime command (ref_dark name h.name_is).id (ref_dark runtime h.runtime_is).text h.command_is)
     (instance_good state name runtime app_points runtime_points command grants h)
-    (last_written grants mentions up (merged_last mentions) can) up
+    (last_written grants mentions up (value_in-merged mentions) can) up

@@ -1,12 +1,13 @@
 -- Texts are told apart by what is printed of them.
 use Rattle.std.proofs.Common.{◌≡◌, ℕ, ◌/◌, ◌%◌, ◌<◌, Bool, true, false, cond, List, [], ◌∷◌, ◌++◌, refl, ap, sym, ◌∙◌, arith}
-use Rattle.std.specs.Prelude.{not, ◌||◌, ◌==◌}
+use Rattle.std.specs.Prelude.{not, ◌==◌}
 use Rattle.std.specs.Fmt.{digit_glyph}
 use Rattle.std.specs.List.{list_all}
 use Rattle.std.proofs.lemmas.Bool.{false≢true}
 use Rattle.std.proofs.lemmas.Bool.Decides.{nat_tests}
 use Rattle.fl_lines.specs.Lines.{is_escaped, escaped}
 use Rattle.fp_base.specs.Parts.{is_control}
+use Rattle.fp_base.proofs.Booleans.{neither}
 
 glyph_injective : (d e : ℕ) → digit_glyph false d ≡ digit_glyph false e → d ≡ e
 glyph_injective d e h = grind (arith, nat_tests)
@@ -48,10 +49,6 @@ escaped_injective (x ∷ xs) (y ∷ ys) e =
 
 glyph_printable : (d : ℕ) → d < 16 → is_control (digit_glyph false d) ≡ false
 glyph_printable d h = grind (arith, nat_tests)
-
-neither : (p q : Bool) → (p || q) ≡ false → p ≡ false
-neither true q h = h
-neither false q h = refl
 
 not_control : (b : ℕ) → is_escaped b ≡ false → is_control b ≡ false
 not_control b h = neither (is_control b) (b == 92) h

@@ -6,15 +6,17 @@ use Rattle.std.specs.Str.{bytes_eq}
 use Rattle.std.proofs.lemmas.Bool.{cases_Bool, and_parts, or_right, both_ways, not-true, false≢true}
 use Rattle.fp_base.specs.declared.rule.Rule.{Rule}
 use Rattle.fp_base.specs.declared.rule.Rule.TheVariants as rules
+use Rattle.fp_base.proofs.Options.{none_some}
+use Rattle.fp_base.proofs.Texts.{bytes_eq-true, bytes_eq-same}
 use Rattle.fp_host.specs.Paths.{is_element}
 use Rattle.fp_host.specs.Reads.{is_ascending}
-use Rattle.fp_small.proofs.Ordered.{bytes_eq-itself, bytes_eq-is}
 use Rattle.ost_model.specs.Fields.{DirRow, FileRow, TreeView}
-use Rattle.ost_model.specs.Readers.{first_broken, file_name, dir_name, file_names, dir_names, has_long, has_both_long, shares, name_tests, tree_breaks}
+use Rattle.ost_model.specs.Readers.{file_name, dir_name, file_names, dir_names, has_long, has_both_long, shares, name_tests, tree_breaks}
 use Rattle.ost_model.specs.Look.{directory, find_dir, find_file, either, entry_in}
+use Rattle.ost_model.proofs.Readers.{passed}
 use Rattle.ost_commit.specs.Shows.{found_said}
 use Rattle.dep_states.specs.Shown.{at_name}
-use Rattle.dep_states.proofs.Single.{some_is, none_some, same_list}
+use Rattle.dep_states.proofs.Single.{some_is, same_list}
 
 -- ---- what is found under a name
 
@@ -34,7 +36,7 @@ module _ {A : Type 0} (name : A → List ℕ) where
   name_found : (x : List ℕ) (xs : List A) (a : A) → at_name name xs x ≡ Some a → name a ≡ x
   name_found x [] a is = absurd (none_some is)
   name_found x (y ∷ ys) a is = elim (cases_Bool (bytes_eq (name y) x)) [
-    | inl t ↦ let one : y ≡ a = some_is (rw t at is) in ap name (sym one) ∙ bytes_eq-is (name y) x t
+    | inl t ↦ let one : y ≡ a = some_is (rw t at is) in ap name (sym one) ∙ bytes_eq-true (name y) x t
     | inr f ↦ name_found x ys a (rw f at is)
   ]
 
@@ -42,7 +44,7 @@ module _ {A : Type 0} (name : A → List ℕ) where
   name_among : (x : List ℕ) (xs : List A) (a : A) → at_name name xs x ≡ Some a → list_any (bytes_eq x) (map name xs) ≡ true
   name_among x [] a is = absurd (none_some is)
   name_among x (y ∷ ys) a is = elim (cases_Bool (bytes_eq (name y) x)) [
-    | inl t ↦ ap (λ b. b || list_any (bytes_eq x) (map name ys)) (subst (λ z. bytes_eq z (name y) ≡ true) (bytes_eq-is (name y) x t) (bytes_eq-itself (name y)))
+    | inl t ↦ ap (λ b. b || list_any (bytes_eq x) (map name ys)) (subst (λ z. bytes_eq z (name y) ≡ true) (bytes_eq-true (name y) x t) (bytes_eq-same (name y)))
     | inr f ↦ or_right (bytes_eq x (name y)) (list_any (bytes_eq x) (map name ys)) (name_among x ys a (rw f at is))
   ]
 
@@ -50,7 +52,7 @@ module _ {A : Type 0} (name : A → List ℕ) where
 shared : (x : List ℕ) (ys : List (List ℕ)) → list_any (bytes_eq x) ys ≡ true → (xs : List (List ℕ)) → list_any (bytes_eq x) xs ≡ true → shares xs ys ≡ true
 shared x ys among [] other = absurd (false≢true other)
 shared x ys among (z ∷ zs) other = elim (cases_Bool (bytes_eq x z)) [
-  | inl t ↦ ap (λ b. b || shares zs ys) (subst (λ w. list_any (bytes_eq w) ys ≡ true) (bytes_eq-is x z t) among)
+  | inl t ↦ ap (λ b. b || shares zs ys) (subst (λ w. list_any (bytes_eq w) ys ≡ true) (bytes_eq-true x z t) among)
   | inr f ↦ or_right (list_any (bytes_eq z) ys) (shares zs ys) (shared x ys among zs (rw f at other))
 ]
 
@@ -60,10 +62,6 @@ pub record AreGoodNames (v : TreeView) : Type 0 where
   pub files : is_ascending (file_names v) ≡ true
   pub dirs : is_ascending (dir_names v) ≡ true
   pub apart : shares (file_names v) (dir_names v) ≡ false
-
-passed : (b : Bool) (rule : Rule) (tests : List (Bool × Rule)) → first_broken ((b, rule) ∷ tests) ≡ None → (b ≡ true) × (first_broken tests ≡ None)
-passed true rule tests is = (refl, is)
-passed false rule tests is = absurd (cc is)
 
 abbrev apart_tests : TreeView → List (Bool × Rule)
 apart_tests v = (not (shares (file_names v) (dir_names v)), rules.Both) ∷ []

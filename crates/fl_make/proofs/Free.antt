@@ -9,6 +9,7 @@ use Rattle.fp_host.specs.Paths.{Elements, Slot, absent, dir, file, link, IsAbove
 use Rattle.fp_host.specs.View.{View, IsTree, Inode}
 use Rattle.fp_host.specs.Outcome.{Spot, spot_of, holding, shows}
 use Rattle.fp_host.proofs.Settled.{at_tree}
+use Rattle.fp_host.proofs.Shown.{now_left}
 use Rattle.fp_name.specs.declared.kind.RefKind.{RefKind}
 use Rattle.fp_name.specs.declared.kind.RefKind.TheVariants.{App, Runtime}
 use Rattle.fp_name.specs.Grammar.{is_id, is_arch, is_branch}
@@ -23,7 +24,6 @@ use Rattle.ost_export.specs.Exports.{config_path, ref_path, IsFolderAbove}
 use Rattle.dep_states.specs.Sound.{IsSound}
 use Rattle.dep_states.specs.Zones.{Zone, anything, a_folder, a_file, Fits, Allowed, IsFileOrGone, IsFolderOrGone}
 use Rattle.fl_make.specs.Making.{remote_store, CanMake}
-use Rattle.fl_make.proofs.Kept.{now_left}
 
 -- the first side, where the test holds
 then_fits : (b : Bool) (y n : Zone) (p : Elements) (spot : Spot) → b ≡ true → Fits (if b then y else n) p spot → Fits y p spot

@@ -6,15 +6,19 @@ use Rattle.fp_host.specs.Calls.{syncs, done}
 use Rattle.fp_host.specs.Outcome.{Disk, Leaves, gone, shows}
 use Rattle.fp_host.proofs.Follow.{follows_sync}
 use Rattle.fp_host.proofs.Kept.{tree_sync}
+use Rattle.fp_host.proofs.Above.{above_rest, below_child, above_longer}
+use Rattle.fp_host.proofs.Shown.{now_left}
 use Rattle.fp_name.specs.Hex.{hex}
 use Rattle.fp_name.specs.Kinds.{kind_word}
 use Rattle.fp_name.specs.Refs.{Ref}
 use Rattle.fp_base.specs.declared.object.ObjKind.{ObjKind}
+use Rattle.fp_base.proofs.Texts.{bytes_eq-false}
 use Rattle.fp_small.specs.Clear.{IsWithin}
 use Rattle.fp_small.specs.Places.{repo, tmp}
 use Rattle.fp_small.specs.declared.state.State.{State}
-use Rattle.fp_small.proofs.Emptying.{above_longer, below_child, within_child}
+use Rattle.fp_small.proofs.Emptying.{within_child}
 use Rattle.fp_small.proofs.Keeping.{files_same}
+use Rattle.fp_small.proofs.Within.{above_work}
 use Rattle.ost_model.specs.Objects.{Have, object_path, object_at, store}
 use Rattle.ost_model.specs.Order.{In, order}
 use Rattle.ost_model.specs.Stores.{objects_folder}
@@ -37,12 +41,12 @@ use Rattle.dep_states.specs.Sound.{Keeps, IsSound, Opens}
 use Rattle.dep_states.specs.Settled.{Settled, Used, HasBytes}
 use Rattle.dep_states.specs.Zones.{outward}
 use Rattle.dep_states.proofs.Deployed.{top, outward_append}
-use Rattle.dep_states.proofs.Lasting.{above_rest}
 use Rattle.dep_states.proofs.Law.{frame_law, ref_same}
 use Rattle.dep_states.proofs.Linked.{links_still, links_lasting}
-use Rattle.dep_states.proofs.Rows.{head_of, text_apart}
+use Rattle.dep_states.proofs.Rows.{head_of}
 use Rattle.dep_states.proofs.Sparing.{settled_opens}
 use Rattle.dep_states.proofs.Switching.{second, word_no_repo}
+use Rattle.dep_states.proofs.Work.{work_top, work_second}
 use Rattle.std.specs.List.{AllByRecursion, list_all}
 use Rattle.std.proofs.lemmas.Bool.{and_parts}
 use Rattle.ost_model.specs.declared.object.Object.{Object}
@@ -51,7 +55,7 @@ use Rattle.ost_store.specs.Stage.{IsKeepable}
 use Rattle.ost_commit.specs.declared.built.BuiltObject.{BuiltObject}
 use Rattle.ost_export.specs.Staging.{IsKeepableObject}
 use Rattle.fl_make.specs.Making.{remote_store, is_keepable, MayMake, in_store, in_work, above_store, of_work, Makes}
-use Rattle.fl_make.proofs.Spared.{made_top, tmp_top, tmp_second, made_no_repo, word_no_made, folder_at, export_spares}
+use Rattle.fl_make.proofs.Spared.{made_top, made_no_repo, word_no_made, folder_at, export_spares}
 
 -- ---- before the sync nothing changes
 
@@ -89,9 +93,6 @@ spared_since {q = q} {u = u} s = record {
       let c = (follows_sync u).from b.0 b.1 in
       (c.0, c.1, b.2 ∙ elim (c.2 q) [ inl same ↦ same | inr none ↦ absurd none ]);
 }
-
-pub now_left : (v : View) → Leaves v (shows v)
-now_left v = record { names = v.names; files = v.files; may_be = λ p. inl refl; rows = λ id. inl refl; seen = λ p. refl }
 
 opens_synced : {u : View} {s : State} → IsTree u → IsSound u → Shows (shows u) s → Opens s (done syncs u)
 opens_synced {u = u} tree sound is = settled_opens (tree_sync u tree) (record { earlier = λ q. refl; dirty = λ id. refl }) is (sound.sound (shows u) (now_left u))
@@ -198,20 +199,20 @@ place_of q (of_work (inr same) is) = at_work (inl same)
 in_repo_off : {p : Elements} {x : List ℕ} → top p ≡ codes "repo" → second (outward p) ≡ x → x ≢ [] → x ≢ codes "tmp" → IsPlace p → ⊥
 in_repo_off t s some off (at_made m) = made_no_repo (sym m ∙ t)
 in_repo_off t s some off (at_repo e) = some (sym s ∙ ap (λ (q : Elements). second (outward q)) e)
-in_repo_off {p = p} t s some off (at_work w) = off (sym s ∙ tmp_second p w)
+in_repo_off {p = p} t s some off (at_work w) = off (sym s ∙ work_second p w)
 in_repo_off t s some off (at_root e) = cc (sym t ∙ ap top e)
 
 object_off : (d : List ℕ) (kind : ObjKind) → IsPlace (object_path repo d kind) → ⊥
-object_off d kind = in_repo_off {p = object_path repo d kind} {x = codes "objects"} refl refl (λ e. cc e) (text_apart (codes "objects") (codes "tmp") refl)
+object_off d kind = in_repo_off {p = object_path repo d kind} {x = codes "objects"} refl refl (λ e. cc e) (bytes_eq-false (codes "objects") (codes "tmp") refl)
 
 file_off : (origin : List ℕ) (name : Ref) → IsPlace (ref_file origin name) → ⊥
-file_off origin name = in_repo_off {p = ref_file origin name} {x = codes "refs"} refl refl (λ e. cc e) (text_apart (codes "refs") (codes "tmp") refl)
+file_off origin name = in_repo_off {p = ref_file origin name} {x = codes "refs"} refl refl (λ e. cc e) (bytes_eq-false (codes "refs") (codes "tmp") refl)
 
 -- elsewhere
 top_off : {p : Elements} → top p ≢ codes "repo" → top p ≢ codes "made" → p ≢ [] → IsPlace p → ⊥
 top_off r m some (at_made t) = m t
 top_off r m some (at_repo e) = r (ap top e)
-top_off {p = p} r m some (at_work w) = r (tmp_top p w)
+top_off {p = p} r m some (at_work w) = r (work_top p w)
 top_off r m some (at_root e) = some e
 
 some_path : (rest : Elements) (name : Ref) → rest ++ branch_dir name ≢ []
@@ -224,13 +225,13 @@ in_ref_off name rest =
     top_off {p = rest ++ branch_dir name} (λ e. word_no_repo name.kind (sym t ∙ e)) (λ e. word_no_made name.kind (sym t ∙ e)) (some_path rest name)
 
 config_off : IsPlace config → ⊥
-config_off = top_off {p = config} (text_apart (codes "config") (codes "repo") refl) (text_apart (codes "config") (codes "made") refl) (λ e. cc e)
+config_off = top_off {p = config} (bytes_eq-false (codes "config") (codes "repo") refl) (bytes_eq-false (codes "config") (codes "made") refl) (λ e. cc e)
 
 remotes_off : IsPlace remotes_conf → ⊥
-remotes_off = top_off {p = remotes_conf} (text_apart (codes "remotes.conf") (codes "repo") refl) (text_apart (codes "remotes.conf") (codes "made") refl) (λ e. cc e)
+remotes_off = top_off {p = remotes_conf} (bytes_eq-false (codes "remotes.conf") (codes "repo") refl) (bytes_eq-false (codes "remotes.conf") (codes "made") refl) (λ e. cc e)
 
 pins_off : IsPlace pins_file → ⊥
-pins_off = top_off {p = pins_file} (text_apart (codes "pins") (codes "repo") refl) (text_apart (codes "pins") (codes "made") refl) (λ e. cc e)
+pins_off = top_off {p = pins_file} (bytes_eq-false (codes "pins") (codes "repo") refl) (bytes_eq-false (codes "pins") (codes "made") refl) (λ e. cc e)
 
 module _ (i j : Disk) (same : (p : Elements) → (IsPlace p → ⊥) → j p ≡ i p) where
   seen_same : (name : Ref) → ref_seen j name ≡ ref_seen i name
@@ -266,13 +267,9 @@ module _ (i j : Disk) (same : (p : Elements) → (IsPlace p → ⊥) → j p ≡
     no_old = λ some. let h = s.no_old (still_there config config_off some) in (same remotes_conf remotes_off ∙ h.0, same pins_file pins_off ∙ h.1);
   }
 
-above_work : (x : List ℕ) (rest : Elements) → IsAbove tmp (rest ++ (x ∷ tmp))
-above_work x [] = inl refl
-above_work x (y ∷ rest) = inr (above_work x rest)
-
 module _ (remote : List ℕ) (r : Ref) {have : Have} {commit : List ℕ} {u w : View} (tree : IsTree u) (tree' : IsTree w) (was : WasExported have (remote_store remote) r commit u w) where
   no_folder : (q : Elements) → IsAbove tmp q → (top q ≡ codes "made" → ⊥)
-  no_folder q above t = made_no_repo (sym t ∙ tmp_top q (inr above))
+  no_folder q above t = made_no_repo (sym t ∙ work_top q (inr above))
 
   work_same : Exports have (remote_store remote) r commit (done syncs u) w → (q : Elements) → IsAbove tmp q → w.names q ≡ u.names q
   work_same e q above = elim (e.keeps.names q) [
@@ -326,7 +323,7 @@ module _ (remote : List ℕ) (r : Ref) {have : Have} {commit : List ℕ} {u w : 
 -- nothing that is made stands below its objects
 object_no_place : (q : Elements) → IsAbove (objects_folder repo) q → IsPlace q → ⊥
 object_no_place q below = in_repo_off {p = q} {x = codes "objects"} (ap top (below_is q below).1 ∙ ap head_of (outward_append (below_is q below).0 (objects_folder repo) []))
-    (ap (λ (p : Elements). second (outward p)) (below_is q below).1 ∙ ap second (outward_append (below_is q below).0 (objects_folder repo) [])) (λ e. cc e) (text_apart (codes "objects") (codes "tmp") refl)
+    (ap (λ (p : Elements). second (outward p)) (below_is q below).1 ∙ ap second (outward_append (below_is q below).0 (objects_folder repo) [])) (λ e. cc e) (bytes_eq-false (codes "objects") (codes "tmp") refl)
   where
     below_is : (q : Elements) → IsAbove (objects_folder repo) q → (rest : Elements) × (q ≡ rest ++ objects_folder repo)
     below_is q below = above_rest (objects_folder repo) q below

@@ -10,6 +10,7 @@ use Rattle.fp_host.specs.Outcome.{Spot, Disk, gone, folder, holds, points}
 use Rattle.fp_name.specs.declared.kind.RefKind.{RefKind}
 use Rattle.fp_name.specs.Kinds.{kind_of, kind_word}
 use Rattle.fp_name.specs.Refs.{Ref}
+use Rattle.fp_name.proofs.Refs.{word_apart}
 use Rattle.fp_base.specs.declared.object.ObjKind.{ObjKind}
 use Rattle.fp_base.specs.declared.object.ObjKind.TheVariants as kinds
 use Rattle.fp_small.specs.Places.{repo, tmp, new_name}
@@ -18,40 +19,24 @@ use Rattle.fp_small.specs.Move.{IsNew}
 use Rattle.ost_model.specs.declared.object.Object.{Object}
 use Rattle.ost_model.specs.Objects.{Have, object_path, object_at}
 use Rattle.fp_base.specs.Objects.{kind_text}
+use Rattle.fp_base.proofs.Texts.{bytes_eq-false}
 use Rattle.ost_refs.specs.Places.{remotes}
 use Rattle.ost_export.specs.Storing.{IsWork}
 use Rattle.ost_export.specs.Exports.{config_path, config_text, ref_path, IsExportFolder, ExportsAt}
 use Rattle.dep_states.specs.Names.{commit_dir}
-use Rattle.dep_states.specs.Zones.{Zone, anything, a_folder, a_leaf, a_file, Fits, Allowed, IsLeafOrGone, IsFileOrGone, is_object_name, zone, outward, outward_onto}
+use Rattle.dep_states.specs.Zones.{Zone, anything, a_folder, a_leaf, a_file, Fits, Allowed, IsLeafOrGone, IsFileOrGone, is_object_name, zone, outward}
 use Rattle.dep_states.specs.Sound.{IsOld, is_remotes, is_pins, Fixed, is_config, is_old, is_active, is_deploy, is_layer, is_inside, is_object, Permits, Spares}
 use Rattle.dep_states.proofs.Deployed.{outward_append, top}
-use Rattle.dep_states.proofs.Rows.{head_of, text_apart}
-use Rattle.dep_states.proofs.Sparing.{none_in_repo, word_apart}
+use Rattle.dep_states.proofs.Rows.{head_of}
+use Rattle.dep_states.proofs.Sparing.{none_in_repo}
 use Rattle.dep_states.proofs.Switching.{word_no_repo, second}
+use Rattle.dep_states.proofs.Work.{outward_is}
 use Rattle.fl_make.specs.Making.{remote_store}
 
 -- ---- below a folder
 
-pub above_is : (t q : Elements) → IsAbove t q → (rest : Elements) × (q ≡ rest ++ t)
-above_is t [] above = absurd above
-above_is t (x ∷ up) (inl same) = (x ∷ [], ap (λ (l : Elements). x ∷ l) (sym same))
-above_is t (x ∷ up) (inr above) = let more = above_is t up above in (x ∷ more.0, ap (λ (l : Elements). x ∷ l) more.1)
-
-within_is : (t q : Elements) → IsWithin t q → (rest : Elements) × (q ≡ rest ++ t)
-within_is t q (inl same) = ([], same)
-within_is t q (inr above) = above_is t q above
-
-pub outward_is : (t q : Elements) → IsWithin t q → (rest : Elements) × (outward q ≡ outward_onto t (outward rest))
-outward_is t q within = let is = within_is t q within in (is.0, ap outward is.1 ∙ outward_append is.0 t [])
-
 pub made_top : (remote : List ℕ) (q : Elements) → IsWithin (remote_store remote) q → top q ≡ codes "made"
 made_top remote q within = ap head_of (outward_is (remote_store remote) q within).1
-
-pub tmp_top : (q : Elements) → IsWithin tmp q → top q ≡ codes "repo"
-tmp_top q within = ap head_of (outward_is tmp q within).1
-
-pub tmp_second : (q : Elements) → IsWithin tmp q → second (outward q) ≡ codes "tmp"
-tmp_second q within = ap second (outward_is tmp q within).1
 
 -- work is below `repo/tmp`
 pub work_out : {u : View} {q : Elements} → IsWork u q → (x : List ℕ) × (m : List (List ℕ)) × (outward q ≡ codes "repo" ∷ (codes "tmp" ∷ (x ∷ m)))
@@ -66,18 +51,18 @@ pub word_no_made : (k : RefKind) → kind_word k ≢ codes "made"
 word_no_made k = word_apart k (codes "made") refl refl
 
 pub made_no_repo : codes "made" ≢ codes "repo"
-made_no_repo = text_apart (codes "made") (codes "repo") refl
+made_no_repo = bytes_eq-false (codes "made") (codes "repo") refl
 
 no_old : {p : Elements} → IsOld p → top p ≡ codes "made" → ⊥
-no_old (is_remotes e) t = text_apart (codes "remotes.conf") (codes "made") refl (sym (ap top e) ∙ t)
-no_old (is_pins e) t = text_apart (codes "pins") (codes "made") refl (sym (ap top e) ∙ t)
+no_old (is_remotes e) t = bytes_eq-false (codes "remotes.conf") (codes "made") refl (sym (ap top e) ∙ t)
+no_old (is_pins e) t = bytes_eq-false (codes "pins") (codes "made") refl (sym (ap top e) ∙ t)
 
 unfixed : {disk : Disk} {p : Elements} → Fixed disk p → top p ≡ codes "made" → ⊥
-unfixed (is_config e) t = text_apart (codes "config") (codes "made") refl (sym (ap top e) ∙ t)
+unfixed (is_config e) t = bytes_eq-false (codes "config") (codes "made") refl (sym (ap top e) ∙ t)
 unfixed (is_old none old) t = no_old old t
 unfixed (is_active name good e) t = word_no_made name.kind (sym (ap top e) ∙ t)
 unfixed (is_deploy name text good link e) t = word_no_made name.kind (sym (ap top e) ∙ t)
-unfixed (is_layer name good e) t = text_apart (codes "overrides") (codes "made") refl (sym (ap top e) ∙ t)
+unfixed (is_layer name good e) t = bytes_eq-false (codes "overrides") (codes "made") refl (sym (ap top e) ∙ t)
 unfixed (is_inside name commit rest k off e) t = word_no_made name.kind (sym (ap top e ∙ ap head_of (outward_append rest (commit_dir name commit) [])) ∙ t)
 unfixed (is_object name commit place k h e) t = made_no_repo (sym t ∙ ap top e)
 
@@ -211,7 +196,7 @@ module _ (remote : List ℕ) (r : Ref) where
       (record { place = in_made refl; allowed = record { fits = id_fits a_folder (r.id ∷ kind_path) folder tt; short = inr (omega arith) } })
       (record { place = in_made refl; allowed = record { fits = arch_fits a_folder (r.arch ∷ (r.id ∷ kind_path)) folder tt; short = inr (omega arith) } })
       (record { place = in_repo refl (λ e. cc e); allowed = record { fits = tt; short = inr (omega arith) } })
-      (record { place = in_repo refl (text_apart (codes "tmp") (codes "objects") refl); allowed = record { fits = tt; short = inr (omega arith) } })
+      (record { place = in_repo refl (bytes_eq-false (codes "tmp") (codes "objects") refl); allowed = record { fits = tt; short = inr (omega arith) } })
 
   -- ---- files and links
 
@@ -239,7 +224,7 @@ module _ (remote : List ℕ) (r : Ref) where
   work_where : {u : View} (q : Elements) → IsWork u q → Where q
   work_where q work =
       let out = work_out work in
-      in_repo (ap head_of out.2) (λ e. text_apart (codes "tmp") (codes "objects") refl (sym (ap second out.2) ∙ e))
+      in_repo (ap head_of out.2) (λ e. bytes_eq-false (codes "tmp") (codes "objects") refl (sym (ap second out.2) ∙ e))
 
   -- ---- all of it
 

@@ -5,8 +5,8 @@ use Rattle.std.specs.List.{slice_split, onto_first, AllByRecursion, All, join_wi
 use Rattle.std.specs.Str.{bytes_eq}
 use Rattle.std.proofs.lemmas.Bool.{false≢true, cases_Bool, eqb-true, and_parts, and_right}
 use Rattle.std.proofs.lemmas.List.Splits.{join_with_byte-slice_split, slice_split_at, slice_split_none}
+use Rattle.fp_base.proofs.Texts.{bytes_eq-true}
 use Rattle.fp_keyfile.specs.Grammar.{begins_so}
-use Rattle.fp_keyfile.proofs.Names.{bytes_eq-true}
 use Rattle.fl_meta.specs.Places.{is_slash, is_colon, is_dot, is_ending, says_nothing, begins_dotted, slash_with, colon_with, normal_with, normal, rooted, place_in, part_text, parts_text, end_with, without_ends}
 use Rattle.fl_meta.specs.Entries.{last_word, access_remainder}
 use Rattle.fl_meta.specs.Cuts.{HasNoEnding, CutsEnd, HasNoEnd}

@@ -1,9 +1,10 @@
 -- Permissions with the same list and the same name are one.
-use Rattle.std.proofs.Common.{◌≡◌, ◌==◌, ℕ, Bool, true, false, cond, ◌&&◌, refl, sym, ap, ◌∙◌}
+use Rattle.std.proofs.Common.{◌≡◌, ◌==◌, ℕ, true, cond, refl, sym, ap, ◌∙◌}
 use Rattle.std.specs.Str.{bytes_eq}
-use Rattle.std.proofs.lemmas.Bool.{false≢true, eqb-true}
+use Rattle.std.proofs.lemmas.Bool.{eqb-true}
 use Rattle.std.proofs.lemmas.Cmp.{and_equiv, on_equiv, nat_eq_equiv, nat_list_eq_equiv}
 use Rattle.std.proofs.lemmas.Slice.Eq.{bytes_eq-Decides}
+use Rattle.fp_base.proofs.Booleans.{and_first, and_second}
 use Rattle.fl_meta.specs.declared.permission.PermList.{PermList}
 use Rattle.fl_meta.specs.declared.permission.PermList.TheVariants as lists
 use Rattle.fl_meta.specs.declared.permission.Permission.{Permission}
@@ -32,14 +33,6 @@ list_at-place lists.UnknownDevices = refl
 list_at-place lists.UnknownFeatures = refl
 list_at-place lists.UnknownSessionBus = refl
 list_at-place lists.UnknownSystemBus = refl
-
-and_first : (a b : Bool) → (a && b) ≡ true → a ≡ true
-and_first true b h = refl
-and_first false b h = h
-
-and_second : (a b : Bool) → (a && b) ≡ true → b ≡ true
-and_second true b h = h
-and_second false b h = absurd (false≢true h)
 
 pub place_exact : (l k : PermList) → (place_of l == place_of k) ≡ true → l ≡ k
 place_exact l k e = sym (list_at-place l) ∙ ap list_at (eqb-true (place_of l) (place_of k) e) ∙ list_at-place k

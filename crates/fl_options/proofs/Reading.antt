@@ -1,13 +1,14 @@
 -- The rule that is read of a text is the rule that it is.
-use Rattle.std.proofs.Common.{◌≡◌, ◌≢◌, ℕ, zero, suc, ◌-◌, true, false, eqb, List, [], ◌∷◌, ◌++◌, length, take, Option, Some, None, refl, sym, ap, subst, ◌∙◌, inl, inr, arith, append_assoc}
+use Rattle.std.proofs.Common.{◌≡◌, ℕ, ◌-◌, true, false, eqb, List, [], ◌∷◌, ◌++◌, length, take, Option, Some, None, refl, sym, ap, subst, ◌∙◌, inl, inr, arith}
 use Rattle.std.specs.Prelude.{◌||◌, codes, nat_eq, option_map, option_and_then}
 use Rattle.std.specs.List.{ends_with}
 use Rattle.std.specs.Str.{bytes_eq}
 use Rattle.std.proofs.lemmas.Slice.Eq.{bytes_eq-Decides, ends_is}
 use Rattle.std.proofs.lemmas.Bool.Decides.{Decides-eqb}
-use Rattle.std.proofs.lemmas.Bool.{and_parts, and_from, cases_Bool, ne_eqb, eqb-true, false≢true}
+use Rattle.std.proofs.lemmas.Bool.{and_parts, and_from, cases_Bool, ne_eqb, false≢true}
 use Rattle.std.proofs.lemmas.List.{length-append, append-nil}
 use Rattle.std.proofs.Math.Seq.{take-append_seam}
+use Rattle.fp_base.proofs.Lists.{empty_is}
 use Rattle.bus_frame.specs.Names.{is_interface, is_member, is_path}
 use Rattle.bus_rules.specs.declared.rule.Members.{Members}
 use Rattle.bus_rules.specs.declared.rule.Members.TheVariants.{All, Of, One}
@@ -15,27 +16,16 @@ use Rattle.bus_rules.specs.declared.rule.Objects.{Objects}
 use Rattle.bus_rules.specs.declared.rule.Objects.TheVariants.{At, Below}
 use Rattle.bus_rules.specs.declared.rule.Rule.{Rule}
 use Rattle.bus_rules.specs.Rules.{members_text, objects_text, are_members, are_objects, are_parts, members_part, objects_part, IsRule, IsNoRule, NamesMembers, NamesObjects}
-use Rattle.bus_rules.proofs.Splits.{Misses, Misses-is, interface_misses, member_misses, path_misses}
+use Rattle.bus_rules.proofs.Splits.{Misses, Misses-is, member_misses}
+use Rattle.bus_rules.proofs.Spelling.{star_misses, path_end, members_sign}
 use Rattle.fp_keyfile.specs.Lines.{split_at}
 use Rattle.fl_options.specs.Rules.{split_last, members_with, members_read, objects_read, on_objects, parts_read, alone_read, rule_at, rule_read}
 use Rattle.fl_options.proofs.Splits.{first_found, first_none, first_is, last_found, last_is}
 
 -- ---- texts
 
-star_misses : (c : ℕ) → c ≢ 42 → Misses c (codes "*")
-star_misses c other zero l e = other (sym e)
-star_misses c other (suc i) l e = absurd (omega arith)
-
 star_dot : Misses 46 (codes "*")
 star_dot = star_misses 46 (λ e. omega arith)
-
-Misses-cons : (c x : ℕ) (xs : List ℕ) → x ≢ c → Misses c xs → Misses c (x ∷ xs)
-Misses-cons c x xs other h zero l = other
-Misses-cons c x xs other h (suc i) l = h i (omega arith)
-
-Misses-append : (c : ℕ) (xs ys : List ℕ) → Misses c xs → Misses c ys → Misses c (xs ++ ys)
-Misses-append c [] ys h k = k
-Misses-append c (x ∷ xs) ys h k = Misses-cons c x (xs ++ ys) (h 0 (omega arith)) (Misses-append c xs ys (λ i l. h (suc i) (omega arith)) k)
 
 some_seam : (a : List ℕ) (c : ℕ) (b : List ℕ) → eqb (length (a ++ c ∷ b)) 0 ≡ false
 some_seam a c b = ne_eqb (length (a ++ c ∷ b)) 0 (λ e. omega (arith, e, length-append a (c ∷ b)))
@@ -109,9 +99,6 @@ members_is text m h =
 
 -- ---- objects
 
-path_end : (p q : List ℕ) → is_path p ≡ true → p ≡ q ++ codes "/*" → ⊥
-path_end p q is e = Misses-is 42 p (q ++ 47 ∷ []) [] (e ∙ sym (append_assoc q (47 ∷ []) (42 ∷ []))) (path_misses 42 refl p is)
-
 ends_yes : (text front : List ℕ) → text ≡ front ++ codes "/*" → ends_with nat_eq text (codes "/*") ≡ true
 ends_yes text front e = (ends_is Decides-eqb text (codes "/*") (ends_with nat_eq text (codes "/*")) refl).1 front e
 
@@ -164,13 +151,6 @@ objects_is text o h =
 
 abbrev made : Option Members → Option Objects → Rule
 made m o = record { members = m; objects = o }
-
-members_sign : (m : Members) → are_members m ≡ true → Misses 64 (members_text m)
-members_sign All valid = star_misses 64 (λ e. omega arith)
-members_sign (Of i) valid = Misses-append 64 i (codes ".*") (interface_misses 64 refl i valid) (Misses-cons 64 46 (codes "*") (λ e. omega arith) (star_misses 64 (λ e. omega arith)))
-members_sign (One i m) valid =
-    let both = and_parts (is_interface i) (is_member m) valid in
-    Misses-append 64 i (46 ∷ m) (interface_misses 64 refl i both.0) (Misses-cons 64 46 m (λ e. omega arith) (member_misses 64 refl m both.1))
 
 members_some : (m : Members) → eqb (length (members_text m)) 0 ≡ false
 members_some All = refl
@@ -238,10 +218,6 @@ alone_is text r h = by (members_read text) refl h
         let named = members_is text m is in
         let same : made (Some m) None ≡ r = some_rule (made (Some m) None) r (sym (ap (option_map (λ x. made (Some x) None)) is) ∙ k) in
         subst (λ (x : Rule). IsRule x text) same (record { valid = named.0; spelled = named.1 ∙ sym (append-nil (members_text m)) })
-
-empty_is : (text : List ℕ) → eqb (length text) 0 ≡ true → text ≡ []
-empty_is [] e = refl
-empty_is (x ∷ xs) e = absurd (omega (arith, eqb-true (length (x ∷ xs)) 0 e))
 
 parts_are : (text : List ℕ) (p : List ℕ × List ℕ) (r : Rule) → text ≡ p.0 ++ 64 ∷ p.1 → parts_read p ≡ Some r → IsRule r text
 parts_are text p r parts h =

@@ -4,6 +4,7 @@ use Rattle.std.specs.Prelude.{codes}
 use Rattle.std.specs.List.{list_any, flat_map, AllByRecursion}
 use Rattle.std.proofs.lemmas.Bool.{false≢true, false_from_ne_true, ne_eqb, eqb-true, or_parts}
 use Rattle.std.proofs.lemmas.List.Concat.{flat_map-append}
+use Rattle.fp_base.proofs.Lists.{all_append}
 use Rattle.fp_keyfile.specs.declared.group.Pair.{Pair}
 use Rattle.fp_keyfile.specs.Grammar.{is_blank}
 use Rattle.fp_keyfile.specs.Lines.{trimmed_front}
@@ -22,10 +23,9 @@ use Rattle.fl_meta.proofs.Endings.{is_empty-cons}
 use Rattle.fl_meta.proofs.Whole.{IsWhole, entries_cut, entries_are_whole}
 use Rattle.fl_meta.proofs.Same.{place_exact, same_places}
 use Rattle.fl_context.specs.Grants.{said, later, last_mention, value_in, IsAscending}
-use Rattle.fl_context.proofs.Merging.{last_mention-append, last-one}
+use Rattle.fl_context.proofs.Merging.{last_mention-append, last-one, later-none}
 use Rattle.fl_override.specs.Written.{entry_text, closed_entry, is_in, list_text, pair_if, list_pair, context_lists, context_pairs, named_pair, named_pairs, group_if, file_with, group_of, pair_with, pair_of, CanWrite}
 use Rattle.fl_override.specs.Overrides.{AllCanWrite}
-use Rattle.fl_override.proofs.Plain.{AllByRecursion-append}
 use Rattle.fl_override.proofs.Closed.{IsClosed, closed_with, trimmed_whole, mark_whole, place_whole}
 use Rattle.fl_override.proofs.Reading.{IsListed, listed_shared, listed_sockets, listed_devices, listed_features, listed_filesystems, listed_persistent, listed_unknown_shared, listed_unknown_sockets, listed_unknown_devices, listed_unknown_features, listed_unknown_session, listed_unknown_system, mentions_in-nil, closed_reads, context_reads}
 
@@ -49,7 +49,7 @@ entry_names list x h = named_closes (is_no_name (name_in list (without_mark x)))
 pieces_names : (list : PermList) (pieces : List (List ℕ)) → AllByRecursion (IsWhole false) pieces → AllByRecursion NameCloses (flat_map (entry_mentions list) pieces)
 pieces_names list [] h = tt
 pieces_names list (piece ∷ pieces) h =
-    AllByRecursion-append NameCloses (entry_mentions list piece) _ (entry_names list (trimmed_front is_blank piece) (trimmed_whole piece h.0)) (pieces_names list pieces h.1)
+    all_append NameCloses (entry_mentions list piece) _ (entry_names list (trimmed_front is_blank piece) (trimmed_whole piece h.0)) (pieces_names list pieces h.1)
 
 list_names : (list : PermList) (value : List ℕ) → AllByRecursion NameCloses (list_mentions list value)
 unfolding list_mentions
@@ -172,10 +172,6 @@ file_back set h =
     joined_parts {a} {b} {c} {d} {x} {y} {z} {w} e f g h = rw (e, f, g, h, append-nil w) refl
 
 -- ---- the last mention
-
-later-none : (o : Option Value) → later o None ≡ o
-later-none (Some v) = refl
-later-none None = refl
 
 unsaid : (m : Mention) (p : Permission) → (place_of m.permission.list == place_of p.list) ≡ false → said m p ≡ None
 unsaid m p e =

@@ -15,6 +15,7 @@ use Rattle.fp_keyfile.specs.KeyFile.{keys_of, names_of, are_distinct, is_good_pa
 use Rattle.fp_keyfile.proofs.Texts.{ends_so-append, utf8_joined, utf8_before, utf8_nil}
 use Rattle.fp_keyfile.proofs.Good.{IsGoodPair, good_pair_from, good_group_from, good_from}
 use Rattle.fp_keyfile.proofs.Written.{IsValueText-from}
+use Rattle.fp_keyfile.proofs.Read.{map_keys-append}
 use Rattle.fl_meta.specs.declared.permission.PermList.{PermList}
 use Rattle.fl_meta.specs.declared.permission.PermList.TheVariants as lists
 use Rattle.fl_meta.specs.declared.permission.Permission.{Permission}
@@ -88,16 +89,12 @@ lists_good (l ∷ ls) set all h =
     list_all-append is_good_pair (list_pair set l) (flat_map (list_pair set) ls)
     ∙ and_from (list_all is_good_pair (list_pair set l)) (list_all is_good_pair (flat_map (list_pair set) ls)) (pair_if_good _ (key_of l) (list_text l set) all.0.key all.0.key_text (list_is_text l set all.0 h)) (lists_good ls set all.1 h)
 
-keys-append : (one other : List Pair) → keys_of (one ++ other) ≡ keys_of one ++ keys_of other
-keys-append [] other = refl
-keys-append (p ∷ one) other = ap (λ ks. p.key ∷ ks) (keys-append one other)
-
 -- a key of the pairs is a key of the lists
 no_key : (k : List ℕ) (ls : List PermList) (set : List Mention) → list_any (bytes_eq k) (map key_of ls) ≡ false → list_any (bytes_eq k) (keys_of (flat_map (list_pair set) ls)) ≡ false
 no_key k [] set h = refl
 no_key k (l ∷ ls) set h =
     let a = or_parts (bytes_eq k (key_of l)) (list_any (bytes_eq k) (map key_of ls)) h in
-    ap (list_any (bytes_eq k)) (keys-append (list_pair set l) (flat_map (list_pair set) ls)) ∙ list_any-append (bytes_eq k) (keys_of (list_pair set l)) (keys_of (flat_map (list_pair set) ls))
+    ap (list_any (bytes_eq k)) (map_keys-append (list_pair set l) (flat_map (list_pair set) ls)) ∙ list_any-append (bytes_eq k) (keys_of (list_pair set l)) (keys_of (flat_map (list_pair set) ls))
     ∙ neither (length (list_text l set) == 0) a.0 (no_key k ls set a.1)
   where
     neither : (b : Bool) {y : Bool} → bytes_eq k (key_of l) ≡ false → y ≡ false → (list_any (bytes_eq k) (keys_of (cond b [] (record { key = key_of l; value = list_text l set } ∷ []))) || y) ≡ false
@@ -108,7 +105,7 @@ keys_distinct : (ls : List PermList) (set : List Mention) → are_distinct (map 
 keys_distinct [] set h = refl
 keys_distinct (l ∷ ls) set h =
     let a = and_parts (not (list_any (bytes_eq (key_of l)) (map key_of ls))) (are_distinct (map key_of ls)) h in
-    ap are_distinct (keys-append (list_pair set l) (flat_map (list_pair set) ls))
+    ap are_distinct (map_keys-append (list_pair set l) (flat_map (list_pair set) ls))
     ∙ one_more (length (list_text l set) == 0) _ (no_key (key_of l) ls set (not-true _ a.0)) (keys_distinct ls set a.1)
   where
     one_more : (b : Bool) (ks : List (List ℕ)) → list_any (bytes_eq (key_of l)) ks ≡ false → are_distinct ks ≡ true → are_distinct (keys_of (cond b [] (record { key = key_of l; value = list_text l set } ∷ [])) ++ ks) ≡ true

@@ -61,10 +61,6 @@ IsPlain-without_mark (b ∷ bs) h =
 
 -- ---- the pieces of a value
 
-pub AllByRecursion-append : {X : Type 0} (P : X → Type 0) (xs ys : List X) → AllByRecursion P xs → AllByRecursion P ys → AllByRecursion P (xs ++ ys)
-AllByRecursion-append P [] ys h k = k
-AllByRecursion-append P (x ∷ xs) ys h k = (h.0, AllByRecursion-append P xs ys h.1 k)
-
 -- what was read of a value so far is whole
 pieces_from : (front rest : List ℕ) → IsWhole false front → is_utf8 (front ++ rest) ≡ true → list_all is_value_byte (front ++ rest) ≡ true → AllByRecursion IsPlain (entries_of (front ++ rest))
 pieces_from front [] h u v =

@@ -9,12 +9,13 @@ use Rattle.std.specs.Str.{is_utf8, bytes_eq}
 use Rattle.std.proofs.lemmas.Bool.{and_parts, and_from, false≢true, not-true, ltb-true, or_parts}
 use Rattle.std.proofs.lemmas.List.Elements.{All-from_recursion}
 use Rattle.std.proofs.lemmas.List.Folds.{list_all-append}
+use Rattle.fp_base.proofs.Lists.{all_append}
+use Rattle.fp_base.proofs.Texts.{bytes_eq-true}
 use Rattle.fp_keyfile.specs.declared.group.Group.{Group}
 use Rattle.fp_keyfile.specs.declared.group.Pair.{Pair}
 use Rattle.fp_keyfile.specs.Grammar.{is_blank, is_return, is_value_byte, is_key_byte, is_key, is_value, begins_so, ends_so}
 use Rattle.fp_keyfile.specs.Lines.{trimmed_front}
 use Rattle.fp_keyfile.specs.KeyFile.{is_good_pair, is_good_group, is_good}
-use Rattle.fp_keyfile.proofs.Names.{bytes_eq-true}
 use Rattle.fp_keyfile.proofs.Texts.{ends_so-append, begins_so-trimmed_front, trimmed_front_same, utf8_joined, utf8_nil}
 use Rattle.fp_keyfile.proofs.Good.{IsGoodPair, good_pair_parts, good_group_parts, good_parts}
 use Rattle.fp_keyfile.proofs.Written.{IsKeyText-from, IsValueText-from, none_is}
@@ -37,7 +38,7 @@ use Rattle.fl_meta.proofs.Normal.{HasNoEnding-place_in, place_in-twice}
 use Rattle.fl_meta.proofs.Whole.{IsWhole, entries_cut, entries_are_whole}
 use Rattle.fl_override.specs.Written.{entry_with, entry_text, closed_entry, group_of, pair_with, pair_of, CanWrite}
 use Rattle.fl_override.specs.Overrides.{AllCanWrite}
-use Rattle.fl_override.proofs.Plain.{IsPlain, IsPlain-nil, IsPlain-joined, IsPlain-trimmed, IsPlain-without_mark, AllByRecursion-append, plain_pieces}
+use Rattle.fl_override.proofs.Plain.{IsPlain, IsPlain-nil, IsPlain-joined, IsPlain-trimmed, IsPlain-without_mark, plain_pieces}
 use Rattle.fl_override.proofs.Closed.{IsClosed, closed_with, trimmed_whole, mark_whole, place_whole, none_whole}
 use Rattle.fl_override.proofs.Places.{place_in-ended, first_of, IsPlain-place_in}
 
@@ -432,7 +433,7 @@ entry_written list x false o false e r h =
 
 AllCanWrite-flat_map : {X : Type 0} (f : X → List Mention) (xs : List X) → AllByRecursion (λ x. AllCanWrite (f x)) xs → AllCanWrite (flat_map f xs)
 AllCanWrite-flat_map f [] h = tt
-AllCanWrite-flat_map f (x ∷ xs) h = AllByRecursion-append CanWrite (f x) (flat_map f xs) h.0 (AllCanWrite-flat_map f xs h.1)
+AllCanWrite-flat_map f (x ∷ xs) h = all_append CanWrite (f x) (flat_map f xs) h.0 (AllCanWrite-flat_map f xs h.1)
 
 pieces_written : (list : PermList) (pieces : List (List ℕ)) → IsRead list → AllByRecursion IsPlain pieces → AllByRecursion (IsWhole false) pieces → AllByRecursion (λ piece. AllCanWrite (entry_mentions list piece)) pieces
 pieces_written list [] r h w = tt
@@ -541,7 +542,7 @@ key_lacks : (c : ℕ) → is_key_byte c ≡ false → (xs : List ℕ) → list_a
 key_lacks c e xs h = lacks_byte c xs (none_is is_key_byte c e xs h)
 
 lacks_joined : (c : ℕ) (xs : List ℕ) (d : ℕ) (ys : List ℕ) → eqb d c ≡ false → AllByRecursion (λ b. eqb b c ≡ false) xs → AllByRecursion (λ b. eqb b c ≡ false) ys → AllByRecursion (λ b. eqb b c ≡ false) (xs ++ d ∷ ys)
-lacks_joined c xs d ys e h k = AllByRecursion-append (λ b. eqb b c ≡ false) xs (d ∷ ys) h (e, k)
+lacks_joined c xs d ys e h k = all_append (λ b. eqb b c ≡ false) xs (d ∷ ys) h (e, k)
 
 name_plain : (p : Pair) → IsGoodPair p → IsPlain (pair_name p)
 name_plain p good =

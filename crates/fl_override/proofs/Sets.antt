@@ -5,9 +5,9 @@ use Rattle.fl_meta.specs.declared.permission.Permission.{Permission}
 use Rattle.fl_meta.specs.declared.permission.Value.{Value}
 use Rattle.fl_meta.specs.declared.permission.Mention.{Mention}
 use Rattle.fl_meta.specs.Order.{is_same}
-use Rattle.fl_meta.proofs.Same.{same_exact, same_itself}
+use Rattle.fl_meta.proofs.Same.{same_exact}
 use Rattle.fl_context.specs.Grants.{said, later, last_mention, or_next, value_in, IsAscending}
-use Rattle.fl_context.proofs.Merging.{none_above}
+use Rattle.fl_context.proofs.Merging.{none_above, first_value}
 use Rattle.fl_override.specs.Written.{CanWrite}
 use Rattle.fl_override.specs.Overrides.{AllCanWrite}
 
@@ -36,9 +36,6 @@ last-write (m ∷ ms) p v h e = by_last (last_mention ms p) (last-write ms p v h
     by_last (Some w) k f = k f
     by_last None k f = said-write m p v (is_same m.permission p) refl h.0 f
 
-first-value : (m : Mention) (ms : List Mention) → value_in (m ∷ ms) m.permission ≡ Some m.value
-first-value m ms = rw (same_itself m.permission m.permission refl) refl
-
 tail-value : (m : Mention) (ms : List Mention) (p : Permission) (v : Value) → IsAscending (m ∷ ms) → value_in ms p ≡ Some v → value_in (m ∷ ms) p ≡ Some v
 unfolding IsStrictlySortedBy
 tail-value m ms p v h e = by_same (is_same m.permission p) refl
@@ -50,7 +47,7 @@ tail-value m ms p v h e = by_same (is_same m.permission p) refl
 values-write : (g : List Mention) → IsAscending g → ((p : Permission) (v : Value) → value_in g p ≡ Some v → CanWrite (mention p v)) → AllCanWrite g
 unfolding IsStrictlySortedBy
 values-write [] h k = tt
-values-write (m ∷ ms) h k = (k m.permission m.value (first-value m ms), values-write ms h.1 (λ p v e. k p v (tail-value m ms p v h e)))
+values-write (m ∷ ms) h k = (k m.permission m.value (first_value m ms), values-write ms h.1 (λ p v e. k p v (tail-value m ms p v h e)))
 
 -- a list that has the last mentions of others
 pub last_written : (g ms : List Mention) → IsAscending g → ((p : Permission) → value_in g p ≡ last_mention ms p) → AllCanWrite ms → AllCanWrite g

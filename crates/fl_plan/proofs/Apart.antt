@@ -1,27 +1,19 @@
 -- What is offered is apart from what is there and from what is to come.
-use Rattle.std.proofs.Common.{◌≡◌, ◌<◌, ℕ, zero, suc, List, [], ◌∷◌, ◌++◌, length, get_or, Bool, true, false, Option, Some, None, Ok, Err, refl, sym, ◌∙◌, ap, arith}
-use Rattle.std.specs.Prelude.{is_some, IfSome, option_and_then, codes, ◌||◌, if◌then◌else◌}
-use Rattle.std.specs.List.{list_any, join_with_byte}
+use Rattle.std.proofs.Common.{◌≡◌, ◌<◌, ℕ, zero, suc, List, [], ◌∷◌, length, get_or, Bool, true, false, Option, Some, None, refl, sym, ◌∙◌, ap, arith}
+use Rattle.std.specs.Prelude.{is_some, IfSome, ◌||◌}
+use Rattle.std.specs.List.{list_any}
 use Rattle.std.specs.Str.{bytes_eq}
-use Rattle.std.proofs.lemmas.Bool.{false_from_ne_true}
-use Rattle.fp_base.specs.declared.meta_rule.MetaRule.TheVariants as rules
-use Rattle.fp_keyfile.specs.declared.group.Group.{Group}
-use Rattle.fp_keyfile.specs.KeyFile.{file_of, value_at}
-use Rattle.fp_name.specs.Kinds.{kind_word}
+use Rattle.std.proofs.lemmas.Bool.{false_from_ne_true, or_parts}
+use Rattle.fp_base.proofs.Texts.{bytes_eq-same}
 use Rattle.fp_name.specs.Refs.{Ref, is_ref, ref_text}
-use Rattle.fp_name.specs.declared.kind.RefKind.{RefKind}
-use Rattle.fp_name.specs.declared.kind.RefKind.TheVariants.{App, Runtime}
-use Rattle.fp_name.proofs.Refs.{ref_of-some}
-use Rattle.fp_small.proofs.Ordered.{bytes_eq-is, bytes_eq-differ, bytes_eq-itself}
+use Rattle.fp_small.proofs.Ordered.{bytes_eq-differ}
 use Rattle.fp_small.specs.Config.{name_of}
 use Rattle.fp_small.specs.Order.{has_name}
 use Rattle.fp_small.specs.declared.state.State.{State}
 use Rattle.fp_small.specs.declared.state.RefRow.{RefRow}
 use Rattle.fp_small.specs.declared.state.RemoteRow.{RemoteRow}
-use Rattle.fl_meta.specs.Metadata.{has_group, meta_of, app_of, runtime_meta, runtime_of, runtime_in as runtime_said, meta_kind}
 use Rattle.fl_extension.specs.declared.point.Point.{Point}
 use Rattle.fl_extension.specs.Found.{has_ref, row_of}
-use Rattle.fl_installed.specs.Metadata.{groups_in, runtime_in, runtime_named}
 use Rattle.fl_plan.specs.Extensions.{is_coming, is_filled}
 use Rattle.fl_plan.specs.Plans.{is_at, begun}
 use Rattle.fl_plan.specs.Allowed.{IsTaken, IsOneOf, IsOfferOf, MayCome, ComesTo, IsPlan}
@@ -44,7 +36,7 @@ pub offer_among : (rows : List RemoteRow) (i : ℕ) (row : RemoteRow) (name : Re
 offer_among rows i row name o within is taken = record {
   name_is = taken.name_is;
   good = taken.good;
-  remote = any_at (λ y. bytes_eq o.remote.name (name_of y)) rows i row within is (ap (λ (r : RemoteRow). bytes_eq r.name row.name) taken.remote_is ∙ bytes_eq-itself row.name);
+  remote = any_at (λ y. bytes_eq o.remote.name (name_of y)) rows i row within is (ap (λ (r : RemoteRow). bytes_eq r.name row.name) taken.remote_is ∙ bytes_eq-same row.name);
   commit = taken.commit;
 }
 
@@ -71,15 +63,11 @@ absent_may s name o none is = record {
   moves = absent_at s o.name o.commit (ap (has_ref s) is.name_is ∙ none);
 }
 
-or_both : (a b : Bool) → (a || b) ≡ false → (a ≡ false) × (b ≡ false)
-or_both true b is = absurd (cc is)
-or_both false b is = (refl, is)
-
 pub candidate_comes : (s : State) (plan : List Offer) (point : Point) (remote : RemoteRow) (o : Offer) → is_filled s plan point ≡ false
     → has_name name_of s.remotes remote.name ≡ true → IsOneOf remote point.candidates o → ComesTo s plan o
 candidate_comes s plan point remote o empty known is =
     let test = λ (c : Ref). has_ref s c || is_coming plan c in
-    let h = or_both (has_ref s o.name) (is_coming plan o.name) (false_from_ne_true (test o.name) (λ t. absurd (cc (is.among test t, empty)))) in
+    let h = or_parts (has_ref s o.name) (is_coming plan o.name) (false_from_ne_true (test o.name) (λ t. absurd (cc (is.among test t, empty)))) in
     record {
       may = record {
         name = is.taken.good;
@@ -89,57 +77,6 @@ candidate_comes s plan point remote o empty known is =
       };
       apart = h.1;
     }
-
--- ---- a runtime is no application
-
-first_text : (r : Ref) (k : RefKind) → r.kind ≡ k → get_or (ref_text r) 0 0 ≡ get_or (join_with_byte 47 (kind_word k ∷ r.id ∷ r.arch ∷ r.branch ∷ [])) 0 0
-first_text r k is = ap (λ (j : RefKind). get_or (join_with_byte 47 (kind_word j ∷ r.id ∷ r.arch ∷ r.branch ∷ [])) 0 0) is
-
-texts_differ : (a b : Ref) → a.kind ≡ Runtime → b.kind ≡ App → bytes_eq (ref_text a) (ref_text b) ≡ false
-texts_differ a b runtime app = false_from_ne_true (bytes_eq (ref_text a) (ref_text b)) (λ t.
-    let same = ap (λ (xs : List ℕ). get_or xs 0 0) (bytes_eq-is (ref_text a) (ref_text b) t) in
-    let x : get_or (ref_text a) 0 0 ≡ 114 = first_text a Runtime runtime in
-    let y : get_or (ref_text b) 0 0 ≡ 97 = first_text b App app in
-    absurd (omega (arith, same, x, y)))
-
-runtime_kind : (text : List ℕ) (r : Ref) → runtime_of text ≡ Some r → r.kind ≡ Runtime
-runtime_kind text r is = go r.kind refl
-  where
-    begins : 114 ≡ get_or (ref_text r) 0 0
-    begins = ap (λ (xs : List ℕ). get_or xs 0 0) (ref_of-some (kind_word Runtime ++ 47 ∷ text) r is).0
-
-    go : (k : RefKind) → r.kind ≡ k → r.kind ≡ Runtime
-    go Runtime same = same
-    go App same = let y : get_or (ref_text r) 0 0 ≡ 97 = first_text r App same in absurd (omega (arith, begins, y))
-
-said_kind : (value : Option (List ℕ)) (r : Ref) → option_and_then runtime_of value ≡ Some r → r.kind ≡ Runtime
-said_kind None r is = absurd (cc is)
-said_kind (Some text) r is = runtime_kind text r is
-
-file_kind : (file : List Group) (r : Ref) → runtime_said file ≡ Some r → r.kind ≡ Runtime
-unfolding runtime_said
-file_kind file r is = said_kind (value_at file (codes "Application") (codes "runtime")) r is
-
-app_kind : (file : List Group) (said : Option Ref) (r : Ref) → runtime_said file ≡ said → runtime_in (app_of file said) ≡ Some r → r.kind ≡ Runtime
-app_kind file None r is named = absurd (cc named)
-app_kind file (Some x) r is named = file_kind file r (is ∙ named)
-
-named_kinds : (kind : RefKind) (file : List Group) (r : Ref) → runtime_in (meta_of (meta_kind kind) file) ≡ Some r → (r.kind ≡ Runtime) × (kind ≡ App)
-unfolding meta_of
-named_kinds App file r is = go (has_group file (codes "Application")) is
-  where
-    go : (b : Bool) → runtime_in (if b then app_of file (runtime_said file) else Err rules.Group) ≡ Some r → (r.kind ≡ Runtime) × (◌≡◌ {A = RefKind} App App)
-    go true named = (app_kind file (runtime_said file) r refl named, refl)
-    go false named = absurd (cc named)
-named_kinds Runtime file r is = go (has_group file (codes "Runtime")) is
-  where
-    go : (b : Bool) → runtime_in (if b then Ok (runtime_meta file) else Err rules.Group) ≡ Some r → (r.kind ≡ Runtime) × (◌≡◌ {A = RefKind} Runtime App)
-    go true named = absurd (cc named)
-    go false named = absurd (cc named)
-
-pub named_apart : (name : Ref) (bytes : List ℕ) (r : Ref) → Some r ≡ runtime_named name bytes → bytes_eq (ref_text r) (ref_text name) ≡ false
-unfolding runtime_named
-named_apart name bytes r is = let k = named_kinds name.kind (groups_in (file_of bytes)) r (sym is) in texts_differ r name k.0 k.1
 
 -- ---- a plan that is begun
 

@@ -1,5 +1,5 @@
 -- The first offer among several.
-use Rattle.std.proofs.Common.{◌≡◌, ◌<◌, ◌≤◌, ◌+◌, ℕ, suc, get_or, drop-cons, add-one, List, [], ◌∷◌, ◌++◌, length, drop, Bool, true, false, Option, Some, None, Result, Ok, Err, refl, sym, ◌∙◌, ap, subst, arith}
+use Rattle.std.proofs.Common.{◌≡◌, ◌≤◌, ◌+◌, ℕ, List, [], ◌∷◌, ◌++◌, drop, Bool, true, false, Option, Some, None, Result, Ok, Err, refl, sym, ◌∙◌, ap, subst, arith}
 use Rattle.std.specs.Prelude.{cond, filter, is_some, IfOk, IfSome, IsErrOf, if◌then◌else◌}
 use Rattle.std.specs.Option.{option_or}
 use Rattle.fp_host.specs.Remote.{Holdings}
@@ -73,9 +73,6 @@ some_first None a rest some is = absurd (cc some)
 none_first : (found a rest : Option Offer) → is_some found ≡ false → found ≡ a → option_or a rest ≡ rest
 none_first (Some o) a rest none is = absurd (cc none)
 none_first None a rest none is = ap (λ z. option_or z rest) (sym is)
-
-pub at_item : {A : Type 0} (xs : List A) (i : ℕ) (x : A) → i < length xs → x ≡ get_or xs i x → drop i xs ≡ x ∷ drop (i + 1) xs
-at_item {A = A} xs i x within is = drop-cons xs i x within ∙ ap (λ (y : A). y ∷ drop (suc i) xs) (sym is) ∙ ap (λ (n : ℕ). x ∷ drop n xs) (sym (add-one i))
 
 -- the same by another name
 pub asks_same : {A : Type 0} {answer : Holdings → A} {result : Result A PullEnd} {old new : Option Holdings} {before now : ℕ} (whole : Holdings → A)

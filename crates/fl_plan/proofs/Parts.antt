@@ -24,6 +24,7 @@ use Rattle.fl_extension.specs.Found.{has_ref, row_of}
 use Rattle.fl_plan.specs.Answers.{and_then, mapped, Asks, Plans}
 use Rattle.fl_plan.specs.Offers.{offer_with, offer_of, first_of, first_offer, in_turn, chosen}
 use Rattle.fl_installed.specs.Metadata.{runtime_named, points_in}
+use Rattle.fl_installed.proofs.Named.{named_apart}
 use Rattle.fl_plan.specs.Runtimes.{if_offered, runtime_for, if_named, install_in, runtime_install}
 use Rattle.fl_plan.specs.Extensions.{is_done, is_filled, if_any, extension_at, with_points, with_extensions, with_runtime}
 use Rattle.fl_plan.specs.Plans.{ops_within_limit, begun, extended, plan_with, planned, is_at, target_of, planned_at, plan_of}
@@ -32,7 +33,7 @@ use Rattle.fl_plan.specs.declared.offer.Offer.{Offer}
 use Rattle.fl_plan.specs.declared.offer.Chosen.{Chosen}
 use Rattle.fl_plan.proofs.Steps.{plans_on, plans_to, plans_err, plans_same, plans_none, plans_starved, asks_on, ok_no_fault, then_ok, then_err, mapped_ok, mapped_err}
 use Rattle.fl_plan.proofs.Turns.{plan_more}
-use Rattle.fl_plan.proofs.Apart.{offer_among, one_among, absent_may, candidate_comes, named_apart}
+use Rattle.fl_plan.proofs.Apart.{offer_among, one_among, absent_may, candidate_comes}
 
 -- ---- offers
 

@@ -4,8 +4,8 @@ use Rattle.std.specs.Prelude.{option_to_list, if◌then◌else◌}
 use Rattle.std.specs.Str.{bytes_eq}
 use Rattle.std.proofs.lemmas.Bool.{le-leb, lt-leb, false_from_ne_true}
 use Rattle.std.proofs.lemmas.List.{append-nil}
-use Rattle.fp_small.proofs.Ordered.{bytes_eq-is, bytes_eq-itself}
 use Rattle.fp_base.specs.declared.what.What.TheVariants as whats
+use Rattle.fp_base.proofs.Texts.{bytes_eq-true, bytes_eq-same}
 use Rattle.fp_host.specs.Remote.{Holdings}
 use Rattle.fp_name.specs.Refs.{Ref}
 use Rattle.fp_small.specs.declared.refusal.Refusal.{Refusal}
@@ -312,8 +312,8 @@ module _ (held : Holdings) (stored : Have) (state : State) where
 -- the own remote is asked first, wherever it stands; where it offers nothing, the others are
 pub own_first : (other own : RemoteRow) → (other.name ≡ own.name → ⊥) → in_turn own.name (other ∷ own ∷ []) ≡ own ∷ other ∷ []
 own_first other own differ =
-    let off : bytes_eq other.name own.name ≡ false = false_from_ne_true (bytes_eq other.name own.name) (λ t. differ (bytes_eq-is other.name own.name t)) in
-    let same = bytes_eq-itself own.name in
+    let off : bytes_eq other.name own.name ≡ false = false_from_ne_true (bytes_eq other.name own.name) (λ t. differ (bytes_eq-true other.name own.name t)) in
+    let same = bytes_eq-same own.name in
     rw (same, off) refl
 
 pub second_offers : (held : Holdings) (first second : RemoteRow) (name : Ref) (r : Refusal) (d : List ℕ) → offered held first name ≡ Err r → offered held second name ≡ Ok d

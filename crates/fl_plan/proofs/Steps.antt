@@ -1,5 +1,5 @@
 -- Steps of a plan, one after another.
-use Rattle.std.proofs.Common.{◌≡◌, ℕ, List, Option, Some, Result, Ok, Err, refl, sym, ◌∙◌, ap, subst, arith}
+use Rattle.std.proofs.Common.{◌≡◌, ℕ, List, Option, Some, Result, Ok, Err, sym, ◌∙◌, ap, subst, arith}
 use Rattle.fp_host.specs.View.{View}
 use Rattle.fp_host.specs.Outcome.{shows}
 use Rattle.fp_host.specs.Moments.{Moments}
@@ -15,6 +15,7 @@ use Rattle.ost_walk.specs.Ends.{Outside, outside}
 use Rattle.ost_walk.specs.declared.pull_end.PullEnd.{PullEnd}
 use Rattle.ost_walk.specs.declared.pull_end.PullEnd.TheVariants as ends
 use Rattle.ost_walk.specs.PullEnds.{Answers, Looks, NoFault, RefusesBy, Tells}
+use Rattle.ost_head.proofs.Looking.{looks_none}
 use Rattle.fl_plan.specs.Answers.{and_then, mapped, Asks, Plans}
 
 -- ---- looking
@@ -26,15 +27,6 @@ looks_to result looks none = record {
   same = looks.same;
   host = record { later = looks.host.later; fault = λ is. absurd (none.host is) };
   remote = record { later = looks.remote.later; rose = λ is. absurd (none.remote is) };
-}
-
--- nothing was looked at
-pub looks_none : {A : Type 0} {u : Outside} (result : Result A PullEnd) → IsTold u.told → NoFault result → Looks result u u
-looks_none result told none = record {
-  unchanged = looks_start told;
-  same = refl;
-  host = record { later = omega arith; fault = λ is. absurd (none.host is) };
-  remote = record { later = omega arith; rose = λ is. absurd (none.remote is) };
 }
 
 -- an end is passed on

@@ -6,6 +6,7 @@ use Rattle.std.specs.List.{AllByRecursion}
 use Rattle.fp_host.specs.Reads.{is_ascending}
 use Rattle.fp_host.specs.Remote.{Holdings}
 use Rattle.fp_base.specs.declared.what.What.TheVariants as whats
+use Rattle.fp_base.proofs.Lists.{all_append}
 use Rattle.fp_name.specs.Refs.{Ref}
 use Rattle.fp_small.specs.Config.{name_of}
 use Rattle.fp_small.specs.declared.op.Op.{Op}
@@ -32,10 +33,6 @@ use Rattle.fl_plan.specs.declared.offer.Chosen.{Chosen}
 use Rattle.fl_plan.specs.Taking.{IsOffered, IsOf, IsAmong, Settles}
 
 -- ---- lists
-
-all_append : {A : Type 0} (P : A → Type 0) (xs ys : List A) → AllByRecursion P xs → AllByRecursion P ys → AllByRecursion P (xs ++ ys)
-all_append P [] ys front back = back
-all_append P (x ∷ xs) ys front back = (front.0, all_append P xs ys front.1 back)
 
 filter_by : {A : Type 0} (P : A → Type 0) (b : Bool) (x : A) (xs : List A) → P x → AllByRecursion P xs → AllByRecursion P (cond b (x ∷ xs) xs)
 filter_by P true x xs one all = (one, all)

@@ -5,10 +5,12 @@ use Rattle.std.specs.List.{list_any, AllByRecursion}
 use Rattle.std.specs.Str.{bytes_eq}
 use Rattle.std.proofs.lemmas.Bool.{cases_Bool}
 use Rattle.std.proofs.lemmas.List.Sums.{sum_by-cons, count_by-le-length}
+use Rattle.fp_base.proofs.Booleans.{neither}
+use Rattle.fp_base.proofs.Texts.{bytes_eq-same}
 use Rattle.fp_name.specs.Refs.{Ref, ref_text}
 use Rattle.fp_small.specs.Config.{name_of}
 use Rattle.fp_small.specs.Order.{has_name, inserted, removed, replaced}
-use Rattle.fp_small.proofs.Ordered.{bytes_eq-differ, bytes_eq-itself, length-inserted}
+use Rattle.fp_small.proofs.Ordered.{bytes_eq-differ, length-inserted}
 use Rattle.fp_small.specs.declared.op.Op.{Op}
 use Rattle.fp_small.specs.declared.op.Op.TheVariants.{Update}
 use Rattle.fp_small.specs.declared.state.State.{State}
@@ -59,10 +61,6 @@ shorter_by (y ∷ ys) x row is = elim (cases_Bool (bytes_eq (ref_key y) x)) [
 ]
 
 -- ---- lists of offers
-
-or_left : (a b : Bool) → (a || b) ≡ false → a ≡ false
-or_left true b is = is
-or_left false b is = refl
 
 or_right : (a b : Bool) → (a || b) ≡ false → b ≡ false
 or_right true b is = absurd (cc is)
@@ -147,7 +145,7 @@ module _ (s : State) (o : Offer) (t : ℕ) where
 
   -- those that come after it
   apart_head : (p : Offer) (ps : List Offer) → is_coming (p ∷ ps) o.name ≡ false → bytes_eq (ref_text o.name) (ref_text p.name) ≡ false
-  apart_head p ps is = bytes_eq-differ (ref_text p.name) (ref_text o.name) (or_left (bytes_eq (ref_text p.name) (ref_text o.name)) (is_coming ps o.name) is)
+  apart_head p ps is = bytes_eq-differ (ref_text p.name) (ref_text o.name) (neither (bytes_eq (ref_text p.name) (ref_text o.name)) (is_coming ps o.name) is)
 
   apart_tail : (p : Offer) (ps : List Offer) → is_coming (p ∷ ps) o.name ≡ false → is_coming ps o.name ≡ false
   apart_tail p ps is = or_right (bytes_eq (ref_text p.name) (ref_text o.name)) (is_coming ps o.name) is
@@ -175,7 +173,7 @@ module _ (s : State) (o : Offer) (t : ℕ) where
       go true (Some row) has is few = ((row, is, differs row is), may.remote, may.commit)
         where
           differs : (row : RefRow) → row_at s o.name ≡ Some row → row.commit ≡ o.commit → ⊥
-          differs row is same = cc (ap (λ (d : List ℕ). bytes_eq d o.commit) same ∙ bytes_eq-itself o.commit, sym (ap (is_at o.commit) (deployed_row s o.name ∙ is)) ∙ may.moves)
+          differs row is same = cc (ap (λ (d : List ℕ). bytes_eq d o.commit) same ∙ bytes_eq-same o.commit, sym (ap (is_at o.commit) (deployed_row s o.name ∙ is)) ∙ may.moves)
       go true None has is few = absurd (cc (has, has_by_row s o.name, ap is_some is))
       go false None has is few = (may.name, is, may.remote, may.commit, omega (arith, few))
       go false (Some row) has is few = absurd (cc (has, has_by_row s o.name, ap is_some is))
@@ -210,13 +208,13 @@ ops_coming s plan ops are = subst (AllByRecursion IsComing) (sym are) (coming s 
 comes_later : (plan : List Offer) (o : Offer) (name : Ref) → is_coming plan name ≡ false → bytes_eq (ref_text o.name) (ref_text name) ≡ false → is_coming (plan ++ o ∷ []) name ≡ false
 comes_later [] o name none off = ap (λ b. b || false) off
 comes_later (p ∷ ps) o name none off =
-    ap (λ b. b || is_coming (ps ++ o ∷ []) name) (or_left (bytes_eq (ref_text p.name) (ref_text name)) (is_coming ps name) none)
+    ap (λ b. b || is_coming (ps ++ o ∷ []) name) (neither (bytes_eq (ref_text p.name) (ref_text name)) (is_coming ps name) none)
     ∙ comes_later ps o name (or_right (bytes_eq (ref_text p.name) (ref_text name)) (is_coming ps name) none) off
 
 apart_more : (plan : List Offer) (o : Offer) → AreApart plan → is_coming plan o.name ≡ false → AreApart (plan ++ o ∷ [])
 apart_more [] o apart none = (refl, tt)
 apart_more (p ∷ ps) o apart none =
-    let h = or_left (bytes_eq (ref_text p.name) (ref_text o.name)) (is_coming ps o.name) none in
+    let h = neither (bytes_eq (ref_text p.name) (ref_text o.name)) (is_coming ps o.name) none in
     (comes_later ps o p.name apart.0 (bytes_eq-differ (ref_text p.name) (ref_text o.name) h), apart_more ps o apart.1 (or_right (bytes_eq (ref_text p.name) (ref_text o.name)) (is_coming ps o.name) none))
 
 each_more : (s : State) (plan : List Offer) (o : Offer) → AllByRecursion (MayCome s) plan → MayCome s o → AllByRecursion (MayCome s) (plan ++ o ∷ [])

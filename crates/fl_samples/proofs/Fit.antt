@@ -6,6 +6,7 @@ use Rattle.fp_host.specs.View.{View, Inode, IsTree}
 use Rattle.fp_host.specs.Moments.{Moments}
 use Rattle.fp_host.specs.Outcome.{gone, spot_of, holding, shows}
 use Rattle.fp_host.proofs.Settled.{at_tree}
+use Rattle.fp_host.proofs.Shown.{now_left}
 use Rattle.fp_name.specs.Grammar.{is_remote_name}
 use Rattle.fp_name.specs.Refs.{Ref, is_ref}
 use Rattle.fp_small.specs.Places.{repo}
@@ -18,7 +19,6 @@ use Rattle.fl_words.specs.Words.{is_command}
 use Rattle.fl_words.specs.declared.command.Command.{Command}
 use Rattle.fl_words.specs.declared.command.Command.TheVariants.{Change as Changing, List as Listed, Show as Showing, Filter as Filtering, Batch, Fsck, Export as Exporting, Exercise as Exercising}
 use Rattle.fl_words.proofs.ReadBack.{read_back}
-use Rattle.fl_make.proofs.Kept.{now_left}
 use Rattle.fl_make.specs.Making.{CanMake}
 use Rattle.fl_top.specs.Kinds.{work_of}
 use Rattle.fl_top.specs.Runs.{IsFreeAs, IsFreeFor}

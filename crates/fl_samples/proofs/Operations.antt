@@ -1,9 +1,9 @@
 -- Operations that may be done on the small installation.
 use Rattle.std.proofs.Common.{◌≡◌, ◌∷◌, refl}
+use Rattle.fp_base.proofs.Texts.{bytes_eq-false}
 use Rattle.fp_small.specs.declared.op.Op.TheVariants.{Migrate}
 use Rattle.dep_states.specs.After.{May, IsGood, after_op}
 use Rattle.dep_states.proofs.Good.{shown_good}
-use Rattle.dep_states.proofs.Rows.{text_apart}
 use Rattle.fl_samples.specs.Image.{app_row, whole_disk, whole_state}
 use Rattle.fl_samples.specs.Objects as objects
 use Rattle.fl_samples.specs.Operations.{back, onward, away, back_row, onward_row, runtime_rows, with_rows, old_state}
@@ -13,7 +13,7 @@ pub may_go_back : May whole_state back
 may_go_back = record { layout = refl; allows = (app_row, refl, (record { commit = objects.old_commit.digest; timestamp = 1 }, refl, refl)) }
 
 pub may_go_on : May whole_state onward
-may_go_on = record { layout = refl; allows = ((app_row, refl, text_apart objects.app_commit.digest objects.new_commit.digest refl), refl, refl) }
+may_go_on = record { layout = refl; allows = ((app_row, refl, bytes_eq-false objects.app_commit.digest objects.new_commit.digest refl), refl, refl) }
 
 pub may_go_away : May whole_state away
 may_go_away = record { layout = refl; allows = λ e. cc }

@@ -3,6 +3,7 @@ use Rattle.std.proofs.Common.{◌≡◌, inr, List, Bool, true, false, not, ◌&
 use Rattle.std.specs.Prelude.{is_some}
 use Rattle.std.specs.List.{list_all, list_any}
 use Rattle.std.proofs.lemmas.Bool.{and_parts, leb-true}
+use Rattle.fp_base.proofs.Options.{none_by_test}
 use Rattle.fp_host.specs.Paths.{Elements, path_eq}
 use Rattle.fp_host.specs.Outcome.{Spot, gone, folder, holds, points}
 use Rattle.fp_host.proofs.Separate.{path_decides}
@@ -15,7 +16,7 @@ use Rattle.dep_states.specs.Zones.{Zone, anything, a_file, a_link, a_leaf, a_fol
 use Rattle.dep_states.proofs.Empty.{allowed_gone}
 use Rattle.dep_states.proofs.Rows.{each_at}
 use Rattle.fl_samples.specs.Objects.{Stored}
-use Rattle.fl_samples.proofs.Rows.{all_pass, some_passes, is_none}
+use Rattle.fl_samples.proofs.Rows.{all_pass, some_passes}
 
 abbrev pub is_file : Spot → Bool
 is_file (holds id mode bytes) = true
@@ -70,7 +71,7 @@ leaf_fits folder t = absurd cc
 leaf_fits (holds id mode bytes) t = tt
 leaf_fits (points text) t = tt
 
-folder_is : (spot : Spot) → is_folder spot ≡ true → spot ≡ folder
+pub folder_is : (spot : Spot) → is_folder spot ≡ true → spot ≡ folder
 folder_is gone t = absurd cc
 folder_is folder t = refl
 folder_is (holds id mode bytes) t = absurd cc
@@ -81,7 +82,7 @@ named_is false p spot o same t = absurd cc
 named_is true p spot o same t =
     let a = and_parts (is_digest o.digest) (has_good_bits spot && not (is_some (name_fault o.digest o.kind (object_at o.kind spot)))) t in
     let b = and_parts (has_good_bits spot) (not (is_some (name_fault o.digest o.kind (object_at o.kind spot)))) a.1 in
-    record { digest = o.digest; kind = o.kind; digits = a.0; name = same refl; named = record { bits = b.0; good = is_none (name_fault o.digest o.kind (object_at o.kind spot)) b.1 } }
+    record { digest = o.digest; kind = o.kind; digits = a.0; name = same refl; named = record { bits = b.0; good = none_by_test (name_fault o.digest o.kind (object_at o.kind spot)) b.1 } }
 
 fits_is : (os : List Stored) (z : Zone) (p : Elements) (spot : Spot) → fits os z p spot ≡ true → Fits z p spot
 fits_is os anything p spot t = tt

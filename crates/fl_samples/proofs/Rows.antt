@@ -1,20 +1,13 @@
 -- What stands at a path of an image of rows passes each test that all rows pass.
-use Rattle.std.proofs.Common.{◌≡◌, ◌≢◌, ◌⊎◌, inl, inr, List, [], ◌∷◌, Bool, true, false, not, refl, sym, subst, Option, Some, None}
-use Rattle.std.specs.Prelude.{is_some}
+use Rattle.std.proofs.Common.{◌≡◌, ◌≢◌, inl, inr, List, [], ◌∷◌, Bool, true, false, refl, sym, subst}
 use Rattle.std.specs.List.{AllByRecursion, list_all, list_any}
-use Rattle.std.proofs.lemmas.Bool.{cases_Bool, both_ways, and_parts}
+use Rattle.std.proofs.lemmas.Bool.{cases_Bool, both_ways, and_parts, or_cases}
 use Rattle.fp_host.specs.Paths.{Elements, path_eq}
-use Rattle.fp_host.specs.Outcome.{Spot, gone, folder, holds, points}
+use Rattle.fp_host.specs.Outcome.{Spot, gone}
 use Rattle.fp_host.proofs.Separate.{path_decides}
+use Rattle.fp_host.proofs.Shown.{gone_cases}
 use Rattle.ost_model.specs.Order.{In}
 use Rattle.dep_states.specs.Samples.{rows_at}
-use Rattle.dep_states.proofs.Rows.{or_cases}
-
-pub gone_cases : (spot : Spot) → (spot ≡ gone) ⊎ (spot ≢ gone)
-gone_cases gone = inl refl
-gone_cases folder = inr (λ e. cc)
-gone_cases (holds id mode bytes) = inr (λ e. cc)
-gone_cases (points text) = inr (λ e. cc)
 
 pub by_row : (P : Elements → Type 0) (rs : List (Elements × Spot)) → AllByRecursion (λ row. P row.0) rs → (p : Elements) → rows_at rs p ≢ gone → P p
 by_row P [] all p there = absurd (there refl)
@@ -52,7 +45,3 @@ of_all P (y ∷ ys) all x here = elim here [
   | inl same ↦ subst P same all.0
   | inr more ↦ of_all P ys all.1 x more
 ]
-
-pub is_none : {A : Type 0} (o : Option A) → not (is_some o) ≡ true → o ≡ None
-is_none None t = refl
-is_none (Some a) t = absurd cc

@@ -1,12 +1,13 @@
 -- An image of rows shows a state where its refs and overrides are those that have rows.
-use Rattle.std.proofs.Common.{◌≡◌, inl, inr, ℕ, List, [], ◌∷◌, map, Bool, true, false, not, ◌||◌, cond, Option, Some, None, refl, sym, ◌∙◌, ap, subst}
+use Rattle.std.proofs.Common.{◌≡◌, inl, inr, ℕ, List, [], ◌∷◌, map, Bool, true, false, not, ◌||◌, cond, Some, None, refl, sym, ◌∙◌, ap, subst}
 use Rattle.std.specs.Prelude.{codes, if◌then◌else◌}
 use Rattle.std.specs.Str.{bytes_eq}
 use Rattle.std.specs.List.{AllByRecursion, list_all, list_any}
 use Rattle.std.proofs.lemmas.Bool.{cases_Bool}
 use Rattle.std.proofs.lemmas.Slice.Eq.{bytes_eq-Decides}
+use Rattle.fp_base.proofs.Options.{some_none}
 use Rattle.fp_host.specs.Paths.{Elements, path_eq}
-use Rattle.fp_host.specs.Outcome.{Spot, gone, Disk}
+use Rattle.fp_host.specs.Outcome.{Spot, Disk}
 use Rattle.fp_host.specs.Reads.{is_ascending}
 use Rattle.fp_host.proofs.Separate.{path_decides}
 use Rattle.fp_name.specs.Refs.{Ref, is_ref, ref_of, ref_text}
@@ -18,13 +19,14 @@ use Rattle.fp_small.specs.declared.state.Previous.{Previous}
 use Rattle.fp_small.specs.declared.state.OverrideRow.{OverrideRow}
 use Rattle.dep_states.specs.Names.{active, override_path, overrides_folder}
 use Rattle.dep_states.specs.Samples.{rows_at}
-use Rattle.dep_states.specs.Shown.{Seen, away, there, seen_of, by_active, settings_seen, ref_seen, row_seen, override_at, override_seen, at_name, ref_key, override_key, setup_of, Shows}
+use Rattle.dep_states.specs.Shown.{Seen, away, there, by_active, settings_seen, ref_seen, row_seen, override_at, override_seen, at_name, ref_key, override_key, setup_of, Shows}
 use Rattle.dep_states.specs.Sound.{Keeps, IsKeptBy}
 use Rattle.dep_states.proofs.Listed.{IsThere, IsLayer, at_found, refs_listed, overrides_listed}
 use Rattle.dep_states.proofs.Rows.{head_of, tail_of}
-use Rattle.dep_states.proofs.Single.{there_is, some_is, some_none}
+use Rattle.dep_states.proofs.Single.{some_is}
 use Rattle.dep_states.proofs.Sparing.{kept_of_state, shown_good}
 use Rattle.dep_states.proofs.Worked.{active_same}
+use Rattle.dep_states.proofs.Away.{override_away, seen_there}
 use Rattle.fl_samples.proofs.Rows.{untested}
 
 -- ---- refs
@@ -76,14 +78,10 @@ no_layer (row ∷ rows) name none = elim (cases_Bool (path_eq (override_path nam
     none_after true e = absurd (some_none e)
     none_after false e = e
 
-override_gone : (name : List ℕ) → override_at name gone ≡ away
-unfolding override_at
-override_gone name = refl
-
 other_layers : (rs : List (Elements × Spot)) (rows : List OverrideRow) → list_all (λ r. is_layer rows r.0) rs ≡ true → (name : List ℕ) → at_name override_key rows name ≡ None → override_seen (rows_at rs) name ≡ away
 other_layers rs rows all name none =
     if_away (is_override name) (override_at name (rows_at rs (override_path name)))
-    (ap (override_at name) (untested (is_layer rows) rs all (override_path name) (no_layer rows name none)) ∙ override_gone name)
+    (ap (override_at name) (untested (is_layer rows) rs all (override_path name) (no_layer rows name none)) ∙ override_away name)
 
 -- ---- the state
 
@@ -134,10 +132,6 @@ each_kept P {disk = disk} {s = s} shows all name commit k =
 pub record RowWith (Q : RefRow → Type 0) (row : RefRow) : Type 0 where
   pub good : is_ref row.name ≡ true
   pub holds : Q row
-
-seen_there : {A : Type 0} {a : A} (o : Option A) → seen_of o ≡ there a → o ≡ Some a
-seen_there None e = absurd (cc e)
-seen_there (Some b) e = ap Some (there_is e)
 
 pub each_shown : (Q : RefRow → Type 0) {disk : Disk} {s : State} → Shows disk s → AllByRecursion (RowWith Q) s.refs → (name : Ref) (row : RefRow) → ref_seen disk name ≡ there row → Q row × (row.name ≡ name)
 each_shown Q {disk = disk} {s = s} shows all name row seen =

@@ -1,14 +1,15 @@
 -- An image of rows is settled where its objects, folders of commits and ref files are those that are
 -- kept.
-use Rattle.std.proofs.Common.{◌≡◌, ◌≢◌, inl, inr, ℕ, List, [], ◌∷◌, ◌++◌, Bool, true, false, not, ◌&&◌, ◌||◌, eqb, length, refl, sym, ◌∙◌, ap, subst, append_assoc}
+use Rattle.std.proofs.Common.{◌≡◌, ◌≢◌, inl, inr, ℕ, List, [], ◌∷◌, ◌++◌, Bool, true, not, ◌&&◌, ◌||◌, eqb, length, refl, sym, ◌∙◌, ap, subst, append_assoc}
 use Rattle.std.specs.Prelude.{codes}
 use Rattle.std.specs.Str.{bytes_eq}
 use Rattle.std.specs.List.{AllByRecursion, list_all, list_any}
-use Rattle.std.proofs.lemmas.Bool.{and_parts}
+use Rattle.std.proofs.lemmas.Bool.{and_parts, or_cases}
 use Rattle.std.proofs.lemmas.Slice.Eq.{bytes_eq-Decides}
 use Rattle.fp_base.specs.Objects.{is_kind}
 use Rattle.fp_base.specs.declared.object.ObjKind.{ObjKind}
-use Rattle.fp_base.specs.declared.object.ObjKind.TheVariants as kinds
+use Rattle.fp_base.proofs.Booleans.{true_false}
+use Rattle.fp_base.proofs.Kinds.{kind_is as kinds_same}
 use Rattle.fp_host.specs.Paths.{Elements, path_eq}
 use Rattle.fp_host.specs.Outcome.{Spot, gone, folder, Disk}
 use Rattle.fp_host.proofs.Separate.{path_decides}
@@ -31,9 +32,9 @@ use Rattle.dep_states.specs.Settled.{Used, HasBytes, HasOrigin, Settled}
 use Rattle.dep_states.specs.Shown.{there, ref_seen, Shows}
 use Rattle.dep_states.specs.Sound.{Keeps}
 use Rattle.dep_states.specs.Zones.{outward}
-use Rattle.dep_states.proofs.Rows.{head_of, tail_of, or_cases}
+use Rattle.dep_states.proofs.Rows.{head_of, tail_of}
 use Rattle.dep_states.proofs.Sparing.{hex_exact}
-use Rattle.dep_states.proofs.Switch.{digits_no_active}
+use Rattle.dep_states.proofs.Switch.{digits_no_active, file_same}
 use Rattle.dep_states.proofs.Worked.{active_same}
 use Rattle.fl_samples.specs.Objects.{Stored}
 use Rattle.fl_samples.proofs.Below.{below, below_at}
@@ -76,24 +77,6 @@ is_at o place = bytes_eq place.digest o.digest && is_kind place.kind o.kind
 abbrev pub all_at : List Place → List Stored → Bool
 all_at places os = list_all (λ (o : Stored). is_digest o.digest && list_any (is_at o) places) os
 
-kinds_same : (a b : ObjKind) → is_kind a b ≡ true → a ≡ b
-kinds_same kinds.Commit kinds.Commit t = refl
-kinds_same kinds.DirTree kinds.DirTree t = refl
-kinds_same kinds.DirMeta kinds.DirMeta t = refl
-kinds_same kinds.File kinds.File t = refl
-kinds_same kinds.Commit kinds.DirTree t = absurd cc
-kinds_same kinds.Commit kinds.DirMeta t = absurd cc
-kinds_same kinds.Commit kinds.File t = absurd cc
-kinds_same kinds.DirTree kinds.Commit t = absurd cc
-kinds_same kinds.DirTree kinds.DirMeta t = absurd cc
-kinds_same kinds.DirTree kinds.File t = absurd cc
-kinds_same kinds.DirMeta kinds.Commit t = absurd cc
-kinds_same kinds.DirMeta kinds.DirTree t = absurd cc
-kinds_same kinds.DirMeta kinds.File t = absurd cc
-kinds_same kinds.File kinds.Commit t = absurd cc
-kinds_same kinds.File kinds.DirTree t = absurd cc
-kinds_same kinds.File kinds.DirMeta t = absurd cc
-
 used_at : {disk : Disk} {name : Ref} {commit : List ℕ} → Keeps disk name commit → (o : Stored) → (is_digest o.digest && list_any (is_at o) (order (store repo disk) commit)) ≡ true → IsUsed disk o
 used_at {disk = disk} {name = name} {commit = commit} kept o t =
     let a = and_parts (is_digest o.digest) (list_any (is_at o) (order (store repo disk) commit)) t in
@@ -117,10 +100,6 @@ used_at {disk = disk} {name = name} {commit = commit} kept o t =
 pub all_used : {disk : Disk} {name : Ref} {commit : List ℕ} → Keeps disk name commit → (os : List Stored) → all_at (order (store repo disk) commit) os ≡ true → AllByRecursion (IsUsed disk) os
 all_used {disk = disk} {commit = commit} kept os all = all_pass (λ (o : Stored). is_digest o.digest && list_any (is_at o) (order (store repo disk) commit)) (IsUsed disk) (used_at kept) os all
 
-pub both_all : {A : Type 0} (P : A → Type 0) (xs ys : List A) → AllByRecursion P xs → AllByRecursion P ys → AllByRecursion P (xs ++ ys)
-both_all P [] ys a b = b
-both_all P (x ∷ xs) ys a b = (a.0, both_all P xs ys a.1 b)
-
 -- ---- folders of commits
 
 abbrev pub is_word : List ℕ → Bool
@@ -137,10 +116,6 @@ pub record IsKept (disk : Disk) (k : Ref × List ℕ) : Type 0 where
 word_is : (kind : RefKind) → is_word (kind_word kind) ≡ true
 word_is App = refl
 word_is Runtime = refl
-
-true_false : {X : Type 0} {b : Bool} → b ≡ true → not b ≡ true → X
-true_false {b = true} t n = absurd cc
-true_false {b = false} t n = absurd cc
 
 same_dir : (name other : Ref) (c d : List ℕ) → is_digest c ≡ true → is_digest d ≡ true → commit_dir name c ≡ commit_dir other d → (name ≡ other) × (c ≡ d)
 same_dir name other c d of_c of_d same = (active_same name other (ap (λ p. codes "active" ∷ tail_of p) same), hex_exact c d of_c of_d (ap head_of same))
@@ -168,17 +143,6 @@ fifth_tail q = tail_of (tail_of (tail_of (tail_of (tail_of q))))
 abbrev pub is_ref_file : List RefRow → Elements → Bool
 is_ref_file rows q = not (path_eq (fifth_tail q) (remotes repo)) || list_any (λ (row : RefRow). path_eq q (ref_file row.origin row.name)) rows
 
-same_file : (origin other : List ℕ) (name ref : Ref) → ref_file origin name ≡ ref_file other ref → (origin ≡ other) × (name ≡ ref)
-same_file origin other name ref same = (ap fifth same, active_same name ref (ap (λ p. codes "active" ∷ front p) same))
-  where
-    front : Elements → Elements
-    front (a ∷ (b ∷ (c ∷ (d ∷ rest)))) = a ∷ (b ∷ (c ∷ (d ∷ [])))
-    front _ = []
-
-    fifth : Elements → List ℕ
-    fifth (a ∷ (b ∷ (c ∷ (d ∷ (e ∷ rest))))) = e
-    fifth _ = []
-
 pub record IsShownRow (disk : Disk) (row : RefRow) : Type 0 where
   pub shown : ref_seen disk row.name ≡ there row
 
@@ -186,7 +150,7 @@ no_other : (disk : Disk) (rows : List RefRow) → AllByRecursion (IsShownRow dis
 no_other disk rows all origin name t =
     let found = some_passes (λ (row : RefRow). path_eq (ref_file origin name) (ref_file row.origin row.name)) rows t in
     let row = found.0 in
-    let same = same_file origin row.origin name row.name ((path_decides (ref_file origin name) (ref_file row.origin row.name)).0 found.2) in
+    let same = file_same origin row.origin name row.name ((path_decides (ref_file origin name) (ref_file row.origin row.name)).0 found.2) in
     (row, ap (ref_seen disk) same.1 ∙ (of_all (IsShownRow disk) rows all row found.1).shown, sym same.0)
 
 -- ---- all of it

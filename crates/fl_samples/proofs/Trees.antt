@@ -16,7 +16,7 @@ use Rattle.dep_states.specs.Samples.{rows_at}
 use Rattle.dep_states.proofs.Single.{some_is}
 use Rattle.fl_samples.specs.Views.{slot_of, inode, file_in, file_among, put_of, view_of}
 use Rattle.fl_samples.proofs.Rows.{by_row, all_pass}
-use Rattle.fl_samples.proofs.Placing.{is_folder}
+use Rattle.fl_samples.proofs.Placing.{is_folder, folder_is}
 
 -- ---- tests of rows
 
@@ -42,12 +42,6 @@ pub record IsForest (rs : List (Elements × Spot)) : Type 0 where
   pub own : list_all (λ r. is_own (file_among rs) r.1) rs ≡ true
 
 -- ---- what they say
-
-folder_is : (spot : Spot) → is_folder spot ≡ true → spot ≡ folder
-folder_is gone t = absurd cc
-folder_is folder t = refl
-folder_is (holds id mode bytes) t = absurd cc
-folder_is (points text) t = absurd cc
 
 gone_or : (spot : Spot) → (slot_of spot ≡ absent) ⊎ (spot ≢ gone)
 gone_or gone = inl refl

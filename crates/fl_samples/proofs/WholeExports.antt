@@ -1,10 +1,13 @@
 -- The exported files of the small installation are those of its application.
-use Rattle.std.proofs.Common.{◌≡◌, inl, inr, zero, suc, List, [], ◌∷◌, ◌++◌, Bool, true, false, not, ◌||◌, refl, sym, ◌∙◌, ap, subst, arith, Contains}
+use Rattle.std.proofs.Common.{◌≡◌, inl, inr, List, [], ◌∷◌, ◌++◌, Bool, true, false, not, ◌||◌, refl, sym, ◌∙◌, ap, subst, Contains}
 use Rattle.std.specs.Prelude.{codes}
 use Rattle.std.specs.List.{AllByRecursion, list_all, list_any}
 use Rattle.std.specs.Str.{bytes_eq, is_utf8, chars}
 use lib.Utf8.{encode}
 use Rattle.std.proofs.lemmas.Slice.Eq.{bytes_eq-Decides}
+use Rattle.std.proofs.lemmas.Bool.{or_cases}
+use Rattle.fp_base.proofs.Booleans.{true_false}
+use Rattle.fp_base.proofs.Lists.{all_has as of_contained}
 use Rattle.fp_host.specs.Paths.{Elements, path_eq, IsAbove}
 use Rattle.fp_host.specs.Outcome.{Spot, gone, folder, holds, points, IsLeafSpot}
 use Rattle.fp_host.proofs.Separate.{path_decides}
@@ -14,10 +17,10 @@ use Rattle.fp_name.specs.Hex.{hex}
 use Rattle.fp_small.specs.Clear.{IsWithin}
 use Rattle.fp_small.specs.Places.{repo}
 use Rattle.ost_model.specs.Objects.{store}
-use Rattle.ost_model.specs.Order.{In}
+use Rattle.ost_model.proofs.Members.{in_contains}
 use Rattle.dep_states.specs.Zones.{outward}
 use Rattle.dep_states.proofs.Deployed.{outward_append}
-use Rattle.dep_states.proofs.Rows.{each_at, head_of, or_cases}
+use Rattle.dep_states.proofs.Rows.{each_at, head_of}
 use Rattle.fl_export.specs.declared.rows.ExportRow.{ExportRow}
 use Rattle.fl_export.specs.Exported.{exported}
 use Rattle.fl_export.specs.Keys.{is_locale_end}
@@ -33,20 +36,10 @@ rows_are = refl
 
 -- ---- each stands
 
-of_contained : {A : Type 0} (P : A → Type 0) (xs : List A) → AllByRecursion P xs → (x : A) → Contains xs x → P x
-of_contained P [] all x (k, low, is) = absurd (omega (arith, low))
-of_contained P (y ∷ ys) all x (zero, low, is) = subst P is all.0
-of_contained P (y ∷ ys) all x (suc k, low, is) = of_contained P ys all.1 x (k, omega (arith, low), is)
-
 each_stands : AllByRecursion (λ (row : ExportRow). IsExported row.what (whole_disk (place_of row))) rows
 each_stands = ((48, refl), (refl, tt))
 
 -- ---- and no other
-
-contained : {A : Type 0} (xs : List A) (x : A) → In xs x → Contains xs x
-contained [] x here = absurd here
-contained (y ∷ ys) x (inl same) = (0, omega arith, same)
-contained (y ∷ ys) x (inr more) = let rest = contained ys x more in (suc rest.0, omega (arith, rest.1), rest.2)
 
 abbrev is_leaf : Spot → Bool
 is_leaf gone = false
@@ -76,10 +69,6 @@ within_top : (q : Elements) → IsWithin exports q → head_of (outward q) ≡ c
 within_top q (inl same) = ap (λ (p : Elements). head_of (outward p)) same
 within_top q (inr above) = let r = above_rest q above in ap (λ (p : Elements). head_of (outward p)) r.1 ∙ ap head_of (outward_append r.0 exports [])
 
-true_false : {X : Type 0} {b : Bool} → b ≡ true → not b ≡ true → X
-true_false {b = true} t n = absurd cc
-true_false {b = false} t n = absurd cc
-
 may_at : (q : Elements) → may_export q (whole_disk q) ≡ true
 may_at = each_at (λ p spot. may_export p spot ≡ true) (λ p. refl) whole_rows (all_pass (λ r. may_export r.0 r.1) (λ r. may_export r.0 r.1 ≡ true) (λ r t. t) whole_rows all_may)
 
@@ -90,7 +79,7 @@ only q within apart leaf = elim (or_cases (not (is_leaf (whole_disk q))) _ (may_
     | inl other ↦ true_false ((bytes_eq-Decides (head_of (outward q)) (codes "exports")).1 (within_top q within)) other
     | inr any ↦
         let found = some_passes (path_eq q) (places_of rows) any in
-        apart (subst (Contains (places_of rows)) (sym ((path_decides q found.0).0 found.2)) (contained (places_of rows) found.0 found.1))
+        apart (subst (Contains (places_of rows)) (sym ((path_decides q found.0).0 found.2)) (in_contains (places_of rows) found.0 found.1))
   ]
 ]
 

@@ -3,6 +3,7 @@ use Rattle.std.proofs.Common.{◌≡◌, inl, inr, ℕ, List, [], ◌∷◌, ◌
 use Rattle.std.specs.List.{AllByRecursion, list_all}
 use Rattle.std.specs.Str.{is_utf8, chars}
 use lib.Utf8.{encode}
+use Rattle.fp_base.proofs.Lists.{all_append}
 use Rattle.fp_host.specs.Outcome.{folder}
 use Rattle.fp_name.specs.Hex.{hex}
 use Rattle.fp_name.specs.Refs.{Ref}
@@ -14,7 +15,7 @@ use Rattle.dep_states.specs.Sound.{Keeps}
 use Rattle.fl_samples.specs.Objects as objects
 use Rattle.fl_samples.specs.Image.{app, locale, platform, app_row, row_of, ref_rows, app_objects, old_objects, locale_objects, platform_objects, stored_objects, whole_rows, whole_disk, whole_state}
 use Rattle.fl_samples.proofs.Below.{below}
-use Rattle.fl_samples.proofs.Tidied.{is_known, is_folder, is_ref_file, all_at, all_used, both_all, IsUsed, IsKept, HasRefFile, settled_tidy}
+use Rattle.fl_samples.proofs.Tidied.{is_known, is_folder, is_ref_file, all_at, all_used, IsUsed, IsKept, HasRefFile, settled_tidy}
 use Rattle.fl_samples.proofs.WholeShown.{app_good, locale_good, platform_good, app_there, locale_there, platform_there, whole_shows}
 
 no_work : below tmp whole_rows ≡ ([], folder) ∷ []
@@ -55,9 +56,9 @@ unfolding hex is_utf8 chars encode
 platform_at = refl
 
 used : AllByRecursion (IsUsed whole_disk) stored_objects
-used = both_all (IsUsed whole_disk) app_objects (old_objects ++ (locale_objects ++ platform_objects)) (all_used app_kept app_objects app_at)
-    (both_all (IsUsed whole_disk) old_objects (locale_objects ++ platform_objects) (all_used old_kept old_objects old_at)
-    (both_all (IsUsed whole_disk) locale_objects platform_objects (all_used locale_kept locale_objects locale_at) (all_used platform_kept platform_objects platform_at)))
+used = all_append (IsUsed whole_disk) app_objects (old_objects ++ (locale_objects ++ platform_objects)) (all_used app_kept app_objects app_at)
+    (all_append (IsUsed whole_disk) old_objects (locale_objects ++ platform_objects) (all_used old_kept old_objects old_at)
+    (all_append (IsUsed whole_disk) locale_objects platform_objects (all_used locale_kept locale_objects locale_at) (all_used platform_kept platform_objects platform_at)))
 
 -- ---- folders and ref files
 

@@ -3,6 +3,7 @@ use Rattle.std.proofs.Common.{◌≡◌, ℕ, List, [], ◌∷◌, true, Some, r
 use Rattle.std.specs.List.{list_all, AllByRecursion}
 use Rattle.std.specs.Str.{is_utf8, chars}
 use lib.Utf8.{encode}
+use Rattle.fp_base.proofs.Options.{none_some}
 use Rattle.fp_keyfile.specs.KeyFile.{file_of, with_pair, with_group, keys_at}
 use Rattle.fp_keyfile.specs.Lines.{line_says}
 use Rattle.fp_name.specs.Grammar.{is_id, is_arch, is_branch, is_remote_name, is_url}
@@ -18,7 +19,7 @@ use Rattle.dep_states.specs.Names.{commit_dir, text_dir, deploy}
 use Rattle.dep_states.specs.Shown.{there, deploy_at, override_at, config_at, settings_seen, ref_seen, override_seen, setup_of, Shows}
 use Rattle.dep_states.specs.Sound.{reads_as, Keeps, Sound}
 use Rattle.dep_states.specs.Zones.{IsFileOrGone}
-use Rattle.dep_states.proofs.Single.{some_is, none_some}
+use Rattle.dep_states.proofs.Single.{some_is}
 use Rattle.fl_samples.specs.Objects as objects
 use Rattle.fl_samples.specs.Objects.{Stored}
 use Rattle.fl_samples.specs.Image.{app, locale, platform, app_row, row_of, ref_rows, layer, stored_objects, whole_rows, whole_disk, whole_state}

@@ -1,7 +1,7 @@
 -- What is told of a commit depends on the objects of its order, also where it has faults. So what
 -- is known of a deployed ref is the same over the installation's store and over the world's
 -- objects.
-use Rattle.std.proofs.Common.{◌≡◌, ◌⊎◌, inl, inr, ℕ, suc, List, [], ◌∷◌, ◌++◌, Bool, true, false, Option, Some, None, if◌then◌else◌, refl, sym, ◌∙◌, ap, subst}
+use Rattle.std.proofs.Common.{◌≡◌, inl, inr, ℕ, suc, List, [], ◌∷◌, ◌++◌, Option, Some, None, refl, sym, ◌∙◌, ap, subst}
 use Rattle.std.specs.Prelude.{option_and_then}
 use Rattle.std.specs.Option.{option_map_or, option_or}
 use Rattle.std.specs.Str.{bytes_eq}
@@ -18,7 +18,9 @@ use Rattle.ost_model.specs.Objects.{Have, Fault, store, object_fault}
 use Rattle.ost_model.specs.Order.{Place, In, each_in, inside, dir_places, file_place, file_places, tree_place, read_as, tree_at, commit_at, below_commit, root_row, commit_place, limited, place_fault, found_at, first_of, order, Agree}
 use Rattle.ost_model.specs.Look.{Found, nothing, directory, file_at, find_dir, find_file, either, entry_in, next, at_root, look, found_places, look_places, look_fault}
 use Rattle.ost_model.specs.Standing.{metadata_name}
-use Rattle.ost_model.proofs.Places.{in_left, in_right, in_each}
+use Rattle.ost_model.proofs.Places.{in_each}
+use Rattle.ost_model.proofs.Looked.{if_some, dir_found}
+use Rattle.ost_model.proofs.Members.{in_left, in_right}
 use Rattle.ost_head.specs.Heads.{file_in}
 use Rattle.dep_states.specs.Shown.{at_name, ref_key}
 use Rattle.dep_states.specs.After.{row_at}
@@ -41,14 +43,6 @@ use Rattle.fl_top.specs.Answer.{told_of, launched_of, listing_answer}
 use Rattle.fl_top.specs.Exports.{exports_text}
 
 -- ---- lists that are searched
-
-if_some : {A : Type 0} (b : Bool) (d e : A) (r : Option A) → if b then Some d else r ≡ Some e → (d ≡ e) ⊎ (r ≡ Some e)
-if_some true d e r is = let same : d ≡ e = cc is in inl same
-if_some false d e r is = inr is
-
-dir_found : (x : List ℕ) (es : List DirRow) (e : DirRow) → find_dir x es ≡ Some e → In es e
-dir_found x [] e is = absurd (cc is)
-dir_found x (d ∷ es) e is = elim (if_some (bytes_eq d.name x) d e (find_dir x es) is) [ inl h ↦ inl h | inr h ↦ inr (dir_found x es e h) ]
 
 file_found : (x : List ℕ) (fs : List FileRow) (f : FileRow) → find_file x fs ≡ Some f → In (file_places 0 fs) (file_place 0 f)
 file_found x [] f is = absurd (cc is)

@@ -1,15 +1,16 @@
 -- What is promised of exported files can be met.
 use Rattle.std.proofs.Common.{◌≡◌, ◌≢◌, inl, inr, ℕ, List, [], ◌∷◌, ◌++◌, Option, Contains, refl, sym, ◌∙◌, ap, subst, codes}
 use Rattle.std.specs.List.{AllByRecursion}
+use Rattle.fp_base.proofs.Lists.{in_none, in_first, in_rest, in_cases}
 use Rattle.fp_host.specs.Paths.{Elements, absent}
 use Rattle.fp_host.specs.Remote.{Holdings}
 use Rattle.fp_host.specs.View.{View, IsTree}
 use Rattle.fp_host.specs.Outcome.{Spot, Disk, IsSettled, shows, spot_of}
 use Rattle.fp_host.proofs.Settled.{settled_disk}
+use Rattle.fp_host.proofs.Shown.{now_left}
 use Rattle.fp_small.specs.Clear.{IsWithin}
 use Rattle.fp_small.specs.Places.{repo}
 use Rattle.ost_model.specs.Objects.{store}
-use Rattle.ost_store.proofs.Lists.{in_none, in_cases, in_first, in_rest}
 use Rattle.dep_states.specs.Samples.{empty_disk, empty_state}
 use Rattle.dep_states.proofs.Empty.{empty_settled}
 use Rattle.dep_states.proofs.Images.{bare_opens}
@@ -21,7 +22,6 @@ use Rattle.fl_export.specs.Sample as sample
 use Rattle.fl_export.specs.declared.rows.ExportRow.{ExportRow}
 use Rattle.fl_export.proofs.Samples.{stable_exported}
 use Rattle.fl_change.specs.Answer.{text_answer}
-use Rattle.dep_tidy.proofs.Views.{now_left}
 use Rattle.fl_change.proofs.Same.{same_settled}
 use Rattle.fl_top.specs.Answer.{listing_answer}
 use Rattle.fl_top.specs.Exports.{exports_text, LeavesExports, IsInStep}

@@ -4,6 +4,7 @@ use Rattle.fp_host.specs.Paths.{Elements}
 use Rattle.fp_host.specs.Remote.{Holdings}
 use Rattle.fp_host.specs.View.{View}
 use Rattle.fp_host.specs.Outcome.{Disk, shows}
+use Rattle.fp_host.proofs.Shown.{now_left}
 use Rattle.fp_small.specs.Files.{KeepsFiles}
 use Rattle.fp_small.specs.declared.refusal.Refusal.{Refusal}
 use Rattle.fp_small.specs.declared.state.State.{State}
@@ -20,7 +21,6 @@ use Rattle.fl_change.specs.Answer.{Answer, IsIdle, ops_of}
 use Rattle.fl_change.specs.Changes.{IsStill}
 use Rattle.fl_change.specs.Turns.{changing}
 use Rattle.fl_change.specs.World.{World, world_in}
-use Rattle.dep_tidy.proofs.Views.{now_left}
 use Rattle.fl_change.proofs.Updates.{second_is_idle}
 use Rattle.fl_top.specs.Answer.{Given, answer, answer_to, shown_answer, IsOver}
 use Rattle.fl_top.specs.Exports.{IsInStep}

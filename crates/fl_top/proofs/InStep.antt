@@ -12,13 +12,14 @@ use Rattle.fp_host.specs.declared.host.HostEnd.TheVariants as host
 use Rattle.fp_host.proofs.Cause.{Rose-later}
 use Rattle.fp_host.proofs.Ending.{ends_goes, ends_on, goes_known}
 use Rattle.fp_host.proofs.Framed.{IsTold}
-use Rattle.fp_host.proofs.Goes.{begins, goes_on, stays}
+use Rattle.fp_host.proofs.Goes.{begins, goes_on}
 use Rattle.fp_small.specs.Places.{repo}
 use Rattle.fp_small.specs.declared.state.State.{State}
 use Rattle.fp_small.proofs.Keeping.{files_on}
 use Rattle.fp_small.proofs.Sharing.{shares_on, shares_to}
 use Rattle.ost_model.specs.Objects.{store}
 use Rattle.ost_store.proofs.Creating.{creates_on}
+use Rattle.ost_store.proofs.Staying.{same_shows}
 use Rattle.dep_states.specs.Sound.{IsSound, Opens}
 use Rattle.dep_states.proofs.Linked.{links_still, links_on}
 use Rattle.dep_states.proofs.Single.{one_state}
@@ -27,7 +28,6 @@ use Rattle.dep_open.specs.declared.open_end.OpenEnd.TheVariants as open_ends
 use Rattle.fl_export.specs.Exported.{exported}
 use Rattle.fl_export.specs.Placed.{ExportsAre}
 use Rattle.fl_export.specs.Steps.{exported_in, Refreshes, WasRefreshed}
-use Rattle.fl_export.proofs.PutRows.{same_shows}
 use Rattle.fl_change.specs.Ends.{end_of_host}
 use Rattle.fl_change.specs.declared.end.RunEnd.{RunEnd}
 use Rattle.fl_change.specs.declared.end.RunEnd.TheVariants as run
@@ -121,10 +121,6 @@ ends_damaged tells = record {
     told = λ m is. let one = tells.goes.told m is in (one.0, one.1, one.2, λ s at. absurd (not_shown one.3 s at));
   };
 }
-
--- no call is made
-pub ends_still : {a : Option Moments} → IsTold a → AtEnd (λ u w. w ≡ u) a a
-ends_still told = record { goes = stays told (λ u. tt) (λ u tree. refl) }
 
 -- ---- the cause of a fault
 

@@ -4,6 +4,7 @@ use Rattle.fp_host.specs.Paths.{Elements}
 use Rattle.fp_host.specs.View.{View}
 use Rattle.fp_host.specs.Outcome.{Disk, Leaves, shows, spot_of}
 use Rattle.fp_host.proofs.Settled.{at_tree, settled_disk}
+use Rattle.fp_host.proofs.Shown.{now_left}
 use Rattle.fp_small.specs.declared.state.State.{State}
 use Rattle.dep_states.specs.Shown.{Shows}
 use Rattle.dep_states.specs.Sound.{IsSound}
@@ -14,7 +15,6 @@ use Rattle.fl_top.specs.Answer.{answer, Given}
 use Rattle.fl_change.specs.Answer.{ops_in, ops_of}
 use Rattle.fl_top.specs.Runs.{Runs, ShowsAfter}
 use Rattle.fl_top.specs.History.{Stretch, Reopens, History, begins, runs, stops, IsReached}
-use Rattle.dep_tidy.proofs.Views.{now_left}
 use Rattle.fl_change.proofs.Same.{same_shown, same_sound}
 use Rattle.fl_top.proofs.Ending.{runs_sound}
 

@@ -10,8 +10,9 @@ use Rattle.fp_host.specs.declared.host.HostEnd.TheVariants as host
 use Rattle.fp_host.proofs.Ending.{ends_looks, goes_known}
 use Rattle.fp_host.proofs.Framed.{IsTold}
 use Rattle.fp_host.proofs.Goes.{begins, goes_on}
+use Rattle.fp_host.proofs.Above.{below_child}
+use Rattle.fp_host.proofs.Shown.{now_left}
 use Rattle.fp_name.specs.Refs.{Ref}
-use Rattle.fp_small.proofs.Emptying.{below_child}
 use Rattle.fp_small.proofs.Sharing.{shares_on, shares_to}
 use Rattle.fp_small.specs.declared.refusal.Refusal.TheVariants.{BadRecord}
 use Rattle.fp_small.specs.declared.state.State.{State}
@@ -33,7 +34,6 @@ use Rattle.fl_change.specs.Ends.{end_of_host}
 use Rattle.fl_change.specs.Says.{Says, WasSaid, SaidBy}
 use Rattle.fl_change.proofs.Changing.{keeps_files, none_made, same_untouched}
 use Rattle.fl_change.proofs.Doing.{none_yet}
-use Rattle.dep_tidy.proofs.Views.{now_left}
 use Rattle.fl_change.proofs.Same.{unmoved, same_shown, same_settled}
 use Rattle.fl_top.specs.Answer.{Given, of_description, commit_made, answer_over}
 use Rattle.fl_top.specs.Asked.{OpsBy}

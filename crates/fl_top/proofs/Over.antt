@@ -4,6 +4,7 @@ use Rattle.std.proofs.Common.{◌≡◌, inl, inr, [], ℕ, List, Option, None, 
 use Rattle.fp_host.specs.Paths.{Elements}
 use Rattle.fp_host.specs.View.{View}
 use Rattle.fp_host.specs.Outcome.{Disk, shows}
+use Rattle.fp_host.proofs.Shown.{now_left}
 use Rattle.fp_small.specs.Places.{repo}
 use Rattle.fp_small.specs.declared.state.State.{State}
 use Rattle.fp_small.specs.declared.refusal.Refusal.TheVariants.{BadWords, Damaged}
@@ -18,7 +19,6 @@ use Rattle.fl_words.specs.declared.command.Command.{Command}
 use Rattle.fl_change.specs.World.{World, world_in, used_of}
 use Rattle.fl_change.specs.Answer.{Answer, refusal_answer}
 use Rattle.fl_top.specs.Answer.{Given, answer, answer_to, shown_answer, GivesWorld, IsOver}
-use Rattle.dep_tidy.proofs.Views.{now_left}
 
 -- ---- what an image gives
 

@@ -1,6 +1,6 @@
 -- The exported files, brought in step with the state that changes left.
 use Rattle.std.proofs.Common.{◌≡◌, ◌≢◌, ◌≤◌, ◌⊎◌, inl, inr, ℕ, Bool, true, false, List, [], ◌∷◌, ◌++◌, Option, Some, None, Result, Ok, Err, IsErrOf, OnOk, refl, sym, ◌∙◌, ap, subst, codes, arith}
-use Rattle.fp_host.specs.Paths.{Elements, Slot, IsAbove}
+use Rattle.fp_host.specs.Paths.{Elements, Slot}
 use Rattle.fp_host.specs.View.{View, IsTree}
 use Rattle.fp_host.specs.Outcome.{Disk, Leaves, Nothing, gone, shows}
 use Rattle.fp_host.specs.Causes.{IsCaused}
@@ -14,10 +14,13 @@ use Rattle.fp_host.proofs.Ending.{ends_goes, ends_on, goes_known}
 use Rattle.fp_host.proofs.Framed.{IsTold}
 use Rattle.fp_host.proofs.Goes.{goes_on, ends_tree}
 use Rattle.fp_host.proofs.Settled.{settled_disk}
+use Rattle.fp_host.proofs.Shown.{now_left}
 use Rattle.fp_base.specs.declared.object.ObjKind.{ObjKind}
+use Rattle.fp_base.proofs.Texts.{bytes_eq-false}
 use Rattle.fp_name.specs.Hex.{hex}
 use Rattle.fp_name.specs.Kinds.{kind_word}
 use Rattle.fp_name.specs.Refs.{Ref}
+use Rattle.fp_name.proofs.Refs.{word_apart}
 use Rattle.fp_small.specs.Places.{repo, tmp}
 use Rattle.fp_small.specs.Clear.{IsWithin}
 use Rattle.fp_small.proofs.Sharing.{shares_on, shares_to}
@@ -36,17 +39,15 @@ use Rattle.dep_states.specs.After.{Done, after_all}
 use Rattle.dep_states.specs.Zones.{outward}
 use Rattle.dep_states.proofs.Deployed.{top, outward_append}
 use Rattle.dep_states.proofs.Law.{ref_same}
-use Rattle.dep_states.proofs.Rows.{head_of, text_apart}
+use Rattle.dep_states.proofs.Rows.{head_of}
 use Rattle.dep_states.proofs.Single.{one_state}
-use Rattle.dep_states.proofs.Sparing.{word_apart}
 use Rattle.dep_states.proofs.Switching.{second, word_no_repo}
 use Rattle.dep_states.proofs.Usual.{opens_sound}
-use Rattle.dep_tidy.proofs.Apart.{work_second}
+use Rattle.dep_states.proofs.Work.{work_second, work_top}
 use Rattle.dep_open.specs.Open.{IsOpened, StaysUnread}
 use Rattle.fl_export.specs.Placed.{exports, ExportsAre}
 use Rattle.fl_export.specs.Steps.{exported_in, MayRefresh, some_export, some_work, store_folder, work_folder, Refreshes, WasRefreshed}
-use Rattle.fl_export.proofs.PutRows.{same_shows}
-use Rattle.fl_export.proofs.Spared.{exports_top, work_top, no_repo}
+use Rattle.fl_export.proofs.Spared.{exports_top, no_repo}
 use Rattle.fl_change.specs.World.{World, world_at}
 use Rattle.fl_change.specs.Answer.{Answer, ops_of, has_acted, IsIdle}
 use Rattle.fl_change.specs.Changes.{IsStill}
@@ -56,7 +57,6 @@ use Rattle.fl_change.specs.declared.end.RunEnd.{RunEnd}
 use Rattle.fl_change.specs.declared.end.RunEnd.TheVariants as run
 use Rattle.fl_change.proofs.Changing.{text_on, still_on}
 use Rattle.fl_change.proofs.Created.{created_on}
-use Rattle.dep_tidy.proofs.Views.{now_left}
 use Rattle.fl_top.specs.Answer.{shown_answer, IsAtOnce}
 use Rattle.fl_top.specs.Asked.{AreToldFor}
 use Rattle.fl_top.specs.Exports.{HasExports, LeavesExports, IsInStep, RefreshesShown, RefreshedShown, StepsAfter, InStepAfter, StandsAfter, IsHostEnd, PassesOn}
@@ -68,7 +68,9 @@ use Rattle.fl_top.proofs.Opening.{Changed, WasRefused, goes_failed, goes_changed
 use Rattle.fl_top.proofs.Over.{counts_shown}
 use Rattle.fl_top.proofs.Starting.{IsLate, IsNoRefusal, over_late, shown_after, ready_sound, finishes_none}
 use Rattle.fp_small.proofs.Keeping.{files_on}
+use Rattle.fp_small.proofs.Within.{above_work}
 use Rattle.fp_small.specs.Files.{KeepsFiles}
+use Rattle.ost_store.proofs.Staying.{same_shows}
 
 -- ---- where exported files are brought in step
 
@@ -90,10 +92,10 @@ in_repo_off t s some off (at_repo e) = some (sym s ∙ ap (λ (q : Elements). se
 in_repo_off {p = p} t s some off (at_work w) = off (sym s ∙ work_second p w)
 
 object_off : (d : List ℕ) (kind : ObjKind) → IsExportPlace (object_path repo d kind) → ⊥
-object_off d kind = in_repo_off {p = object_path repo d kind} {x = codes "objects"} refl refl (λ e. cc e) (text_apart (codes "objects") (codes "tmp") refl)
+object_off d kind = in_repo_off {p = object_path repo d kind} {x = codes "objects"} refl refl (λ e. cc e) (bytes_eq-false (codes "objects") (codes "tmp") refl)
 
 file_off : (origin : List ℕ) (name : Ref) → IsExportPlace (ref_file origin name) → ⊥
-file_off origin name = in_repo_off {p = ref_file origin name} {x = codes "refs"} refl refl (λ e. cc e) (text_apart (codes "refs") (codes "tmp") refl)
+file_off origin name = in_repo_off {p = ref_file origin name} {x = codes "refs"} refl refl (λ e. cc e) (bytes_eq-false (codes "refs") (codes "tmp") refl)
 
 -- elsewhere
 top_off : {p : Elements} → top p ≢ codes "repo" → top p ≢ codes "exports" → IsExportPlace p → ⊥
@@ -111,11 +113,11 @@ name_off : {p : Elements} {x : List ℕ} → top p ≡ x → x ≢ codes "repo" 
 name_off is r e = top_off (λ t. r (sym is ∙ t)) (λ t. e (sym is ∙ t))
 
 old_off : {p : Elements} → IsOld p → IsExportPlace p → ⊥
-old_off (is_remotes same) = name_off {x = codes "remotes.conf"} (ap top same) (text_apart (codes "remotes.conf") (codes "repo") refl) (text_apart (codes "remotes.conf") (codes "exports") refl)
-old_off (is_pins same) = name_off {x = codes "pins"} (ap top same) (text_apart (codes "pins") (codes "repo") refl) (text_apart (codes "pins") (codes "exports") refl)
+old_off (is_remotes same) = name_off {x = codes "remotes.conf"} (ap top same) (bytes_eq-false (codes "remotes.conf") (codes "repo") refl) (bytes_eq-false (codes "remotes.conf") (codes "exports") refl)
+old_off (is_pins same) = name_off {x = codes "pins"} (ap top same) (bytes_eq-false (codes "pins") (codes "repo") refl) (bytes_eq-false (codes "pins") (codes "exports") refl)
 
 config_off : IsExportPlace config → ⊥
-config_off = name_off {x = codes "config"} refl (text_apart (codes "config") (codes "repo") refl) (text_apart (codes "config") (codes "exports") refl)
+config_off = name_off {x = codes "config"} refl (bytes_eq-false (codes "config") (codes "repo") refl) (bytes_eq-false (codes "config") (codes "exports") refl)
 
 -- ---- what is settled stays settled
 
@@ -152,10 +154,6 @@ module _ (i j : Disk) (same : (p : Elements) → (IsExportPlace p → ⊥) → j
     no_other = λ origin name remote good some. let h = s.no_other origin name remote good (still_there (ref_file origin name) (file_off origin name) some) in (h.0, seen_same name ∙ h.1, h.2);
     no_old = λ some. let h = s.no_old (still_there config config_off some) in (same remotes_conf (old_off (is_remotes refl)) ∙ h.0, same pins_file (old_off (is_pins refl)) ∙ h.1);
   }
-
-above_work : (x : List ℕ) (rest : Elements) → IsAbove tmp (rest ++ (x ∷ tmp))
-above_work x [] = inl refl
-above_work x (y ∷ rest) = inr (above_work x rest)
 
 settled_refreshed : {t : State} {v w : View} → IsTree v → IsTree w → Refreshes t v w → WasRefreshed t v w → Settled (shows v) → Settled (shows w)
 settled_refreshed {v = v} {w = w} tree next step was settled = settled_on (shows v) (shows w) same (λ x rest. same_shows tree next step.files (rest ++ (x ∷ tmp)) (was.work (rest ++ (x ∷ tmp)) (above_work x rest))) settled

@@ -7,6 +7,7 @@ use Rattle.fp_host.specs.View.{View, IsTree}
 use Rattle.fp_host.specs.Outcome.{Disk, Leaves, Follows, Nothing, shows}
 use Rattle.fp_host.specs.Frame.{Keeps, NoPath, NoName}
 use Rattle.fp_host.proofs.Follow.{follows_refl}
+use Rattle.fp_host.proofs.Shown.{now_left}
 use Rattle.fp_small.specs.Files.{KeepsFiles}
 use Rattle.fp_small.specs.Shares.{Shares}
 use Rattle.fp_small.proofs.Sharing.{shares_refl, shares_empty, shares_on, shares_to}
@@ -36,7 +37,6 @@ use Rattle.fl_change.specs.declared.end.RunEnd.{RunEnd}
 use Rattle.fl_change.specs.declared.end.RunEnd.TheVariants.{Refused, Fault, RemoteFault, NoMemory}
 use Rattle.fl_change.specs.Changes.{IsUntouched, HasText, OnlyTidied, IsStill}
 use Rattle.fl_change.proofs.Changing.{change_on, change_none, tidied_on, tidied_none, still_on, same_untouched}
-use Rattle.dep_tidy.proofs.Views.{now_left}
 use Rattle.fl_change.proofs.Same.{unmoved, same_shown, same_sound, same_settled}
 use Rattle.fl_top.proofs.Altering.{alter_none, alter_changes, rest_none, rest_tidied}
 use Rattle.fl_top.proofs.Over.{over_is, over_damaged, not_shown, counts_shown, counts_damaged}

@@ -5,7 +5,6 @@ use Rattle.std.specs.List.{find, list_all}
 use Rattle.std.specs.Option.{option_map, option_map_or, is_some}
 use Rattle.std.proofs.lemmas.List.{append-nil}
 use Rattle.std.specs.Str.{bytes_eq}
-use Rattle.std.proofs.lemmas.Slice.Eq.{bytes_eq-Decides}
 use Rattle.fp_name.specs.Grammar.{is_remote_name, is_url, is_id}
 use Rattle.fl_words.specs.declared.command.Command.{Command}
 use Rattle.fl_words.specs.declared.command.Command.TheVariants as commands
@@ -15,6 +14,7 @@ use Rattle.fl_words.specs.declared.command.Change.TheVariants as changes
 use Rattle.fl_words.specs.declared.command.Listing.TheVariants as listings
 use Rattle.fl_words.specs.declared.command.Shown.TheVariants as things
 use Rattle.std.proofs.lemmas.Bool.{and_parts, false≢true}
+use Rattle.fp_base.proofs.Texts.{bytes_eq-true as is_word}
 use Rattle.fl_words.specs.declared.forms.Form.{Form}
 use Rattle.fl_words.specs.declared.forms.Form.TheVariants.{Pin, Unpin, RemoteAdd, RemoteModify, RemoteDelete, Install, UpdateAll, UpdateOne, Uninstall, UninstallUnused, Rollback, Override, OverrideApp, OverrideReset, OverrideResetApp, ListRefs, ListRemotes, ListPins, ListExports, Info, Launch, OverrideShow, OverrideShowApp, Filter, FilterFrom, FilterSystemFrom, Batch, Fsck, Export, Exercise, ShowCommit, ShowDirTree, ShowDirMeta, ShowValue}
 use Rattle.fl_words.specs.Forms.{literal, pattern, remote, url, ref_name, app, app_id, type_string, permission, permissions, launch_options, filter_rules, from_app, app_count, fits, forms, slots_of, form_command, reads, command_of}
@@ -36,9 +36,6 @@ use Rattle.fl_words.proofs.Options.{WithId, with_id, fits_id, no_more_options, a
 -- the words of a form are those of its command
 abbrev Speaks : Form → List (List ℕ) → Type 0
 Speaks form words = (words ≡ words_of (form_command form words)) × (is_command (form_command form words) ≡ true)
-
-is_word : (text w : List ℕ) → bytes_eq text w ≡ true → text ≡ w
-is_word text w h = (bytes_eq-Decides text w).0 h
 
 after_word : (w a b : List ℕ) → bytes_eq a w ≡ true → a ∷ b ∷ [] ≡ w ∷ b ∷ []
 after_word w a b h = ap (λ (x : List ℕ). x ∷ b ∷ []) (is_word a w h)

@@ -14,7 +14,7 @@ use Rattle.gv_value.specs.Signs.{letter_of}
 use Rattle.gv_value.specs.Shape.{Shape, basic, variant, array, maybe, tuple, entry, Shapes, no_shapes, shape, is_type}
 use Rattle.gv_value.specs.TypeText.{type_text, type_texts, type_of}
 use Rattle.gv_value.specs.Reads.{Fails}
-use Rattle.gv_value.proofs.TypeLaws.{type_of-text, type_of-found}
+use Rattle.gv_value.proofs.TypeLaws.{type_of-found}
 use Rattle.fl_words.specs.Types.{is_type_text}
 
 -- ---- what parsing tells
@@ -33,9 +33,6 @@ text_found text t h = sym (type_of-found text t h).is
 
 pub type_found : (text : List ℕ) (t : Shape) → type_of text ≡ Some t → is_type t ≡ true
 type_found text t h = (type_of-found text t h).type
-
-pub again : (t : Shape) → is_type t ≡ true → type_of (type_text t) ≡ Some t
-again = type_of-text
 
 -- ---- type strings are ASCII
 

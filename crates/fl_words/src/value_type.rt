@@ -44,7 +44,7 @@ impl ValueType {
     }
 
     /// The type as GVariant has it.
-    #[tactic(auto, using(crate::proofs::TypeTexts::again))]
+    #[tactic(auto, using(gv_value::proofs::TypeLaws::type_back))]
     pub fn as_type(&self) -> &GvType
         ensures { type_of self.now ≡ Some (shape_of result.now) }
     {

@@ -88,3 +88,11 @@ call_caused {T = T} C D fa fb fc e s told le first call cause err clash can = ca
 pub fault_caused : {T U : Type 0} {a b : Option Moments} {Q : View → View → Type 0} (C D : View → Type 0) (fa fb fc : ℕ) (r : Result T HostEnd) (s : Result U HostEnd)
     → IsTold a → fa ≤ fb → AtEnd Q a b → IsCaused (IsErrOf r Fault) b D fb fc → (IsErrOf s Fault → IsErrOf r Fault) → ((u v : View) → IsTree u → Q u v → C u → D v) → IsCaused (IsErrOf s Fault) a C fa fc
 fault_caused C D fa fb fc r s told le first call passes can = passed_on (IsErrOf s Fault) (IsErrOf r Fault) C D fa fb fc told le first call passes can
+
+-- the first view of a told host is a tree
+pub from_tree : {a b : Option Moments} {Q : View → View → Type 0} → IsTold a → AtEnd Q a b → AtEnd (λ u w. IsTree u × Q u w) a b
+from_tree told first = record { goes = begins told first.goes (λ u w tree r. tt) (λ u w tree r q. (tree, q)) }
+
+-- and so is the last one
+pub to_tree : {a b : Option Moments} {Q : View → View → Type 0} → IsTold b → AtEnd Q a b → AtEnd (λ u w. IsTree w × Q u w) a b
+to_tree told first = ends_in_tree told first (λ u w tree q. (tree, q))

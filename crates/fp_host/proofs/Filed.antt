@@ -1,5 +1,5 @@
 -- What a call leaves of the files that were there.
-use Rattle.std.proofs.Common.{◌≡◌, ◌≢◌, ◌⊎◌, inl, inr, ℕ, List, [], ◌∷◌, ◌++◌, Option, Some, None, refl, sym, ◌∙◌, ap, subst, Contains}
+use Rattle.std.proofs.Common.{◌≡◌, ◌≢◌, ◌⊎◌, inl, inr, ℕ, List, [], ◌∷◌, ◌++◌, Some, None, refl, sym, ◌∙◌, ap, subst, Contains}
 use Rattle.std.proofs.lemmas.Bool.{cases_eq}
 use Rattle.std.proofs.lemmas.List.Elements.{Contains-push_cases}
 use Rattle.fp_host.specs.Paths.{Elements, Slot, absent, dir, file, link, set_at}
@@ -8,6 +8,7 @@ use Rattle.fp_host.specs.Calls.{Change, makes_dir, creates, appends, links, make
 use Rattle.fp_host.specs.Frame.{ComesFrom}
 use Rattle.fp_host.proofs.Keep.{grow_stood, stood_half}
 use Rattle.fp_host.proofs.Separate.{path_cases, set_same, set_other, file_same, file_other}
+use Rattle.fp_host.proofs.Slots.{grown_none}
 
 -- the file that gets bytes
 abbrev pub Fills : Change → View → ℕ → Type 0
@@ -73,10 +74,6 @@ new_some f v i id none = elim (cases_eq id i) [
   | inl here ↦ absurd (cc (file_same v.files i (Some f) id here, none))
   | inr off ↦ sym (file_other v.files i (Some f) id off) ∙ none
 ]
-
-grown_none : (row : Option Inode) (bytes : List ℕ) → grown row bytes ≡ None → row ≡ None
-grown_none None bytes is = refl
-grown_none (Some f) bytes is = absurd (cc is)
 
 grow_none : (e : Slot) (bytes : List ℕ) (v : View) (id : ℕ) → (grow e bytes v).files id ≡ None → v.files id ≡ None
 grow_none absent bytes v id none = none

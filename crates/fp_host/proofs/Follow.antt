@@ -13,6 +13,7 @@ use Rattle.fp_host.specs.Outcome.{GivesOf}
 use Rattle.fp_host.specs.declared.host.HostError.{HostError}
 use Rattle.fp_host.specs.declared.host.HostError.TheVariants.{Failed, Clash, NoMemory}
 use Rattle.fp_host.proofs.Separate.{clear_in, clear_same, clear_cases, clear_other, path_cases, set_same, set_other, file_same, file_other, under_no_dir, at_cases, IsClosed, at_off}
+use Rattle.fp_host.proofs.Slots.{no_dir_absent, no_dir_leaf}
 
 pub follows_refl : {G : Elements → Spot → Type 0} {v : View} → Follows G v v
 follows_refl = record { from = λ disk left. (disk, left, λ p. inl refl) }
@@ -331,15 +332,6 @@ clear_from v w p is_dir_now empty grows disk left = elim (grows.may p (left.name
 
 pub follows_clear : (v w : View) (p : Elements) → v.names p ≡ dir → ((x : List ℕ) → v.names (x ∷ p) ≡ absent) → Grows v w p absent → Follows (λ q spot. (q ≡ p) × (spot ≡ gone)) v w
 follows_clear v w p is_dir_now empty grows = record { from = clear_from v w p is_dir_now empty grows }
-
-no_dir_absent : {e : Slot} → e ≡ absent → IsNoDir e
-no_dir_absent is = subst IsNoDir (sym is) tt
-
-no_dir_leaf : (e : Slot) → IsLeaf e → IsNoDir e
-no_dir_leaf absent l = tt
-no_dir_leaf dir l = absurd l
-no_dir_leaf (file id) l = tt
-no_dir_leaf (link text) l = tt
 
 no_dir_file : (e : Slot) → IsFile e → IsNoDir e
 no_dir_file e is = subst IsNoDir (sym is.1) tt

@@ -1,5 +1,5 @@
 -- One lemma for each kind of call, for any frame; each takes the call's clause first.
-use Rattle.std.proofs.Common.{◌≡◌, ◌⊎◌, inl, inr, ℕ, List, [], Option, Some, None, Result, refl, sym, ◌∙◌, ap, subst}
+use Rattle.std.proofs.Common.{◌≡◌, inl, inr, ℕ, List, [], Option, Some, Result, refl, sym, ◌∙◌, ap, subst}
 use Rattle.fp_host.specs.Paths.{Elements, Slot, absent, dir, file, link, at}
 use Rattle.fp_host.specs.View.{View, Inode, IsTree}
 use Rattle.fp_host.specs.Calls.{Change, makes_dir, appends, links, makes_link, renames, unlinks, removes_dir, syncs, Step, Creates, Called, IsSilent}
@@ -14,6 +14,7 @@ use Rattle.fp_host.proofs.Keep.{printed_kept, stood_kept}
 use Rattle.fp_host.proofs.Filed.{Fills, Passes, PutsOf, files_kept, rows_kept, empty_kept, held_call, puts_call, put_call}
 use Rattle.fp_host.proofs.Goes.{goes_on, stays, makes_goes}
 use Rattle.fp_host.proofs.Settled.{at_tree}
+use Rattle.fp_host.proofs.Slots.{row_cases}
 
 -- the present view of a host that tells is a tree
 abbrev pub IsTold : Option Moments → Type 0
@@ -34,10 +35,6 @@ keeps_refl = record {
 
 pub keeps_same : {G : Elements → Spot → Type 0} {W : Elements → Slot → Type 0} {A : Elements → Type 0} {v w : View} → w ≡ v → Keeps G W A v w
 keeps_same {G = G} {W = W} {A = A} {v = v} same = subst (Keeps G W A v) (sym same) keeps_refl
-
-row_cases : (row : Option Inode) → (row ≡ None) ⊎ ((f : Inode) × (row ≡ Some f))
-row_cases None = inl refl
-row_cases (Some f) = inr (f, refl)
 
 pub keeps_on : {G : Elements → Spot → Type 0} {W : Elements → Slot → Type 0} {A : Elements → Type 0} {u v w : View} → Keeps G W A u v → Keeps G W A v w → Keeps G W A u w
 keeps_on {W = W} {v = v} first second = record {

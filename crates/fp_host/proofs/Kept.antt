@@ -4,10 +4,11 @@ use Rattle.std.proofs.lemmas.Bool.{cases_eq, false≢true}
 use Rattle.std.proofs.lemmas.List.Elements.{Contains-push, Contains-append_left}
 use Rattle.fp_host.specs.Paths.{Elements, Slot, absent, dir, file, link, is_link_text}
 use Rattle.fp_host.specs.View.{View, Inode, MayBe, IsTree}
-use Rattle.fp_host.specs.Calls.{Change, makes_dir, creates, appends, links, makes_link, renames, unlinks, removes_dir, syncs, says, Can, HasFolder, IsNoDir, IsLeaf, set_file, put, may_put, with_file, grow, grown, done, half}
+use Rattle.fp_host.specs.Calls.{Change, makes_dir, creates, appends, links, makes_link, renames, unlinks, removes_dir, syncs, says, Can, HasFolder, IsNoDir, set_file, put, may_put, with_file, grow, grown, done, half}
 use Rattle.fp_host.proofs.Separate.{path_cases, set_same, set_other, file_same, file_other}
 use Rattle.fp_host.proofs.Follow.{Grows-put, Grows-may_put, no_loop}
 use Rattle.fp_host.proofs.Settled.{none_in}
+use Rattle.fp_host.proofs.Slots.{grown_none, no_dir_absent, no_dir_leaf}
 
 -- what may be there may be there after a change of a name too
 put_keeps : (v : View) (p : Elements) (e : Slot) (q : Elements) (e' : Slot) → MayBe v q e' → MayBe (put p e v) q e'
@@ -122,10 +123,6 @@ tree_file v id mode small tree = record {
       | inr off ↦ λ none. some (sym (file_other v.files id (Some (record { mode = mode; bytes = [] })) i off) ∙ none)
     ]
 
-grown_none : (row : Option Inode) (bytes : List ℕ) → grown row bytes ≡ None → row ≡ None
-grown_none None bytes is = refl
-grown_none (Some f) bytes is = absurd (cc)
-
 grown_bits : (row : Option Inode) (bytes : List ℕ) (f : Inode) → ((g : Inode) → row ≡ Some g → g.mode ≤ 4095) → grown row bytes ≡ Some f → f.mode ≤ 4095
 grown_bits None bytes f small is = absurd (cc is)
 grown_bits (Some g) bytes f small is = let same : record g { bytes = g.bytes ++ bytes } ≡ f = cc is in subst (λ (h : Inode). h.mode ≤ 4095) same (small g refl)
@@ -186,15 +183,6 @@ leaf_no_root v p tree no_dir is = subst IsNoDir (ap v.names is ∙ tree.root) no
 leaf_empty : (v : View) (p : Elements) → IsTree v → IsNoDir (v.names p) → (x : List ℕ) → v.names (x ∷ p) ≡ absent
 leaf_empty v p tree no_dir x = elim (tree.above x p) [ inl gone ↦ gone | inr there ↦ absurd (subst IsNoDir there no_dir) ]
 
-leaf_no_dir : (e : Slot) → IsLeaf e → IsNoDir e
-leaf_no_dir absent l = tt
-leaf_no_dir dir l = absurd l
-leaf_no_dir (file id) l = tt
-leaf_no_dir (link text) l = tt
-
-no_dir_absent : {e : Slot} → e ≡ absent → IsNoDir e
-no_dir_absent is = subst IsNoDir (sym is) tt
-
 module _ (v : View) (tree : IsTree v) where
   comes : (p : Elements) (e : Slot) → HasFolder v p → ((id : ℕ) → e ≡ file id → v.files id ≢ None) → ((text : List ℕ) → e ≡ link text → is_link_text text ≡ true) → MayCome v p e
   comes p e has known linked = record { no_root = no_root v p has; above = inr has; known = known; linked = linked }
@@ -217,12 +205,12 @@ module _ (v : View) (tree : IsTree v) where
   tree_done (links from to) can = tree_put v to (v.names from) tree (comes to (v.names from) can.1 (from_known from) (from_linked from)) (inr (leaf_empty v to tree (no_dir_absent can.2)))
   tree_done (makes_link text p) can = tree_put v p (link text) tree (comes p (link text) can.1 (λ id is. absurd (cc is)) (λ t is. let same : text ≡ t = cc is in subst (λ (x : List ℕ). is_link_text x ≡ true) same can.0)) (inr (leaf_empty v p tree (no_dir_absent can.2)))
   tree_done (renames from to) can =
-      let no_dir = leaf_no_dir (v.names from) can.0 in
+      let no_dir = no_dir_leaf (v.names from) can.0 in
       tree_put (put to (v.names from) v) from absent
       (tree_put v to (v.names from) tree (comes to (v.names from) can.1 (from_known from) (from_linked from)) (inr (leaf_empty v to tree can.2)))
       (record { no_root = leaf_no_root v from tree no_dir; above = inl refl; known = λ id is. absurd (cc is); linked = λ text is. absurd (cc is) })
       (inr (λ x. set_other v.names to (v.names from) (x ∷ from) (λ is. subst IsNoDir (folder_up v to x from is can.1) no_dir) ∙ leaf_empty v from tree no_dir x))
-  tree_done (unlinks p) can = let no_dir = leaf_no_dir (v.names p) can in tree_put v p absent tree (goes p (leaf_no_root v p tree no_dir)) (inr (leaf_empty v p tree no_dir))
+  tree_done (unlinks p) can = let no_dir = no_dir_leaf (v.names p) can in tree_put v p absent tree (goes p (leaf_no_root v p tree no_dir)) (inr (leaf_empty v p tree no_dir))
   tree_done (removes_dir p) can = tree_put v p absent tree (goes p can.1) (inr (λ x. can.2 (x ∷ p) (inl refl)))
   tree_done syncs can = tree_sync v tree
   tree_done (says piece) can = record { root = tree.root; only_root = tree.only_root; above = tree.above; may_above = tree.may_above; known = tree.known; known_dirty = tree.known_dirty; linked = tree.linked; remembered = tree.remembered; bits = tree.bits }
@@ -235,8 +223,8 @@ module _ (v : View) (tree : IsTree v) where
   tree_half (links from to) can = tree_may_put v to (v.names from) tree (comes to (v.names from) can.1 (from_known from) (from_linked from))
   tree_half (makes_link text p) can = tree_may_put v p (link text) tree (comes p (link text) can.1 (λ id is. absurd (cc is)) (λ t is. let same : text ≡ t = cc is in subst (λ (x : List ℕ). is_link_text x ≡ true) same can.0))
   tree_half (renames from to) can = tree_may_put (may_put to (v.names from) v) from absent (tree_may_put v to (v.names from) tree (comes to (v.names from) can.1 (from_known from) (from_linked from)))
-      (record { no_root = leaf_no_root v from tree (leaf_no_dir (v.names from) can.0); above = inl refl; known = λ id is. absurd (cc is); linked = λ text is. absurd (cc is) })
-  tree_half (unlinks p) can = tree_may_put v p absent tree (goes p (leaf_no_root v p tree (leaf_no_dir (v.names p) can)))
+      (record { no_root = leaf_no_root v from tree (no_dir_leaf (v.names from) can.0); above = inl refl; known = λ id is. absurd (cc is); linked = λ text is. absurd (cc is) })
+  tree_half (unlinks p) can = tree_may_put v p absent tree (goes p (leaf_no_root v p tree (no_dir_leaf (v.names p) can)))
   tree_half (removes_dir p) can = tree_may_put v p absent tree (goes p can.1)
   tree_half syncs can = tree
   tree_half (says piece) can = tree

@@ -13,3 +13,10 @@ pub mod Looking
 pub mod PathTexts
 pub mod Separate
 pub mod Settled
+pub mod Above
+pub mod Slots
+pub mod Shown
+pub mod Ascending
+pub mod Nodes
+pub mod Untold
+pub mod Causes

@@ -9,7 +9,9 @@ use Rattle.std.proofs.lemmas.List.Splits.{slice_split_none, join_with_byte-slice
 use Rattle.std.specs.List.{list_all, slice_split, onto_first, join_with_byte}
 use Rattle.std.specs.Prelude.{All, count_by, ◌==◌}
 use Rattle.std.specs.Str.{bytes_eq}
+use mathlib.Core.Bool.{and-false}
 use Rattle.std.proofs.lemmas.Slice.Eq.{bytes_eq-Decides}
+use Rattle.fp_base.proofs.Booleans.{and_first as and_front, and_second}
 use Rattle.fp_host.proofs.Separate.{path_decides}
 use Rattle.fp_host.specs.Paths.{Elements, is_name_byte, is_element, turned, turned_onto, cut, elements_of, path_text, path_eq, IsAbove}
 
@@ -118,19 +120,15 @@ no_slash text none j d low = subst (λ b. is_slash b ≡ false) (get_or_default 
 and_first : (a b : Bool) → a ≡ false → (a && b) ≡ false
 and_first a b f = ap (λ x. x && b) f
 
-and_no : (a : Bool) → (a && false) ≡ false
-and_no true = refl
-and_no false = refl
-
 -- an element, test by test
 pub too_short : (x : List ℕ) → length x ≡ 0 → is_element x ≡ false
 too_short x none = and_first (leb 1 (length x)) _ (lt-leb 1 (length x) (omega arith))
 
 pub too_long : (x : List ℕ) → 255 < length x → is_element x ≡ false
-too_long x long = ap (λ b. leb 1 (length x) && b) (and_first (leb (length x) 255) _ (lt-leb (length x) 255 long)) ∙ and_no (leb 1 (length x))
+too_long x long = ap (λ b. leb 1 (length x) && b) (and_first (leb (length x) 255) _ (lt-leb (length x) 255 long)) ∙ and-false (leb 1 (length x))
 
 pub bad_byte : (x : List ℕ) → list_all is_name_byte x ≡ false → is_element x ≡ false
-bad_byte x bad = ap (λ b. leb 1 (length x) && (leb (length x) 255 && b)) (and_first (list_all is_name_byte x) _ bad) ∙ ap (λ b. leb 1 (length x) && b) (and_no (leb (length x) 255)) ∙ and_no (leb 1 (length x))
+bad_byte x bad = ap (λ b. leb 1 (length x) && (leb (length x) 255 && b)) (and_first (list_all is_name_byte x) _ bad) ∙ ap (λ b. leb 1 (length x) && b) (and-false (leb (length x) 255)) ∙ and-false (leb 1 (length x))
 
 pub by_dots : (x : List ℕ) → 0 < length x → length x ≤ 255 → list_all is_name_byte x ≡ true → is_element x ≡ not (bytes_eq x (codes ".") || bytes_eq x (codes ".."))
 by_dots x some short good =
@@ -141,16 +139,8 @@ by_dots x some short good =
 abbrev pub IsGood : Elements → Type 0
 IsGood p = list_all is_element p ≡ true
 
-and_rest : (a b : Bool) → (a && b) ≡ true → b ≡ true
-and_rest true b t = t
-and_rest false b t = absurd (false≢true t)
-
-and_front : (a b : Bool) → (a && b) ≡ true → a ≡ true
-and_front true b t = refl
-and_front false b t = absurd (false≢true t)
-
 pub good_rest : (x : List ℕ) (up : Elements) → IsGood (x ∷ up) → IsGood up
-good_rest x up good = and_rest (is_element x) (list_all is_element up) good
+good_rest x up good = and_second (is_element x) (list_all is_element up) good
 
 pub good_first : (x : List ℕ) (up : Elements) → IsGood (x ∷ up) → is_element x ≡ true
 good_first x up good = and_front (is_element x) (list_all is_element up) good
@@ -194,11 +184,11 @@ no_slash_in (b ∷ rest) good zero d low = slash_free b (and_front (is_name_byte
   where
     slash_free : (b : ℕ) → not (b == 47 || b == 0) ≡ true → (b == 47) ≡ false
     slash_free b n = elim (cases_Bool (b == 47)) [ inr f ↦ f | inl t ↦ absurd (false≢true (sym (ap (λ c. not (c || b == 0)) t) ∙ n)) ]
-no_slash_in (b ∷ rest) good (suc k) d low = no_slash_in rest (and_rest (is_name_byte b) (list_all is_name_byte rest) good) k d (omega arith)
+no_slash_in (b ∷ rest) good (suc k) d low = no_slash_in rest (and_second (is_name_byte b) (list_all is_name_byte rest) good) k d (omega arith)
 
 name_bytes : (x : List ℕ) → is_element x ≡ true → list_all is_name_byte x ≡ true
 name_bytes x good =
-    and_front (list_all is_name_byte x) _ (and_rest (leb (length x) 255) _ (and_rest (leb 1 (length x)) _ good))
+    and_front (list_all is_name_byte x) _ (and_second (leb (length x) 255) _ (and_second (leb 1 (length x)) _ good))
 
 -- one element more
 pub child_root : (x : List ℕ) → is_element x ≡ true → elements_of x ≡ x ∷ []

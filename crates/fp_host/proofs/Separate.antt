@@ -67,7 +67,7 @@ dir_cases dir = inl refl
 dir_cases (file id) = inr tt
 dir_cases (link text) = inr tt
 
-tail_of : {x y : List ℕ} {p q : Elements} → x ∷ p ≡ y ∷ q → p ≡ q
+pub tail_of : {x y : List ℕ} {p q : Elements} → x ∷ p ≡ y ∷ q → p ≡ q
 tail_of e = cc
 
 -- Two trees that differ in one name and in names below it, where nothing counts below it in either, differ there alone.
@@ -115,3 +115,6 @@ absent_cases (link text) = inr (λ is. cc)
 -- two paths that a test tells apart; `refl` serves for written ones
 pub apart_by : {p q : Elements} → path_eq p q ≡ false → p ≢ q
 apart_by {p = p} {q = q} f e = both_ways (path_eq p q) f ((path_decides p q).1 e)
+
+pub head_of : {x y : List ℕ} {up down : Elements} → x ∷ up ≡ y ∷ down → x ≡ y
+head_of h = cc h

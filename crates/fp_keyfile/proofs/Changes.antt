@@ -4,11 +4,12 @@ use Rattle.std.specs.List.{list_all, list_any}
 use Rattle.std.specs.Option.{option_map}
 use Rattle.std.specs.Str.{bytes_eq}
 use Rattle.std.proofs.lemmas.Bool.{cases_Bool, and_parts, or_parts, not-true}
+use Rattle.fp_base.proofs.Texts.{bytes_eq-true, bytes_eq-same}
 use Rattle.fp_keyfile.specs.declared.group.Pair.{Pair}
 use Rattle.fp_keyfile.specs.declared.group.Group.{Group}
 use Rattle.fp_keyfile.specs.KeyFile.{names_of, keys_of, pair_at, value_at, keys_at, with_name, with_key, with_group, with_pair, without_key, with_rest, group_without, without_pair, are_distinct, is_good_group, is_good}
 use Rattle.fp_keyfile.proofs.Good.{good_parts, good_group_parts, keys_of-with_key}
-use Rattle.fp_keyfile.proofs.Names.{bytes_eq-same, bytes_eq-true, bytes_eq-sym}
+use Rattle.fp_keyfile.proofs.Names.{bytes_eq-sym}
 
 -- ---- a new key, a new group, and a key in the last group
 

@@ -6,13 +6,13 @@ use Rattle.std.specs.Str.{bytes_eq}
 use Rattle.std.proofs.lemmas.Bool.{cond-true}
 use Rattle.std.proofs.lemmas.List.{length-map, map-set, get_or-map, map_push}
 use Rattle.std.proofs.lemmas.List.Elements.{All-set, All-push}
+use Rattle.fp_base.proofs.Texts.{bytes_eq-same}
 use Rattle.fp_keyfile.specs.declared.group.Group.{Group}
 use Rattle.fp_keyfile.specs.declared.table.Table.{Table}
 use Rattle.fp_keyfile.specs.declared.draft.Draft.{Draft}
 use Rattle.fp_keyfile.specs.KeyFile.{names_of, keys_of, with_name, with_key, with_group, with_pair, Reading, with_entry}
 use Rattle.fp_keyfile.specs.Index.{Places, place_in, Indexes}
 use Rattle.fp_keyfile.specs.Draft.{group_of, groups_of, name_at, reading, IsCurrent, IsIndexedTable, IsIndexed}
-use Rattle.fp_keyfile.proofs.Names.{bytes_eq-same}
 use Rattle.fp_keyfile.proofs.Good.{names_of-with_group, names_of-with_pair}
 use Rattle.fp_keyfile.proofs.Changes.{with_group_new}
 use Rattle.fp_keyfile.proofs.FirstPlace.{place_of, place_of-with_name, Indexes-with_name, StandsAt-from, absent_from, IsLookup-from, with_group_found, with_pair_found, with_name_found}

@@ -5,11 +5,12 @@ use Rattle.std.specs.Option.{option_map}
 use Rattle.std.specs.Str.{bytes_eq}
 use Rattle.std.proofs.lemmas.Bool.{cases_Bool, ltb-true, ltb-false, lt-ltb, le-ltb}
 use Rattle.std.proofs.lemmas.List.{length-map}
+use Rattle.fp_base.proofs.Texts.{bytes_eq-true}
 use Rattle.fp_keyfile.specs.declared.group.Pair.{Pair}
 use Rattle.fp_keyfile.specs.declared.group.Group.{Group}
 use Rattle.fp_keyfile.specs.KeyFile.{names_of, keys_of, with_name, with_key, with_group, with_pair}
 use Rattle.fp_keyfile.specs.Index.{Places, place_in, Indexes}
-use Rattle.fp_keyfile.proofs.Names.{bytes_eq-true, bytes_eq-sym}
+use Rattle.fp_keyfile.proofs.Names.{bytes_eq-sym}
 use Rattle.fp_keyfile.proofs.Good.{keys_of-with_key}
 use Rattle.fp_keyfile.proofs.Changes.{with_key_new}
 

@@ -4,11 +4,12 @@ use Rattle.std.specs.Prelude.{OnOk, OnErr}
 use Rattle.std.specs.List.{list_all, list_any}
 use Rattle.std.specs.Str.{is_utf8, bytes_eq}
 use Rattle.std.proofs.lemmas.Bool.{cases_Bool, and_parts, and_from, not-true, or_parts}
+use Rattle.fp_base.proofs.Texts.{bytes_eq-true}
 use Rattle.fp_keyfile.specs.declared.group.Pair.{Pair}
 use Rattle.fp_keyfile.specs.declared.group.Group.{Group}
 use Rattle.fp_keyfile.specs.Grammar.{is_name, is_key, is_value}
 use Rattle.fp_keyfile.specs.KeyFile.{names_of, keys_of, with_name, with_key, with_group, with_pair, pair_at, without_key, with_rest, group_without, without_pair, are_distinct, is_good_pair, is_good_group, is_good}
-use Rattle.fp_keyfile.proofs.Names.{bytes_eq-true, are_distinct-with_name}
+use Rattle.fp_keyfile.proofs.Names.{are_distinct-with_name}
 
 -- ---- the parts of what is good
 

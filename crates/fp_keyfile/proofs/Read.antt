@@ -130,7 +130,7 @@ distinct_before (x ∷ xs) y ys h =
 abbrev pub within : List Group → List ℕ → List Pair → Reading
 within file name pairs = record { file = file ++ (record { name = name; pairs = pairs } ∷ []); group = Some name }
 
-map_keys-append : (ps qs : List Pair) → keys_of (ps ++ qs) ≡ keys_of ps ++ keys_of qs
+pub map_keys-append : (ps qs : List Pair) → keys_of (ps ++ qs) ≡ keys_of ps ++ keys_of qs
 map_keys-append [] qs = refl
 map_keys-append (p ∷ ps) qs = ap (λ (ks : List (List ℕ)). p.key ∷ ks) (map_keys-append ps qs)
 

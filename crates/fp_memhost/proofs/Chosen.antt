@@ -1,11 +1,11 @@
 -- An image that is chosen.
-use Rattle.std.proofs.Common.{◌≡◌, ◌≢◌, ◌⊎◌, inl, inr, ℕ, zero, suc, ◌+◌, ◌-◌, ◌<◌, ◌≤◌, ◌&&◌, List, [], ◌∷◌, ◌++◌, length, get_or, take, drop, map, Bool, true, false, eqb, cond, Option, Some, None, refl, sym, ◌∙◌, ap, subst, arith, add-one}
-use Rattle.std.proofs.Math.Seq.{drop-cons}
+use Rattle.std.proofs.Common.{◌≡◌, ◌≢◌, ◌⊎◌, inl, inr, ℕ, zero, suc, ◌+◌, ◌-◌, ◌<◌, ◌≤◌, ◌&&◌, List, [], ◌∷◌, ◌++◌, length, get_or, take, drop, map, Bool, true, false, eqb, cond, Option, Some, None, refl, sym, ◌∙◌, ap, subst, arith}
 use Rattle.std.proofs.Math.ListN.{get_or-map}
 use Rattle.std.proofs.lemmas.List.{append-nil, get_or-take, length-take, take_more}
 use Rattle.std.proofs.lemmas.Cmp.{nat_list_cmp_total, tied_itself}
 use Rattle.std.specs.List.{list_all}
 use Rattle.std.proofs.lemmas.Bool.{cases_Bool, cond-true, cond-false, and_parts, false_from_ne_true, eqb-true, leb-true}
+use Rattle.fp_base.proofs.Lists.{drop_read}
 use Rattle.fp_host.specs.Paths.{Elements, Slot, absent, path_eq, path_text, at}
 use Rattle.fp_host.specs.View.{View, Inode, MayBe, IsTree}
 use Rattle.fp_host.specs.Outcome.{spot_of, MayHold, IsSameMode}
@@ -25,18 +25,14 @@ use Rattle.fp_memhost.proofs.Judging.{entry_present}
 use Rattle.fp_memhost.proofs.Opened.{first_row, first_on, first_none}
 use Rattle.fp_memhost.proofs.Ordered.{compare, in_order}
 
--- a list from one of its places on
-pub cut_at : {A : Type 0} (xs : List A) (i : ℕ) (x : A) → i < length xs → x ≡ get_or xs i x → drop i xs ≡ x ∷ drop (i + 1) xs
-cut_at xs i x low is = drop-cons xs i x low ∙ (λ j. sym is j ∷ drop (sym (add-one i) j) xs)
-
 pub all_cut : {A : Type 0} (p : A → Bool) (xs : List A) (i : ℕ) (x : A) → i < length xs → x ≡ get_or xs i x → list_all p (drop i xs) ≡ p x && list_all p (drop (i + 1) xs)
-all_cut p xs i x low is = ap (list_all p) (cut_at xs i x low is)
+all_cut p xs i x low is = ap (list_all p) (drop_read xs i x low is)
 
 pub number_cut : (xs : List (Elements × ℕ)) (q : Elements) (i : ℕ) (x : Elements × ℕ) → i < length xs → x ≡ get_or xs i x → number_for (drop i xs) q ≡ cond (path_eq q x.0) x.1 (number_for (drop (i + 1) xs) q)
-number_cut xs q i x low is = ap (λ (l : List (Elements × ℕ)). number_for l q) (cut_at xs i x low is)
+number_cut xs q i x low is = ap (λ (l : List (Elements × ℕ)). number_for l q) (drop_read xs i x low is)
 
 pub bytes_cut : (xs : List (ℕ × List ℕ)) (id : ℕ) (i : ℕ) (x : ℕ × List ℕ) → i < length xs → x ≡ get_or xs i x → bytes_for (drop i xs) id ≡ cond (eqb id x.0) (Some x.1) (bytes_for (drop (i + 1) xs) id)
-bytes_cut xs id i x low is = ap (λ (l : List (ℕ × List ℕ)). bytes_for l id) (cut_at xs i x low is)
+bytes_cut xs id i x low is = ap (λ (l : List (ℕ × List ℕ)). bytes_for l id) (drop_read xs i x low is)
 
 -- the entry of a number after 0
 pub numbered_some : (p : Slot) (l : List Slot) (n : ℕ) → n ≢ 0 → numbered p l n ≡ get_or l (n - 1) absent
@@ -186,7 +182,7 @@ chosen_more i files bytes chosen f r so low is same_id same_mode same_bytes = re
       ap (λ (o : Option Inode). first_row o (with_bytes (files_of rest id) (bytes_for bytes id))) (rows_more chosen r id)
       ∙ first_on (rows_of chosen id) (cond (eqb id r.id) (row_in r) None) (with_bytes (files_of rest id) (bytes_for bytes id))
       ∙ ap (first_row (rows_of chosen id)) (chosen_row_is f r bytes id (file_at rest id) same_id same_mode same_bytes)
-      ∙ sym (ap (λ (l : List Content). first_row (rows_of chosen id) (with_bytes (files_of l id) (bytes_for bytes id))) (cut_at files i f low is))
+      ∙ sym (ap (λ (l : List Content). first_row (rows_of chosen id) (with_bytes (files_of l id) (bytes_for bytes id))) (drop_read files i f low is))
       ∙ so.each id;
 }
 

@@ -6,6 +6,7 @@ use Rattle.std.specs.List.{list_all, find}
 use Rattle.std.specs.Ordering.{is_lt}
 use Rattle.std.specs.declared.cmp.Ordering.TheVariants.{Less, Greater}
 use Rattle.std.proofs.lemmas.Bool.{and_parts, and_from, false_from_ne_true}
+use Rattle.fp_base.proofs.Texts.{flip}
 use Rattle.fp_host.specs.Paths.{Elements, Slot, absent, path_text, elements_of, set_at}
 use Rattle.fp_host.proofs.PathTexts.{text_back}
 use Rattle.fp_host.proofs.Separate.{path_decides, path_cases, set_same, set_other}
@@ -13,7 +14,7 @@ use Rattle.fp_memhost.specs.Names.{comes_before, ascends, IsAscending, is_at, na
 use Rattle.fp_memhost.specs.declared.names.Name.{Name}
 use Rattle.fp_host.specs.declared.host.Entry.{Entry}
 use Rattle.fp_memhost.proofs.Finding.{find_here, find_front, set_hit, set_miss, append_hit, append_miss}
-use Rattle.fp_memhost.proofs.Ordered.{compare, text_at, none_at, flip}
+use Rattle.fp_memhost.proofs.Ordered.{compare, text_at, none_at}
 
 is_at_same : (p : Elements) (name : Name) → name.path ≡ p → is_at p name ≡ true
 is_at_same p name is = (path_decides p name.path).1 (sym is)

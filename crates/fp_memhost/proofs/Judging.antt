@@ -17,8 +17,9 @@ use Rattle.fp_host.specs.declared.host.Stat.TheVariants.{File as StatFile}
 use Rattle.fp_memhost.specs.Names.{slot_of, slot_in, names_of, name_at, is_at, ascends, comes_before}
 use Rattle.fp_memhost.specs.Folders.{child_in, is_child}
 use Rattle.std.proofs.lemmas.Cmp.{nat_list_cmp_total, tied_itself}
+use Rattle.fp_base.proofs.Texts.{less_from}
 use Rattle.fp_host.specs.declared.host.Entry.TheVariants.{Dir, File, Link}
-use Rattle.fp_memhost.proofs.Ordered.{compare, less_no, less_from}
+use Rattle.fp_memhost.proofs.Ordered.{compare, less_no}
 
 pub looked_up : (names xs : List Name) (p : Elements) (t : List ℕ) (e : Option Entry) → slot_of e ≡ names_of xs (elements_of t) → xs ≡ names → elements_of t ≡ p → slot_of e ≡ names_of names p
 looked_up names xs p t e tells same of = tells ∙ ap (λ (l : List Name). names_of l (elements_of t)) same ∙ ap (names_of names) of

@@ -4,12 +4,13 @@ use Rattle.std.proofs.lemmas.List.{length-take, get_or-take, get_or_default}
 use Rattle.std.proofs.lemmas.Slice.Eq.{bytes_eq-Decides}
 use Rattle.std.proofs.lemmas.Map.Text.{is_eq-slice_cmp}
 use Rattle.std.specs.List.{list_all}
-use Rattle.std.specs.Ordering.{nat_cmp, is_lt, is_eq, ordering_reverse}
+use Rattle.std.specs.Ordering.{nat_cmp, is_eq}
 use Rattle.std.specs.declared.cmp.Ordering.{Ordering}
 use Rattle.std.specs.declared.cmp.Ordering.TheVariants.{Less, Equal, Greater}
 use Rattle.std.specs.Cmp.Lexicographic.{slice_cmp}
 use Rattle.std.proofs.lemmas.Cmp.{nat_list_cmp_total, tied_itself}
 use Rattle.std.proofs.lemmas.Bool.{and_parts, false_from_ne_true, cases_lt}
+use Rattle.fp_base.proofs.Texts.{less_from, flip, flip_less}
 use Rattle.fp_host.specs.Paths.{Elements, path_text, elements_of}
 use Rattle.fp_host.proofs.PathTexts.{text_back}
 use Rattle.fp_host.proofs.Separate.{path_decides}
@@ -23,11 +24,6 @@ compare = slice_cmp nat_cmp
 abbrev pub text_at : List Name → ℕ → Name → List ℕ
 text_at names k d = path_text (get_or names k d).path
 
-pub less_from : (o : Ordering) → is_lt o ≡ true → o ≡ Less
-less_from Less t = refl
-less_from Equal t = absurd (cc)
-less_from Greater t = absurd (cc)
-
 all_at : {A : Type 0} (p : A → Bool) (xs : List A) → list_all p xs ≡ true → (k : ℕ) (d : A) → k < length xs → p (get_or xs k d) ≡ true
 all_at p [] all k d low = absurd (omega arith)
 all_at p (x ∷ xs) all zero d low = (and_parts (p x) (list_all p xs) all).0
@@ -40,12 +36,6 @@ in_order (x ∷ xs) asc zero zero d e lt low = absurd (omega arith)
 in_order (x ∷ xs) asc zero (suc j) d e lt low = less_from _ (all_at (comes_before x) xs (and_parts _ _ asc).0 j e (omega arith))
 in_order (x ∷ xs) asc (suc i) zero d e lt low = absurd (omega arith)
 in_order (x ∷ xs) asc (suc i) (suc j) d e lt low = in_order xs (and_parts (list_all (comes_before x) xs) (ascends xs) asc).1 i j d e (omega arith) (omega arith)
-
-pub flip : (a b : List ℕ) → compare a b ≡ Greater → compare b a ≡ Less
-flip a b is = nat_list_cmp_total.antisymm b a ∙ ap ordering_reverse is
-
-pub flip_less : (a b : List ℕ) → compare a b ≡ Less → compare b a ≡ Greater
-flip_less a b is = nat_list_cmp_total.antisymm b a ∙ ap ordering_reverse is
 
 -- what is at or before a name that is too low is too low
 pub lower : (names : List Name) (text : List ℕ) → IsAscending names → (m : ℕ) → m < length names → ((d : Name) → compare (text_at names m d) text ≡ Less) → (k : ℕ) (d : Name) → k < m + 1 → compare (text_at names k d) text ≡ Less

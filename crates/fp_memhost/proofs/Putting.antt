@@ -5,6 +5,7 @@ use Rattle.std.specs.Option.{option_copied}
 use Rattle.std.specs.Prelude.{IfSome, IsTrue, ◌↔◌, not}
 use Rattle.std.specs.Borrow.{Bor}
 use Rattle.std.specs.Str.{bytes_eq}
+use mathlib.Core.Bool.{or-false, or-true}
 use Rattle.std.proofs.lemmas.Bool.{cases_Bool, cond-true, cond-false, false≢true, and_parts, and_from, or_parts, or_cases, both_ways, false_from_ne_true, not-true, not_from_false}
 use Rattle.std.proofs.lemmas.List.{append-nil}
 use Rattle.std.proofs.lemmas.List.Folds.{list_any-append, list_all-append}
@@ -99,20 +100,12 @@ held_open : (o : Option Row) (b : Bool) → IsOpen (held_in o b) → o ≡ None
 held_open None b is = refl
 held_open (Some row) b is = absurd (leaf row.node is)
 
-or_no : (a : Bool) → (a || false) ≡ a
-or_no true = refl
-or_no false = refl
-
-or_yes : (a : Bool) → (a || true) ≡ true
-or_yes true = refl
-or_yes false = refl
-
 puts_by : (a k v : Bool) (now was : Option Row) (over had : Bool) (row : Row) → ((a && k) ≡ true → now ≡ Some row) → ((a && k) ≡ false → now ≡ was) → over ≡ (had || (a && v)) → (v ≡ true → a ≡ true → IsOpen (held_in was had))
     → held_in now over ≡ cond a (cond k (node_held row.node) (cond v directory (held_in was had))) (held_in was had)
 puts_by true true v now was over had row hit miss cov open_above = ap (λ (o : Option Row). held_in o over) (hit refl)
-puts_by true false true now was over had row hit miss cov open_above = (λ i. held_in (miss refl i) (cov i)) ∙ (λ i. held_in (held_open was had (open_above refl refl) i) (or_yes had i))
-puts_by true false false now was over had row hit miss cov open_above = λ i. held_in (miss refl i) ((cov ∙ or_no had) i)
-puts_by false k v now was over had row hit miss cov open_above = λ i. held_in (miss refl i) ((cov ∙ or_no had) i)
+puts_by true false true now was over had row hit miss cov open_above = (λ i. held_in (miss refl i) (cov i)) ∙ (λ i. held_in (held_open was had (open_above refl refl) i) (or-true had i))
+puts_by true false false now was over had row hit miss cov open_above = λ i. held_in (miss refl i) ((cov ∙ or-false had) i)
+puts_by false k v now was over had row hit miss cov open_above = λ i. held_in (miss refl i) ((cov ∙ or-false had) i)
 
 pub puts_held : {old new : List Row} {url : List ℕ} {p : Elements} {row : Row} → RowEdited old new url p row → (u : List ℕ) (q : Elements) → (is_above q p ≡ true → bytes_eq u url ≡ true → IsOpen (held_of old u q)) → held_of new u q ≡ put_held (held_of old) url p (node_held row.node) u q
 puts_held {old = old} {new = new} {url = url} {p = p} {row = row} edit u q open_above =

@@ -26,7 +26,7 @@ All-from_list_all p P says (c ∷ cs) h =
     let parts = and_parts (p c) (list_all p cs) h in
     All-cons P c cs (says c parts.0) (All-from_list_all p P says cs parts.1)
 
-word_dashed : (c : ℕ) → is_word c ≡ true → is_dashed c ≡ true
+pub word_dashed : (c : ℕ) → is_word c ≡ true → is_dashed c ≡ true
 word_dashed c h = or_left (is_word c) (eqb c 45) h
 
 dashed_dotted : (c : ℕ) → is_dashed c ≡ true → is_dotted c ≡ true
@@ -119,7 +119,7 @@ no_text_no_id text bad = false_from_ne_true (is_id text) (λ good. bad (Utf8-fro
 pub no_text_no_remote_name : (text : List ℕ) → (IsUtf8 text → ⊥) → is_remote_name text ≡ false
 no_text_no_remote_name text bad = false_from_ne_true (is_remote_name text) (λ good. bad (Utf8-from_dotted text (dotted_remote_name text good)))
 
-graphic_ascii : (c : ℕ) → is_ascii_graphic c ≡ true → c < 128
+pub graphic_ascii : (c : ℕ) → is_ascii_graphic c ≡ true → c < 128
 graphic_ascii c h = grind (arith, nat_tests)
 
 Ascii-url : (text : List ℕ) → is_url text ≡ true → IsAscii text

@@ -9,7 +9,7 @@ use Rattle.fp_name.specs.Bytes.{is_word_start, is_word, is_dashed, is_dotted, is
 use Rattle.fp_name.specs.Grammar.{is_element, are_elements, is_id, is_arch, is_branch, is_remote_name}
 use Rattle.fp_name.specs.FileNames.{is_name_byte, is_file_name}
 use Rattle.fp_name.specs.Hex.{is_byte, is_digest, digit, hex}
-use Rattle.fp_name.proofs.Bytes.{list_all-wider, dotted_id, dotted_arch}
+use Rattle.fp_name.proofs.Bytes.{list_all-wider, dotted_id, dotted_arch, word_dashed}
 use Rattle.fp_name.proofs.HexTexts.{length-hex}
 
 -- ---- a branch is the name of a file
@@ -43,9 +43,6 @@ file_branch text h =
 begins-wider : (p q : ℕ → Bool) → ((c : ℕ) → p c ≡ true → q c ≡ true) → (text : List ℕ) → begins_with p text ≡ true → begins_with q text ≡ true
 begins-wider p q wider [] h = absurd (false≢true h)
 begins-wider p q wider (c ∷ cs) h = wider c h
-
-word_dashed : (c : ℕ) → is_word c ≡ true → is_dashed c ≡ true
-word_dashed c h = grind (arith, nat_tests)
 
 start_dashed : (c : ℕ) → is_word_start c ≡ true → is_dashed c ≡ true
 start_dashed c h = grind (arith, nat_tests)

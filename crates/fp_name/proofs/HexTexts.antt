@@ -3,6 +3,7 @@ use Rattle.std.proofs.Common.{◌≡◌, ◌≤◌, ◌<◌, ◌+◌, ◌*◌, �
 use Rattle.std.specs.List.{list_all, list_any}
 use Rattle.std.specs.Char.{is_ascii_uppercase}
 use Rattle.std.specs.Result.{result_ok}
+use Rattle.std.specs.Prelude.{ok_or}
 use Rattle.std.proofs.lemmas.Bool.{and_parts, and_from, or_parts, or_cases, agree_below_at, false≢true, cases_eq, cases_lt, ltb-true, lt-ltb, eq-eqb, ne_eqb, eqb-true, eqb-false}
 use Rattle.std.proofs.lemmas.Option.{none-some, same_Some}
 use Rattle.std.proofs.lemmas.Bool.Decides.{nat_tests}
@@ -10,6 +11,8 @@ use Rattle.hex.specs.Hex.{encode_lower, encode_with, hex_digit_value, digit_or_e
 use Rattle.hex.specs.declared.error.FromHexError.{FromHexError}
 use Rattle.hex.specs.declared.error.FromHexError.TheVariants.{OddLength, InvalidStringLength}
 use Rattle.fp_name.specs.Hex.{is_byte, is_digest, digit, hex, digit_value, with_byte, bytes_of, unhex}
+use Rattle.fp_name.specs.declared.fault.NameError.{NameError}
+use Rattle.fp_name.specs.declared.fault.NameError.TheVariants.{Bad}
 
 -- ---- what arrays of 32 bytes are
 
@@ -117,7 +120,7 @@ some_from_unwrap : (o : Option ℕ) (n : ℕ) → n < 16 → unwrap_or o 16 ≡ 
 some_from_unwrap None n small e = absurd (omega arith)
 some_from_unwrap (Some m) n small e = ap Some e
 
-digit_back : (n : ℕ) → n < 16 → digit_value (digit n) ≡ Some n
+pub digit_back : (n : ℕ) → n < 16 → digit_value (digit n) ≡ Some n
 digit_back n small =
     some_from_unwrap (digit_value (digit n)) n small (eqb-true _ n (agree_below_at reads_back (λ _. true) 16 n refl small))
 
@@ -214,3 +217,17 @@ unhex-some text bytes h =
     let read = text_back text bytes sized.1 in
     let long : length bytes ≡ 32 = omega (arith, length-hex bytes, ap length read.0, eqb-true (length text) 64 sized.0) in
     (read.0, and_from (eqb (length bytes) 32) (list_all is_byte bytes) (eq-eqb (length bytes) 32 long) read.1)
+
+pub unhex_ok : (text : List ℕ) (r : Result (List ℕ) NameError) (d : List ℕ) → r ≡ ok_or (unhex text) Bad → r ≡ Ok d → unhex text ≡ Some d
+unhex_ok text r d is ok = go (unhex text) (sym is ∙ ok)
+  where
+    go : (o : Option (List ℕ)) → ok_or o Bad ≡ Ok d → o ≡ Some d
+    go None e = absurd (cc e)
+    go (Some x) e = let same : x ≡ d = cc e in ap Some same
+
+pub unhex_err : (text : List ℕ) (r : Result (List ℕ) NameError) → r ≡ ok_or (unhex text) Bad → ((d : List ℕ) → r ≡ Ok d → ⊥) → unhex text ≡ None
+unhex_err text r is none = go (unhex text) refl
+  where
+    go : (o : Option (List ℕ)) → unhex text ≡ o → o ≡ None
+    go None e = refl
+    go (Some x) e = absurd (none x (is ∙ ap (λ o. ok_or o Bad) e))

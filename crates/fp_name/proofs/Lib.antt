@@ -6,3 +6,4 @@ pub mod FourParts
 pub mod HexTexts
 pub mod Pins
 pub mod Refs
+pub mod Lengths

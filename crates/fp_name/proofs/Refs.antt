@@ -1,5 +1,5 @@
 -- The text of a ref and the ref of a text.
-use Rattle.std.proofs.Common.{◌≡◌, ◌∷◌, [], ◌++◌, ℕ, Bool, true, false, ◌&&◌, cond, List, Option, Some, None, Result, Ok, Err, codes, option_and_then, unwrap_or, lit<, refl, sym, ap, ◌∙◌}
+use Rattle.std.proofs.Common.{◌≡◌, ◌∷◌, [], ◌++◌, ℕ, Bool, true, false, ◌&&◌, cond, List, Option, Some, None, Result, Ok, Err, codes, option_and_then, unwrap_or, lit<, refl, sym, ap, ◌∙◌, ◌≢◌}
 use Rattle.std.specs.declared.cmp.Ordering.{Ordering}
 use Rattle.std.specs.declared.cmp.Ordering.TheVariants.{Equal}
 use Rattle.std.specs.Cmp.{Equal-is}
@@ -18,6 +18,7 @@ use Rattle.std.proofs.lemmas.Bool.{and_parts}
 use Rattle.std.proofs.lemmas.Option.{same_Some, option_and_then_some, cond_some}
 use Rattle.std.proofs.lemmas.Slice.Eq.{bytes_eq-Decides}
 use Rattle.std.proofs.lemmas.List.Splits.{slice_split_none, slice_split_at, join_with_byte-slice_split}
+use Rattle.fp_base.proofs.Texts.{bytes_eq-false}
 use Rattle.fp_name.specs.declared.kind.RefKind.{RefKind}
 use Rattle.fp_name.specs.declared.kind.RefKind.TheVariants.{App, Runtime}
 use Rattle.fp_name.specs.Kinds.{kind_word, kind_of}
@@ -40,7 +41,7 @@ parts_good r h =
 
 -- ---- from the ref to its text and back
 
-kind_back : (kind : RefKind) → kind_of (kind_word kind) ≡ Some kind
+pub kind_back : (kind : RefKind) → kind_of (kind_word kind) ≡ Some kind
 kind_back App = refl
 kind_back Runtime = refl
 
@@ -196,3 +197,13 @@ no_ref_by text (Some r) bad e =
 
 pub no_text_no_ref : (text : List ℕ) → (IsUtf8 text → ⊥) → ref_of text ≡ None
 no_text_no_ref text bad = no_ref_by text (ref_of text) bad refl
+
+pub kind_same : (a b : RefKind) → kind_word a ≡ kind_word b → a ≡ b
+kind_same App App e = refl
+kind_same Runtime Runtime e = refl
+kind_same App Runtime e = absurd (bytes_eq-false (codes "app") (codes "runtime") refl e)
+kind_same Runtime App e = absurd (bytes_eq-false (codes "runtime") (codes "app") refl e)
+
+pub word_apart : (k : RefKind) (w : List ℕ) → bytes_eq (codes "app") w ≡ false → bytes_eq (codes "runtime") w ≡ false → kind_word k ≢ w
+word_apart App w a r = bytes_eq-false (codes "app") w a
+word_apart Runtime w a r = bytes_eq-false (codes "runtime") w r

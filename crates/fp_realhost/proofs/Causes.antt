@@ -1,21 +1,11 @@
 -- An adapter tells no content, and its count gives each failure its cause.
-use Rattle.std.proofs.Common.{◌≡◌, ℕ, ◌+◌, ◌-◌, ◌^◌, ◌≤◌, min, None, Result, Ok, Err, IsErrOf, arith}
-use Rattle.std.proofs.lemmas.Option.{none-some}
-use Rattle.fp_host.specs.View.{View}
-use Rattle.fp_host.specs.Moments.{Makes, HasCause, Rose}
+use Rattle.std.proofs.Common.{ℕ, ◌+◌, ◌-◌, ◌^◌, min, None, Result, Ok, Err, IsErrOf}
+use Rattle.fp_host.specs.Moments.{HasCause, Rose}
 use Rattle.fp_host.specs.declared.host.HostError.{HostError}
 use Rattle.fp_host.specs.declared.host.HostError.TheVariants.{Failed, Clash, NoMemory}
+use Rattle.fp_host.proofs.Untold.{untold}
+use Rattle.fp_host.proofs.Causes.{at_most}
 use Rattle.fp_system.specs.Counts.{Counts, CountsOf, one_more}
-
--- what tells nothing goes on telling nothing
-pub untold : {S : View → View → Type 0} → Makes S None None
-untold = record {
-  untold = λ e. e;
-  told = λ m e. absurd (none-some m e);
-}
-
-at_most : {m n : ℕ} → n ≡ m → m ≤ n
-at_most e = omega arith
 
 Rose-from_counts : {T : Type 0} (before now : ℕ) (result : Result T HostError) → CountsOf result before now → IsErrOf result Failed → Rose before now
 Rose-from_counts before now (Ok t) how failed = cc

@@ -1,5 +1,5 @@
 -- What a remote or a source tells nothing of it goes on telling nothing of, and its count gives each failure its cause.
-use Rattle.std.proofs.Common.{◌≡◌, ℕ, ◌+◌, ◌-◌, ◌^◌, ◌≤◌, min, List, Option, Some, None, Result, Ok, Err, IsErrOf, arith}
+use Rattle.std.proofs.Common.{◌≡◌, ℕ, ◌+◌, ◌-◌, ◌^◌, min, List, Option, Some, None, Result, Ok, Err, IsErrOf}
 use Rattle.std.proofs.lemmas.Option.{none-some}
 use Rattle.fp_host.specs.Moments.{Rose}
 use Rattle.fp_host.specs.Remote.{Takes}
@@ -7,10 +7,8 @@ use Rattle.fp_host.specs.declared.remotes.RemoteError.{RemoteError}
 use Rattle.fp_host.specs.declared.remotes.RemoteError.TheVariants as remote
 use Rattle.fp_host.specs.declared.source.Taken.{Taken}
 use Rattle.fp_host.specs.declared.source.Taken.TheVariants as source
+use Rattle.fp_host.proofs.Causes.{at_most}
 use Rattle.fp_system.specs.Counts.{RemoteCounts, RemoteCountsOf, TakenCounts, TakenCountsOf, one_more}
-
-at_most : {m n : ℕ} → n ≡ m → m ≤ n
-at_most e = omega arith
 
 Rose-from_remote_counts : {T : Type 0} (before now : ℕ) (result : Result T RemoteError) → RemoteCountsOf result before now → IsErrOf result remote.Failed → Rose before now
 Rose-from_remote_counts before now (Ok t) how failed = cc

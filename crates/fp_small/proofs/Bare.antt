@@ -99,3 +99,7 @@ module _ (v : View) (bare : IsBare v) where
 
 pub not_so_deep : (v : View) (p q : Elements) → IsAbove p q → v.names q ≢ absent → length q ≡ 129 → CanEmpty p v → ⊥
 not_so_deep v p q above there long can = elim (can.short q above) [ inl none ↦ there none | inr short ↦ omega (arith, short, long) ]
+
+pub bare_free : (v : View) → IsBare v → (q : Elements) → IsFree v q
+bare_free v bare [] = inr bare.root
+bare_free v bare (x ∷ up) = inl (bare.none x up)

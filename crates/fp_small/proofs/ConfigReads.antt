@@ -1,5 +1,5 @@
 -- What the groups of a `config` say.
-use Rattle.std.proofs.Common.{◌≡◌, ℕ, suc, ◌+◌, ◌-◌, ◌<◌, ◌≤◌, Bool, true, false, ◌&&◌, ◌||◌, cond, leb, List, [], ◌∷◌, ◌++◌, length, map, take, drop, get_or, codes, Option, Some, None, Result, Ok, Err, refl, sym, ap, subst, ◌∙◌, inl, inr, arith}
+use Rattle.std.proofs.Common.{◌≡◌, ℕ, suc, ◌+◌, ◌-◌, ◌<◌, ◌≤◌, Bool, true, false, ◌&&◌, ◌||◌, cond, leb, List, [], ◌∷◌, ◌++◌, length, map, take, drop, get_or, codes, Option, Some, None, Result, Ok, Err, refl, sym, ap, subst, ◌∙◌, inl, inr, arith, append-nil}
 use denote.Ref.{Bor}
 use Rattle.std.specs.List.{list_all, list_any, filter, find, cons_option}
 use Rattle.std.specs.Option.{option_map_or, option_and_then, option_copied, is_some, MatchOption}
@@ -9,6 +9,7 @@ use Rattle.std.specs.Str.{bytes_eq, IsUtf8}
 use Rattle.std.proofs.lemmas.Bool.{cases_Bool, cases_lt, and_parts, and_from, and_left, and_right, or_parts, leb-true, lt-leb, le-leb, both_ways, false_from_ne_true, not-true}
 use Rattle.std.proofs.lemmas.List.{drop-drop, take-append-drop, take_more}
 use Rattle.std.proofs.lemmas.List.Elements.{filter_map-append}
+use Rattle.fp_base.proofs.Texts.{bytes_eq-true as bytes_eq-is, bytes_eq-same}
 use Rattle.fp_name.specs.Grammar.{is_remote_name, is_url}
 use Rattle.fp_name.specs.Pins.{is_pin}
 use Rattle.fp_name.proofs.Bytes.{no_text_no_remote_name}
@@ -19,7 +20,7 @@ use Rattle.fp_keyfile.specs.declared.fault.KeyError.{KeyError}
 use Rattle.fp_keyfile.specs.declared.fault.KeyError.TheVariants as keys
 use Rattle.fp_keyfile.specs.KeyFile.{Fails, file_of, names_of, keys_of, keys_at, group_at, are_distinct, is_good, is_good_group}
 use Rattle.fp_keyfile.proofs.Good.{good_parts, good_group_parts}
-use Rattle.fp_keyfile.proofs.Read.{good_file_of}
+use Rattle.fp_keyfile.proofs.Read.{good_file_of, map_keys-append}
 use Rattle.fp_small.specs.declared.state.RemoteRow.{RemoteRow}
 use Rattle.fp_small.specs.declared.config.Settings.{Settings}
 use Rattle.fp_small.specs.declared.config.ConfigError.{ConfigError}
@@ -27,7 +28,7 @@ use Rattle.fp_small.specs.declared.config.ConfigError.TheVariants.{Bad}
 use Rattle.fp_small.specs.ConfigErrors.{key_fault}
 use Rattle.fp_small.specs.Order.{inserted, sorted_onto, sorted_by}
 use Rattle.fp_small.specs.Config.{name_of, is_layout, is_pin_pair, remote_front, is_quoted, quoted_name, row_of, remote_of, is_part, remotes_in, pins_in, is_config, settings_of, settings_read, config_of, is_row, IsSettings}
-use Rattle.fp_small.proofs.Ordered.{bytes_eq-itself, bytes_eq-is, list_all-sorted_onto, length-sorted_onto, is_ascending-sorted_by, is_ascending-sorted_onto_none}
+use Rattle.fp_small.proofs.Ordered.{list_all-sorted_onto, length-sorted_onto, is_ascending-sorted_by, is_ascending-sorted_onto_none}
 
 -- ---- the name in a header
 
@@ -159,7 +160,7 @@ rows_good (g ∷ file) = each (remote_of g) refl (rows_good file)
     each (Some row) e rest = and_from (is_row row) (list_all is_row (remotes_in file)) (is_row-from g.name row (remote_of-some g row e)) rest
 
 other_name : (header other : List ℕ) (row more : RemoteRow) → IsRemote header row → IsRemote other more → bytes_eq header other ≡ false → bytes_eq row.name more.name ≡ false
-other_name header other row more h o differ = false_from_ne_true (bytes_eq row.name more.name) (λ t. both_ways (bytes_eq header other) differ (subst (λ (x : List ℕ). bytes_eq header x ≡ true) (h.header_is ∙ ap (λ (n : List ℕ). remote_front ++ (n ++ codes "\"")) (bytes_eq-is row.name more.name t) ∙ sym o.header_is) (bytes_eq-itself header)))
+other_name header other row more h o differ = false_from_ne_true (bytes_eq row.name more.name) (λ t. both_ways (bytes_eq header other) differ (subst (λ (x : List ℕ). bytes_eq header x ≡ true) (h.header_is ∙ ap (λ (n : List ℕ). remote_front ++ (n ++ codes "\"")) (bytes_eq-is row.name more.name t) ∙ sym o.header_is) (bytes_eq-same header)))
 
 name_apart : (g : Group) (row : RemoteRow) (file : List Group) → remote_of g ≡ Some row → list_any (bytes_eq g.name) (names_of file) ≡ false → list_any (bytes_eq row.name) (map name_of (remotes_in file)) ≡ false
 name_apart g row [] is h = refl
@@ -319,25 +320,17 @@ pub sorted_by-push : {A : Type 0} (name : A → List ℕ) (ys xs : List A) (x : 
 sorted_by-push name ys [] x = refl
 sorted_by-push name ys (z ∷ zs) x = sorted_by-push name (inserted name ys z) zs x
 
-keys_of-append : (xs ys : List Pair) → keys_of (xs ++ ys) ≡ keys_of xs ++ keys_of ys
-keys_of-append [] ys = refl
-keys_of-append (p ∷ xs) ys = ap (λ (keys : List (List ℕ)). p.key ∷ keys) (keys_of-append xs ys)
-
 pub pins_more : (pairs : List Pair) (i : ℕ) (p : Pair) (pins new : List (List ℕ)) (pin : List ℕ) → i < length pairs → p ≡ get_or pairs i p → pin ≡ p.key → pins ≡ sorted_by (λ q. q) (keys_of (take i pairs)) → new ≡ inserted (λ q. q) pins pin → new ≡ sorted_by (λ q. q) (keys_of (take (i + 1) pairs))
 pins_more pairs i p pins new pin low is key so_far put =
-    let more : keys_of (take (i + 1) pairs) ≡ keys_of (take i pairs) ++ p.key ∷ [] = ap keys_of (take_more pairs i p low ∙ ap (λ (q : Pair). take i pairs ++ q ∷ []) (sym is)) ∙ keys_of-append (take i pairs) (p ∷ []) in
+    let more : keys_of (take (i + 1) pairs) ≡ keys_of (take i pairs) ++ p.key ∷ [] = ap keys_of (take_more pairs i p low ∙ ap (λ (q : Pair). take i pairs ++ q ∷ []) (sym is)) ∙ map_keys-append (take i pairs) (p ∷ []) in
     put ∙ ap (λ (x : List ℕ). inserted (λ q. q) pins x) key ∙ ap (λ (xs : List (List ℕ)). inserted (λ q. q) xs p.key) so_far ∙ sym (sorted_by-push (λ q. q) [] (keys_of (take i pairs)) p.key) ∙ ap (sorted_by (λ q. q)) (sym more)
 
 remotes_on : (file : List Group) (i : ℕ) (g : Group) (o : Option RemoteRow) → i < length file → g ≡ get_or file i g → o ≡ remote_of g → remotes_in (take (i + 1) file) ≡ remotes_in (take i file) ++ cons_option o []
 remotes_on file i g o low is said =
     ap remotes_in (take_more file i g low ∙ ap (λ (k : Group). take i file ++ k ∷ []) (sym is)) ∙ filter_map-append remote_of (take i file) (g ∷ []) ∙ ap (λ (r : Option RemoteRow). remotes_in (take i file) ++ cons_option r []) (sym said)
 
-append-none : {A : Type 0} (zs : List A) → zs ++ [] ≡ zs
-append-none [] = refl
-append-none {A} (z ∷ zs) = ap (λ (ws : List A). z ∷ ws) (append-none zs)
-
 pub remotes_kept : (file : List Group) (i : ℕ) (g : Group) (rows : List RemoteRow) → i < length file → g ≡ get_or file i g → None ≡ remote_of g → rows ≡ sorted_by name_of (remotes_in (take i file)) → rows ≡ sorted_by name_of (remotes_in (take (i + 1) file))
-remotes_kept file i g rows low is said so_far = so_far ∙ ap (sorted_by name_of) (sym (remotes_on file i g None low is said ∙ append-none (remotes_in (take i file))))
+remotes_kept file i g rows low is said so_far = so_far ∙ ap (sorted_by name_of) (sym (remotes_on file i g None low is said ∙ append-nil (remotes_in (take i file))))
 
 pub remotes_more : (file : List Group) (i : ℕ) (g : Group) (row given : RemoteRow) (rows new : List RemoteRow) → i < length file → g ≡ get_or file i g → Some row ≡ remote_of g → rows ≡ sorted_by name_of (remotes_in (take i file)) → given ≡ row → new ≡ inserted name_of rows given
     → new ≡ sorted_by name_of (remotes_in (take (i + 1) file))

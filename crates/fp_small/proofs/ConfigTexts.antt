@@ -1,5 +1,5 @@
 -- The text of a `config` reads back.
-use Rattle.std.proofs.Common.{◌≡◌, ⊎_elim, ℕ, ◌+◌, ◌-◌, ◌<◌, Bool, true, false, not, ◌&&◌, ◌||◌, eqb, leb, List, [], ◌∷◌, ◌++◌, length, map, take, drop, codes, Option, Some, None, refl, sym, ap, ◌∙◌, arith, length-append}
+use Rattle.std.proofs.Common.{◌≡◌, ⊎_elim, ℕ, ◌+◌, ◌-◌, ◌<◌, Bool, true, false, not, ◌&&◌, ◌||◌, eqb, leb, List, [], ◌∷◌, ◌++◌, length, map, take, drop, codes, Option, Some, None, refl, sym, ap, ◌∙◌, arith, length-append, append-nil}
 use Rattle.std.specs.List.{list_all, list_any, filter_map, slice_split, join_with_byte}
 use Rattle.std.specs.Option.{option_and_then, is_some}
 use Rattle.std.specs.Char.{is_ascii_graphic}
@@ -20,9 +20,10 @@ use Rattle.fp_name.specs.Refs.{Ref, ref_text, parts_of}
 use Rattle.fp_name.specs.Pins.{is_star, is_pin, are_pin_parts}
 use Rattle.fp_name.specs.declared.kind.RefKind.{RefKind}
 use Rattle.fp_name.specs.declared.kind.RefKind.TheVariants.{App, Runtime}
-use Rattle.fp_name.proofs.Bytes.{list_all-wider, All-from_list_all, dotted_id, dotted_arch, dotted_branch, dotted_remote_name}
+use Rattle.fp_name.proofs.Bytes.{list_all-wider, All-from_list_all, dotted_id, dotted_arch, dotted_branch, dotted_remote_name, graphic_ascii}
 use Rattle.fp_name.proofs.Refs.{parts_are}
 use Rattle.std.proofs.lemmas.List.Splits.{join_with_byte-slice_split}
+use Rattle.fp_base.proofs.Texts.{bytes_eq-true}
 use Rattle.fp_keyfile.specs.declared.group.Group.{Group}
 use Rattle.fp_keyfile.specs.Grammar.{is_blank, is_return, begins_so, ends_so, is_name_byte, is_name, is_key_byte, begins_no_key, is_key, is_value_byte, is_value}
 use Rattle.fp_keyfile.specs.KeyFile.{names_of, keys_of, keys_at, group_at, are_distinct, is_good_pair, is_good_group, is_good}
@@ -32,7 +33,7 @@ use Rattle.fp_small.specs.declared.state.RemoteRow.{RemoteRow}
 use Rattle.fp_small.specs.declared.config.Settings.{Settings}
 use Rattle.fp_small.specs.Order.{comes_before, sorted_by}
 use Rattle.fp_small.specs.Config.{name_of, is_layout, is_pin_pair, is_pins, remote_front, is_quoted, quoted_name, row_of, remote_of, is_part, remotes_in, pins_in, is_config, settings_of, config_of, is_row, IsSettings, layout_group, remote_group, pin_pair, pins_groups, config_file, config_text}
-use Rattle.fp_small.proofs.Ordered.{bytes_eq-is, bytes_eq-differ, before_on, before_differs, sorted_by-ascending}
+use Rattle.fp_small.proofs.Ordered.{bytes_eq-differ, before_on, before_differs, sorted_by-ascending}
 use Rattle.fp_small.proofs.ConfigReads.{config_is}
 
 -- ---- bytes
@@ -44,7 +45,7 @@ begins_by : (p q : ℕ → Bool) (text : List ℕ) → ((c : ℕ) → p c ≡ tr
 begins_by p q [] none h = refl
 begins_by p q (c ∷ cs) none h = none c (and_parts (p c) (list_all p cs) h).0
 
-ends_by : (p q : ℕ → Bool) (text : List ℕ) → ((c : ℕ) → p c ≡ true → q c ≡ false) → list_all p text ≡ true → ends_so q text ≡ false
+pub ends_by : (p q : ℕ → Bool) (text : List ℕ) → ((c : ℕ) → p c ≡ true → q c ≡ false) → list_all p text ≡ true → ends_so q text ≡ false
 ends_by p q [] none h = refl
 ends_by p q (c ∷ []) none h = none c (and_parts (p c) true h).0
 ends_by p q (c ∷ d ∷ cs) none h = ends_by p q (d ∷ cs) none (and_parts (p c) (list_all p (d ∷ cs)) h).1
@@ -56,11 +57,8 @@ unfolding is_url
 url_bytes url h =
     let a = and_parts (leb (length url) 1024) (bytes_eq (take 8 url) (codes "file:///") && list_all is_ascii_graphic (drop 8 url)) h in
     let b = and_parts (bytes_eq (take 8 url) (codes "file:///")) (list_all is_ascii_graphic (drop 8 url)) a.1 in
-    let front : list_all is_ascii_graphic (take 8 url) ≡ true = ap (list_all is_ascii_graphic) (bytes_eq-is (take 8 url) (codes "file:///") b.0) in
+    let front : list_all is_ascii_graphic (take 8 url) ≡ true = ap (list_all is_ascii_graphic) (bytes_eq-true (take 8 url) (codes "file:///") b.0) in
     ap (list_all is_ascii_graphic) (sym (take-append-drop 8 url)) ∙ list_all-append is_ascii_graphic (take 8 url) (drop 8 url) ∙ and_from (list_all is_ascii_graphic (take 8 url)) (list_all is_ascii_graphic (drop 8 url)) front b.1
-
-graphic_ascii : (c : ℕ) → is_ascii_graphic c ≡ true → c < 128
-graphic_ascii c h = grind (arith, nat_tests)
 
 graphic_value : (c : ℕ) → is_ascii_graphic c ≡ true → is_value_byte c ≡ true
 graphic_value c h = grind (arith, nat_tests)
@@ -138,7 +136,7 @@ dotted_pin c h = or_left (is_dotted c || eqb c 47) (eqb c 42) (or_left (is_dotte
 
 star_bytes : (part : List ℕ) → is_star part ≡ true → list_all is_pin_byte part ≡ true
 unfolding is_pin_byte
-star_bytes part h = ap (list_all is_pin_byte) (bytes_eq-is part (codes "*") h)
+star_bytes part h = ap (list_all is_pin_byte) (bytes_eq-true part (codes "*") h)
 
 part_bytes : (passes : List ℕ → Bool) (part : List ℕ) → (passes part ≡ true → list_all is_dotted part ≡ true) → (is_star part || passes part) ≡ true → list_all is_pin_byte part ≡ true
 part_bytes passes part dotted h =
@@ -232,12 +230,8 @@ layout_no_remote : remote_of layout_group ≡ None
 unfolding remote_of
 layout_no_remote = refl
 
-append-none : {A : Type 0} (zs : List A) → zs ++ [] ≡ zs
-append-none [] = refl
-append-none {A} (z ∷ zs) = ap (λ (ws : List A). z ∷ ws) (append-none zs)
-
 remotes_back : (s : Settings) → IsSettings s → remotes_in (config_file s) ≡ s.remotes
-remotes_back s h = rw layout_no_remote (filter_map-append remote_of (map remote_group s.remotes) (pins_groups s.pins) ∙ ap (λ (rs : List RemoteRow). rs ++ filter_map remote_of (pins_groups s.pins)) (rows_back s.remotes h.rows) ∙ ap (λ (rs : List RemoteRow). s.remotes ++ rs) (no_remote_in_pins s.pins) ∙ append-none s.remotes)
+remotes_back s h = rw layout_no_remote (filter_map-append remote_of (map remote_group s.remotes) (pins_groups s.pins) ∙ ap (λ (rs : List RemoteRow). rs ++ filter_map remote_of (pins_groups s.pins)) (rows_back s.remotes h.rows) ∙ ap (λ (rs : List RemoteRow). s.remotes ++ rs) (no_remote_in_pins s.pins) ∙ append-nil s.remotes)
 
 -- ---- the pins that are written
 
@@ -370,7 +364,7 @@ some_name : {x y : List ℕ} → Some x ≡ Some y → x ≡ y
 some_name e = cc
 
 header_differs : (n m : List ℕ) → bytes_eq n m ≡ false → bytes_eq (header_of n) (header_of m) ≡ false
-header_differs n m h = false_from_ne_true (bytes_eq (header_of n) (header_of m)) (λ t. both_ways (bytes_eq n m) h ((bytes_eq-Decides n m).1 (some_name (sym (quoted_back n) ∙ ap quoted_name (bytes_eq-is (header_of n) (header_of m) t) ∙ quoted_back m))))
+header_differs n m h = false_from_ne_true (bytes_eq (header_of n) (header_of m)) (λ t. both_ways (bytes_eq n m) h ((bytes_eq-Decides n m).1 (some_name (sym (quoted_back n) ∙ ap quoted_name (bytes_eq-true (header_of n) (header_of m) t) ∙ quoted_back m))))
 
 header_apart : (name : List ℕ) (rows : List RemoteRow) (pins : List (List ℕ)) → list_any (bytes_eq name) (map name_of rows) ≡ false → list_any (bytes_eq (header_of name)) (names_of (map remote_group rows ++ pins_groups pins)) ≡ false
 unfolding header_of

@@ -1,5 +1,5 @@
 -- Names that are taken away, with all that is below them.
-use Rattle.std.proofs.Common.{◌≡◌, ◌≢◌, ◌⊎◌, inl, inr, ℕ, ◌+◌, ◌-◌, ◌<◌, ◌≤◌, List, [], ◌∷◌, ◌++◌, length, take, get_or, Ok, refl, sym, ◌∙◌, ap, subst, Contains, arith}
+use Rattle.std.proofs.Common.{◌≡◌, ◌≢◌, ◌⊎◌, inl, inr, ℕ, ◌+◌, ◌-◌, ◌<◌, ◌≤◌, List, [], ◌∷◌, ◌++◌, length, take, get_or, Ok, refl, sym, ◌∙◌, ap, subst, Contains, arith, Option}
 use Rattle.std.proofs.lemmas.List.{take_more}
 use Rattle.std.proofs.lemmas.List.Elements.{Contains-append_left, Contains-push, Contains-push_cases, Contains-get_or}
 use Rattle.fp_host.specs.Paths.{Elements, Slot, absent, dir, file, link, IsAbove}
@@ -8,27 +8,17 @@ use Rattle.fp_host.specs.Calls.{unlinks, removes_dir, Step, Can, IsLeaf, IsNoDir
 use Rattle.fp_host.specs.Reads.{StatOf, IsStat}
 use Rattle.fp_host.specs.declared.host.Stat.{Stat}
 use Rattle.fp_host.specs.declared.host.Stat.TheVariants.{Absent, Dir}
+use Rattle.fp_host.specs.Moments.{Moments}
+use Rattle.fp_host.specs.Frame.{NoPath, Frame, AtEnd}
 use Rattle.fp_host.proofs.Separate.{set_same, absent_cases}
+use Rattle.fp_host.proofs.Above.{below_child, above_longer, not_above}
 use Rattle.fp_small.specs.Naming.{ListsIn}
-use Rattle.fp_small.specs.Clear.{IsWithin, AbsentWithin, AbsentBelow, IsCleared, IsEmptied, Reaches, ReachesDown, CanClear, CanEmpty}
-
--- what is below a child is below
-pub below_child : (x : List ℕ) (p q : Elements) → IsAbove (x ∷ p) q → IsAbove p q
-below_child x p [] above = absurd above
-below_child x p (y ∷ up) (inl is) = inr (subst (IsAbove p) is (inl refl))
-below_child x p (y ∷ up) (inr higher) = inr (below_child x p up higher)
+use Rattle.fp_small.specs.Clear.{IsWithin, AbsentWithin, AbsentBelow, IsCleared, IsEmptied, Reaches, ReachesDown, CanClear, CanEmpty, AbsentAt, GoneAt}
+use Rattle.fp_small.proofs.Within.{child_above}
 
 pub within_child : (x : List ℕ) (p q : Elements) → IsWithin (x ∷ p) q → IsAbove p q
 within_child x p q (inl is) = subst (IsAbove p) (sym is) (inl refl)
 within_child x p q (inr above) = below_child x p q above
-
-pub above_longer : (p q : Elements) → IsAbove p q → length p < length q
-above_longer p [] above = absurd above
-above_longer p (x ∷ up) (inl is) = omega (arith, ap length is)
-above_longer p (x ∷ up) (inr higher) = omega (arith, above_longer p up higher)
-
-not_above : (p : Elements) → IsAbove p p → ⊥
-not_above p above = absurd (omega (arith, above_longer p p above))
 
 -- where no child is there, nothing is below
 module _ {p : Elements} {w : View} (tree : IsTree w) (none : (x : List ℕ) → w.names (x ∷ p) ≡ absent) where
@@ -123,23 +113,9 @@ reaches_child p x {depth = depth} others reaches some = record {
 
 -- ---- how far down
 
--- the child of a path that another is within
-child_above : (p q : Elements) → IsAbove p q → (x : List ℕ) × IsWithin (x ∷ p) q
-child_above p [] above = absurd above
-child_above p (y ∷ up) (inl is) = (y, inl (ap (λ (r : Elements). y ∷ r) (sym is)))
-child_above p (y ∷ up) (inr higher) =
-    let c = child_above p up higher in
-    (c.0, inr (elim c.1 [ inl is ↦ inl (sym is) | inr above ↦ inr above ]))
-
 -- nothing is below what is no folder
 pub reaches_no_dir : (p : Elements) (depth : ℕ) {v : View} → IsTree v → (v.names p ≡ dir → ⊥) → Reaches p depth v
 reaches_no_dir p depth tree no_dir = record { far = λ q above. inl ((emptied_no_dir {p = p} tree no_dir).gone q above) }
-
-pub leaf_no_dir : (e : Slot) → IsLeaf e → e ≡ dir → ⊥
-leaf_no_dir absent leaf is = leaf
-leaf_no_dir dir leaf is = leaf
-leaf_no_dir (file id) leaf is = cc is
-leaf_no_dir (link text) leaf is = cc is
 
 -- What was at these names in the folder, and below them, is within reach; what else is there is as
 -- it was.
@@ -218,3 +194,10 @@ most_reached {p = p} reach = record {
     | inr near ↦ inr (omega (arith, near, above_longer p q above))
   ];
 }
+
+-- the same of the same path
+pub frame_at : {p q : Elements} {a b : Option Moments} → p ≡ q → Frame (GoneAt p) (AbsentAt p) NoPath a b → Frame (GoneAt q) (AbsentAt q) NoPath a b
+frame_at {a = a} {b = b} same frame = subst (λ (r : Elements). Frame (GoneAt r) (AbsentAt r) NoPath a b) same frame
+
+pub ends_at : {p q : Elements} {a b : Option Moments} → p ≡ q → AtEnd (λ u w. w.names p ≡ absent) a b → AtEnd (λ u w. w.names q ≡ absent) a b
+ends_at {a = a} {b = b} same done = subst (λ (r : Elements). AtEnd (λ u w. w.names r ≡ absent) a b) same done

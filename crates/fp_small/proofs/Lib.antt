@@ -18,3 +18,5 @@ mod OldRows
 mod SmallFiles
 pub mod OldReads
 pub mod Bare
+pub mod Within
+pub mod Elements

@@ -90,3 +90,7 @@ module _ (paths : List Elements) (i : ℕ) (p : Elements) (low : i < length path
       by_path : (q : Elements) → q ≡ get_or paths i q → v.names q ≡ absent → HasFolder v q
       by_path [] at none = absurd (cc (tree.root, none))
       by_path (x ∷ up) at none = elim (ladder i x up low (sym at)) [ inl root ↦ ap v.names root ∙ tree.root | inr earlier ↦ dirs.dirs up earlier ]
+
+pub free_at : (v w : View) (q : Elements) → w.names q ≡ v.names q → IsFree v q → IsFree w q
+free_at v w q same (inl none) = inl (same ∙ none)
+free_at v w q same (inr there) = inr (same ∙ there)

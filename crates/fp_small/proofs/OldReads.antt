@@ -1,12 +1,9 @@
 -- What the two files of layout 1 say.
-use Rattle.std.proofs.Common.{◌≡◌, ℕ, suc, ◌+◌, ◌-◌, ◌<◌, ◌≤◌, true, false, ◌&&◌, ◌==◌, leb, nat_eq, List, [], ◌∷◌, length, get_or, drop, Some, None, Result, Ok, Err, refl, sym, ◌∙◌, ap, subst, inl, inr, arith, length-drop}
-use Rattle.std.proofs.Math.Seq.{drop-cons}
+use Rattle.std.proofs.Common.{◌≡◌, ℕ, suc, ◌-◌, ◌<◌, ◌≤◌, true, false, ◌&&◌, ◌==◌, leb, nat_eq, List, [], ◌∷◌, length, get_or, Some, None, Result, Ok, Err, refl, ◌∙◌, ap, subst, inl, inr, arith}
 use Rattle.std.specs.List.{list_all}
 use Rattle.std.specs.Option.{is_some}
 use Rattle.std.specs.Prelude.{IfOk, IsErrOf}
 use Rattle.std.specs.Result.{IsErrAnd}
-use Rattle.std.specs.Ordering.{is_lt, nat_cmp}
-use Rattle.std.specs.Cmp.Lexicographic.{slice_cmp}
 use Rattle.std.proofs.lemmas.Bool.{cases_Bool, and_parts, and_left, and_right, leb-true, le-leb, lt-leb}
 use Rattle.fp_host.specs.Reads.{is_ascending}
 use Rattle.fp_name.specs.Pins.{is_pin}
@@ -91,27 +88,6 @@ is_ended-last (b ∷ []) long = refl
 is_ended-last (b ∷ c ∷ bytes) long =
     let step : length (b ∷ c ∷ bytes) - 1 ≡ suc (length (c ∷ bytes) - 1) = omega arith in
     ap (λ k. nat_eq (get_or (b ∷ c ∷ bytes) k 0) 10) step ∙ is_ended-last (c ∷ bytes) (omega arith)
-
--- ---- patterns that ascend
-
--- of two neighbours the first comes before, and the rest ascends
-pub is_ascending-drop : (xs : List (List ℕ)) (i : ℕ) (x y : List ℕ) → 1 ≤ i → i < length xs → x ≡ get_or xs (i - 1) x → y ≡ get_or xs i y
-    → is_ascending (drop (i - 1) xs) ≡ is_lt (slice_cmp nat_cmp x y) && is_ascending (drop i xs)
-is_ascending-drop xs i x y low high at_x at_y =
-    let before : i - 1 < length xs = omega arith in
-    let next : suc (i - 1) ≡ i = omega arith in
-    let from_x : drop (i - 1) xs ≡ x ∷ drop i xs = drop-cons xs (i - 1) x before ∙ ap (λ h. h ∷ drop (suc (i - 1)) xs) (sym at_x) ∙ ap (λ k. x ∷ drop k xs) next in
-    let from_y : drop i xs ≡ y ∷ drop (suc i) xs = drop-cons xs i y high ∙ ap (λ h. h ∷ drop (suc i) xs) (sym at_y) in
-    ap is_ascending from_x ∙ ap (λ r. is_ascending (x ∷ r)) from_y ∙ ap (λ r. is_lt (slice_cmp nat_cmp x y) && is_ascending r) (sym from_y)
-
--- one pattern or none ascends
-pub is_ascending-last : (xs : List (List ℕ)) (i : ℕ) → length xs ≤ i + 1 → is_ascending (drop i xs) ≡ true
-is_ascending-last xs i h = short (drop i xs) (omega (arith, length-drop i xs))
-  where
-    short : (ys : List (List ℕ)) → length ys ≤ 1 → is_ascending ys ≡ true
-    short [] h = refl
-    short (y ∷ []) h = refl
-    short (y ∷ z ∷ ys) h = absurd (omega arith)
 
 -- ---- the pins
 

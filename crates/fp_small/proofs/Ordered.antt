@@ -6,24 +6,20 @@ use Rattle.std.specs.List.{list_all, list_any, insert, filter}
 use Rattle.std.specs.Ordering.{is_lt, is_ge, is_eq, nat_cmp, ordering_reverse}
 use Rattle.std.specs.Str.{bytes_eq}
 use Rattle.std.proofs.Math.Seq.{drop-cons}
-use Rattle.std.proofs.lemmas.Bool.{cases_Bool, and_parts, and_from, or_parts, not-true, true≢false, false≢true, both_ways, false_from_ne_true}
+use Rattle.std.proofs.lemmas.Bool.{cases_Bool, and_parts, and_from, or_parts, not-true, true≢false, false≢true, both_ways, false_from_ne_true, or_right, or_cases}
 use Rattle.std.proofs.lemmas.Cmp.{nat_list_cmp_total, tied_itself}
 use Rattle.std.proofs.lemmas.List.{take_more, take_all, drop_all}
 use Rattle.std.proofs.lemmas.Map.Made.{is_member-Decides}
 use Rattle.std.proofs.lemmas.Map.Text.{is_eq-slice_cmp}
 use Rattle.std.proofs.lemmas.Slice.Eq.{bytes_eq-Decides}
+use Rattle.fp_base.proofs.Texts.{bytes_eq-true, less_from}
+use Rattle.fp_base.proofs.Lists.{in_cases, in_none}
 use Rattle.fp_host.specs.Reads.{comes_first, is_ascending}
 use Rattle.fp_keyfile.specs.KeyFile.{are_distinct}
 use Rattle.fp_small.specs.Order.{comes_before, inserted, sorted_onto, sorted_by, removed}
 
-pub bytes_eq-itself : (xs : List ℕ) → bytes_eq xs xs ≡ true
-bytes_eq-itself xs = (bytes_eq-Decides xs xs).1 refl
-
-pub bytes_eq-is : (xs ys : List ℕ) → bytes_eq xs ys ≡ true → xs ≡ ys
-bytes_eq-is xs ys e = (bytes_eq-Decides xs ys).0 e
-
 pub bytes_eq-differ : (xs ys : List ℕ) → bytes_eq xs ys ≡ false → bytes_eq ys xs ≡ false
-bytes_eq-differ xs ys e = false_from_ne_true (bytes_eq ys xs) (λ t. both_ways (bytes_eq xs ys) e ((bytes_eq-Decides xs ys).1 (sym (bytes_eq-is ys xs t))))
+bytes_eq-differ xs ys e = false_from_ne_true (bytes_eq ys xs) (λ t. both_ways (bytes_eq xs ys) e ((bytes_eq-Decides xs ys).1 (sym (bytes_eq-true ys xs t))))
 
 -- ---- the order of two names
 
@@ -43,11 +39,6 @@ before-from_ge x y r is h = lt-from_ge (slice_cmp nat_cmp x y) (sym is ∙ h)
 pub not_before-from_ge : (x y : List ℕ) (r : Bool) → r ≡ is_ge (slice_cmp nat_cmp x y) → r ≡ true → comes_before x y ≡ false
 not_before-from_ge x y r is h = no_lt-from_ge (slice_cmp nat_cmp x y) (sym is ∙ h)
 
-less-from_lt : (o : Ordering) → is_lt o ≡ true → o ≡ Less
-less-from_lt Less h = refl
-less-from_lt Equal h = absurd (false≢true h)
-less-from_lt Greater h = absurd (false≢true h)
-
 turned : (o p : Ordering) → o ≡ ordering_reverse p → is_lt o ≡ false → is_eq o ≡ false → is_lt p ≡ true
 turned o Less r l e = refl
 turned o Equal r l e = absurd (both_ways (is_eq o) e (ap is_eq r))
@@ -58,13 +49,13 @@ pub before_back : (x y : List ℕ) → comes_before x y ≡ false → bytes_eq x
 before_back x y b e = turned (slice_cmp nat_cmp x y) (slice_cmp nat_cmp y x) (nat_list_cmp_total.antisymm x y) b (is_eq-slice_cmp x y ∙ e)
 
 pub before_on : (x y z : List ℕ) → comes_before x y ≡ true → comes_before y z ≡ true → comes_before x z ≡ true
-before_on x y z a b = ap is_lt (nat_list_cmp_total.trans x y z (less-from_lt (slice_cmp nat_cmp x y) a) (less-from_lt (slice_cmp nat_cmp y z) b))
+before_on x y z a b = ap is_lt (nat_list_cmp_total.trans x y z (less_from (slice_cmp nat_cmp x y) a) (less_from (slice_cmp nat_cmp y z) b))
 
 pub not_before_itself : (x : List ℕ) → comes_before x x ≡ false
 not_before_itself x = ap is_lt (tied_itself nat_list_cmp_total x)
 
 pub before_differs : (x y : List ℕ) → comes_before x y ≡ true → bytes_eq y x ≡ false
-before_differs x y b = false_from_ne_true (bytes_eq y x) (λ e. both_ways (comes_before x x) (not_before_itself x) (subst (λ (z : List ℕ). comes_before x z ≡ true) (bytes_eq-is y x e) b))
+before_differs x y b = false_from_ne_true (bytes_eq y x) (λ e. both_ways (comes_before x x) (not_before_itself x) (subst (λ (z : List ℕ). comes_before x z ≡ true) (bytes_eq-true y x e) b))
 
 -- ---- where an item is put
 
@@ -253,7 +244,7 @@ length-removed name (y ∷ ys) x =
       | inr e ↦ rw e (omega (arith, length-removed name ys x))
     ]
 
-comes_first-on : (w y : List ℕ) (ys : List (List ℕ)) → comes_before w y ≡ true → comes_first y ys ≡ true → comes_first w ys ≡ true
+pub comes_first-on : (w y : List ℕ) (ys : List (List ℕ)) → comes_before w y ≡ true → comes_first y ys ≡ true → comes_first w ys ≡ true
 comes_first-on w y [] b h = refl
 comes_first-on w y (z ∷ zs) b h = before_on w y z b h
 
@@ -286,18 +277,10 @@ is_contained xs q has = (is_member-Decides bytes_eq-Decides xs q).1 has
 pub lacks : (xs : List (List ℕ)) (q : List ℕ) → (Contains xs q → ⊥) → list_any (bytes_eq q) xs ≡ false
 lacks xs q none = false_from_ne_true (list_any (bytes_eq q) xs) (λ t. none (contains xs q t))
 
-or_true : (a b : Bool) → (a || b) ≡ true → (a ≡ true) ⊎ (b ≡ true)
-or_true true b h = inl refl
-or_true false b h = inr h
-
-or_from_right : (a b : Bool) → b ≡ true → (a || b) ≡ true
-or_from_right true b h = refl
-or_from_right false b h = h
-
 pub Contains-inserted : (xs : List (List ℕ)) (p q : List ℕ) → Contains (inserted (λ x. x) xs p) q ↔ ((q ≡ p) ⊎ Contains xs q)
 Contains-inserted xs p q = (
-  λ has. ⊎_elim (λ e. inl (bytes_eq-is q p e)) (λ t. inr (contains xs q t)) (or_true (bytes_eq q p) (list_any (bytes_eq q) xs) (sym (list_any-inserted (bytes_eq q) (λ x. x) xs p) ∙ is_contained (inserted (λ x. x) xs p) q has)),
-  λ either. contains (inserted (λ x. x) xs p) q (list_any-inserted (bytes_eq q) (λ x. x) xs p ∙ ⊎_elim (λ e. ap (λ (b : Bool). b || list_any (bytes_eq q) xs) ((bytes_eq-Decides q p).1 e)) (λ has. or_from_right (bytes_eq q p) (list_any (bytes_eq q) xs) (is_contained xs q has)) either),
+  λ has. ⊎_elim (λ e. inl (bytes_eq-true q p e)) (λ t. inr (contains xs q t)) (or_cases (bytes_eq q p) (list_any (bytes_eq q) xs) (sym (list_any-inserted (bytes_eq q) (λ x. x) xs p) ∙ is_contained (inserted (λ x. x) xs p) q has)),
+  λ either. contains (inserted (λ x. x) xs p) q (list_any-inserted (bytes_eq q) (λ x. x) xs p ∙ ⊎_elim (λ e. ap (λ (b : Bool). b || list_any (bytes_eq q) xs) ((bytes_eq-Decides q p).1 e)) (λ has. or_right (bytes_eq q p) (list_any (bytes_eq q) xs) (is_contained xs q has)) either),
 )
 
 list_any-removed : (xs : List (List ℕ)) (p q : List ℕ) → bytes_eq p q ≡ false → list_any (bytes_eq q) (removed (λ x. x) xs p) ≡ list_any (bytes_eq q) xs
@@ -309,7 +292,7 @@ list_any-removed (y ∷ ys) p q h =
     ]
   where
     other : (y : List ℕ) → bytes_eq y p ≡ true → bytes_eq q y ≡ false
-    other y e = bytes_eq-differ y q (subst (λ (z : List ℕ). bytes_eq z q ≡ false) (sym (bytes_eq-is y p e)) h)
+    other y e = bytes_eq-differ y q (subst (λ (z : List ℕ). bytes_eq z q ≡ false) (sym (bytes_eq-true y p e)) h)
 
 pub none_left : (xs : List (List ℕ)) (p : List ℕ) → list_any (bytes_eq p) (removed (λ x. x) xs p) ≡ false
 none_left [] p = refl
@@ -322,6 +305,31 @@ none_left (y ∷ ys) p =
 pub Contains-removed : (xs : List (List ℕ)) (p q : List ℕ) → Contains (removed (λ x. x) xs p) q ↔ (Contains xs q × (q ≢ p))
 Contains-removed xs p q =
     elim (cases_Bool (bytes_eq p q)) [
-      | inl e ↦ (λ has. absurd (both_ways (list_any (bytes_eq p) (removed (λ x. x) xs p)) (none_left xs p) (is_contained (removed (λ x. x) xs p) p (subst (Contains (removed (λ x. x) xs p)) (sym (bytes_eq-is p q e)) has))), λ both. absurd (both.1 (sym (bytes_eq-is p q e))))
+      | inl e ↦ (λ has. absurd (both_ways (list_any (bytes_eq p) (removed (λ x. x) xs p)) (none_left xs p) (is_contained (removed (λ x. x) xs p) p (subst (Contains (removed (λ x. x) xs p)) (sym (bytes_eq-true p q e)) has))), λ both. absurd (both.1 (sym (bytes_eq-true p q e))))
       | inr e ↦ (λ has. (contains xs q (sym (list_any-removed xs p q e) ∙ is_contained (removed (λ x. x) xs p) q has), λ same. both_ways (bytes_eq p q) e ((bytes_eq-Decides p q).1 (sym same))), λ both. contains (removed (λ x. x) xs p) q (list_any-removed xs p q e ∙ is_contained xs q both.0))
     ]
+
+-- without one in the middle
+pub less_one : (xs : List (List ℕ)) (y : List ℕ) (ys : List (List ℕ)) → is_ascending (xs ++ y ∷ ys) ≡ true → is_ascending (xs ++ ys) ≡ true
+less_one [] y ys h = (and_parts (comes_first y ys) (is_ascending ys) h).1
+less_one (x ∷ []) y ys h =
+    let a = and_parts (comes_first x (y ∷ ys)) (is_ascending (y ∷ ys)) h in
+    let b = and_parts (comes_first y ys) (is_ascending ys) a.1 in
+    and_from (comes_first x ys) (is_ascending ys) (over ys a.0 b.0) b.1
+  where
+    over : (zs : List (List ℕ)) → comes_first x (y ∷ []) ≡ true → comes_first y zs ≡ true → comes_first x zs ≡ true
+    over [] first second = refl
+    over (z ∷ zs) first second = before_on x y z first second
+less_one (x ∷ w ∷ xs) y ys h =
+    let a = and_parts (comes_first x (w ∷ (xs ++ y ∷ ys))) (is_ascending (w ∷ (xs ++ y ∷ ys))) h in
+    and_from (comes_first x (w ∷ (xs ++ ys))) (is_ascending (w ∷ (xs ++ ys))) a.0 (less_one (w ∷ xs) y ys a.1)
+
+-- a list whose texts ascend has no object twice
+pub first_below : (x : List ℕ) (ys : List (List ℕ)) (z : List ℕ) → comes_first x ys ≡ true → is_ascending ys ≡ true → Contains ys z → comes_before x z ≡ true
+first_below x [] z first h has = absurd (in_none z has)
+first_below x (y ∷ ys) z first h has = elim (in_cases y ys z has) [
+  | inl same ↦ subst (λ (w : List ℕ). comes_before x w ≡ true) (sym same) first
+  | inr later ↦
+      let a = and_parts (comes_first y ys) (is_ascending ys) h in
+      before_on x y z first (first_below y ys z a.0 a.1 later)
+]

@@ -16,6 +16,7 @@ use Rattle.fp_host.specs.Calls.{HasFolder, IsNoDir}
 use Rattle.fp_host.specs.Frame.{Keeps, AnyAt, AnyHeld, Only, NoPath}
 use Rattle.fp_host.proofs.Separate.{absent_cases}
 use Rattle.fp_host.proofs.Framed.{keeps_on, keeps_to, keeps_same}
+use Rattle.fp_host.proofs.Above.{below_child as above_up, above_longer}
 use Rattle.fp_small.specs.Places.{repo, tmp, new_name}
 use Rattle.fp_small.specs.Folders.{ancestors, FoldersAt, DirsAt, AreDirs, IsLadder}
 use Rattle.fp_small.specs.Stage.{IsReady, WasStaged, CanStage}
@@ -83,17 +84,6 @@ ancestors_above (x ∷ y ∷ up) q has = elim (Contains-push_cases (ancestors (y
   | inl further ↦ inr (ancestors_above (y ∷ up) q further)
   | inr same ↦ inl (sym same)
 ]
-
-above_shorter : (q p : Elements) → IsAbove q p → length q < length p
-above_shorter q [] above = absurd above
-above_shorter q (x ∷ up) (inl is) = omega (arith, ap (λ (l : Elements). length l) is)
-above_shorter q (x ∷ up) (inr higher) = omega (arith, above_shorter q up higher)
-
--- what is below another path is above whatever that is above
-above_up : (x : List ℕ) (up p : Elements) → IsAbove (x ∷ up) p → IsAbove up p
-above_up x up [] above = absurd above
-above_up x up (y ∷ rest) (inl is) = inr (subst (IsAbove up) is (inl refl))
-above_up x up (y ∷ rest) (inr higher) = inr (above_up x up rest higher)
 
 -- the folder of a path is above it, unless it is the root
 pub parent_in : (x : List ℕ) (up : Elements) → (up ≡ []) ⊎ Contains (ancestors (x ∷ up)) up
@@ -200,7 +190,7 @@ module _ (p place : Elements) (u : View) (can : CanReplace p u) (staging : IsSta
 
   own_off : Contains (folders_of p) p → ⊥
   own_off has = elim (Contains-append_cases (ancestors p) (repo ∷ tmp ∷ []) p has) [
-    | inl above ↦ omega (arith, above_shorter p p (ancestors_above p p above))
+    | inl above ↦ omega (arith, above_longer p p (ancestors_above p p above))
     | inr low ↦ elim (Contains-push_cases (repo ∷ []) tmp p low) [
       | inl first ↦ elim (Contains-push_cases [] repo p first) [ inl none ↦ absurd (omega (arith, none.1)) | inr same ↦ can.no_repo (sym same) ]
       | inr same ↦ can.no_tmp (sym same)

@@ -1,5 +1,5 @@
 -- Files that are new and have bytes come to a name of a kind.
-use Rattle.std.proofs.Common.{◌≡◌, ◌≢◌, ◌⊎◌, inl, inr, ℕ, List, [], ◌∷◌, ◌++◌, Option, Some, None, refl, sym, ◌∙◌, ap, subst, Contains, arith}
+use Rattle.std.proofs.Common.{◌≡◌, ◌≢◌, inl, inr, ℕ, List, [], ◌∷◌, ◌++◌, Option, Some, None, refl, sym, ◌∙◌, ap, subst, Contains, arith}
 use Rattle.std.proofs.lemmas.List.Elements.{Contains-push, Contains-push_cases, Contains-append_left}
 use Rattle.fp_host.specs.Paths.{Elements, Slot, absent, file}
 use Rattle.fp_host.specs.View.{View, Inode}
@@ -8,15 +8,12 @@ use Rattle.fp_host.specs.Frame.{Keeps, NoPath, Only}
 use Rattle.fp_host.specs.Calls.{CanCreate, creates, appends, renames, syncs, done, put, grow, grown}
 use Rattle.fp_host.proofs.Separate.{set_same, set_other, file_same}
 use Rattle.fp_host.proofs.Keep.{grow_stood}
+use Rattle.fp_host.proofs.Slots.{row_cases}
 use Rattle.fp_small.specs.Files.{KeepsFiles, SameFiles, MakesFile}
 use Rattle.fp_small.specs.Unsynced.{MakesNoFile}
 use Rattle.fp_small.specs.Shares.{Shares}
 use Rattle.fp_small.proofs.Keeping.{made_moved}
 use Rattle.fp_small.proofs.Bare.{file_made}
-
-row_cases : (row : Option Inode) → (row ≡ None) ⊎ ((f : Inode) × (row ≡ Some f))
-row_cases None = inl refl
-row_cases (Some f) = inr (f, refl)
 
 -- where no file was made
 pub shares_none : {L : Elements → Type 0} {u w : View} → ((id : ℕ) → u.files id ≡ None → w.files id ≡ None) → Shares L u w

@@ -12,6 +12,7 @@ use Rattle.fp_small.specs.Load.{Loads, IsWhole, loaded_of}
 use Rattle.fp_small.specs.declared.loading.Loaded.{Loaded}
 use Rattle.fp_small.specs.declared.loading.Loaded.TheVariants.{Bytes, Absent as NoFile, TooLong, NotFile}
 use Rattle.fp_host.proofs.Settled.{at_tree}
+use Rattle.fp_host.proofs.Slots.{link_of}
 use Rattle.fp_small.proofs.Making.{stat_absent, stat_dir}
 
 is_file_of : (v : View) (e : Slot) (id mode size : ℕ) → IsStat v e (StatFile id mode size) → (e ≡ file id) × ((f : Inode) × (v.files id ≡ Some f) × (size ≡ length f.bytes))
@@ -25,12 +26,6 @@ is_file_of v (file k) id mode size s =
 pub stat_file : {p : Elements} {v w : View} {id mode size : ℕ} → StatOf p (Ok (StatFile id mode size)) v w → (v.names p ≡ file id) × ((f : Inode) × (v.files id ≡ Some f) × (size ≡ length f.bytes))
 stat_file {p = p} {v = v} {id = id} {mode = mode} {size = size} stat = is_file_of v (v.names p) id mode size stat.tells.1
 
-is_link_of : (v : View) (e : Slot) → IsStat v e Link → (text : List ℕ) × (e ≡ link text)
-is_link_of v absent s = absurd (cc s)
-is_link_of v dir s = absurd (cc s)
-is_link_of v (link text) s = (text, refl)
-is_link_of v (file id) s = absurd (cc s.2)
-
 loads_spot : (v : View) (p : Elements) (most : ℕ) (e : Slot) (loaded : Loaded) → IsTree v → v.names p ≡ e → loaded ≡ loaded_of most (spot_of v.files e) → Loads p most v loaded
 loads_spot v p most e loaded tree here is = record { is = is ∙ ap (λ slot. loaded_of most (spot_of v.files slot)) (sym (at_tree v tree p ∙ here)) }
 
@@ -41,7 +36,7 @@ pub loads_dir : {p : Elements} {most : ℕ} {v w : View} → IsTree v → StatOf
 loads_dir {p = p} {most = most} {v = v} tree stat = loads_spot v p most dir NotFile tree (stat_dir stat) refl
 
 pub loads_link : {p : Elements} {most : ℕ} {v w : View} → IsTree v → StatOf p (Ok Link) v w → Loads p most v NotFile
-loads_link {p = p} {most = most} {v = v} tree stat = let is = is_link_of v (v.names p) stat.tells.1 in loads_spot v p most (link is.0) NotFile tree is.1 refl
+loads_link {p = p} {most = most} {v = v} tree stat = let is = link_of v (v.names p) stat.tells.1 in loads_spot v p most (link is.0) NotFile tree is.1 refl
 
 pub loads_long : {p : Elements} {most : ℕ} {v w : View} {id mode size : ℕ} → IsTree v → StatOf p (Ok (StatFile id mode size)) v w → most < size → Loads p most v (TooLong size)
 loads_long {p = p} {most = most} {v = v} {id = id} {size = size} tree stat long =

@@ -8,6 +8,7 @@ use Rattle.fp_host.specs.Calls.{Change, makes_dir, creates, appends, links, make
 use Rattle.fp_host.specs.declared.host.HostError.{HostError}
 use Rattle.fp_host.proofs.Separate.{set_same, set_other, path_cases, file_same, file_other}
 use Rattle.fp_host.proofs.Follow.{called, called_create}
+use Rattle.fp_host.proofs.Slots.{grown_none}
 use Rattle.fp_small.specs.Unsynced.{Unsynced, MakesNoFile, MakesOneFile}
 
 -- ---- one after another
@@ -74,10 +75,6 @@ may_put_none p e v = record { unsynced = record { earlier = pushed v p e; dirty 
 
 -- ---- one file
 
-grown_rows : (o : Option Inode) (bytes : List ℕ) → grown o bytes ≡ None → o ≡ None
-grown_rows None bytes none = refl
-grown_rows (Some f) bytes none = absurd (cc none)
-
 grow_none : (e : Slot) (bytes : List ℕ) (v : View) → MakesNoFile v (grow e bytes v)
 grow_none absent bytes v = none_refl v
 grow_none dir bytes v = none_refl v
@@ -89,7 +86,7 @@ grow_none (file k) bytes v = record {
   where
     rows : (id : ℕ) → set_file v.files k (grown (v.files k) bytes) id ≡ None → v.files id ≡ None
     rows id is = elim (cases_eq id k) [
-      | inl same ↦ ap v.files same ∙ grown_rows (v.files k) bytes (sym (file_same v.files k (grown (v.files k) bytes) id same) ∙ is)
+      | inl same ↦ ap v.files same ∙ grown_none (v.files k) bytes (sym (file_same v.files k (grown (v.files k) bytes) id same) ∙ is)
       | inr off ↦ sym (file_other v.files k (grown (v.files k) bytes) id off) ∙ is
     ]
 

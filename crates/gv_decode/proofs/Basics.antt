@@ -1,31 +1,24 @@
 -- Values of basic types, from their bytes.
-use Rattle.std.proofs.Common.{◌≡◌, ℕ, zero, suc, ◌+◌, ◌-◌, ◌*◌, ◌/◌, ◌%◌, ◌<◌, Bool, true, false, cond, ◌||◌, ◌&&◌, leb, eqb, List, [], ◌∷◌, length, get_or, Option, Some, None, option_map, option_and_then, Result, Ok, Err, IsUtf8, IsAscii, refl, sym, ap, ◌∙◌, subst, arith, bytes_eq}
+use Rattle.std.proofs.Common.{◌≡◌, ℕ, zero, suc, ◌-◌, ◌<◌, Bool, true, false, cond, ◌||◌, ◌&&◌, leb, eqb, List, [], ◌∷◌, length, get_or, Option, Some, None, option_map, option_and_then, Result, Ok, Err, IsUtf8, IsAscii, refl, sym, ap, ◌∙◌, subst, arith, bytes_eq}
 use Rattle.std.specs.Str.{is_utf8}
 use Rattle.std.specs.Int.{is_in_range}
 use Rattle.std.proofs.lemmas.Str.{IsUtf8-from_ascii, is_utf8-from_IsUtf8, IsUtf8-from_is_utf8}
 use Rattle.std.proofs.lemmas.Bool.{and_parts, and_from, eq-eqb, eqb-true, leb-true}
+use Rattle.fp_base.proofs.Texts.{bytes_eq-true}
 use Rattle.gv_value.specs.Basics.{TextKind}
 use Rattle.gv_value.specs.Bytes.{le_bytes, le_value, AllBelow}
 use Rattle.gv_value.specs.Reading.{number_at, eight_at, before_zero, text_if, text_at}
 use Rattle.gv_value.specs.Texts.{is_path_char, are_elements, is_object_path, is_signature, is_text}
 use Rattle.gv_value.specs.Tree.{Content}
 use Rattle.gv_value.proofs.Contents.{are_bytes-below}
-use Rattle.gv_value.proofs.Lists.{same_bytes, bytes_eq-same}
-use Rattle.gv_value.proofs.Numbers.{length-le_bytes}
+use Rattle.gv_value.proofs.Lists.{bytes_eq-same}
+use Rattle.gv_value.proofs.Numbers.{length-le_bytes, le_bytes-value}
 use Rattle.gv_value.proofs.SignatureSteps.{signature-ascii}
 use Rattle.gv_decode.specs.declared.error.DecodeError.{DecodeError}
 use Rattle.gv_decode.specs.declared.error.DecodeError.TheVariants as errors
 use Rattle.gv_decode.specs.Decoded.{Gives}
 
 -- ---- numbers
-
-pub le_bytes-value : (bytes : List ℕ) → AllBelow 256 bytes → le_bytes (length bytes) (le_value bytes) ≡ bytes
-le_bytes-value [] h = refl
-le_bytes-value (b ∷ bytes) h =
-    let below = h.0 in
-    let low : (b + 256 * le_value bytes) % 256 ≡ b = omega arith in
-    let high : (b + 256 * le_value bytes) / 256 ≡ le_value bytes = omega arith in
-    rw (low, high, le_bytes-value bytes h.1) refl
 
 pub number_at-is : (w : ℕ) (bytes : List ℕ) → AllBelow 256 bytes → length bytes ≡ w → number_at w bytes ≡ Some (le_value bytes)
 number_at-is w bytes h len =
@@ -37,7 +30,7 @@ number_at-not w bytes other = by (bytes_eq (le_bytes w (le_value bytes)) bytes) 
   where
     by : (b : Bool) → bytes_eq (le_bytes w (le_value bytes)) bytes ≡ b → cond b (Some (le_value bytes)) None ≡ None
     by false is = refl
-    by true is = absurd (other (sym (ap length (same_bytes (le_bytes w (le_value bytes)) bytes is)) ∙ length-le_bytes w (le_value bytes)))
+    by true is = absurd (other (sym (ap length (bytes_eq-true (le_bytes w (le_value bytes)) bytes is)) ∙ length-le_bytes w (le_value bytes)))
 
 -- ---- texts
 

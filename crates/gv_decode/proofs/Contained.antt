@@ -1,6 +1,7 @@
 -- A value of a container, by its children.
 use Rattle.std.proofs.Common.{◌≡◌, ℕ, suc, ◌≤◌, true, Bool, ◌&&◌, leb, List, [], ◌∷◌, length, Option, Some, None, option_map, option_and_then, sym, ap, ◌∙◌, subst, arith, refl}
 use Rattle.std.proofs.lemmas.Bool.{and_parts, leb-true}
+use Rattle.fp_base.proofs.Options.{guarded}
 use Rattle.gv_value.specs.declared.limits.TheConstants.{MOST_BYTES, MOST_DEPTH}
 use Rattle.gv_value.specs.Framing.{array_children, tuple_children}
 use Rattle.gv_value.specs.Layout.{align_of, size_of}
@@ -12,7 +13,7 @@ use Rattle.gv_value.specs.TypeText.{type_of}
 use Rattle.gv_value.proofs.Depths.{bounds_depth}
 use Rattle.gv_value.proofs.Exact.{reads_values}
 use Rattle.gv_value.proofs.Laws.{value_at-found}
-use Rattle.gv_value.proofs.Lists.{then_some, map_some, guarded}
+use Rattle.gv_value.proofs.Lists.{then_some, map_some}
 use Rattle.gv_decode.specs.Decoded.{children_of}
 
 -- what is read in a container is read alone

@@ -2,6 +2,7 @@
 use Rattle.std.proofs.Common.{◌≡◌, ℕ, suc, ◌+◌, ◌<◌, ◌≤◌, Bool, true, false, ◌&&◌, leb, eqb, List, [], ◌∷◌, ◌++◌, length, Option, Some, None, option_map, refl, sym, ap, ap₂, ◌∙◌, subst, arith, ◌⊎◌, inl, inr, ⊎_elim}
 use Rattle.std.specs.Prelude.{slice_range}
 use Rattle.std.proofs.lemmas.Bool.{cases_lt, leb-true, eqb-true, and_parts}
+use Rattle.fp_base.proofs.Options.{guarded}
 use Rattle.gv_value.specs.declared.limits.TheConstants.{MOST_BYTES, TOO_LARGE}
 use Rattle.gv_value.specs.Bytes.{all_zero}
 use Rattle.gv_value.specs.Capped.{capped, capped_size, IsExtent}
@@ -12,7 +13,6 @@ use Rattle.gv_value.specs.Shape.{Shape, Shapes, shape}
 use Rattle.gv_value.specs.declared.extent.Extent.{Extent}
 use Rattle.gv_value.specs.declared.plan.Plan.{Plan}
 use Rattle.gv_value.proofs.Cutting.{child_at-found}
-use Rattle.gv_value.proofs.Lists.{guarded}
 use Rattle.gv_decode.specs.declared.error.DecodeError.{DecodeError}
 use Rattle.gv_decode.specs.Decoded.{Fails}
 use Rattle.gv_decode.proofs.Runs.{SoFar, so_far-fails, so_far-more, cut-no_child, cut-child, fails-more}

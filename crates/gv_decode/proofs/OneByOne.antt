@@ -1,6 +1,6 @@
 -- Children that are read one by one, or passed.
 use denote.Ref.{Bor}
-use Rattle.std.proofs.Common.{◌≡◌, ℕ, zero, suc, ◌+◌, ◌<◌, ◌≤◌, Bool, true, false, List, [], ◌∷◌, ◌++◌, length, drop, get_or, Option, Some, None, option_map, option_and_then, refl, sym, ap, ap₂, ◌∙◌, subst, arith, IsTrue}
+use Rattle.std.proofs.Common.{◌≡◌, ℕ, zero, suc, ◌+◌, ◌<◌, ◌≤◌, Bool, true, List, [], ◌∷◌, ◌++◌, length, drop, get_or, Option, Some, None, option_map, option_and_then, refl, sym, ap, ap₂, ◌∙◌, subst, arith, IsTrue}
 use Rattle.std.proofs.lemmas.Bool.{and_parts}
 use Rattle.std.proofs.lemmas.List.{drop_more, drop_all}
 use Rattle.std.specs.Option.{is_some, IsSome}
@@ -81,10 +81,6 @@ all-passes one child others h = some-then (λ v. option_map (tree v) (read_all o
 pub each-passes : (one : Shape → Reader) (t : Shape) (ts : Shapes) (child : List ℕ) (others : List (List ℕ)) → IsSome (one t child) →
     is_some (read_each one (shape t ts) (child ∷ others)) ≡ is_some (read_each one ts others)
 each-passes one t ts child others h = some-then (λ v. option_map (tree v) (read_each one ts others)) (one t child) (is_some (read_each one ts others)) h (λ v. is_some-map (tree v) (read_each one ts others))
-
-pub none-when : {A : Type 0} (o : Option A) → is_some o ≡ false → o ≡ None
-none-when None e = refl
-none-when (Some x) e = absurd cc
 
 pub passes-map : {A B : Type 0} (f : A → B) (o : Option A) → IsSome o → IsSome (option_map f o)
 passes-map f o h = is_some-map f o ∙ h

@@ -45,14 +45,8 @@ in-room (suc n) p t bytes ne e = let less : suc n - 1 ≡ n = omega arith in ap�
 pub shape-Basic : (b : Basic) → plan_shape (plans.Basic b) ≡ Shape.basic b
 shape-Basic b = ap (λ (s : Seen). s.shape) (ap seen (sym (plans.rolls-Basic b)) ∙ fold-roll-Plan Seen seen_step (Plan-F.Basic b))
 
-pub shape-Variant : plan_shape plans.Variant ≡ Shape.variant
-shape-Variant = ap (λ (s : Seen). s.shape) (ap seen (sym plans.rolls-Variant) ∙ fold-roll-Plan Seen seen_step Plan-F.Variant)
-
 pub shape-Array : (e : Extent) (p : Box Plan Global) → plan_shape (plans.Array e p) ≡ Shape.array (plan_shape p.value)
 shape-Array e p = ap (λ (s : Seen). s.shape) (ap seen (sym (plans.rolls-Array e p)) ∙ fold-roll-Plan Seen seen_step (Plan-F.Array e p))
-
-pub shape-Maybe : (e : Extent) (p : Box Plan Global) → plan_shape (plans.Maybe e p) ≡ Shape.maybe (plan_shape p.value)
-shape-Maybe e p = ap (λ (s : Seen). s.shape) (ap seen (sym (plans.rolls-Maybe e p)) ∙ fold-roll-Plan Seen seen_step (Plan-F.Maybe e p))
 
 pub shape-Tuple : (e : Extent) (ps : Vec Plan Global) → plan_shape (plans.Tuple e ps) ≡ Shape.tuple (plan_shapes ps.items)
 shape-Tuple e ps = ap (λ (s : Seen). s.shape) (seen-Tuple e ps)

@@ -1,13 +1,14 @@
 -- What holds of a container's bytes, and of each part of them, holds of its children's.
 use Rattle.std.proofs.Common.{◌≡◌, ℕ, ◌+◌, ◌-◌, ◌*◌, ◌/◌, ◌<◌, ◌≤◌, ◌&&◌, eqb, leb, List, [], ◌∷◌, length, take, drop, map, reverse, Option, Some, None, option_map, subst, arith, length-take, length-drop}
 use Rattle.std.specs.Prelude.{⊤, slice_range, unwrap_or}
+use Rattle.fp_base.proofs.Options.{guarded}
 use Rattle.gv_value.specs.declared.limits.TheConstants.{MOST_BYTES}
 use Rattle.gv_value.specs.Bytes.{le_value, all_zero, AllBelow}
 use Rattle.gv_value.specs.Framing.{Mark, child_at, cut, steps, marks, offset_count, offsets_after, width_in, array_children, tuple_children}
 use Rattle.gv_value.specs.Layout.{padding, end_of, align_of, size_of}
 use Rattle.gv_value.specs.Shape.{Shape, Shapes}
 use Rattle.gv_value.specs.Spelled.{two_shapes}
-use Rattle.gv_value.proofs.Lists.{then_some, map_some, guarded}
+use Rattle.gv_value.proofs.Lists.{then_some, map_some}
 use Rattle.gv_decode.specs.Decoded.{AreShort, children_of}
 use Rattle.gv_decode.proofs.Bounds.{AllBelow-drop}
 use Rattle.gv_decode.proofs.Tables.{AllBelow-take}

@@ -2,6 +2,7 @@
 use Rattle.std.proofs.Common.{◌≡◌, ℕ, zero, suc, ◌+◌, ◌-◌, ◌*◌, ◌<◌, ◌≤◌, Bool, true, false, cond, eqb, leb, ◌&&◌, List, [], ◌∷◌, ◌++◌, length, take, drop, reverse, Option, Some, None, refl, sym, ap, ap₂, ◌∙◌, subst, arith, bytes_eq, flat_map, length-take, length-drop, take-append-drop, mul-le-mul_left}
 use Rattle.std.proofs.lemmas.Bool.{and_from, eq-eqb, le-leb}
 use Rattle.std.proofs.lemmas.List.{reverse-append, drop-drop}
+use Rattle.fp_base.proofs.Texts.{bytes_eq-true as same_bytes}
 use Rattle.gv_value.specs.Bytes.{le_bytes, le_value, AllBelow}
 use Rattle.gv_value.specs.Framing.{width, width_in, numbers, offsets_at, offsets_after, is_none_left, put_offset, offset_count, member_end}
 use Rattle.gv_value.specs.Capped.{capped_size, IsExtent}
@@ -9,10 +10,9 @@ use Rattle.gv_value.specs.Layout.{size_of}
 use Rattle.gv_value.specs.Plans.{plan_shape, plan_shapes}
 use Rattle.gv_value.specs.declared.extent.Extent.{Extent}
 use Rattle.gv_value.specs.declared.plan.Plan.{Plan}
-use Rattle.gv_value.proofs.Lists.{same_bytes, bytes_eq-same}
-use Rattle.gv_value.proofs.Numbers.{length-offsets, length-numbers, width_pos}
+use Rattle.gv_value.proofs.Lists.{bytes_eq-same}
+use Rattle.gv_value.proofs.Numbers.{length-offsets, length-numbers, width_pos, le_bytes-value}
 use Rattle.gv_decode.proofs.Bounds.{AllBelow-drop}
-use Rattle.gv_decode.proofs.Basics.{le_bytes-value}
 
 pub AllBelow-take : (n : ℕ) (bytes : List ℕ) → AllBelow 256 bytes → AllBelow 256 (take n bytes)
 AllBelow-take zero bytes h = tt

@@ -29,14 +29,8 @@ pub down : (room : ℕ) (p : Plan) (t : Shape) (v w : Tree) → (room ≡ 0 → 
 down room p t v w ne shape same h =
     subst (λ (x : Tree). fits_within (suc (room - 1)) t x ≡ true) (sym same) (fits-down room t v ne (subst (λ (s : Shape). fits_within room s v ≡ true) shape h))
 
-pub shape-Variant : plan_shape plans.Variant ≡ Shape.variant
-shape-Variant = ap (λ (s : Seen). s.shape) (ap seen (sym plans.rolls-Variant) ∙ fold-roll-Plan Seen seen_step Plan-F.Variant)
-
 seen-Maybe : (e : Extent) (p : Box Plan Global) → seen (plans.Maybe e p) ≡ record { shape = Shape.maybe (plan_shape p.value); good = is_plan p.value && extent_is e (Shape.maybe (plan_shape p.value)) }
 seen-Maybe e p = ap seen (sym (plans.rolls-Maybe e p)) ∙ fold-roll-Plan Seen seen_step (Plan-F.Maybe e p)
-
-pub shape-Maybe : (e : Extent) (p : Box Plan Global) → plan_shape (plans.Maybe e p) ≡ Shape.maybe (plan_shape p.value)
-shape-Maybe e p = ap (λ (s : Seen). s.shape) (seen-Maybe e p)
 
 pub good-Maybe : (e : Extent) (p : Box Plan Global) → IsTrue (is_plan (plans.Maybe e p)) → IsTrue (is_plan p.value)
 good-Maybe e p h = (and_parts (is_plan p.value) (extent_is e (Shape.maybe (plan_shape p.value))) (sym (ap (λ (s : Seen). s.good) (seen-Maybe e p)) ∙ h)).0

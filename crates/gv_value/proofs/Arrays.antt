@@ -5,11 +5,12 @@ use Rattle.std.specs.Prelude.{⊤}
 use Rattle.std.proofs.lemmas.Bool.{leb-true, le-leb, eqb-true, eq-eqb, and_parts, and_from}
 use Rattle.std.proofs.lemmas.Grind.{flat_map-append}
 use Rattle.std.proofs.lemmas.List.{take_at, drop_at, length-map}
+use Rattle.fp_base.proofs.Options.{guarded}
 use Rattle.gv_value.specs.Bytes.{le_bytes, le_value, AllBelow}
 use Rattle.gv_value.specs.Layout.{padding}
 use Rattle.gv_value.specs.Framing.{Part, placed, laid, ends, Mark, cut, width, width_in, framed, OffsetsFit, IsFramed, same_parts, offsets_at, offsets_after, elements_before, framed_children, steps, array_children}
 use Rattle.gv_value.specs.Spelled.{ArraySpelled}
-use Rattle.gv_value.proofs.Lists.{then_some, guarded}
+use Rattle.gv_value.proofs.Lists.{then_some}
 use Rattle.gv_value.proofs.Numbers.{length-le_bytes, le_value-le_bytes, length-offsets, offsets_at-spelled, OffsetsAre, offsets_at-found, width_in-whole, width_pos}
 use Rattle.gv_value.proofs.Cutting.{marked, children_of, cut-laid, paired, mark_ends, CutIs, cut-found}
 

@@ -6,6 +6,8 @@ use lib.Signed.{mag}
 use Rattle.std.proofs.Math.Facts.{sfits_to_z, to_z-of_z, of_z-to_z, Fits-of_z}
 use Rattle.std.proofs.lemmas.Bool.{eqb-true, eq-eqb, ltb-true, lt-ltb, and_parts, and_from}
 use Rattle.std.proofs.lemmas.Option.{same_Some}
+use Rattle.fp_base.proofs.Options.{guarded}
+use Rattle.fp_base.proofs.Texts.{bytes_eq-true}
 use Rattle.gv_value.specs.declared.basic.Basic.{Basic}
 use Rattle.gv_value.specs.declared.basic.Basic.TheVariants as basics
 use Rattle.gv_value.specs.Basics.{Form, form_of, TextKind}
@@ -18,7 +20,7 @@ use Rattle.gv_value.specs.Tree.{Content}
 use Rattle.gv_value.specs.Spelled.{ContentSpelled}
 use Rattle.gv_value.specs.Spelling.{fits_signed, are_bytes, content_fits, content_bytes}
 use Rattle.gv_value.specs.Reading.{truth_at, number_at, eight_at, before_zero, text_if, text_at, content_at}
-use Rattle.gv_value.proofs.Lists.{same_bytes, bytes_eq-same, take_before, drop_before, then_some, map_some, guarded}
+use Rattle.gv_value.proofs.Lists.{bytes_eq-same, take_before, drop_before, then_some, map_some}
 use Rattle.gv_value.proofs.Numbers.{length-le_bytes, le_value-le_bytes, le_value-below}
 use Rattle.gv_value.proofs.TypeLaws.{sign_of-letter}
 
@@ -59,7 +61,7 @@ pub number_at-found : (w : ℕ) (bytes : List ℕ) (n : ℕ) → number_at w byt
 number_at-found w bytes n e =
     let g = guarded (bytes_eq (le_bytes w (le_value bytes)) bytes) (Some (le_value bytes)) n e in
     let same : le_value bytes ≡ n = cc in
-    let is : bytes ≡ le_bytes w n = sym (same_bytes (le_bytes w (le_value bytes)) bytes g.0) ∙ ap (le_bytes w) same in
+    let is : bytes ≡ le_bytes w n = sym (bytes_eq-true (le_bytes w (le_value bytes)) bytes g.0) ∙ ap (le_bytes w) same in
     record { is = is; below = subst (λ (m : ℕ). m < 256 ^ w) (ap le_value (sym is) ∙ same) (le_value-below w n) }
 
 -- ---- what stands before a zero byte
@@ -74,7 +76,7 @@ pub before_zero-found : (n : ℕ) (bytes text : List ℕ) → before_zero n byte
 before_zero-found n bytes text e =
     let g = guarded (bytes_eq (drop n bytes) (0 ∷ [])) (Some (take n bytes)) text e in
     let front : take n bytes ≡ text = cc in
-    sym (take-append-drop n bytes) ∙ ap (λ (xs : List ℕ). xs ++ drop n bytes) front ∙ ap (λ (xs : List ℕ). text ++ xs) (same_bytes (drop n bytes) (0 ∷ []) g.0)
+    sym (take-append-drop n bytes) ∙ ap (λ (xs : List ℕ). xs ++ drop n bytes) front ∙ ap (λ (xs : List ℕ). text ++ xs) (bytes_eq-true (drop n bytes) (0 ∷ []) g.0)
 
 -- ---- bytes
 

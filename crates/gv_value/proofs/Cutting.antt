@@ -4,10 +4,11 @@ use Rattle.std.specs.Prelude.{slice_range}
 use Rattle.std.specs.List.{concat}
 use Rattle.std.proofs.lemmas.Bool.{leb-true, le-leb, eqb-true, eq-eqb, and_parts, and_from}
 use Rattle.std.proofs.lemmas.List.{take_at, drop_at, take_all, take-append-le, drop-append-le, drop-drop, drop-take, take-take}
+use Rattle.fp_base.proofs.Options.{guarded}
 use Rattle.gv_value.specs.Bytes.{zeros, all_zero}
 use Rattle.gv_value.specs.Layout.{padding}
 use Rattle.gv_value.specs.Framing.{Part, placed, laid, ends, Mark, child_at, cut}
-use Rattle.gv_value.proofs.Lists.{all_zero-zeros, zeros-from, length-zeros, then_some, map_some, guarded}
+use Rattle.gv_value.proofs.Lists.{all_zero-zeros, zeros-from, length-zeros, then_some, map_some}
 
 -- ---- a child
 

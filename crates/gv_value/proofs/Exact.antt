@@ -2,6 +2,7 @@
 use Rattle.std.proofs.Common.{◌≡◌, ℕ, ◌<◌, ◌≤◌, Bool, true, ◌&&◌, leb, List, length, Option, Some, None, sym, ap, ◌∙◌, subst, arith, IsTrue}
 use Rattle.std.proofs.lemmas.Bool.{and_parts, and_from, leb-true, le-leb}
 use Rattle.std.proofs.lemmas.Option.{same_Some}
+use Rattle.fp_base.proofs.Options.{guarded}
 use Rattle.gv_value.specs.declared.limits.TheConstants.{MOST_BYTES, MOST_DEPTH}
 use Rattle.gv_value.specs.Shape.{Shape, is_type}
 use Rattle.gv_value.specs.Tree.{Tree}
@@ -10,14 +11,13 @@ use Rattle.gv_value.specs.Spelled.{SpelledWithin, Spelled}
 use Rattle.gv_value.specs.Spelling.{fits_within, fits, spelling}
 use Rattle.gv_value.specs.Reading.{value_at, value_of}
 use Rattle.gv_value.specs.Exact.{ReadsTypes, ReadsValues, SpellsValues, HasOneSpelling, HasOneValue}
-use Rattle.gv_value.proofs.Lists.{guarded}
-use Rattle.gv_value.proofs.TypeLaws.{type_of-text, type_of-found}
+use Rattle.gv_value.proofs.TypeLaws.{type_back, type_of-found}
 use Rattle.gv_value.proofs.Laws.{value_at-found, value_at-spelled}
 use Rattle.gv_value.proofs.Unique.{limit, spelled_is, fits_spelled}
 
 pub reads_types : ReadsTypes
 reads_types text t =
-    (λ e. let is = type_of-found text t e in (is.is, is.type), λ h. ap type_of h.0 ∙ type_of-text t h.1)
+    (λ e. let is = type_of-found text t e in (is.is, is.type), λ h. ap type_of h.0 ∙ type_back t h.1)
 
 value_found : (t : Shape) (v : Tree) (bytes : List ℕ) → value_of t bytes ≡ Some v → Spelled t v bytes
 value_found t v bytes e =

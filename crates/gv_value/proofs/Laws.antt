@@ -18,11 +18,11 @@ use Rattle.gv_value.specs.TypeText.{type_text, type_of}
 use Rattle.gv_value.specs.Spelled.{ContentSpelled, ArraySpelled, JustSpelled, TupleSpelled, VariantSpelled, AllSpelled, EachSpelled, two_shapes, two_trees, SpelledWithin, Spelled}
 use Rattle.gv_value.specs.Spelling.{all_fit, each_fits, fits_within, fits, array_bytes, just_bytes, tuple_bytes, spelling, spelling_of_all, spelling_of_each}
 use Rattle.gv_value.specs.Reading.{content_at, before_zero, read_all, read_each, just_at, maybe_at, parted, variant_at, as_entry, value_at, value_of}
-use Rattle.gv_value.proofs.Lists.{then_some, map_some, guarded, length-zeros}
+use Rattle.gv_value.proofs.Lists.{then_some, map_some, length-zeros}
 use Rattle.gv_value.proofs.Cutting.{length-laid}
 use Rattle.gv_value.proofs.Arrays.{AllSized, array_children-spelled, array_children-found}
 use Rattle.gv_value.proofs.Tuples.{EachSized, SameCount, length-fixed, size-tuple, tuple_children-spelled, tuple_children-found}
-use Rattle.gv_value.proofs.TypeLaws.{type_of-text, type_of-found, type_nonzero, parted-spelled, parted-found}
+use Rattle.gv_value.proofs.TypeLaws.{type_back, type_of-found, type_nonzero, parted-spelled, parted-found}
 use Rattle.gv_value.proofs.Contents.{content_at-found, content_at-spelled, length-content, before_zero-spelled, before_zero-found, content_is, content_spelled, same_basic}
 use Rattle.std.proofs.lemmas.Option.{same_Some}
 
@@ -239,7 +239,7 @@ value_at-spelled (suc n) Shape.variant (Tree.variant t v) bytes h =
     let again = λ (p : List ℕ × List ℕ). option_and_then (λ u. option_map (Tree.variant u) (value_at n u p.0)) (type_of p.1) in
     ap (λ (xs : List ℕ). option_and_then again (parted xs)) h.2.1
     ∙ ap (option_and_then again) (parted-spelled child (type_text t) (type_nonzero t))
-    ∙ ap (option_and_then (λ u. option_map (Tree.variant u) (value_at n u child))) (type_of-text t h.2.0)
+    ∙ ap (option_and_then (λ u. option_map (Tree.variant u) (value_at n u child))) (type_back t h.2.0)
     ∙ ap (option_map (Tree.variant t)) (value_at-spelled n t v child h.1)
 value_at-spelled (suc n) (Shape.array t) (Tree.array vs) bytes h =
     let cut_again = array_children-spelled (align_of t) (size_of t) h.0 bytes

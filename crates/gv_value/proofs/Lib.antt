@@ -18,3 +18,4 @@ pub mod SignatureSteps
 pub mod Tuples
 pub mod TypeLaws
 pub mod Unique
+pub mod Long

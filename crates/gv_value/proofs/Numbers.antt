@@ -3,9 +3,11 @@ use Rattle.std.proofs.Common.{◌≡◌, ℕ, zero, suc, ◌+◌, ◌-◌, ◌*�
 use Rattle.std.proofs.lemmas.Bool.{leb-true, leb-false, le-leb, lt-leb, cases_lt}
 use Rattle.std.proofs.lemmas.Bool.Decides.{nat_tests}
 use Rattle.std.proofs.lemmas.List.{take_at, drop_at}
+use Rattle.fp_base.proofs.Options.{guarded}
+use Rattle.fp_base.proofs.Texts.{bytes_eq-true}
 use Rattle.gv_value.specs.Bytes.{le_bytes, le_value, AllBelow}
 use Rattle.gv_value.specs.Framing.{width, width_in, numbers, offsets_at}
-use Rattle.gv_value.proofs.Lists.{same_bytes, bytes_eq-same, guarded}
+use Rattle.gv_value.proofs.Lists.{bytes_eq-same}
 
 pub length-le_bytes : (w n : ℕ) → length (le_bytes w n) ≡ w
 length-le_bytes zero n = refl
@@ -67,7 +69,7 @@ pub record OffsetsAre (w k : ℕ) (table ns : List ℕ) : Type 0 where
 pub offsets_at-found : (w k : ℕ) (table ns : List ℕ) → offsets_at w k table ≡ Some ns → OffsetsAre w k table ns
 offsets_at-found w k table ns e =
     let g = guarded (bytes_eq (flat_map (le_bytes w) (numbers w k table)) table) (Some (numbers w k table)) ns e in
-    let spelled = same_bytes (flat_map (le_bytes w) (numbers w k table)) table g.0 in
+    let spelled = bytes_eq-true (flat_map (le_bytes w) (numbers w k table)) table g.0 in
     let is : numbers w k table ≡ ns = cc in
     subst (λ (xs : List ℕ). OffsetsAre w k table xs) is
     (record { spelled = spelled; count = length-numbers w k table; below = numbers-below w k table spelled })
@@ -83,3 +85,11 @@ width_pos n k = grind (arith, nat_tests)
 
 pub width_le : (n : ℕ) → 0 < n → width_in n ≤ n
 width_le n h = grind (arith, nat_tests)
+
+pub le_bytes-value : (bytes : List ℕ) → AllBelow 256 bytes → le_bytes (length bytes) (le_value bytes) ≡ bytes
+le_bytes-value [] h = refl
+le_bytes-value (b ∷ bytes) h =
+    let below = h.0 in
+    let low : (b + 256 * le_value bytes) % 256 ≡ b = omega arith in
+    let high : (b + 256 * le_value bytes) / 256 ≡ le_value bytes = omega arith in
+    rw (low, high, le_bytes-value bytes h.1) refl

@@ -1,5 +1,5 @@
 -- The plans of types.
-use Rattle.std.proofs.Common.{◌≡◌, ℕ, zero, suc, ◌+◌, ◌<◌, Bool, true, false, ◌&&◌, List, [], ◌∷◌, ◌++◌, length, get_or, map, Option, Some, None, refl, sym, ap, ap₂, ◌∙◌, subst, arith, IsTrue, Vec, Global}
+use Rattle.std.proofs.Common.{◌≡◌, ℕ, zero, suc, ◌+◌, ◌<◌, Bool, true, false, ◌&&◌, List, [], ◌∷◌, ◌++◌, length, get_or, map, Option, Some, None, refl, sym, ap, ap₂, ◌∙◌, subst, arith, IsTrue, Vec, Global, Box}
 use Rattle.std.proofs.lemmas.Bool.{and_parts, and_from, eq-eqb, eqb-true}
 use Rattle.std.proofs.lemmas.List.{map-append, take_more, drop_more}
 use Rattle.gv_value.specs.Shape.{Shape, Shapes, no_shapes, shape}
@@ -83,3 +83,9 @@ plans-more ps p ts t are is = record {
   types = ap seen_shapes (map-append seen ps (p ∷ [])) ∙ seen_more (map seen ps) (seen p) (map shape_of ts) (shape_of t) are.types is.type ∙ ap shapes_from (sym (map-append shape_of ts (t ∷ [])));
   good = ap all_good (map-append seen ps (p ∷ [])) ∙ good_more (map seen ps) (seen p) are.good is.good;
 }
+
+pub shape-Variant : plan_shape plans.Variant ≡ Shape.variant
+shape-Variant = ap (λ (s : Seen). s.shape) (ap seen (sym plans.rolls-Variant) ∙ fold-roll-Plan Seen seen_step Plan-F.Variant)
+
+pub shape-Maybe : (e : Extent) (p : Box Plan Global) → plan_shape (plans.Maybe e p) ≡ Shape.maybe (plan_shape p.value)
+shape-Maybe e p = ap (λ (s : Seen). s.shape) (ap seen (sym (plans.rolls-Maybe e p)) ∙ fold-roll-Plan Seen seen_step (Plan-F.Maybe e p))

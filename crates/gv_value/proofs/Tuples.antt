@@ -3,12 +3,13 @@ use Rattle.std.proofs.Common.{◌≡◌, ℕ, zero, suc, ◌+◌, ◌-◌, ◌*�
 use Rattle.std.specs.Prelude.{⊤, IfSome}
 use Rattle.std.proofs.lemmas.Bool.{leb-true, le-leb, eqb-true, eq-eqb, and_parts, and_from}
 use Rattle.std.proofs.lemmas.List.{take_at, drop_at, length-reverse, reverse-reverse}
+use Rattle.fp_base.proofs.Options.{guarded}
 use Rattle.gv_value.specs.Bytes.{le_bytes, zeros, all_zero}
 use Rattle.gv_value.specs.Shape.{Shape, tuple, Shapes, no_shapes, shape}
 use Rattle.gv_value.specs.Layout.{padding, align_of, greatest_align, padded_end, filled, size_of, end_of}
 use Rattle.gv_value.specs.Framing.{Part, placed, laid, ends, Mark, cut, width, width_in, framed, IsFramed, parts_of, is_none_left, put_offset, written, tuple_body, tuple_offsets, offsets_after, member_end, marks, offset_count, open_children, filled_children, tuple_children}
 use Rattle.gv_value.specs.Spelled.{TupleSpelled}
-use Rattle.gv_value.proofs.Lists.{then_some, map_some, guarded, all_zero-zeros, zeros-from, length-zeros}
+use Rattle.gv_value.proofs.Lists.{then_some, map_some, all_zero-zeros, zeros-from, length-zeros}
 use Rattle.gv_value.proofs.Numbers.{length-offsets, width_in-whole}
 use Rattle.gv_value.proofs.Cutting.{marked, children_of, length-laid, cut-laid, paired, mark_ends, CutIs, cut-found}
 use Rattle.gv_value.proofs.Arrays.{offsets_after-framed, OffsetsAfter, offsets_after-found, framed-found}

@@ -300,8 +300,8 @@ type_takes (suc n) text t rest e =
 
 -- ---- whole type strings
 
-pub type_of-text : (t : Shape) → is_type t ≡ true → type_of (type_text t) ≡ Some t
-type_of-text t h =
+pub type_back : (t : Shape) → is_type t ≡ true → type_of (type_text t) ≡ Some t
+type_back t h =
     let again : type_at MOST_DEPTH (type_text t) ≡ Some (t, []) = ap (type_at MOST_DEPTH) (sym (append-nil (type_text t))) ∙ type_again MOST_DEPTH t [] h in
     ap (option_and_then (λ p. if_whole p.0 p.1)) again
 

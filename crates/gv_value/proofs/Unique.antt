@@ -139,7 +139,7 @@ offsets_fit : (body os : List ℕ) → length body < limit → AllBelow (suc (le
 offsets_fit body os short below =
     AllBelow-wider (suc (length body)) (256 ^ width (length body) (length os)) os (width_fits (length body) (length os) short) below
 
-body_short : (body os : List ℕ) → length body ≤ length (framed body os)
+pub body_short : (body os : List ℕ) → length body ≤ length (framed body os)
 body_short body os = omega (arith, length-append body (flat_map (le_bytes (width (length body) (length os))) os))
 
 -- each is shorter than this

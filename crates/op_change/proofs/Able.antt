@@ -1,11 +1,14 @@
 -- Where the steps can be done: in a view that opens the state.
 use Rattle.std.proofs.Common.{◌≡◌, ◌⊎◌, inl, inr, ℕ, List, [], ◌∷◌, Bool, true, false, None, codes, take, refl, sym, ◌∙◌, ap, subst, arith}
-use Rattle.std.specs.Prelude.{if◌then◌else◌, ◌&&◌}
+use Rattle.std.specs.Prelude.{◌&&◌}
 use Rattle.std.proofs.lemmas.Bool.{and_parts}
 use Rattle.fp_base.specs.declared.object.ObjKind.{ObjKind}
+use Rattle.fp_base.proofs.Texts.{bytes_eq-false}
 use Rattle.fp_host.specs.Paths.{Elements, Slot, absent, dir, IsAbove}
 use Rattle.fp_host.specs.View.{View, IsTree}
 use Rattle.fp_host.specs.Outcome.{Spot, shows}
+use Rattle.fp_host.proofs.Above.{above_longer}
+use Rattle.fp_host.proofs.Shown.{now_left}
 use Rattle.fp_name.specs.Grammar.{is_id, is_arch, is_branch}
 use Rattle.fp_name.specs.Hex.{hex}
 use Rattle.fp_name.specs.Kinds.{kind_word}
@@ -15,7 +18,6 @@ use Rattle.fp_name.specs.declared.kind.RefKind.TheVariants.{App, Runtime}
 use Rattle.fp_small.specs.Folders.{IsFree}
 use Rattle.fp_small.specs.Places.{repo, tmp}
 use Rattle.fp_small.specs.declared.state.State.{State}
-use Rattle.fp_small.proofs.Emptying.{above_longer}
 use Rattle.fp_small.proofs.Replacement.{ancestors_above}
 use Rattle.ost_model.specs.Objects.{Have, object_path, store}
 use Rattle.ost_model.specs.Order.{first_fault}
@@ -23,11 +25,12 @@ use Rattle.ost_model.specs.Stores.{MayBePrefix, objects_folder}
 use Rattle.ost_pull.specs.Pulls.{CanPull}
 use Rattle.dep_states.specs.Names.{commit_dir, branch_dir}
 use Rattle.dep_states.specs.Sound.{Sound, Opens}
-use Rattle.dep_states.specs.Zones.{Zone, anything, Fits, IsFolderOrGone, zone, outward}
+use Rattle.dep_states.specs.Zones.{Fits, IsFolderOrGone, zone, outward}
 use Rattle.dep_states.proofs.Deployed.{top}
-use Rattle.dep_states.proofs.Rows.{text_apart, head_of}
+use Rattle.dep_states.proofs.Rows.{head_of}
 use Rattle.dep_states.proofs.Switching.{word_no_repo}
-use Rattle.dep_switch.proofs.Spots.{now_left, folder_free, file_free}
+use Rattle.dep_states.proofs.Zones.{unless_any}
+use Rattle.dep_switch.proofs.Spots.{folder_free, file_free}
 use Rattle.op_change.specs.Furnishing.{CanFurnish}
 use Rattle.op_change.specs.LayingOut.{CanLayOut}
 use Rattle.op_change.specs.Places.{pull_work}
@@ -41,25 +44,21 @@ use Rattle.op_change.proofs.Sparing.{which_of}
 
 -- ---- what may stand at the folders of a ref
 
-at_if : (b : Bool) (z : Zone) (p : Elements) (spot : Spot) → b ≡ true → Fits (if b then z else anything) p spot → Fits z p spot
-at_if true z p spot e f = f
-at_if false z p spot e f = absurd (cc e)
-
 kind_seen : (k : RefKind) (p : Elements) (spot : Spot) → Fits (zone (kind_word k ∷ [])) p spot → IsFolderOrGone spot
 kind_seen App p spot f = f
 kind_seen Runtime p spot f = f
 
 id_seen : (k : RefKind) (id : List ℕ) (p : Elements) (spot : Spot) → is_id id ≡ true → Fits (zone (kind_word k ∷ (id ∷ []))) p spot → IsFolderOrGone spot
-id_seen App id p spot i f = at_if (is_id id) _ p spot i f
-id_seen Runtime id p spot i f = at_if (is_id id) _ p spot i f
+id_seen App id p spot i f = unless_any (is_id id) _ p spot i f
+id_seen Runtime id p spot i f = unless_any (is_id id) _ p spot i f
 
 arch_seen : (k : RefKind) (id arch : List ℕ) (p : Elements) (spot : Spot) → is_id id ≡ true → is_arch arch ≡ true → Fits (zone (kind_word k ∷ (id ∷ (arch ∷ [])))) p spot → IsFolderOrGone spot
-arch_seen App id arch p spot i a f = at_if (is_arch arch) _ p spot a (at_if (is_id id) _ p spot i f)
-arch_seen Runtime id arch p spot i a f = at_if (is_arch arch) _ p spot a (at_if (is_id id) _ p spot i f)
+arch_seen App id arch p spot i a f = unless_any (is_arch arch) _ p spot a (unless_any (is_id id) _ p spot i f)
+arch_seen Runtime id arch p spot i a f = unless_any (is_arch arch) _ p spot a (unless_any (is_id id) _ p spot i f)
 
 branch_seen : (k : RefKind) (id arch branch : List ℕ) (p : Elements) (spot : Spot) → is_id id ≡ true → is_arch arch ≡ true → is_branch branch ≡ true → Fits (zone (kind_word k ∷ (id ∷ (arch ∷ (branch ∷ []))))) p spot → IsFolderOrGone spot
-branch_seen App id arch branch p spot i a b f = at_if (is_branch branch) _ p spot b (at_if (is_arch arch) _ p spot a (at_if (is_id id) _ p spot i f))
-branch_seen Runtime id arch branch p spot i a b f = at_if (is_branch branch) _ p spot b (at_if (is_arch arch) _ p spot a (at_if (is_id id) _ p spot i f))
+branch_seen App id arch branch p spot i a b f = unless_any (is_branch branch) _ p spot b (unless_any (is_arch arch) _ p spot a (unless_any (is_id id) _ p spot i f))
+branch_seen Runtime id arch branch p spot i a b f = unless_any (is_branch branch) _ p spot b (unless_any (is_arch arch) _ p spot a (unless_any (is_id id) _ p spot i f))
 
 prefix_free : (xx : List ℕ) (spot : Spot) → MayBePrefix xx spot → IsFolderOrGone spot
 prefix_free xx spot (inl none) = subst IsFolderOrGone (sym none) tt
@@ -117,7 +116,7 @@ module _ {s : State} {v : View} (tree : IsTree v) (opens : Opens s v) where
       folders = record { free = λ q has. elim (which_of q has) [ inl at ↦ free_is v q repo at repo_free | inr at ↦ free_is v q tmp at tmp_free ] };
       no_root = λ e. cc e;
       no_repo = λ e. cc e;
-      no_tmp = λ e. text_apart (codes "config") (codes "tmp") refl (ap head_of e);
+      no_tmp = λ e. bytes_eq-false (codes "config") (codes "tmp") refl (ap head_of e);
       no_work = no_work;
     };
     folders = record {
@@ -176,7 +175,7 @@ above_top name commit q (inr (inr (inr (inr (inr none))))) = absurd none
 
 no_repo_above : (name : Ref) (commit : List ℕ) (q : Elements) → IsAbove q (commit_dir name commit) → top q ≡ codes "repo" → ⊥
 no_repo_above name commit q above in_repo = elim (above_top name commit q above) [
-  | inl at ↦ text_apart [] (codes "repo") refl (sym (ap top at) ∙ in_repo)
+  | inl at ↦ bytes_eq-false [] (codes "repo") refl (sym (ap top at) ∙ in_repo)
   | inr at ↦ word_no_repo name.kind (sym at ∙ in_repo)
 ]
 

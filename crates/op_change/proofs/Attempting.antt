@@ -4,6 +4,7 @@ use Rattle.std.specs.Prelude.{IsErrOf, IfOk, OnOk}
 use Rattle.std.specs.Result.{IsErrAnd}
 use Rattle.std.proofs.lemmas.Result.{err_from_is_err_and}
 use Rattle.fp_base.specs.declared.object.ObjKind.{ObjKind}
+use Rattle.fp_base.proofs.Options.{none_some}
 use Rattle.fp_host.specs.Causes.{IsCaused}
 use Rattle.fp_host.specs.Frame.{AtEnd}
 use Rattle.fp_host.specs.Moments.{Moments, Always}
@@ -31,6 +32,7 @@ use Rattle.ost_store.proofs.Creating.{creates_on}
 use Rattle.ost_walk.specs.Ends.{Outside}
 use Rattle.ost_walk.specs.PullEnds.{RefusesBy}
 use Rattle.ost_walk.specs.declared.pull_end.PullEnd.{PullEnd}
+use Rattle.ost_walk.proofs.Ended.{remotes_on}
 use Rattle.dep_states.specs.After.{state_after, row_at}
 use Rattle.dep_states.specs.Deploy.{goes_back_to}
 use Rattle.dep_states.specs.Sound.{Opens}
@@ -48,9 +50,8 @@ use Rattle.op_change.specs.Obtaining.{WasObtained, Obtains}
 use Rattle.op_change.specs.declared.ending.ApplyEnd.{ApplyEnd}
 use Rattle.op_change.specs.declared.ending.ApplyEnd.TheVariants as ends
 use Rattle.op_change.proofs.Brings.{supplied_true, where_told}
-use Rattle.op_change.proofs.Brought.{IsBringing, none_some, pull_refused, pull_remote, pull_fault, refuses_with, at_url}
+use Rattle.op_change.proofs.Brought.{IsBringing, pull_refused, pull_remote, pull_fault, refuses_with, at_url}
 use Rattle.op_change.proofs.Changing.{changes_on, deploy_changes, deploy_store}
-use Rattle.op_change.proofs.Passing.{remotes_on}
 use Rattle.op_change.proofs.Pulling.{true_files}
 use Rattle.op_change.proofs.Standing.{goes_back}
 use Rattle.op_change.proofs.Plain.{err_with, never_refused, never_remote, host_fault, host_starved}

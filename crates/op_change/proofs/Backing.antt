@@ -11,8 +11,9 @@ use Rattle.fp_host.specs.Outcome.{gone, shows}
 use Rattle.fp_host.proofs.Ending.{ends_goes, ends_frame, ends_both, ends_on, ends_in_tree, goes_known}
 use Rattle.fp_host.proofs.Framed.{IsTold}
 use Rattle.fp_host.proofs.Goes.{begins, goes_on}
-use Rattle.fp_name.specs.Refs.{Ref, is_ref, ref_text, ref_of}
-use Rattle.fp_name.proofs.Refs.{ref_of-ref_text}
+use Rattle.fp_host.proofs.Shown.{now_left}
+use Rattle.fp_name.specs.Refs.{Ref, is_ref, ref_text}
+use Rattle.fp_name.proofs.Refs.{ref_text-injective}
 use Rattle.fp_small.specs.Clear.{IsWithin, GoneWithin, AbsentWithin, IsCleared, CanClear}
 use Rattle.fp_small.specs.Places.{repo, tmp}
 use Rattle.fp_small.specs.declared.op.Op.TheVariants.{Rollback}
@@ -22,6 +23,7 @@ use Rattle.fp_small.specs.declared.state.Previous.{Previous}
 use Rattle.fp_small.proofs.Keeping.{files_on, files_kept}
 use Rattle.fp_small.proofs.Sharing.{shares_empty, shares_on}
 use Rattle.fp_small.proofs.Ordered.{bytes_eq-differ}
+use Rattle.fp_small.proofs.Within.{within_rest}
 use Rattle.ost_model.specs.Objects.{object_path}
 use Rattle.ost_store.proofs.Creating.{creates_off, creates_frame}
 use Rattle.dep_states.specs.After.{row_at, exchanged, back, rolled_back, plain, state_after, HasRow, HasPrevious, IsGood, IsGoodRow}
@@ -39,7 +41,7 @@ use Rattle.dep_switch.specs.Rows.{with_row, IsAt}
 use Rattle.dep_switch.specs.Staging.{CanStage}
 use Rattle.dep_switch.specs.Writing.{new_link, new_deploy, new_folder, the_link}
 use Rattle.dep_switch.proofs.Sparing.{which}
-use Rattle.dep_switch.proofs.Spots.{now_left, gone_absent, file_free}
+use Rattle.dep_switch.proofs.Spots.{gone_absent, file_free}
 use Rattle.op_change.specs.Deploys.{DeploysName, work_goes, before_switch, at_active, Deploys, WasDeployed, Does, WasDone, HasBack, IsRowBack}
 use Rattle.op_change.proofs.Objects.{same_objects}
 
@@ -56,10 +58,7 @@ pub record IsBack (s : State) (name : Ref) (commit : List ℕ) (new : RefRow) : 
   pub named : row.name ≡ name
   pub moves : bytes_eq previous.commit row.commit ≡ false
 
-same_ref : (a b : Ref) → is_ref a ≡ true → is_ref b ≡ true → ref_text a ≡ ref_text b → a ≡ b
-same_ref a b good_a good_b e = some_is (sym (ref_of-ref_text a good_a) ∙ ap ref_of e ∙ ref_of-ref_text b good_b)
-
-no_moves : (commit : List ℕ) (o : Option Previous) (p : Previous) → o ≡ Some p → goes_back_to commit o ≡ false → bytes_eq p.commit commit ≡ false
+pub no_moves : (commit : List ℕ) (o : Option Previous) (p : Previous) → o ≡ Some p → goes_back_to commit o ≡ false → bytes_eq p.commit commit ≡ false
 no_moves commit None p e f = absurd (cc e)
 no_moves commit (Some q) p e f = subst (λ (x : Previous). bytes_eq x.commit commit ≡ false) (some_is e) f
 
@@ -80,7 +79,7 @@ is_back {s = s} {name = name} commit state has found =
       was = found.was;
       at = ap (λ (x : Previous). x.commit) (sym same_previous) ∙ has.2.2;
       is = found.is;
-      named = same_ref row.name name listed.0.name found.good listed.1;
+      named = ref_text-injective row.name name listed.0.name found.good listed.1;
       moves = no_moves row.commit row.previous p found.was listed.0.moves;
     }
 
@@ -97,15 +96,6 @@ back_commit : {s : State} {name : Ref} {commit : List ℕ} {new : RefRow} → Is
 back_commit b = ap (λ (r : RefRow). r.commit) b.is ∙ b.at
 
 -- ---- the work that goes first
-
-above_rest : (t q : Elements) → IsAbove t q → (rest : Elements) × (q ≡ rest ++ t)
-above_rest t [] above = absurd above
-above_rest t (x ∷ up) (inl same) = (x ∷ [], ap (λ (l : Elements). x ∷ l) (sym same))
-above_rest t (x ∷ up) (inr above) = let more = above_rest t up above in (x ∷ more.0, ap (λ (l : Elements). x ∷ l) more.1)
-
-within_rest : (t q : Elements) → IsWithin t q → (rest : Elements) × (q ≡ rest ++ t)
-within_rest t q (inl same) = ([], same)
-within_rest t q (inr above) = above_rest t q above
 
 link_rest : (q : Elements) → IsWithin new_link q → (rest : Elements) × (q ≡ rest ++ tmp)
 link_rest q within =

@@ -2,8 +2,9 @@
 use Rattle.std.proofs.Common.{◌≡◌, ◌≢◌, inl, inr, ℕ, List, [], ◌∷◌, Bool, true, false, Option, Some, None, Result, Err, refl, sym, ◌∙◌, ap, subst}
 use Rattle.std.specs.Prelude.{IsErrOf, if◌then◌else◌, option_map}
 use Rattle.std.specs.Str.{bytes_eq}
-use Rattle.std.proofs.lemmas.Bool.{cases_Bool, both_ways, false≢true}
+use Rattle.std.proofs.lemmas.Bool.{cases_Bool, both_ways, false≢true, or_cases}
 use Rattle.std.proofs.lemmas.Slice.Eq.{bytes_eq-Decides}
+use Rattle.fp_base.proofs.Options.{none_some}
 use Rattle.fp_host.specs.Moments.{Moments}
 use Rattle.fp_host.specs.Paths.{Elements, Slot}
 use Rattle.fp_host.specs.Remote.{Holdings}
@@ -25,7 +26,6 @@ use Rattle.ost_walk.specs.declared.pull_end.PullEnd.{PullEnd}
 use Rattle.ost_walk.specs.declared.pull_end.PullEnd.TheVariants as pulls
 use Rattle.dep_states.specs.After.{May, after_op, row_at, with_refs, updated, state_after, HasRow, IsOnConfig}
 use Rattle.dep_states.specs.Shown.{at_name, ref_key}
-use Rattle.dep_states.proofs.Rows.{or_cases}
 use Rattle.dep_states.proofs.Single.{some_is}
 use Rattle.dep_switch.specs.Rows.{IsAt, with_row}
 use Rattle.op_change.specs.Attempts.{IsToBring}
@@ -135,9 +135,6 @@ is_bringing s op name origin commit row may (inr is) from =
 
 -- ---- how a commit that is brought ends
 
-pub none_some : {A : Type 0} {a : A} → ◌≡◌ {A = Option A} None (Some a) → ⊥
-none_some is = cc is
-
 refused_of : (end : PullEnd) (r : Refusal) → of_pull end ≡ ends.Refused r → end ≡ pulls.Refused r
 refused_of (pulls.Refused x) r is = ap (λ (y : Refusal). pulls.Refused y) (let same : x ≡ r = cc is in same)
 refused_of pulls.HostFault r is = absurd (cc is)
@@ -156,7 +153,7 @@ fault_of pulls.HostFault is = refl
 fault_of pulls.RemoteFault is = absurd (cc is)
 fault_of pulls.NoMemory is = absurd (cc is)
 
-same_end : {A : Type 0} (x y : ApplyEnd) → ◌≡◌ {A = Result A ApplyEnd} (Err x) (Err y) → x ≡ y
+pub same_end : {A : Type 0} (x y : ApplyEnd) → ◌≡◌ {A = Result A ApplyEnd} (Err x) (Err y) → x ≡ y
 same_end x y is = cc is
 
 module _ {A B : Type 0} (end : PullEnd) where

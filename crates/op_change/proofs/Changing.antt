@@ -6,6 +6,7 @@ use Rattle.fp_host.specs.Paths.{Elements, Slot, absent, dir, file, IsAbove}
 use Rattle.fp_host.specs.View.{View, IsTree}
 use Rattle.fp_host.specs.Outcome.{shows}
 use Rattle.fp_host.specs.Frame.{Keeps, NoPath}
+use Rattle.fp_host.proofs.Above.{above_longer}
 use Rattle.fp_name.specs.Refs.{Ref}
 use Rattle.fp_small.specs.Clear.{IsWithin}
 use Rattle.fp_small.specs.Files.{KeepsFiles}
@@ -14,10 +15,10 @@ use Rattle.fp_small.specs.Places.{repo, tmp}
 use Rattle.fp_small.specs.Shares.{Shares}
 use Rattle.fp_small.specs.declared.state.State.{State}
 use Rattle.fp_small.specs.declared.state.RefRow.{RefRow}
-use Rattle.fp_small.proofs.Emptying.{above_longer}
 use Rattle.fp_small.proofs.Keeping.{files_stay, files_on, files_kept}
 use Rattle.fp_small.proofs.Replacement.{ancestors_above}
 use Rattle.fp_small.proofs.Sharing.{shares_empty, shares_on}
+use Rattle.fp_small.proofs.Within.{within_from}
 use Rattle.ost_model.specs.Look.{Found, nothing, directory, file_at, look}
 use Rattle.ost_model.specs.Objects.{object_path, store}
 use Rattle.ost_checkout.specs.Checkout.{SlotOf, ChecksOutAt, ChecksOutName, ChecksOut}
@@ -30,6 +31,7 @@ use Rattle.dep_states.specs.Links.{WasStored, Links}
 use Rattle.dep_states.specs.Names.{commit_dir}
 use Rattle.dep_states.proofs.Lasting.{lasting_object}
 use Rattle.dep_states.proofs.Linked.{links_refl, links_on, links_lasting, links_no_file, object_stored, stored_on}
+use Rattle.dep_states.proofs.Work.{no_object_above}
 use Rattle.dep_switch.proofs.Sparing.{which as which_link}
 use Rattle.dep_switch.specs.Writing.{new_deploy, new_folder, the_link}
 use Rattle.op_change.specs.Deploys.{DeploysName, work_goes, before_switch, at_active, Deploys}
@@ -39,7 +41,7 @@ use Rattle.op_change.specs.Furnishing.{Furnishes, readies, lays}
 use Rattle.op_change.specs.LayingOut.{MakesAbove, LaysOut, folders_come, paths_come}
 use Rattle.op_change.specs.Readying.{a_head, ReadiesName, ReadiesStore}
 use Rattle.op_change.specs.Rooms.{RoomAt, RoomName}
-use Rattle.op_change.proofs.Apart.{rest_within, object_off_tmp, object_off_dir, object_not_above, work_in_tmp, dir_apart, same_store, store_by}
+use Rattle.op_change.proofs.Apart.{object_off_dir, object_not_above, work_in_tmp, dir_apart, same_store, store_by}
 use Rattle.op_change.proofs.LaidOut.{object_stays}
 use Rattle.op_change.proofs.Sparing.{which_of}
 
@@ -81,7 +83,7 @@ module _ (s : State) (name : Ref) (commit : List ℕ) (kept : Bool) where
   Room = RoomName tmp (commit_dir name commit) kept
 
   pub room_off : (d : List ℕ) (kind : ObjKind) (e : Slot) → Room (object_path repo d kind) e → ⊥
-  room_off d kind e (inl work) = object_off_tmp d kind work.0
+  room_off d kind e (inl work) = no_object_above d kind work.0
   room_off d kind e (inr folder) = object_off_dir name commit d kind folder.1.0
 
   room_may : (kept ≡ false → KeptIn s name commit → ⊥) → (q : Elements) (e : Slot) → Room q e → BringsName s name commit q e
@@ -124,7 +126,7 @@ module _ (s : State) (name : Ref) (commit : List ℕ) (n : List ℕ) where
   -- no object's name is one of the work folder's, or above one of them
   above_off : (d c : List ℕ) (kind k : ObjKind) → IsAbove (object_path repo d kind) (object_path (n ∷ tmp) c k) → ⊥
   above_off d c kind k (inl at) = cc at
-  above_off d c kind k (inr (inl at)) = object_off_tmp d kind (subst (IsAbove tmp) (sym at) (inr (inl refl)))
+  above_off d c kind k (inr (inl at)) = no_object_above d kind (subst (IsAbove tmp) (sym at) (inr (inl refl)))
   above_off d c kind k (inr (inr (inl at))) = cc at
   above_off d c kind k (inr (inr (inr (inl at)))) = cc at
   above_off d c kind k (inr (inr (inr (inr (inl at))))) = cc at
@@ -134,7 +136,7 @@ module _ (s : State) (name : Ref) (commit : List ℕ) (n : List ℕ) where
   work_off : (d : List ℕ) (kind : ObjKind) (e : Slot) → WorksName (n ∷ tmp) (object_path repo d kind) e → ⊥
   work_off d kind e (inl object) = cc object.at
   work_off d kind e (inr (inl above)) = above_off d above.0.digest kind above.0.kind above.0.above
-  work_off d kind e (inr (inr away)) = object_off_tmp d kind (work_in_tmp n (object_path repo d kind) away.0)
+  work_off d kind e (inr (inr away)) = no_object_above d kind (work_in_tmp n (object_path repo d kind) away.0)
 
   pull_off : (u : View) (d : List ℕ) (kind : ObjKind) (e : Slot) → u.names (object_path repo d kind) ≢ absent → PullsName repo (n ∷ tmp) u (object_path repo d kind) e → ⊥
   pull_off u d kind e there (inl work) = work_off d kind e work
@@ -250,7 +252,7 @@ module _ (s : State) (name : Ref) (commit : List ℕ) where
   checks_changes {u = u} tree unkept checks =
       let keeps = checks.keeps (dir_apart name commit) in
       changes_by (λ q e. IsWithin (commit_dir name commit) q) (λ q e within. names.in_folder unkept within) (λ d kind e within. object_off_dir name commit d kind within)
-      (λ q. elim (keeps.names q) [ inl same ↦ inl same | inr put ↦ inr (subst (IsWithin (commit_dir name commit)) (sym put.at) (rest_within (commit_dir name commit) put.rest)) ]) (files_kept keeps) (checks_links tree checks) keeps.printed
+      (λ q. elim (keeps.names q) [ inl same ↦ inl same | inr put ↦ inr (subst (IsWithin (commit_dir name commit)) (sym put.at) (within_from (commit_dir name commit) put.rest)) ]) (files_kept keeps) (checks_links tree checks) keeps.printed
 
   pub lays_changes : {u w : View} → (KeptIn s name commit → ⊥) → LaysOut commit (commit_dir name commit) u w → ChangesFor s name commit u w
   lays_changes unkept (folders_come made) = made_changes made
@@ -266,7 +268,7 @@ module _ (s : State) (name : Ref) (commit : List ℕ) where
   lays_object (paths_come between tree made checks) d kind =
       elim ((checks.keeps (dir_apart name commit)).names (object_path repo d kind)) [
         | inl same ↦ same ∙ object_stays (commit_dir name commit) made (object_not_above name commit) d kind
-        | inr put ↦ absurd (object_off_dir name commit d kind (subst (IsWithin (commit_dir name commit)) (sym put.at) (rest_within (commit_dir name commit) put.rest)))
+        | inr put ↦ absurd (object_off_dir name commit d kind (subst (IsWithin (commit_dir name commit)) (sym put.at) (within_from (commit_dir name commit) put.rest)))
       ]
 
   furnish_object : {kept : Bool} {u w : View} → Furnishes commit (commit_dir name commit) kept u w → (d : List ℕ) (kind : ObjKind) → w.names (object_path repo d kind) ≡ u.names (object_path repo d kind)
@@ -290,7 +292,7 @@ module _ (s : State) (name : Ref) (commit : List ℕ) where
   deploy_may q e (at_active at is) = names.at_active at is
 
   deploy_off : (d : List ℕ) (kind : ObjKind) (e : Slot) → DeploysName name commit (object_path repo d kind) e → ⊥
-  deploy_off d kind e (work_goes within none) = object_off_tmp d kind (work_in_tmp (codes "active") (object_path repo d kind) within)
+  deploy_off d kind e (work_goes within none) = no_object_above d kind (work_in_tmp (codes "active") (object_path repo d kind) within)
   deploy_off d kind e (before_switch (new_deploy at is)) = cc at
   deploy_off d kind e (before_switch (new_folder has is)) = elim (which_link (object_path repo d kind) has) [ inl at ↦ cc at | inr at ↦ cc at ]
   deploy_off d kind e (before_switch (the_link at is)) = cc at

@@ -7,11 +7,14 @@ use Rattle.fp_host.specs.Frame.{Keeps, Frame, NoPath}
 use Rattle.fp_host.specs.Moments.{Moments}
 use Rattle.fp_host.proofs.Framed.{IsTold, keeps_on, keeps_to}
 use Rattle.fp_host.proofs.Goes.{begins, goes_on}
+use Rattle.fp_host.proofs.Above.{above_rest}
+use Rattle.fp_host.proofs.Shown.{now_left}
 use Rattle.fp_name.specs.Hex.{is_digest}
 use Rattle.fp_name.specs.Refs.{Ref}
 use Rattle.fp_small.specs.Clear.{GoneBelow, GoneWithin, AbsentBelow, AbsentWithin, IsEmptied, IsCleared, CanEmpty, CanClear}
 use Rattle.fp_small.specs.Places.{tmp}
 use Rattle.fp_small.specs.declared.state.State.{State}
+use Rattle.fp_small.proofs.Within.{within_rest}
 use Rattle.dep_states.specs.Frames.{KeptIn, InDir}
 use Rattle.dep_states.specs.Names.{commit_dir}
 use Rattle.dep_states.specs.Sound.{Opens, Spares}
@@ -19,25 +22,9 @@ use Rattle.dep_states.specs.Zones.{IsFolderOrGone}
 use Rattle.dep_states.proofs.Law.{frame_law}
 use Rattle.dep_states.proofs.Sparing.{dir_spares}
 use Rattle.dep_states.proofs.Switching.{none_in_tmp, permits_gone}
-use Rattle.dep_switch.proofs.Spots.{now_left, gone_absent}
+use Rattle.dep_states.proofs.Openings.{short_follows}
+use Rattle.dep_switch.proofs.Spots.{gone_absent}
 use Rattle.op_change.specs.Rooms.{RoomAt, RoomName, HasRoom, CanMakeRoom}
-use Rattle.dep_states.proofs.Lasting.{above_rest, within_rest}
-
--- what is too deep was gone before
-short_follows : {s : State} {G : Elements → Spot → Type 0} {u w : View} → ((q : Elements) (spot : Spot) → G q spot → spot ≡ gone) → Opens s u → Follows G u w → Follows (λ q spot. G q spot × (length q ≤ 128)) u w
-short_follows goes opens follows = record {
-  from = λ disk left. let b = follows.from disk left in (
-    b.0,
-    b.1,
-    λ p. elim (b.2 p) [
-      | inl same ↦ inl same
-      | inr given ↦ elim (((opens.sound b.0 b.1).kinds p).short) [
-        | inl none ↦ inl (goes p (disk p) given ∙ sym none)
-        | inr short ↦ inr (given, short)
-      ]
-    ],
-  );
-}
 
 module _ (name : Ref) (commit : List ℕ) (kept : Bool) where
   room_goes : (q : Elements) (spot : Spot) → RoomAt tmp (commit_dir name commit) kept q spot → spot ≡ gone

@@ -10,6 +10,7 @@ use Rattle.fp_host.specs.Reads.{is_ascending}
 use Rattle.fp_host.specs.Outcome.{Spot, Disk, Leaves, gone, folder, holds, spot_of, holding, shows}
 use Rattle.fp_host.proofs.Settled.{at_tree}
 use Rattle.fp_name.specs.Refs.{Ref}
+use Rattle.fp_name.proofs.Refs.{word_apart}
 use Rattle.fp_small.specs.Clear.{IsWithin}
 use Rattle.fp_small.specs.Places.{repo, tmp}
 use Rattle.ost_model.specs.Stores.{objects_folder}
@@ -32,13 +33,14 @@ use Rattle.dep_states.specs.After.{state_after, plain, May, IsOnConfig, IsGoodRo
 use Rattle.dep_states.proofs.Deployed.{top}
 use Rattle.dep_states.proofs.Law.{shows_same}
 use Rattle.dep_states.proofs.Small.{shows_settings, sound_settings}
-use Rattle.dep_states.proofs.Sparing.{word_apart, fixed_in_repo}
+use Rattle.dep_states.proofs.Sparing.{fixed_in_repo}
 use Rattle.dep_states.proofs.Switching.{none_in_tmp}
 use Rattle.fp_host.specs.Moments.{Moments, Goes}
 use Rattle.fp_host.specs.Frame.{AtEnd}
 use Rattle.fp_host.proofs.Goes.{begins}
 use Rattle.fp_host.proofs.Ending.{ends_in_tree, goes_known}
 use Rattle.fp_host.proofs.Framed.{IsTold}
+use Rattle.fp_host.proofs.Shown.{now_left}
 use Rattle.fp_base.specs.declared.object.ObjKind.{ObjKind}
 use Rattle.dep_states.specs.Switch.{OpensEither}
 use Rattle.fp_small.proofs.Pinning.{added, dropped}
@@ -51,10 +53,6 @@ use Rattle.ost_store.proofs.Creating.{creates_frame}
 use Rattle.dep_states.proofs.Elsewhere.{off_settings, off_work}
 use Rattle.op_change.specs.Applied.{SettingsDone}
 use Rattle.op_change.proofs.Sizes.{config_fits}
-
--- what stands now is an outcome
-now_left : (v : View) → Leaves v (shows v)
-now_left v = record { names = v.names; files = v.files; may_be = λ p. inl refl; rows = λ id. inl refl; seen = λ p. refl }
 
 -- ---- what is written is shown
 

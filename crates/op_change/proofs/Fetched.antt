@@ -1,18 +1,20 @@
 -- Room, a pull, and what comes after it, one after another.
 use Rattle.std.proofs.Common.{◌≡◌, ◌⊎◌, inl, inr, ℕ, List, [], ◌∷◌, Bool, true, false, Option, Some, None, codes, refl, sym, ◌∙◌, ap, subst, arith}
 use Rattle.fp_base.specs.declared.object.ObjKind.{ObjKind}
+use Rattle.fp_base.proofs.Texts.{bytes_eq-false}
 use Rattle.fp_host.specs.Paths.{Elements, Slot, absent, IsAbove, dir}
 use Rattle.fp_host.specs.View.{View, IsTree}
 use Rattle.fp_host.specs.Outcome.{shows}
 use Rattle.fp_host.specs.Frame.{Keeps, NoPath}
 use Rattle.fp_host.specs.Remote.{Holdings}
+use Rattle.fp_host.proofs.Above.{above_longer}
+use Rattle.fp_host.proofs.Shown.{now_left}
 use Rattle.fp_name.specs.Hex.{is_digest}
 use Rattle.fp_name.specs.Refs.{Ref}
 use Rattle.fp_small.specs.Clear.{IsWithin}
 use Rattle.fp_small.specs.Places.{repo, tmp, new_name}
 use Rattle.fp_small.specs.Shares.{Shares}
 use Rattle.fp_small.specs.declared.state.State.{State}
-use Rattle.fp_small.proofs.Emptying.{above_longer}
 use Rattle.fp_small.proofs.Replacement.{ancestors_above}
 use Rattle.fp_small.proofs.Sharing.{shares_empty, shares_on, shares_to}
 use Rattle.ost_model.specs.Objects.{Have, object_path, object_at, store, supply}
@@ -30,10 +32,11 @@ use Rattle.dep_states.specs.Names.{commit_dir}
 use Rattle.dep_states.specs.Sound.{Opens}
 use Rattle.dep_states.proofs.Deployed.{top}
 use Rattle.dep_states.proofs.Lasting.{lasting_object}
-use Rattle.dep_states.proofs.Rows.{text_apart, head_of}
+use Rattle.dep_states.proofs.Rows.{head_of}
 use Rattle.dep_states.proofs.Switching.{word_no_repo}
+use Rattle.dep_states.proofs.Work.{no_object_above}
 use Rattle.dep_switch.specs.Writing.{new_link}
-use Rattle.dep_switch.proofs.Spots.{now_left, same_shown}
+use Rattle.dep_switch.proofs.Spots.{same_shown}
 use Rattle.op_change.specs.Bringing.{AreTold, LeftName, work_gone, work_folder, unkept_gone}
 use Rattle.op_change.specs.Brought.{supply_at, HasObjects}
 use Rattle.op_change.specs.Fetching.{Fetches, WasFetched, HasNoDeploy, WasTurnedDown}
@@ -43,9 +46,10 @@ use Rattle.op_change.specs.Places.{pull_work}
 use Rattle.op_change.specs.Readying.{ReadiesStore}
 use Rattle.op_change.specs.Rooms.{RoomAt, RoomName, HasRoom}
 use Rattle.fp_small.proofs.Keeping.{files_kept, files_on}
+use Rattle.fp_small.proofs.Within.{within_from}
 use Rattle.ost_store.proofs.Creating.{creates_to, creates_on, creates_off}
 use Rattle.op_change.proofs.Creating.{room_creates, furnish_creates}
-use Rattle.op_change.proofs.Apart.{rest_within, dir_apart, work_in_tmp, object_off_tmp, store_by}
+use Rattle.op_change.proofs.Apart.{dir_apart, work_in_tmp, store_by}
 use Rattle.op_change.proofs.Changing.{changes_on, room_changes, room_store, pull_changes, ready_object, furnish_changes, furnish_files, furnish_store}
 use Rattle.op_change.proofs.Folders.{lays_opens}
 use Rattle.op_change.proofs.Pulling.{pull_opens, true_files, true_names, true_same}
@@ -71,7 +75,7 @@ link_off_work e (inr (inl above)) = absurd (no_above above.0.digest above.0.kind
     no_above : (d : List ℕ) (kind : ObjKind) → IsAbove new_link (object_path pull_work d kind) → ⊥
     no_above d kind (inl at) = cc at
     no_above d kind (inr (inl at)) = cc at
-    no_above d kind (inr (inr (inl at))) = text_apart (codes "active") (codes "pull") refl (ap head_of at)
+    no_above d kind (inr (inr (inl at))) = bytes_eq-false (codes "active") (codes "pull") refl (ap head_of at)
     no_above d kind (inr (inr (inr (inl at)))) = cc at
     no_above d kind (inr (inr (inr (inr (inl at))))) = cc at
     no_above d kind (inr (inr (inr (inr (inr (inl at)))))) = cc at
@@ -84,7 +88,7 @@ link_pulled u e (inr (inl object)) = absurd (cc object.at)
 link_pulled u e (inr (inr above)) = absurd (no_above above.0.digest above.0.kind above.0.above)
   where
     no_above : (d : List ℕ) (kind : ObjKind) → IsAbove new_link (object_path repo d kind) → ⊥
-    no_above d kind (inl at) = text_apart (codes "tmp") (codes "objects") refl (ap (λ (q : Elements). head_of (tail_of q)) at)
+    no_above d kind (inl at) = bytes_eq-false (codes "tmp") (codes "objects") refl (ap (λ (q : Elements). head_of (tail_of q)) at)
       where
         tail_of : Elements → Elements
         tail_of [] = []
@@ -133,7 +137,7 @@ module _ (name : Ref) (commit : List ℕ) where
   link_lays (folders_come made) = link_made made
   link_lays (paths_come between tree made checks) = elim ((checks.keeps (dir_apart name commit)).names new_link) [
     | inl same ↦ same ∙ link_made made
-    | inr put ↦ absurd (link_off_dir (subst (IsWithin (commit_dir name commit)) (sym put.at) (rest_within (commit_dir name commit) put.rest)))
+    | inr put ↦ absurd (link_off_dir (subst (IsWithin (commit_dir name commit)) (sym put.at) (within_from (commit_dir name commit) put.rest)))
   ]
 
   link_furnished : {kept : Bool} {u w : View} → Furnishes commit (commit_dir name commit) kept u w → w.names new_link ≡ u.names new_link
@@ -292,7 +296,7 @@ module _ (s : State) (name : Ref) (commit url : List ℕ) (kept : Bool) (holds :
   refused_off d kind refused = elim (refused.names (object_path repo d kind)) [
     | inl same ↦ same
     | inr other ↦ absurd (elim other [
-      | inl within ↦ object_off_tmp d kind (work_in_tmp (codes "pull") (object_path repo d kind) within)
+      | inl within ↦ no_object_above d kind (work_in_tmp (codes "pull") (object_path repo d kind) within)
       | inr above ↦ omega (arith, above_longer (object_path repo d kind) pull_work above.0)
     ])
   ]

@@ -11,6 +11,7 @@ use Rattle.fp_name.specs.Kinds.{kind_word}
 use Rattle.fp_name.specs.Refs.{Ref}
 use Rattle.fp_name.specs.declared.kind.RefKind.{RefKind}
 use Rattle.fp_name.specs.declared.kind.RefKind.TheVariants.{App, Runtime}
+use Rattle.fp_name.proofs.Refs.{word_apart}
 use Rattle.fp_small.specs.Folders.{ancestors, FoldersAt}
 use Rattle.fp_small.specs.Places.{repo}
 use Rattle.fp_small.specs.declared.state.State.{State}
@@ -27,7 +28,7 @@ use Rattle.dep_states.specs.Sound.{Fixed, IsOld, is_config, is_old, is_remotes, 
 use Rattle.dep_states.specs.Zones.{Zone, anything, Allowed, Fits, IsFolderOrGone, zone, outward}
 use Rattle.dep_states.proofs.Deployed.{top}
 use Rattle.dep_states.proofs.Law.{frame_law}
-use Rattle.dep_states.proofs.Sparing.{dir_spares, spares_to, word_apart}
+use Rattle.dep_states.proofs.Sparing.{dir_spares, spares_to}
 use Rattle.dep_states.proofs.Switching.{word_no_repo}
 use Rattle.op_change.specs.LayingOut.{MakesAbove, LaysOut, folders_come, paths_come}
 use Rattle.op_change.proofs.Apart.{object_not_above, dir_apart}

@@ -1,5 +1,5 @@
 -- What operations on refs and overrides make of a good state is good.
-use Rattle.std.proofs.Common.{◌≡◌, inl, inr, ℕ, List, [], ◌∷◌, true, false, Option, Some, None, sym, ◌∙◌, ap, subst}
+use Rattle.std.proofs.Common.{◌≡◌, inl, inr, ℕ, List, [], ◌∷◌, true, Option, Some, None, sym, ◌∙◌, ap, subst}
 use Rattle.std.specs.List.{AllByRecursion}
 use Rattle.std.specs.Str.{bytes_eq}
 use Rattle.std.proofs.lemmas.Bool.{cases_Bool}
@@ -13,12 +13,12 @@ use Rattle.fp_small.specs.declared.state.RefRow.{RefRow}
 use Rattle.fp_small.specs.declared.state.State.{State}
 use Rattle.fp_small.proofs.Ordered.{bytes_eq-differ}
 use Rattle.dep_states.specs.After.{with_refs, exchanged, back, rolled_back, state_after, plain, HasRow, HasPrevious, IsGoodPrevious, IsGoodRow, IsGoodLayer, IsGood}
-use Rattle.dep_states.specs.Deploy.{goes_back_to}
 use Rattle.fp_name.specs.Grammar.{is_override}
 use Rattle.dep_states.specs.Shown.{ref_key, override_key}
 use Rattle.dep_states.proofs.Changes.{removed_ascends, replaced_ascends}
 use Rattle.dep_states.proofs.Listed.{at_found}
 use Rattle.dep_states.proofs.Single.{some_is}
+use Rattle.op_change.proofs.Backing.{no_moves}
 
 module _ {A : Type 0} (name : A → List ℕ) (P : A → Type 0) where
   all_removed : (xs : List A) (x : List ℕ) → AllByRecursion P xs → AllByRecursion P (removed name xs x)
@@ -73,17 +73,13 @@ good_of : (o : Option Previous) (p : Previous) → o ≡ Some p → IsGoodPrevio
 good_of None p e good = absurd (cc e)
 good_of (Some q) p e good = subst (λ (x : Previous). IsGoodPrevious (Some x)) (some_is e) good
 
-differs : (commit : List ℕ) (o : Option Previous) (p : Previous) → o ≡ Some p → goes_back_to commit o ≡ false → bytes_eq p.commit commit ≡ false
-differs commit None p e f = absurd (cc e)
-differs commit (Some q) p e f = subst (λ (x : Previous). bytes_eq x.commit commit ≡ false) (some_is e) f
-
 good_row : (row : RefRow) (p : Previous) → row.previous ≡ Some p → IsGoodRow row → IsGoodRow (exchanged row p)
 good_row row p was good = let old = good_of row.previous p was good.previous in record {
   name = good.name;
   origin = good.origin;
   commit = old.0;
   previous = (good.commit, good.time);
-  moves = bytes_eq-differ p.commit row.commit (differs row.commit row.previous p was good.moves);
+  moves = bytes_eq-differ p.commit row.commit (no_moves row.commit row.previous p was good.moves);
   time = old.1;
 }
 

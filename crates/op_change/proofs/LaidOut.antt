@@ -1,8 +1,5 @@
 -- A commit that is laid out.
-use Rattle.std.proofs.Common.{◌≡◌, inl, inr, ℕ, List, [], ◌∷◌, Option, Result, Err, refl, sym, ◌∙◌, ap, subst, arith}
-use Rattle.std.specs.Prelude.{IsErrOf}
-use Rattle.std.specs.Result.{IsErrAnd}
-use Rattle.std.proofs.lemmas.Result.{err_from_is_err_and}
+use Rattle.std.proofs.Common.{◌≡◌, inl, inr, ℕ, List, [], ◌∷◌, Option, sym, ◌∙◌, ap, subst, arith}
 use Rattle.fp_base.specs.declared.object.ObjKind.{ObjKind}
 use Rattle.fp_host.specs.Paths.{Elements, absent, dir, IsAbove}
 use Rattle.fp_host.specs.View.{View, IsTree}
@@ -10,22 +7,17 @@ use Rattle.fp_host.specs.Calls.{HasFolder}
 use Rattle.fp_host.specs.Outcome.{shows}
 use Rattle.fp_host.specs.Frame.{Frame, Keeps, AtEnd, NoPath}
 use Rattle.fp_host.specs.Moments.{Moments, Goes}
-use Rattle.fp_host.specs.declared.host.HostEnd.{HostEnd}
-use Rattle.fp_host.specs.declared.host.HostEnd.TheVariants as host_ends
 use Rattle.fp_host.proofs.Ending.{ends_both, ends_frame, ends_in_tree, ends_on, ends_to}
 use Rattle.fp_host.proofs.Framed.{IsTold, keeps_refl}
 use Rattle.fp_host.proofs.Goes.{begins, goes_on}
+use Rattle.fp_host.proofs.Above.{above_longer}
 use Rattle.fp_small.specs.Folders.{ancestors, FoldersAt, DirsAt, AreFree, AreDirs}
 use Rattle.fp_small.specs.Places.{repo}
-use Rattle.fp_small.proofs.Emptying.{above_longer}
 use Rattle.fp_small.proofs.Keeping.{files_kept}
 use Rattle.fp_small.proofs.Replacement.{ancestors_above, parent_in}
 use Rattle.ost_model.specs.Objects.{object_path, object_at, store}
 use Rattle.ost_model.specs.Order.{first_fault}
 use Rattle.ost_checkout.specs.Checkout.{ChecksOut, WasCheckedOut, HasReserved, CanCheckOut}
-use Rattle.ost_checkout.specs.Ends.{of_host}
-use Rattle.ost_checkout.specs.declared.ends.CheckoutEnd.{CheckoutEnd}
-use Rattle.ost_checkout.specs.declared.ends.CheckoutEnd.TheVariants as ends
 use Rattle.dep_switch.proofs.Spots.{same_shown}
 use Rattle.op_change.specs.LayingOut.{MakesAbove, LaysOut, folders_come, paths_come, WasLaidOut, CanLayOut}
 
@@ -90,21 +82,3 @@ ends_begins to told last frame dirs = ends_in_tree last (ends_both (ends_frame t
 
 pub can_begin : {commit : List ℕ} {to root : Elements} {u v : View} → root ≡ repo → IsTree u → Begins to u v → CanLayOut commit to u → CanCheckOut root commit to v
 can_begin {commit = commit} {to = to} {v = v} is start begins can = subst (λ (r : Elements). CanCheckOut r commit to v) (sym is) (can_check start begins.tree begins.keeps begins.dirs can)
-
--- ---- how it ends where a part does
-
-not_reserved_end : (end : HostEnd) → of_host end ≡ ends.ReservedName → ⊥
-not_reserved_end host_ends.Fault is = cc is
-not_reserved_end host_ends.NoMemory is = cc is
-
-fault_of_host : (end : HostEnd) → of_host end ≡ ends.Fault → end ≡ host_ends.Fault
-fault_of_host host_ends.Fault is = refl
-fault_of_host host_ends.NoMemory is = absurd (cc is)
-
-pub never_reserved : {T : Type 0} (s : Result T CheckoutEnd) (end : HostEnd) → IsErrAnd s (λ e. e ≡ of_host end) → IsErrOf s ends.ReservedName → ⊥
-never_reserved s end err is = let p = err_from_is_err_and s err in not_reserved_end end (cc (p.1, p.2, is))
-
-pub host_fault : {T U : Type 0} (r : Result T HostEnd) (s : Result U CheckoutEnd) (end : HostEnd) → r ≡ Err end → IsErrAnd s (λ e. e ≡ of_host end) → IsErrOf s ends.Fault → IsErrOf r host_ends.Fault
-host_fault r s end was err fault =
-    let p = err_from_is_err_and s err in
-    was ∙ ap (λ (x : HostEnd). Err x) (fault_of_host end (cc (p.1, p.2, fault)))

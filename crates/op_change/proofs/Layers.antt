@@ -1,12 +1,11 @@
 -- One override that changes.
-use Rattle.std.proofs.Common.{◌≡◌, ◌≢◌, ◌⊎◌, ◌≤◌, inl, inr, ℕ, List, [], ◌∷◌, length, map, Bool, true, false, Option, Some, None, Ok, Contains, codes, refl, sym, ◌∙◌, ap, subst, arith}
+use Rattle.std.proofs.Common.{◌≡◌, ◌≢◌, ◌⊎◌, ◌≤◌, inl, inr, ℕ, List, [], ◌∷◌, length, map, true, Option, Some, None, Ok, Contains, codes, refl, sym, ◌∙◌, ap, subst, arith}
 use Rattle.std.specs.Prelude.{if◌then◌else◌}
-use Rattle.std.specs.Str.{bytes_eq}
-use Rattle.std.proofs.lemmas.Bool.{le-leb, or_cases, cond-true}
+use Rattle.std.proofs.lemmas.Bool.{le-leb, cond-true}
 use Rattle.std.proofs.lemmas.List.Elements.{Contains-push_cases}
-use Rattle.std.proofs.lemmas.Slice.Eq.{bytes_eq-Decides}
 use Rattle.fp_base.specs.declared.object.ObjKind.{ObjKind}
-use Rattle.fp_host.specs.Paths.{Elements, Slot, absent, is_element, IsAbove}
+use Rattle.fp_base.proofs.Texts.{bytes_eq-same, bytes_eq-false}
+use Rattle.fp_host.specs.Paths.{Elements, Slot, absent, IsAbove}
 use Rattle.fp_host.specs.View.{View, IsTree}
 use Rattle.fp_host.specs.Calls.{syncs, Step, IsNoDir}
 use Rattle.fp_host.specs.Outcome.{Spot, gone, folder, holds, spot_of, Disk, Leaves, Follows, shows}
@@ -17,59 +16,49 @@ use Rattle.fp_host.proofs.Framed.{IsTold}
 use Rattle.fp_host.proofs.Goes.{begins}
 use Rattle.fp_host.proofs.Separate.{path_cases}
 use Rattle.fp_host.proofs.Settled.{settled_disk}
+use Rattle.fp_host.proofs.Shown.{now_left}
 use Rattle.fp_host.specs.Reads.{is_ascending}
 use Rattle.fp_name.specs.Refs.{Ref}
 use Rattle.fp_keyfile.specs.KeyFile.{text_of, file_of, is_good}
 use Rattle.fp_keyfile.proofs.Read.{file_of-text_of}
-use Rattle.fp_name.specs.FileNames.{is_file_name}
-use Rattle.fp_name.specs.Grammar.{is_id}
-use Rattle.fp_name.proofs.Files.{file_id}
+use Rattle.fp_name.proofs.Refs.{word_apart}
 use Rattle.fp_small.specs.Clear.{GoneAt, AbsentAt, IsWithin}
 use Rattle.fp_small.specs.Folders.{IsFree}
 use Rattle.fp_small.specs.Move.{IsNew}
 use Rattle.fp_small.specs.Places.{repo, tmp}
 use Rattle.ost_model.specs.Stores.{objects_folder}
-use Rattle.fp_small.specs.Replace.{IsFreeFile, folders_of, ReplacesAt, ReplacesName, Replaces, WasReplaced, CanReplace}
+use Rattle.fp_small.specs.Replace.{folders_of, ReplacesAt, ReplacesName, Replaces, WasReplaced, CanReplace}
 use Rattle.fp_small.specs.declared.op.Op.TheVariants.{SetOverride, DropOverride}
 use Rattle.fp_small.specs.declared.state.OverrideRow.{OverrideRow}
 use Rattle.fp_small.specs.declared.state.State.{State}
 use Rattle.fp_small.proofs.Keeping.{files_kept}
-use Rattle.fp_small.proofs.Ordered.{bytes_eq-itself}
 use Rattle.fp_small.proofs.Sharing.{shares_empty, shares_made}
 use Rattle.fp_small.proofs.Staging.{synced}
+use Rattle.fp_small.proofs.Replacement.{free_no_dir}
 use Rattle.ost_model.specs.Objects.{object_path}
 use Rattle.dep_states.specs.After.{state_after, plain}
 use Rattle.dep_states.specs.Lasting.IsLasting.{an_override}
 use Rattle.dep_states.specs.Names.{overrides_folder, override_path, commit_dir, deploy}
 use Rattle.fp_name.specs.Grammar.{is_override}
-use Rattle.dep_states.specs.Shown.{away, bad, there, seen_of, read_of, if_file, named_override, override_at, override_seen, at_name, override_key, small_most, Shows}
+use Rattle.dep_states.specs.Shown.{bad, there, seen_of, read_of, if_file, named_override, override_at, override_seen, at_name, override_key, small_most, Shows}
 use Rattle.dep_states.specs.Small.{IsLayered}
 use Rattle.dep_states.specs.Sound.{Sound, Fixed, Permits, Opens, is_config, is_old, is_remotes, is_pins, is_active, is_deploy, is_layer, is_inside, is_object}
-use Rattle.dep_states.specs.Zones.{Zone, anything, a_file, IsFileOrGone, Fits, Allowed}
+use Rattle.dep_states.specs.Zones.{a_file, IsFileOrGone, Allowed}
 use Rattle.dep_states.proofs.Changes.{after_set, after_drop, at_replaced, at_removed}
 use Rattle.dep_states.proofs.Deployed.{top, outward_append}
 use Rattle.dep_states.proofs.Law.{shows_same}
-use Rattle.dep_states.proofs.Rows.{head_of, text_apart}
+use Rattle.dep_states.proofs.Rows.{head_of}
 use Rattle.dep_states.proofs.Small.{shows_layer, sound_layer}
-use Rattle.dep_states.proofs.Sparing.{fixed_in_repo, word_apart}
+use Rattle.dep_states.proofs.Sparing.{fixed_in_repo}
 use Rattle.dep_states.proofs.Switching.{none_in_tmp, word_no_repo, permits_gone}
-use Rattle.dep_switch.proofs.Spots.{now_left, folder_free, file_free}
+use Rattle.dep_switch.proofs.Spots.{folder_free, file_free}
 use Rattle.op_change.specs.Deploys.{Does, WasDone}
 use Rattle.op_change.proofs.Objects.{same_objects}
 use Rattle.ost_store.proofs.Creating.{creates_frame}
 use Rattle.dep_states.proofs.Elsewhere.{off_override, off_work}
+use Rattle.dep_states.proofs.Away.{override_away}
+use Rattle.dep_states.proofs.Zones.{fits_if, unless_any}
 use Rattle.op_change.specs.Overriding.{AbsentAtPath}
-
--- ---- the name
-
-element_file : (text : List ℕ) → is_file_name text ≡ true → is_element text ≡ true
-element_file text h = h
-
-pub element_override : (name : List ℕ) → is_override name ≡ true → is_element name ≡ true
-element_override name h = elim (or_cases (bytes_eq name (codes "global")) (is_id name) h) [
-  | inl global ↦ subst (λ n. is_element n ≡ true) (sym ((bytes_eq-Decides name (codes "global")).0 global)) refl
-  | inr id ↦ element_file name (file_id name id)
-]
 
 -- ---- two images that differ in one override
 
@@ -119,10 +108,6 @@ no_deploy : (p : Elements) → (top p ≡ codes "overrides") ⊎ (top p ≡ code
 no_deploy p (inl is) n c at = word_apart n.kind (codes "overrides") refl refl (sym (ap top at) ∙ is)
 no_deploy p (inr is) n c at = word_no_repo n.kind (sym (ap top at) ∙ is)
 
-fits_if : (b : Bool) (z : Zone) (p : Elements) (spot : Spot) → Fits z p spot → Fits (if b then z else anything) p spot
-fits_if true z p spot f = f
-fits_if false z p spot f = tt
-
 file_allowed : (name : List ℕ) (spot : Spot) → IsFileOrGone spot → Allowed (override_path name) spot
 file_allowed name spot file = record { fits = fits_if (is_override name) a_file (override_path name) spot file; short = inr (omega arith) }
 
@@ -158,8 +143,8 @@ given_here : (name bytes : List ℕ) (u : View) (spot : Spot) → ReplacesAt (ov
 given_here name bytes u spot given = elim given [
   | inl new ↦ new.1
   | inr other ↦ elim other [
-    | inl made ↦ elim (which name (override_path name) made.0) [ inl at ↦ absurd (cc at) | inr more ↦ elim more [ inl at ↦ absurd (cc at) | inr at ↦ absurd (text_apart (codes "overrides") (codes "repo") refl (ap top at)) ] ]
-    | inr work ↦ absurd (text_apart (codes "overrides") (codes "repo") refl (ap top work.is))
+    | inl made ↦ elim (which name (override_path name) made.0) [ inl at ↦ absurd (cc at) | inr more ↦ elim more [ inl at ↦ absurd (cc at) | inr at ↦ absurd (bytes_eq-false (codes "overrides") (codes "repo") refl (ap top at)) ] ]
+    | inr work ↦ absurd (bytes_eq-false (codes "overrides") (codes "repo") refl (ap top work.is))
   ]
 ]
 
@@ -175,7 +160,7 @@ file_reads row id back short =
     ∙ ap (λ r. named_override row.name (read_of (if_file r))) back
 
 set_there : (s : State) (row : OverrideRow) → at_name override_key (set_state s row).overrides row.name ≡ Some row
-set_there s row = at_replaced override_key s.overrides row (override_key row) ∙ rw (bytes_eq-itself (override_key row)) refl
+set_there s row = at_replaced override_key s.overrides row (override_key row) ∙ rw (bytes_eq-same (override_key row)) refl
 
 ascending : {s : State} {v : View} → Opens s v → is_ascending (map override_key s.overrides) ≡ true
 ascending {v = v} opens = (opens.shown (shows v) (now_left v)).overrides_ascend
@@ -258,10 +243,6 @@ module _ (s : State) (row : OverrideRow) (name_good : is_override row.name ≡ t
       (record { goes = begins told (goes_known goes done) (λ u w t r. tt) (λ u w t r q. (t, q.0, q.1)) })
       (λ u w after_ q. was_set q.0 after_ q.1 q.2)
 
-unless_any : (b : Bool) (z : Zone) (p : Elements) (spot : Spot) → b ≡ true → Fits (if b then z else anything) p spot → Fits z p spot
-unless_any true z p spot e fits = fits
-unless_any false z p spot e fits = absurd (cc e)
-
 layer_fits : (name : List ℕ) (spot : Spot) → is_override name ≡ true → Allowed (override_path name) spot → IsFileOrGone spot
 layer_fits name spot good allowed = unless_any (is_override name) a_file (override_path name) spot good allowed.fits
 
@@ -281,7 +262,7 @@ can_set name {v = v} good tree opens =
       };
       no_root = λ e. cc e;
       no_repo = λ e. cc e;
-      no_tmp = λ e. text_apart (codes "overrides") (codes "repo") refl (ap top e);
+      no_tmp = λ e. bytes_eq-false (codes "overrides") (codes "repo") refl (ap top e);
       no_work = λ above. elim above [ inl at ↦ cc at | inr more ↦ elim more [ inl at ↦ cc at | inr none ↦ none ] ];
     }
 
@@ -290,12 +271,8 @@ can_set name {v = v} good tree opens =
 abbrev drop_state : State → List ℕ → State
 drop_state s name = state_after s (plain (DropOverride name))
 
-gone_away : (name : List ℕ) → override_at name gone ≡ away
-unfolding override_at
-gone_away name = refl
-
 drop_there : (s : State) (name : List ℕ) → at_name override_key (drop_state s name).overrides name ≡ None
-drop_there s name = at_removed override_key s.overrides name name ∙ rw (bytes_eq-itself name) refl
+drop_there s name = at_removed override_key s.overrides name name ∙ rw (bytes_eq-same name) refl
 
 module _ (s : State) (name : List ℕ) (name_good : is_override name ≡ true) where
   module _ {u w : View} (follows : Follows (GoneAt (override_path name)) u w) (opens : Opens s u) (disk : Disk) (left : Leaves w disk) where
@@ -319,7 +296,7 @@ module _ (s : State) (name : List ℕ) (name_good : is_override name ≡ true) w
 
     drop_new : disk (override_path name) ≡ gone → Shows disk (drop_state s name)
     drop_new none = new_layer name drop_layered drop_still drop_elsewhere
-        (cond-true (is_override name) _ _ name_good ∙ ap (override_at name) none ∙ gone_away name ∙ ap seen_of (sym (drop_there s name))) (opens.shown drop_before drop_was)
+        (cond-true (is_override name) _ _ name_good ∙ ap (override_at name) none ∙ override_away name ∙ ap seen_of (sym (drop_there s name))) (opens.shown drop_before drop_was)
 
     drop_each : Shows disk s ⊎ Shows disk (drop_state s name)
     drop_each = elim (drop_step (override_path name)) [
@@ -364,15 +341,5 @@ module _ (s : State) (name : List ℕ) (name_good : is_override name ≡ true) w
       (ends_both (ends_on (ends_call mid call) start mid (λ u v w tree q e. (v, q.0, q.1, q.2, e))) (ends_frame told whole))
       (λ u w after_ q. was_dropped q.0.1 after_ q.0.2 q.0.3 q.1 q.0.4)
 
-no_dir_file : (p : Elements) (v : View) → IsFreeFile p v → IsNoDir (v.names p)
-no_dir_file p v (inl none) = subst IsNoDir (sym none) tt
-no_dir_file p v (inr is) = subst IsNoDir (sym is.1) tt
-
 pub can_drop : {s : State} (name : List ℕ) {v : View} → is_override name ≡ true → IsTree v → Opens s v → IsNoDir (v.names (override_path name))
-can_drop name {v = v} good tree opens = no_dir_file (override_path name) v (can_set name good tree opens).entry
-
-pub framed_at : {p q : Elements} {a b : Option Moments} → p ≡ q → Frame (GoneAt p) (AbsentAt p) NoPath a b → Frame (GoneAt q) (AbsentAt q) NoPath a b
-framed_at {a = a} {b = b} is frame = subst (λ (r : Elements). Frame (GoneAt r) (AbsentAt r) NoPath a b) is frame
-
-pub gone_at : {p q : Elements} {a b : Option Moments} → p ≡ q → AtEnd (λ u w. w.names p ≡ absent) a b → AtEnd (λ u w. w.names q ≡ absent) a b
-gone_at {a = a} {b = b} is none = subst (λ (r : Elements). AtEnd (λ u w. w.names r ≡ absent) a b) is none
+can_drop name {v = v} good tree opens = free_no_dir (override_path name) v (can_set name good tree opens).entry

@@ -1,10 +1,11 @@
 -- An operation that brings no commit, among all.
-use Rattle.std.proofs.Common.{◌≡◌, ◌⊎◌, inl, inr, ℕ, List, Option, None, Result, Ok, Err, refl, sym, ◌∙◌, ap, subst, Some, arith}
+use Rattle.std.proofs.Common.{◌≡◌, ◌⊎◌, inl, inr, ℕ, List, Option, None, Result, Ok, Err, refl, sym, ◌∙◌, ap, subst, arith}
 use Rattle.std.specs.Prelude.{IsErrOf, IfOk, OnOk}
 use Rattle.fp_host.specs.Causes.{IsCaused}
 use Rattle.fp_host.specs.Frame.{AtEnd}
 use Rattle.fp_host.specs.Moments.{Moments, Always}
 use Rattle.fp_base.specs.declared.object.ObjKind.{ObjKind}
+use Rattle.fp_base.proofs.Options.{none_some}
 use Rattle.fp_host.specs.Paths.{Elements, file, IsAbove}
 use Rattle.fp_host.specs.Remote.{Holdings}
 use Rattle.fp_host.specs.View.{View}
@@ -32,16 +33,14 @@ use Rattle.dep_states.specs.Switch.{OpensEither}
 use Rattle.dep_states.proofs.Linked.{links_lasting}
 use Rattle.op_change.specs.Deploys.{SameObjects}
 use Rattle.op_change.proofs.Deployed.{deploys_file}
+use Rattle.op_change.proofs.Brought.{same_end}
 use Rattle.ost_store.proofs.Creating.{creates_to}
 use Rattle.op_change.specs.Applied.{Brings, MayChange, MayWrite, ChangesName, have_for, done_with, time_by, op_refusal, refusal_by, Applies, WasApplied, IsStarved, AppliesWith, AppliesPlainly, HasObjectsFor, HasObjectsBy, IsBroughtFor, IsLackedBy}
 use Rattle.op_change.specs.Attempts.{Attempts}
 use Rattle.op_change.specs.Ends.{of_host}
 use Rattle.op_change.specs.Plainly.{DoesPlainly, WasDonePlainly, IsStarvedPlainly}
 use Rattle.op_change.specs.declared.ending.ApplyEnd.{ApplyEnd}
-use Rattle.op_change.specs.declared.ending.ApplyEnd.TheVariants as ends
-
-none_some : {A : Type 0} {a : A} → ◌≡◌ {A = Option A} None (Some a) → ⊥
-none_some is = cc is
+use Rattle.op_change.specs.declared.ending.ApplyEnd.TheVariants as apply_ends
 
 -- ---- by the effect
 
@@ -145,38 +144,35 @@ err_plainly : (s : State) (op : Op) (end : HostEnd) → AppliesPlainly s op (Err
 err_plainly s op host_ends.Fault = tt
 err_plainly s op host_ends.NoMemory = tt
 
-same_end : {A : Type 0} (x y : ApplyEnd) → ◌≡◌ {A = Result A ApplyEnd} (Err x) (Err y) → x ≡ y
-same_end x y is = cc is
-
-no_refusal : (end : HostEnd) (r : Refusal) → of_host end ≡ ends.Refused r → ⊥
+no_refusal : (end : HostEnd) (r : Refusal) → of_host end ≡ apply_ends.Refused r → ⊥
 no_refusal host_ends.Fault r is = cc is
 no_refusal host_ends.NoMemory r is = cc is
 
-no_remote : (end : HostEnd) → of_host end ≡ ends.RemoteFault → ⊥
+no_remote : (end : HostEnd) → of_host end ≡ apply_ends.RemoteFault → ⊥
 no_remote host_ends.Fault is = cc is
 no_remote host_ends.NoMemory is = cc is
 
-is_fault : (end : HostEnd) → of_host end ≡ ends.Fault → end ≡ host_ends.Fault
+is_fault : (end : HostEnd) → of_host end ≡ apply_ends.Fault → end ≡ host_ends.Fault
 is_fault host_ends.Fault is = refl
 is_fault host_ends.NoMemory is = absurd (cc is)
 
-is_starved : (end : HostEnd) → of_host end ≡ ends.NoMemory → end ≡ host_ends.NoMemory
+is_starved : (end : HostEnd) → of_host end ≡ apply_ends.NoMemory → end ≡ host_ends.NoMemory
 is_starved host_ends.Fault is = absurd (cc is)
 is_starved host_ends.NoMemory is = refl
 
 module _ {A : Type 0} (end : HostEnd) (result : ApplyEnd) (from : result ≡ of_host end) where
-  pub never_refused : (r : Refusal) → IsErrOf {T = A} (Err result) (ends.Refused r) → ⊥
-  never_refused r is = no_refusal end r (sym from ∙ same_end {A = A} result (ends.Refused r) is)
+  pub never_refused : (r : Refusal) → IsErrOf {T = A} (Err result) (apply_ends.Refused r) → ⊥
+  never_refused r is = no_refusal end r (sym from ∙ same_end {A = A} result (apply_ends.Refused r) is)
 
-  pub never_remote : IsErrOf {T = A} (Err result) ends.RemoteFault → ⊥
-  never_remote is = no_remote end (sym from ∙ same_end {A = A} result ends.RemoteFault is)
+  pub never_remote : IsErrOf {T = A} (Err result) apply_ends.RemoteFault → ⊥
+  never_remote is = no_remote end (sym from ∙ same_end {A = A} result apply_ends.RemoteFault is)
 
 module _ {A B : Type 0} (end : HostEnd) (result : ApplyEnd) (from : result ≡ of_host end) where
-  pub host_fault : IsErrOf {T = A} (Err result) ends.Fault → IsErrOf {T = B} (Err end) host_ends.Fault
-  host_fault is = ap (λ (e : HostEnd). Err e) (is_fault end (sym from ∙ same_end {A = A} result ends.Fault is))
+  pub host_fault : IsErrOf {T = A} (Err result) apply_ends.Fault → IsErrOf {T = B} (Err end) host_ends.Fault
+  host_fault is = ap (λ (e : HostEnd). Err e) (is_fault end (sym from ∙ same_end {A = A} result apply_ends.Fault is))
 
-  pub host_starved : IsErrOf {T = A} (Err result) ends.NoMemory → IsErrOf {T = B} (Err end) host_ends.NoMemory
-  host_starved is = ap (λ (e : HostEnd). Err e) (is_starved end (sym from ∙ same_end {A = A} result ends.NoMemory is))
+  pub host_starved : IsErrOf {T = A} (Err result) apply_ends.NoMemory → IsErrOf {T = B} (Err end) host_ends.NoMemory
+  host_starved is = ap (λ (e : HostEnd). Err e) (is_starved end (sym from ∙ same_end {A = A} result apply_ends.NoMemory is))
 
 -- ---- as one whole
 

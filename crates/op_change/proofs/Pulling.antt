@@ -9,6 +9,7 @@ use Rattle.fp_name.specs.Hex.{hex, is_digest}
 use Rattle.fp_small.specs.Clear.{IsWithin}
 use Rattle.fp_small.specs.Places.{repo, tmp}
 use Rattle.fp_small.specs.declared.state.State.{State}
+use Rattle.fp_small.proofs.Within.{within_rest}
 use Rattle.ost_model.specs.Objects.{Have, object_path, store}
 use Rattle.ost_model.specs.Stores.{objects_folder}
 use Rattle.ost_store.proofs.Elements.{prefix_is_one}
@@ -25,7 +26,6 @@ use Rattle.dep_states.proofs.Pulling.{new_spares}
 use Rattle.dep_states.proofs.Sparing.{fixed_in_repo}
 use Rattle.dep_states.proofs.Switching.{none_in_tmp, permits_gone}
 use Rattle.dep_states.proofs.Usual.{tmp_spares, sound_store}
-use Rattle.dep_states.proofs.Lasting.{within_rest}
 use Rattle.op_change.proofs.PlainBringing.{IsPlain, plain_spared, plain_permitted}
 use Rattle.op_change.proofs.Sparing.{a_folder}
 

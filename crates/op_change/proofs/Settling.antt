@@ -2,15 +2,19 @@
 use Rattle.std.proofs.Common.{◌≡◌, ◌≢◌, ◌⊎◌, inl, inr, ℕ, List, [], ◌∷◌, ◌++◌, refl, sym, ◌∙◌, ap, subst, codes}
 use Rattle.std.proofs.lemmas.Bool.{cases_Bool, cond-false}
 use Rattle.fp_base.specs.declared.object.ObjKind.{ObjKind}
+use Rattle.fp_base.proofs.Texts.{bytes_eq-false as text_apart}
 use Rattle.fp_host.specs.Paths.{Elements, absent}
 use Rattle.fp_host.specs.View.{View, IsTree}
 use Rattle.fp_host.specs.Outcome.{Disk, gone, spot_of, shows}
+use Rattle.fp_host.proofs.Above.{above_rest}
+use Rattle.fp_host.proofs.Shown.{now_left}
 use Rattle.fp_name.specs.Hex.{hex}
 use Rattle.fp_name.specs.Refs.{Ref, is_ref, ref_text}
 use Rattle.fp_name.proofs.Refs.{ref_of-ref_text}
 use Rattle.fp_small.specs.Files.{KeepsFiles}
 use Rattle.fp_small.specs.Places.{repo, tmp}
 use Rattle.fp_small.specs.declared.state.State.{State}
+use Rattle.fp_small.proofs.Within.{within_rest}
 use Rattle.ost_model.specs.Objects.{object_path, store}
 use Rattle.ost_model.specs.Order.{In, order}
 use Rattle.dep_states.specs.Names.{config, remotes_conf, pins_file, active, commit_dir, ref_file}
@@ -19,12 +23,12 @@ use Rattle.dep_states.specs.Shown.{Shows, ref_seen, row_seen, away, by_active}
 use Rattle.dep_states.specs.Sound.{Keeps, Opens}
 use Rattle.dep_states.specs.Zones.{outward}
 use Rattle.dep_states.proofs.Deployed.{outward_append, top}
-use Rattle.dep_states.proofs.Rows.{text_apart, head_of}
+use Rattle.dep_states.proofs.Rows.{head_of}
 use Rattle.dep_states.proofs.Switching.{second, word_no_repo}
-use Rattle.dep_switch.proofs.Spots.{now_left, shown_at, same_shown}
+use Rattle.dep_states.proofs.Work.{no_object_above}
+use Rattle.dep_switch.proofs.Spots.{shown_at, same_shown}
 use Rattle.op_change.specs.Bringing.{LeftName, work_gone, work_folder, unkept_gone}
-use Rattle.dep_states.proofs.Lasting.{above_rest, within_rest}
-use Rattle.op_change.proofs.Apart.{object_off_tmp, object_off_dir, store_by}
+use Rattle.op_change.proofs.Apart.{object_off_dir, store_by}
 
 -- two images that show one state see the same refs
 seen_same : (i j : Disk) {s : State} → Shows i s → Shows j s → (name : Ref) → ref_seen j name ≡ ref_seen i name
@@ -67,7 +71,7 @@ module _ {s : State} {name : Ref} {commit : List ℕ} {u w : View} (before : IsT
   object_same : (d : List ℕ) (kind : ObjKind) → w.names (object_path repo d kind) ≡ u.names (object_path repo d kind)
   object_same d kind = elim (names (object_path repo d kind)) [
     | inl same ↦ same
-    | inr (work_gone above none) ↦ absurd (object_off_tmp d kind above)
+    | inr (work_gone above none) ↦ absurd (no_object_above d kind above)
     | inr (work_folder (inl at) made) ↦ absurd (cc at)
     | inr (work_folder (inr at) made) ↦ absurd (cc at)
     | inr (unkept_gone off within none) ↦ absurd (object_off_dir name commit d kind within)

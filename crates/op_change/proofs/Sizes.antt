@@ -7,11 +7,10 @@ use Rattle.std.proofs.lemmas.List.Splits.{join_with_byte-slice_split}
 use Rattle.fp_name.specs.Bytes.{is_slash}
 use Rattle.fp_name.specs.Grammar.{is_id, is_arch, is_branch, is_remote_name, is_url}
 use Rattle.fp_name.specs.Kinds.{kind_word}
-use Rattle.fp_name.specs.declared.kind.RefKind.{RefKind}
-use Rattle.fp_name.specs.declared.kind.RefKind.TheVariants.{App, Runtime}
 use Rattle.fp_name.specs.Refs.{Ref, ref_text, parts_of}
 use Rattle.fp_name.specs.Pins.{is_star, are_pin_parts, is_pin}
 use Rattle.fp_name.proofs.Refs.{parts_are}
+use Rattle.fp_name.proofs.Lengths.{id_short, arch_short, branch_short, word_short, remote_short}
 use Rattle.fp_keyfile.specs.declared.group.Pair.{Pair}
 use Rattle.fp_keyfile.specs.declared.group.Group.{Group}
 use Rattle.fp_keyfile.specs.KeyFile.{pair_text, group_text, text_of}
@@ -28,22 +27,6 @@ star_short part h = subst (λ p. length p ≤ 255) (sym ((bytes_eq-Decides part 
 part_short : (passes : List ℕ → Bool) (part : List ℕ) → (passes part ≡ true → length part ≤ 255) → (is_star part || passes part) ≡ true → length part ≤ 255
 part_short passes part short h = ⊎_elim (star_short part) short (or_cases (is_star part) (passes part) h)
 
-id_short : (text : List ℕ) → is_id text ≡ true → length text ≤ 255
-unfolding is_id
-id_short text h = leb-true (length text) 255 (and_parts (leb (length text) 255) _ h).0
-
-arch_short : (text : List ℕ) → is_arch text ≡ true → length text ≤ 255
-unfolding is_arch
-arch_short text h = leb-true (length text) 255 (and_parts (leb (length text) 255) _ h).0
-
-branch_short : (text : List ℕ) → is_branch text ≡ true → length text ≤ 255
-unfolding is_branch
-branch_short text h = leb-true (length text) 255 (and_parts (leb (length text) 255) _ h).0
-
-word_short : (kind : RefKind) → length (kind_word kind) ≤ 7
-word_short App = omega arith
-word_short Runtime = omega arith
-
 joined : (k i a b : List ℕ) → length (k ++ (47 ∷ (i ++ (47 ∷ (a ++ (47 ∷ b)))))) ≡ length k + length i + length a + length b + 3
 joined k i a b = omega (arith, length-append k (47 ∷ (i ++ (47 ∷ (a ++ (47 ∷ b))))), length-append i (47 ∷ (a ++ (47 ∷ b))), length-append a (47 ∷ b))
 
@@ -58,10 +41,6 @@ pin_short_by text (Some p) e h =
 pin_short : (text : List ℕ) → is_pin text ≡ true → length text ≤ 775
 unfolding is_pin
 pin_short text h = pin_short_by text (parts_of text) refl h
-
-remote_short : (text : List ℕ) → is_remote_name text ≡ true → length text ≤ 64
-unfolding is_remote_name
-remote_short text h = leb-true (length text) 64 (and_parts (leb (length text) 64) _ h).0
 
 url_short : (text : List ℕ) → is_url text ≡ true → length text ≤ 1024
 unfolding is_url

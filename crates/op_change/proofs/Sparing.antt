@@ -11,7 +11,7 @@ use Rattle.dep_states.specs.Zones.{Allowed, outward}
 use Rattle.dep_states.specs.Sound.{Fixed, Permits, Opens, Spares}
 use Rattle.dep_states.proofs.Deployed.{top}
 use Rattle.dep_states.proofs.Law.{frame_law}
-use Rattle.dep_states.proofs.Sparing.{none_in_repo}
+use Rattle.dep_states.proofs.Sparing.{none_in_repo, repo_spared}
 use Rattle.dep_states.proofs.Switching.{none_in_tmp, second, word_no_repo}
 use Rattle.op_change.specs.Readying.{store_config, refs_folder, heads_folder, ReadiesAt, ReadiesStore}
 use Rattle.op_change.proofs.Readied.{which}
@@ -34,9 +34,6 @@ config_permitted : (i : Disk) (p : Elements) (spot : Spot) → p ≡ store_confi
 config_permitted i p spot at id bytes is = permits_in_repo i p store_config spot at refl (subst (Allowed store_config) (sym is) (record { fits = tt; short = inr (omega arith) }))
 
 -- ---- folders
-
-pub repo_spared : (i : Disk) (p : Elements) → p ≡ repo → Fixed i p → ⊥
-repo_spared i p at f = unfixed i p repo at refl (λ is. cc is) f
 
 pub tmp_spared : (i : Disk) (p : Elements) → p ≡ tmp → Fixed i p → ⊥
 tmp_spared i p at f = unfixed i p tmp at refl (λ is. cc is) f

@@ -6,6 +6,7 @@ use Rattle.std.proofs.lemmas.Bool.{cases_Bool}
 use Rattle.std.proofs.lemmas.Slice.Eq.{bytes_eq-Decides}
 use Rattle.fp_host.specs.View.{View, IsTree}
 use Rattle.fp_host.specs.Outcome.{gone, shows}
+use Rattle.fp_host.proofs.Shown.{now_left}
 use Rattle.fp_name.specs.Refs.{Ref, is_ref}
 use Rattle.fp_small.specs.Places.{repo}
 use Rattle.fp_small.specs.Replace.{IsFreeFile}
@@ -25,7 +26,7 @@ use Rattle.dep_states.proofs.Single.{some_is}
 use Rattle.dep_states.proofs.Sparing.{state_of_kept}
 use Rattle.dep_switch.specs.Rows.{IsAt}
 use Rattle.dep_switch.specs.Staging.{CanStage}
-use Rattle.dep_switch.proofs.Spots.{now_left, gone_absent, file_free}
+use Rattle.dep_switch.proofs.Spots.{gone_absent, file_free}
 use Rattle.op_change.specs.Brought.{left_at, row_brought}
 use Rattle.op_change.specs.Fetching.{IsFetched}
 use Rattle.op_change.specs.Headed.{IsHeaded}

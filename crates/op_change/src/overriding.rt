@@ -20,7 +20,7 @@ use fp_small::{OverrideRow, State, replace, take_away};
 use std::alloc::{AllocError, Global};
 
 /// The path of an override.
-#[tactic(auto, using(crate::proofs::Layers::element_override))]
+#[tactic(auto, using(fp_small::proofs::Elements::element_override))]
 fn path_of(alloc: Global, name: &Text) -> Result<Path, AllocError>
     requires { is_override name.now ≡ true }
     ensures { IfOk result (λ p. p ≡ override_path name.now) }

@@ -1,5 +1,5 @@
 -- What one name holds comes to another.
-use Rattle.std.proofs.Common.{◌≡◌, ◌≢◌, ◌⊎◌, inl, inr, ℕ, List, Option, Result, Ok, Err, refl, sym, ◌∙◌, ap, subst}
+use Rattle.std.proofs.Common.{◌≡◌, ◌≢◌, ◌⊎◌, inl, inr, ℕ, List, Option, Result, Ok, refl, sym, ◌∙◌, ap, subst}
 use Rattle.fp_host.specs.Paths.{Elements, Slot, absent, dir, file, link, is_link_text}
 use Rattle.fp_host.specs.View.{View, IsTree}
 use Rattle.fp_host.specs.Calls.{Can, IsFile, IsLeaf, makes_link, links, Step}
@@ -7,8 +7,6 @@ use Rattle.fp_host.specs.Outcome.{Spot, points, shows, spot_of}
 use Rattle.fp_host.specs.Moments.{Moments, Makes, Always}
 use Rattle.fp_host.specs.Reads.{StatOf, LinkOf, IsStat}
 use Rattle.fp_host.specs.declared.host.HostError.{HostError}
-use Rattle.fp_host.specs.declared.host.HostError.TheVariants.{Clash}
-use Rattle.fp_host.proofs.Cause.{clash_reads}
 use Rattle.fp_host.specs.declared.host.Stat.{Stat}
 use Rattle.fp_host.specs.declared.host.Stat.TheVariants.{Absent, Dir, File as StatFile, Link}
 use Rattle.fp_host.proofs.Separate.{set_same}
@@ -16,6 +14,7 @@ use Rattle.fp_host.proofs.Settled.{at_tree}
 use Rattle.fp_host.proofs.Follow.{called}
 use Rattle.fp_host.proofs.Framed.{IsTold, keeps_same, keeps_call, given_left}
 use Rattle.fp_host.proofs.Goes.{stays, begins, goes_on, makes_goes}
+use Rattle.fp_host.proofs.Slots.{link_of, file_of}
 use Rattle.ost_checkout.specs.Checkout.{MayBeLeft}
 use Rattle.ost_checkout.specs.Placing.{Copies, WasCopied, CanCopyLink, CanCopyObject}
 
@@ -90,9 +89,6 @@ then_copies {from = from} {to = to} told between stat copies = goes_on between
 
 -- ---- where it may be
 
-pub no_link : {p : Elements} {e : HostError} {v w : View} → LinkOf p (Err e) v w → e ≡ Clash → (text : List ℕ) × (v.names p ≡ link text) → ⊥
-no_link {p = p} {e = e} {v = v} step is can = clash_reads {T = List ℕ} ((text : List ℕ) × (v.names p ≡ link text)) (λ text. v.names p ≡ link text) e step.tells is can
-
 pub can_link_text : {from to : Elements} {text said : List ℕ} {u v : View} → said ≡ text → IsTree u → (v ≡ u) × (u.names from ≡ link text) → CanCopyLink from to u → Can (makes_link said to) v
 can_link_text {from = from} {to = to} {text = text} {said = said} {u = u} same tree q can = subst (λ (x : View). Can (makes_link said to) x) (sym q.0) (
   ap is_link_text same ∙ tree.linked from text (inl (sym q.1)),
@@ -100,28 +96,16 @@ can_link_text {from = from} {to = to} {text = text} {said = said} {u = u} same t
   can.place.free,
 )
 
-file_there : (v : View) (e : Slot) (id mode size : ℕ) → IsStat v e (StatFile id mode size) → IsFile e
-file_there v absent id mode size s = absurd (cc s)
-file_there v dir id mode size s = absurd (cc s)
-file_there v (link text) id mode size s = absurd (cc s)
-file_there v (file k) id mode size s = (k, refl)
-
-link_there : (v : View) (e : Slot) → IsStat v e Link → (text : List ℕ) × (e ≡ link text)
-link_there v absent s = absurd (cc s)
-link_there v dir s = absurd (cc s)
-link_there v (link text) s = (text, refl)
-link_there v (file id) s = absurd (cc s.2)
-
 pub can_link_file : {from to : Elements} {s : Stat} {id mode size : ℕ} {u v : View} → s ≡ StatFile id mode size → StatOf from (Ok s) u v → CanCopyObject from to u → Can (links from to) v
 can_link_file {from = from} {to = to} {id = id} {mode = mode} {size = size} {u = u} is stat can = subst (λ (x : View). Can (links from to) x) (sym stat.same) (
-  file_there u (u.names from) id mode size (subst (IsStat u (u.names from)) is stat.tells.1),
+  file_of u (u.names from) id mode size (subst (IsStat u (u.names from)) is stat.tells.1),
   can.place.above,
   can.place.free,
 )
 
 pub can_copy_link : {from to : Elements} {s : Stat} {u v : View} → s ≡ Link → StatOf from (Ok s) u v → CanCopyObject from to u → CanCopyLink from to v
 can_copy_link {from = from} {to = to} {u = u} is stat can =
-    let there = link_there u (u.names from) (subst (IsStat u (u.names from)) is stat.tells.1) in
+    let there = link_of u (u.names from) (subst (IsStat u (u.names from)) is stat.tells.1) in
     subst (λ (x : View). CanCopyLink from to x) (sym stat.same) (record { text = there.0; is = there.1; place = can.place })
 
 no_leaf : (v : View) (e : Slot) (s : Stat) → IsStat v e s → (s ≡ Absent) ⊎ (s ≡ Dir) → IsLeaf e → ⊥

@@ -1,5 +1,5 @@
 -- How many rows a commit has, against the objects of its order.
-use Rattle.std.proofs.Common.{◌≡◌, ◌⊎◌, inl, inr, ◌<◌, ◌≤◌, ◌+◌, ◌-◌, ℕ, suc, Bool, true, false, leb, List, [], ◌∷◌, ◌++◌, map, drop, length, Option, Some, None, if◌then◌else◌, refl, sym, ◌∙◌, ap, subst, arith, append_assoc, append-nil, length-append}
+use Rattle.std.proofs.Common.{◌≡◌, inl, inr, ◌<◌, ◌≤◌, ◌+◌, ◌-◌, ℕ, suc, Bool, true, false, leb, List, [], ◌∷◌, ◌++◌, map, drop, length, Option, Some, None, if◌then◌else◌, refl, sym, ◌∙◌, ap, subst, arith, append_assoc, append-nil, length-append}
 use Rattle.std.proofs.Math.Seq.{drop-cons}
 use Rattle.std.proofs.lemmas.Bool.{leb-false}
 use Rattle.std.proofs.lemmas.List.{length-map, drop-append-le}
@@ -10,7 +10,8 @@ use Rattle.ost_model.specs.Objects.{Have, Fault, too_many, too_deep, object_faul
 use Rattle.ost_model.specs.Order.{Place, In, order, commit_place, below_commit, commit_at, tree_at, file_places, first_of, first_fault, place_fault, found_at}
 use Rattle.ost_model.specs.Walk.{Open, open_at, open_places, open_tree, opened, own_places, pending}
 use Rattle.ost_model.proofs.Pending.{with_heads, as_read}
-use Rattle.ost_model.proofs.Places.{in_left, in_right, faultless, found_none, or_none}
+use Rattle.ost_model.proofs.Places.{faultless, found_none, or_none}
+use Rattle.ost_model.proofs.Members.{in_append as in_either, in_left, in_right}
 use Rattle.ost_checkout.specs.declared.rows.Row.{Row}
 use Rattle.ost_checkout.specs.declared.rows.Entry.{Entry}
 use Rattle.ost_checkout.specs.declared.rows.Entry.TheVariants as entries
@@ -78,11 +79,6 @@ head_in : (have : Have) (o : Open) (os : List Open) → In (pending have (o ∷ 
 head_in have o os =
     let s = with_heads have o in
     in_left (open_places have o) (pending have os) (open_tree o) (subst (λ (l : List Place). In l (open_tree o)) (sym s.1) (inl refl))
-
-in_either : {A : Type 0} (xs ys : List A) (a : A) → In (xs ++ ys) a → In xs a ⊎ In ys a
-in_either [] ys a h = inr h
-in_either (x ∷ xs) ys a (inl is) = inl (inl is)
-in_either (x ∷ xs) ys a (inr h) = elim (in_either xs ys a h) [ inl here ↦ inl (inr here) | inr there ↦ inr there ]
 
 -- an order without a fault has at most 200,000 places
 within_limit : (have : Have) (n : ℕ) (p : Place) → place_fault have n p ≡ None → n < 200000

@@ -5,12 +5,12 @@ use Rattle.std.proofs.Math.Seq.{take-suc, take-length}
 use Rattle.std.proofs.lemmas.Bool.{and_parts}
 use Rattle.std.proofs.lemmas.List.{map-append}
 use Rattle.std.proofs.lemmas.List.Elements.{Contains-get_or}
+use Rattle.fp_base.proofs.Lists.{in_none, in_cases, in_map}
 use Rattle.fp_host.specs.Paths.{is_element}
 use Rattle.ost_model.specs.Readers.{file_name, dir_name}
 use Rattle.ost_object.specs.declared.dirtree.FileEntry.{FileEntry}
 use Rattle.ost_object.specs.declared.dirtree.DirEntry.{DirEntry}
 use Rattle.ost_object.specs.Views.{file_row, dir_row, names_of_files, names_of_dirs}
-use Rattle.ost_store.proofs.Lists.{in_none, in_cases, in_map}
 use Rattle.ost_checkout.specs.declared.rows.Row.{Row}
 
 all_in : {A : Type 0} (p : A → Bool) (xs : List A) (x : A) → list_all p xs ≡ true → Contains xs x → p x ≡ true

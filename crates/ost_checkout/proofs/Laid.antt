@@ -17,13 +17,13 @@ use Rattle.fp_host.proofs.Ending.{goes_known, ends_goes, ends_on, ends_both, end
 use Rattle.fp_small.specs.Clear.{IsWithin}
 use Rattle.fp_base.specs.declared.object.ObjKind.{ObjKind}
 use Rattle.fp_base.specs.declared.object.ObjKind.TheVariants as kinds
+use Rattle.fp_base.proofs.Lists.{in_none, in_first, in_rest, in_cases, from_map}
 use Rattle.ost_model.specs.Objects.{Have, object_path, object_at, object_fault, store}
 use Rattle.ost_model.specs.Order.{order}
 use Rattle.ost_model.specs.Look.{Found, nothing, directory, file_at, look}
 use Rattle.ost_model.specs.Standing.{expected, deploy_name}
 use Rattle.ost_model.proofs.Places.{faultless}
-use Rattle.ost_model.proofs.Looked.{file_reached}
-use Rattle.ost_store.proofs.Lists.{in_none, in_cases, in_first, in_rest, from_map}
+use Rattle.ost_model.proofs.Looked.{file_reached, found_cases}
 use Rattle.ost_store.proofs.Staying.{shown_stays}
 use Rattle.ost_checkout.specs.declared.rows.Row.{Row}
 use Rattle.ost_checkout.specs.declared.rows.Entry.{Entry}
@@ -95,11 +95,6 @@ laying told between still rows puts = goes_on between (goes_known (looked told s
 below_absent : (v : View) → IsTree v → (to rest : Elements) → v.names to ≡ absent → v.names (rest ++ to) ≡ absent
 below_absent v tree to [] none = none
 below_absent v tree to (x ∷ rest) none = elim (tree.above x (rest ++ to)) [ inl nowhere ↦ nowhere | inr there ↦ absurd (cc (below_absent v tree to rest none, there)) ]
-
-found_cases : (found : Found) → (found ≡ nothing) ⊎ (found ≡ nothing → ⊥)
-found_cases nothing = inl refl
-found_cases (directory e) = inr (λ is. cc is)
-found_cases (file_at d) = inr (λ is. cc is)
 
 module _ {root : Elements} {commit : List ℕ} {to : Elements} {rows : List Row} {u w : View} (tree : IsTree u) (tree' : IsTree w) (apart : IsApart root to) (are : HasRows root commit to u rows) (puts : PutsRows root rows u w) (were : Fits root rows → WerePut root rows u w) where
   fits : Fits root rows

@@ -6,5 +6,5 @@ mod Read
 mod Filled
 mod Copied
 mod Put
-mod Ended
+pub mod Ended
 mod Laid

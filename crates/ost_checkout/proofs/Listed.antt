@@ -5,11 +5,13 @@ use Rattle.std.proofs.lemmas.List.{map-append, append_cancel_right, take-append-
 use Rattle.std.proofs.lemmas.List.Elements.{Contains-append_cases, Contains-append_left, Contains-append_right, Contains-push, Contains-push_cases, Contains-get_or}
 use Rattle.fp_host.specs.Paths.{Elements}
 use Rattle.fp_base.specs.declared.object.ObjKind.TheVariants as kinds
+use Rattle.fp_base.proofs.Lists.{in_none, in_first, in_rest, in_map, from_map}
 use Rattle.ost_model.specs.Fields.{FileRow, DirRow, TreeView}
 use Rattle.ost_model.specs.Objects.{Have}
 use Rattle.ost_model.specs.Order.{tree_at}
 use Rattle.ost_model.specs.Look.{Found, nothing, directory, file_at, entry_in, next, look}
-use Rattle.ost_store.proofs.Lists.{in_none, in_first, in_rest, in_one, in_map, from_map}
+use Rattle.ost_model.proofs.Looked.{found_cases}
+use Rattle.ost_store.proofs.Lists.{in_one}
 use Rattle.ost_checkout.specs.declared.rows.Row.{Row}
 use Rattle.ost_checkout.specs.declared.rows.Entry.{Entry}
 use Rattle.ost_checkout.specs.declared.rows.Entry.TheVariants as entries
@@ -229,11 +231,6 @@ module _ {have : Have} {commit : List ℕ} {to : Elements} (rows : List Row) (i 
 
 no_next : (have : Have) (x : List ℕ) (found : Found) → found ≡ nothing → next have x found ≡ nothing
 no_next have x found is = ap (next have x) is
-
-found_cases : (found : Found) → (found ≡ nothing) ⊎ (found ≡ nothing → ⊥)
-found_cases nothing = inl refl
-found_cases (directory e) = inr (λ is. cc is)
-found_cases (file_at d) = inr (λ is. cc is)
 
 pub all_listed : {have : Have} {commit : List ℕ} {to : Elements} (rows : List Row) (i : ℕ) → length rows ≡ i → AreListed have commit to rows i → AreRows have commit to rows
 all_listed {have = have} {commit = commit} {to = to} rows i is listed = record {

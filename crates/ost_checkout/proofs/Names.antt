@@ -1,26 +1,27 @@
 -- The names in a dirtree that reads.
-use Rattle.std.proofs.Common.{◌≡◌, inl, inr, ℕ, Bool, true, false, ◌&&◌, ◌||◌, List, [], ◌∷◌, ◌++◌, map, Option, Some, None, Result, Ok, Err, refl, sym, ◌∙◌, ap, subst, Contains}
+use Rattle.std.proofs.Common.{◌≡◌, inl, inr, ℕ, Bool, true, false, ◌&&◌, ◌||◌, List, [], ◌∷◌, ◌++◌, map, Option, Some, None, Ok, refl, sym, ◌∙◌, ap, subst, Contains}
 use Rattle.std.specs.Prelude.{option_and_then, not}
 use Rattle.std.specs.List.{list_all, list_any}
 use Rattle.std.specs.Str.{bytes_eq}
-use Rattle.std.proofs.lemmas.Bool.{and_parts, cases_Bool, both_ways, cond-true, cond-false, false_from_ne_true}
+use Rattle.std.proofs.lemmas.Bool.{and_parts, cases_Bool, both_ways, cond-true, cond-false, false_from_ne_true, not-true}
 use Rattle.std.proofs.lemmas.List.{map-append}
 use Rattle.std.proofs.lemmas.List.Elements.{Contains-append_cases, Contains-append_left, Contains-append_right}
 use Rattle.fp_host.specs.Paths.{Elements, is_element}
 use Rattle.fp_host.specs.Reads.{comes_first, is_ascending}
 use Rattle.fp_small.specs.Order.{comes_before}
-use Rattle.fp_small.proofs.Ordered.{before_on, before_differs, bytes_eq-differ, bytes_eq-is, bytes_eq-itself, not_before_itself}
-use Rattle.fp_base.specs.declared.rule.Rule.{Rule}
+use Rattle.fp_small.proofs.Ordered.{before_differs, bytes_eq-differ, not_before_itself, first_below}
 use Rattle.fp_base.specs.declared.rule.Rule.TheVariants as rules
+use Rattle.fp_base.proofs.Lists.{in_none, in_first, in_rest, in_cases, in_map, from_map}
+use Rattle.fp_base.proofs.Texts.{bytes_eq-true, bytes_eq-same}
 use Rattle.ost_model.specs.declared.object.Object.{Object}
 use Rattle.ost_model.specs.declared.object.Object.TheVariants as objects
 use Rattle.gv_value.specs.Reading.{value_of}
 use Rattle.ost_model.specs.Types.{tree_shape}
 use Rattle.ost_model.specs.Fields.{FileRow, DirRow, TreeView, tree_in}
-use Rattle.ost_model.specs.Readers.{first_broken, file_name, dir_name, file_names, dir_names, has_long, has_both_long, name_tests, shares, tree_breaks, tree_of, tree_read, judged, kept, if_read}
+use Rattle.ost_model.specs.Readers.{file_name, dir_name, file_names, dir_names, has_long, has_both_long, name_tests, shares, tree_breaks, tree_of, tree_read, judged}
 use Rattle.ost_model.specs.Order.{read_as}
 use Rattle.ost_model.specs.Look.{nothing, directory, file_at, find_dir, find_file, either, entry_in}
-use Rattle.ost_store.proofs.Lists.{in_none, in_cases, in_first, in_rest, in_map, from_map}
+use Rattle.ost_model.proofs.Readers.{read_some, passed, kept_ok}
 use Rattle.ost_checkout.specs.Reading.{HasGoodNames}
 use Rattle.ost_checkout.specs.Rows.{row_of_file, row_of_dir, rows_in, path_of, paths_of}
 
@@ -33,14 +34,6 @@ pub record HasNames (view : TreeView) : Type 0 where
   pub dirs : is_ascending (dir_names view) ≡ true
   pub apart : shares (file_names view) (dir_names view) ≡ false
 
-passed : (b : Bool) (rule : Rule) (tests : List (Bool × Rule)) → first_broken ((b, rule) ∷ tests) ≡ None → (b ≡ true) × (first_broken tests ≡ None)
-passed true rule tests none = (refl, none)
-passed false rule tests none = absurd (cc none)
-
-not_true : (b : Bool) → not b ≡ true → b ≡ false
-not_true true is = absurd (cc is)
-not_true false is = refl
-
 pub unbroken : (view : TreeView) → tree_breaks view ≡ None → HasNames view
 unbroken view none =
     let digests = passed (list_all has_long view.files && list_all has_both_long view.dirs) rules.Digest (name_tests view) none in
@@ -50,11 +43,7 @@ unbroken view none =
     let both = passed (not (shares (file_names view) (dir_names view))) rules.Both [] orders.1 in
     let good = and_parts (list_all is_element (file_names view)) (list_all is_element (dir_names view)) names.0 in
     let ascend = and_parts (is_ascending (file_names view)) (is_ascending (dir_names view)) orders.0 in
-    record { good = record { files = good.0; dirs = good.1 }; files = ascend.0; dirs = ascend.1; apart = not_true (shares (file_names view) (dir_names view)) both.0 }
-
-kept_ok : {A : Type 0} (r : Option Rule) (a b : A) → kept r a ≡ Ok b → (r ≡ None) × (a ≡ b)
-kept_ok None a b e = (refl, cc e)
-kept_ok (Some rule) a b e = absurd (cc e)
+    record { good = record { files = good.0; dirs = good.1 }; files = ascend.0; dirs = ascend.1; apart = not-true (shares (file_names view) (dir_names view)) both.0 }
 
 judged_ok : (x : Option TreeView) (view : TreeView) → judged tree_breaks x ≡ Ok view → tree_breaks view ≡ None
 judged_ok None view e = absurd (cc e)
@@ -63,10 +52,6 @@ judged_ok (Some a) view e = let k = kept_ok (tree_breaks a) a view e in subst (�
 pub read_names : (bytes : List ℕ) (view : TreeView) → tree_read bytes ≡ Ok view → HasNames view
 read_names bytes view is = unbroken view (judged_ok (option_and_then tree_in (value_of tree_shape bytes)) view is)
 
-read_some : {A : Type 0} (r : Result A Rule) (a : A) → if_read r ≡ Some a → r ≡ Ok a
-read_some (Ok b) a e = cc e
-read_some (Err rule) a e = absurd (cc e)
-
 pub tree_names : (o : Option Object) (view : TreeView) → read_as tree_of o ≡ Some view → HasNames view
 tree_names None view e = absurd (cc e)
 tree_names (Some (objects.Meta bytes)) view e = read_names bytes view (read_some (tree_read bytes) view e)
@@ -74,15 +59,6 @@ tree_names (Some (objects.File mode bytes)) view e = absurd (cc e)
 tree_names (Some (objects.Link text)) view e = absurd (cc e)
 
 -- ---- names that ascend differ
-
-first_below : (x : List ℕ) (ys : List (List ℕ)) (z : List ℕ) → comes_first x ys ≡ true → is_ascending ys ≡ true → Contains ys z → comes_before x z ≡ true
-first_below x [] z first h has = absurd (in_none z has)
-first_below x (y ∷ ys) z first h has = elim (in_cases y ys z has) [
-  | inl same ↦ subst (λ (w : List ℕ). comes_before x w ≡ true) (sym same) first
-  | inr later ↦
-      let a = and_parts (comes_first y ys) (is_ascending ys) h in
-      before_on x y z first (first_below y ys z a.0 a.1 later)
-]
 
 -- no element comes again
 abbrev pub AreDifferent : {A : Type 0} → List A → Type 0
@@ -115,7 +91,7 @@ any_true f (y ∷ ys) x has is = elim (in_cases y ys x has) [
 
 unshared : (xs ys : List (List ℕ)) (x : List ℕ) → shares xs ys ≡ false → Contains xs x → Contains ys x → ⊥
 unshared xs ys x apart here there =
-    both_ways (shares xs ys) apart (any_true (λ (y : List ℕ). list_any (bytes_eq y) ys) xs x here (any_true (bytes_eq x) ys x there (bytes_eq-itself x)))
+    both_ways (shares xs ys) apart (any_true (λ (y : List ℕ). list_any (bytes_eq y) ys) xs x here (any_true (bytes_eq x) ys x there (bytes_eq-same x)))
 
 -- ---- the paths of what is in a directory
 
@@ -160,7 +136,7 @@ found_dir [] e h has = absurd (in_none e has)
 found_dir (d ∷ es) e h has =
     let a = and_parts (comes_first d.name (map dir_name es)) (is_ascending (map dir_name es)) h in
     elim (in_cases d es e has) [
-      | inl same ↦ subst (λ (x : DirRow). find_dir x.name (d ∷ es) ≡ Some x) (sym same) (cond-true (bytes_eq d.name d.name) (Some d) (find_dir d.name es) (bytes_eq-itself d.name))
+      | inl same ↦ subst (λ (x : DirRow). find_dir x.name (d ∷ es) ≡ Some x) (sym same) (cond-true (bytes_eq d.name d.name) (Some d) (find_dir d.name es) (bytes_eq-same d.name))
       | inr later ↦
           let below = first_below d.name (map dir_name es) e.name a.0 a.1 (in_map dir_name es e later) in
           cond-false (bytes_eq d.name e.name) (Some d) (find_dir e.name es) (bytes_eq-differ e.name d.name (before_differs d.name e.name below)) ∙ found_dir es e a.1 later
@@ -171,7 +147,7 @@ found_file [] f h has = absurd (in_none f has)
 found_file (g ∷ fs) f h has =
     let a = and_parts (comes_first g.name (map file_name fs)) (is_ascending (map file_name fs)) h in
     elim (in_cases g fs f has) [
-      | inl same ↦ subst (λ (x : FileRow). find_file x.name (g ∷ fs) ≡ Some x) (sym same) (cond-true (bytes_eq g.name g.name) (Some g) (find_file g.name fs) (bytes_eq-itself g.name))
+      | inl same ↦ subst (λ (x : FileRow). find_file x.name (g ∷ fs) ≡ Some x) (sym same) (cond-true (bytes_eq g.name g.name) (Some g) (find_file g.name fs) (bytes_eq-same g.name))
       | inr later ↦
           let below = first_below g.name (map file_name fs) f.name a.0 a.1 (in_map file_name fs f later) in
           cond-false (bytes_eq g.name f.name) (Some g) (find_file f.name fs) (bytes_eq-differ f.name g.name (before_differs g.name f.name below)) ∙ found_file fs f a.1 later
@@ -181,14 +157,14 @@ no_dir : (es : List DirRow) (x : List ℕ) → (Contains (map dir_name es) x →
 no_dir [] x off = refl
 no_dir (e ∷ es) x off =
     cond-false (bytes_eq e.name x) (Some e) (find_dir x es)
-    (false_from_ne_true (bytes_eq e.name x) (λ t. off (subst (Contains (e.name ∷ map dir_name es)) (bytes_eq-is e.name x t) (in_first e.name (map dir_name es)))))
+    (false_from_ne_true (bytes_eq e.name x) (λ t. off (subst (Contains (e.name ∷ map dir_name es)) (bytes_eq-true e.name x t) (in_first e.name (map dir_name es)))))
     ∙ no_dir es x (λ has. off (in_rest e.name (map dir_name es) x has))
 
 no_file : (fs : List FileRow) (x : List ℕ) → (Contains (map file_name fs) x → ⊥) → find_file x fs ≡ None
 no_file [] x off = refl
 no_file (f ∷ fs) x off =
     cond-false (bytes_eq f.name x) (Some f) (find_file x fs)
-    (false_from_ne_true (bytes_eq f.name x) (λ t. off (subst (Contains (f.name ∷ map file_name fs)) (bytes_eq-is f.name x t) (in_first f.name (map file_name fs)))))
+    (false_from_ne_true (bytes_eq f.name x) (λ t. off (subst (Contains (f.name ∷ map file_name fs)) (bytes_eq-true f.name x t) (in_first f.name (map file_name fs)))))
     ∙ no_file fs x (λ has. off (in_rest f.name (map file_name fs) x has))
 
 pub child_dir : (view : TreeView) (e : DirRow) → HasNames view → Contains view.dirs e → entry_in e.name (Some view) ≡ directory e
@@ -206,12 +182,12 @@ child_named view x some = by_file (list_any (bytes_eq x) (file_names view)) refl
     contained : (xs : List (List ℕ)) → list_any (bytes_eq x) xs ≡ true → Contains xs x
     contained [] is = absurd (cc is)
     contained (y ∷ ys) is = elim (cases_Bool (bytes_eq x y)) [
-      | inl t ↦ subst (λ (z : List ℕ). Contains (z ∷ ys) x) (bytes_eq-is x y t) (in_first x ys)
+      | inl t ↦ subst (λ (z : List ℕ). Contains (z ∷ ys) x) (bytes_eq-true x y t) (in_first x ys)
       | inr n ↦ in_rest y ys x (contained ys (ap (λ b. b || list_any (bytes_eq x) ys) (sym n) ∙ is))
     ]
 
     lacking : (xs : List (List ℕ)) → list_any (bytes_eq x) xs ≡ false → Contains xs x → ⊥
-    lacking xs is has = both_ways (list_any (bytes_eq x) xs) is (any_true (bytes_eq x) xs x has (bytes_eq-itself x))
+    lacking xs is has = both_ways (list_any (bytes_eq x) xs) is (any_true (bytes_eq x) xs x has (bytes_eq-same x))
 
     by_dir : list_any (bytes_eq x) (file_names view) ≡ false → (b : Bool) → list_any (bytes_eq x) (dir_names view) ≡ b → Contains (file_names view ++ dir_names view) x
     by_dir off true is = Contains-append_right (file_names view) (dir_names view) x (contained (dir_names view) is)

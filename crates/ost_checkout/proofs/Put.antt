@@ -19,8 +19,8 @@ use Rattle.std.proofs.Math.Seq.{take-length}
 use Rattle.fp_small.proofs.Making.{made_dir}
 use Rattle.fp_base.specs.declared.object.ObjKind.{ObjKind}
 use Rattle.fp_base.specs.declared.object.ObjKind.TheVariants as kinds
+use Rattle.fp_base.proofs.Lists.{in_none, in_map}
 use Rattle.ost_model.specs.Objects.{object_path, object_at, store}
-use Rattle.ost_store.proofs.Lists.{in_none, in_map}
 use Rattle.ost_store.proofs.Staying.{shown_stays}
 use Rattle.ost_checkout.specs.declared.rows.Row.{Row}
 use Rattle.ost_checkout.specs.declared.rows.Entry.{Entry}

@@ -1,7 +1,6 @@
 -- Metadata objects that are read.
 use Rattle.std.proofs.Common.{◌≡◌, inl, inr, ◌*◌, ℕ, Bool, true, false, leb, List, length, Option, Some, None, Result, Ok, Err, if◌then◌else◌, refl, sym, ◌∙◌, ap}
 use Rattle.std.specs.Option.{option_or}
-use Rattle.std.specs.Prelude.{IfOk}
 use Rattle.std.proofs.lemmas.Bool.{cases_Bool}
 use Rattle.fp_host.specs.Paths.{Elements}
 use Rattle.fp_host.specs.View.{View}
@@ -14,11 +13,12 @@ use Rattle.fp_base.specs.declared.rule.Rule.{Rule}
 use Rattle.ost_model.specs.declared.object.Object.{Object}
 use Rattle.ost_model.specs.declared.object.Object.TheVariants as objects
 use Rattle.ost_model.specs.Fields.{CommitView, TreeView}
-use Rattle.ost_model.specs.Objects.{object_fault, name_fault, kind_fault, content_fault, length_fault, mode_fault, digest_fault, rule_fault, dir_mode_fault, unless, Fault, too_long, may_be_link, store}
+use Rattle.ost_model.specs.Objects.{object_fault, name_fault, kind_fault, content_fault, length_fault, mode_fault, digest_fault, rule_fault, dir_mode_fault, too_long, may_be_link, store}
 use Rattle.ost_model.specs.Order.{read_as, commit_at}
 use Rattle.ost_model.specs.Readers.{tree_of, tree_read, commit_of, commit_read, if_read}
 use Rattle.ost_model.proofs.Places.{or_none}
 use Rattle.ost_model.proofs.Good.{good_tree, good_commit}
+use Rattle.ost_model.proofs.Faults.{unless_none}
 use Rattle.ost_store.specs.Reads.{got_of, Gets}
 use Rattle.ost_store.specs.declared.reading.Got.{Got}
 use Rattle.ost_store.specs.declared.reading.Got.TheVariants as got
@@ -43,10 +43,6 @@ told_meta most (Some (objects.File mode b)) bytes is = elim (cases_Bool (leb (le
 ]
 told_meta most (Some (objects.Link text)) bytes is = absurd (cc is)
 
-short_of : (b : Bool) (f : Fault) → unless b f ≡ None → b ≡ true
-short_of true f none = refl
-short_of false f none = absurd (cc none)
-
 -- a metadata object without a fault is there, and not too long
 pub meta_there : (d : List ℕ) (kind : ObjKind) (o : Option Object) → may_be_link kind ≡ false → object_fault d kind o ≡ None → (bytes : List ℕ) × (o ≡ Some (objects.Meta bytes)) × (leb (length bytes) (16 * 1024 * 1024) ≡ true)
 meta_there d kind None off good = absurd (cc (or_none (name_fault d kind None) (dir_mode_fault kind None) good).0)
@@ -55,17 +51,17 @@ meta_there d kind (Some (objects.Meta bytes)) off good =
     let a = or_none (name_fault d kind (Some o)) (dir_mode_fault kind (Some o)) good in
     let b = or_none (kind_fault kind o) (content_fault d kind o) a.0 in
     let c = or_none (length_fault o) (option_or (mode_fault o) (option_or (digest_fault d o) (rule_fault kind o))) b.1 in
-    (bytes, refl, short_of (leb (length bytes) (16 * 1024 * 1024)) (too_long (length bytes)) c.0)
+    (bytes, refl, unless_none (leb (length bytes) (16 * 1024 * 1024)) (too_long (length bytes)) c.0)
 meta_there d kind (Some (objects.File mode bytes)) off good =
     let o = objects.File mode bytes in
     let a = or_none (name_fault d kind (Some o)) (dir_mode_fault kind (Some o)) good in
     let b = or_none (kind_fault kind o) (content_fault d kind o) a.0 in
-    absurd (cc (sym off ∙ short_of (may_be_link kind) _ b.0))
+    absurd (cc (sym off ∙ unless_none (may_be_link kind) _ b.0))
 meta_there d kind (Some (objects.Link text)) off good =
     let o = objects.Link text in
     let a = or_none (name_fault d kind (Some o)) (dir_mode_fault kind (Some o)) good in
     let b = or_none (kind_fault kind o) (content_fault d kind o) a.0 in
-    absurd (cc (sym off ∙ short_of (may_be_link kind) _ b.0))
+    absurd (cc (sym off ∙ unless_none (may_be_link kind) _ b.0))
 
 -- so it is told
 pub meta_told : (d : List ℕ) (kind : ObjKind) (o : Option Object) (told : Got) → may_be_link kind ≡ false → object_fault d kind o ≡ None → told ≡ got_of (16 * 1024 * 1024) o → ((bytes : List ℕ) → told ≡ got.Meta bytes → ⊥) → ⊥
@@ -114,9 +110,3 @@ commit_reads {root = root} {d = d} {u = u} {bytes = bytes} {most = most} gets ha
     by_read : (r : Result CommitView Rule) (rule : Rule) → mapped root_in r ≡ Err rule → {v : CommitView} → if_read r ≡ Some v → ⊥
     by_read (Ok view) rule is some = cc is
     by_read (Err other) rule is some = cc some
-
--- ---- over the moments
-
-pub if_ok_to : {T E : Type 0} {P Q : T → Type 0} (r : Result T E) → ((t : T) → P t → Q t) → IfOk r P → IfOk r Q
-if_ok_to (Ok t) step is = step t is
-if_ok_to (Err e) step is = is

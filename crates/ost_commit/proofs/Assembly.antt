@@ -4,6 +4,7 @@ use Rattle.std.specs.Prelude.{Ok}
 use Rattle.std.specs.List.{AllByRecursion}
 use Rattle.fp_name.specs.Refs.{Ref}
 use Rattle.fp_base.specs.declared.object.ObjKind.TheVariants as kinds
+use Rattle.fp_base.proofs.Lists.{all_to}
 use Rattle.ost_model.specs.declared.object.Object.{Object}
 use Rattle.ost_model.specs.Contents.{meta_digest}
 use Rattle.ost_model.specs.Readers.{commit_of, meta_of, commit_read, meta_read, if_read}
@@ -28,7 +29,7 @@ use Rattle.ost_commit.specs.Shows.{plain_meta, Shows, IsTree, AreGood}
 use Rattle.ost_commit.specs.Built.{BuiltCommit}
 use Rattle.ost_commit.proofs.Keys.{AreDistinct}
 use Rattle.ost_commit.proofs.Reading.{commit_good, dirmeta_good, named_if_good, none_related}
-use Rattle.ost_commit.proofs.Holding.{holds_rows, there_rows, all_also}
+use Rattle.ost_commit.proofs.Holding.{holds_rows, there_rows}
 use Rattle.ost_commit.proofs.Having.{IsGood, all_good, all, file_have, tree_have, meta_have, commit_have, are_apart, are_good}
 use Rattle.ost_commit.proofs.Showing.{seen, plain_below, whole}
 
@@ -80,7 +81,7 @@ assembled rows r subject timestamp folders digests contents meta commit made bui
     subst (BuiltCommit rows r subject timestamp) (sym same)
     (built_commit rows r subject timestamp (record { commit = meta_digest commit; objects = os }) made.root (meta_digest meta) gathers.tree at
     (subst (λ t. Shows have (says rows) 65 [] (row_of t (meta_digest meta))) root.root (root.written.shows have trees support))
-    (all_good os good) few holds (all_also IsGood IsNamed (λ o h. named_if_good o.digest o.kind o.object h) os good) (are_apart contents made.trees.entries meta commit files dirs))
+    (all_good os good) few holds (all_to IsGood IsNamed (λ o h. named_if_good o.digest o.kind o.object h) os good) (are_apart contents made.trees.entries meta commit files dirs))
 
 -- what a commit says, by what its fields say
 pub commit_said : (metadata related subject body : List ℕ) (r : Ref) (s : List ℕ) (timestamp : ℕ) (tree meta : List ℕ) → tree_at dictionary_shape metadata ≡ bound_to r → related ≡ [] → subject ≡ s → body ≡ []

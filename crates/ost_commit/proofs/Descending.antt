@@ -1,7 +1,7 @@
 -- Paths cut from below, and a row that is put into its directory.
 use Rattle.std.proofs.Common.{◌≡◌, ◌<◌, ◌≤◌, ◌+◌, ◌-◌, ℕ, zero, suc, List, [], ◌∷◌, length, drop, Bool, true, false, not, refl, sym, ◌∙◌, ap, subst, arith}
 use Rattle.std.specs.Prelude.{if◌then◌else◌, ◌&&◌, ◌||◌, leb}
-use Rattle.std.proofs.lemmas.Bool.{false≢true, leb-true}
+use Rattle.std.proofs.lemmas.Bool.{false≢true, leb-true, and_parts}
 use Rattle.fp_host.specs.Paths.{Elements, path_eq}
 use Rattle.ost_commit.specs.declared.limits.TheConstants.{MOST_NAMES}
 use Rattle.ost_commit.specs.declared.row.TreeRow.{TreeRow}
@@ -100,14 +100,6 @@ row_said said (row.Dir p) root may q = dir_row said p root q
 row_said said (row.File p mode bytes) root may q = content_row said (row.File p mode bytes) p refl root may q
 row_said said (row.Link p target) root may q = content_row said (row.Link p target) p refl root may q
 
-and_true : (a b : Bool) → (a && b) ≡ true → (a ≡ true) × (b ≡ true)
-and_true true true h = (refl, refl)
-and_true true false h = absurd (false≢true h)
-and_true false b h = absurd (false≢true h)
-
-at_most : (a b : ℕ) → leb a b ≡ true → a ≤ b
-at_most a b h = leb-true a b h
-
 pub takes_row : (rows : List TreeRow) (said : Elements → Said) (r : TreeRow) (old mid new : Tree) (folder : ℕ) (taken b : Bool) → Gathers rows said old.folders.items → is_good_row r ≡ true
     → is_clear said (row_path r) ≡ true → Reached rows said (drop 1 (row_path r)) old mid folder → PutsRow rows (with_above said (drop 1 (row_path r))) r mid new taken → b ≡ (taken && leb new.names MOST_NAMES) → Takes rows said r old new b
 takes_row rows said r old mid new folder taken b g good clear reached puts is =
@@ -117,9 +109,9 @@ takes_row rows said r old mid new folder taken b g good clear reached puts is =
     let count : taken ≡ true → new.names ≡ old.names + new_names said (row_path r) = λ t. let h = puts.names t in omega (arith, h, reached.names, both.1) in
     record {
       is = is ∙ (all taken stands count ∙ ap (λ c. c && (is_clear said (row_path r) && (may_stand r (said (row_path r)) && leb (old.names + new_names said (row_path r)) MOST_NAMES))) (sym good));
-      gathers = λ t. let h = (and_true taken (leb new.names MOST_NAMES) (sym is ∙ t)).0 in
+      gathers = λ t. let h = (and_parts taken (leb new.names MOST_NAMES) (sym is ∙ t)).0 in
           gathers_same rows (with_entry (with_above said (drop 1 (row_path r))) (row_path r) (put_by r)) (with_row said r) new.folders.items (row_said said r root (sym stands ∙ h)) (puts.gathers h);
-      names = λ t. count (and_true taken (leb new.names MOST_NAMES) (sym is ∙ t)).0;
+      names = λ t. count (and_parts taken (leb new.names MOST_NAMES) (sym is ∙ t)).0;
     }
   where
     all : (t : Bool) → t ≡ may_stand r (said (row_path r)) → (t ≡ true → new.names ≡ old.names + new_names said (row_path r))
@@ -167,13 +159,13 @@ clear_from said (x ∷ up) e h = ap (λ b. not b && is_clear said up) e ∙ h
 
 -- a good row is at most 65 deep
 pub good_short : (r : TreeRow) → is_good_row r ≡ true → length (row_path r) ≤ 65
-good_short (row.Dir path) good = let h : length path ≤ 64 = at_most (length path) 64 good in omega (arith, h)
-good_short (row.File path mode bytes) good = at_most (length path) 65 (and_true (leb (length path) 65) _ good).0
-good_short (row.Link path target) good = at_most (length path) 65 (and_true (leb (length path) 65) _ good).0
+good_short (row.Dir path) good = let h : length path ≤ 64 = leb-true (length path) 64 good in omega (arith, h)
+good_short (row.File path mode bytes) good = leb-true (length path) 65 (and_parts (leb (length path) 65) _ good).0
+good_short (row.Link path target) good = leb-true (length path) 65 (and_parts (leb (length path) 65) _ good).0
 
 -- with a row that is taken there are at most 40,000 names
 pub few_taken : (said : Elements → Said) (names : ℕ) (r : TreeRow) → is_taken said names r ≡ true → names + new_names said (row_path r) ≤ MOST_NAMES
 few_taken said names r taken =
-    let clear = (and_true (is_good_row r) _ taken).1 in
-    let stands = (and_true (is_clear said (row_path r)) _ clear).1 in
-    at_most (names + new_names said (row_path r)) MOST_NAMES (and_true (may_stand r (said (row_path r))) _ stands).1
+    let clear = (and_parts (is_good_row r) _ taken).1 in
+    let stands = (and_parts (is_clear said (row_path r)) _ clear).1 in
+    leb-true (names + new_names said (row_path r)) MOST_NAMES (and_parts (may_stand r (said (row_path r))) _ stands).1

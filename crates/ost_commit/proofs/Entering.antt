@@ -3,6 +3,7 @@ use Rattle.std.proofs.Common.{◌≡◌, ◌<◌, ℕ, zero, suc, List, [], ◌�
 use Rattle.std.specs.Prelude.{if◌then◌else◌, ◌||◌, ◌&&◌}
 use Rattle.std.proofs.lemmas.Bool.{false≢true}
 use Rattle.fp_host.specs.Paths.{Elements, path_eq}
+use Rattle.fp_host.proofs.Separate.{path_decides}
 use Rattle.ost_commit.specs.declared.row.TreeRow.{TreeRow}
 use Rattle.ost_commit.specs.declared.row.TreeRow.TheVariants as row
 use Rattle.ost_commit.specs.declared.tree.Folder.{Folder}
@@ -10,7 +11,7 @@ use Rattle.ost_commit.specs.declared.tree.Tree.{Tree}
 use Rattle.ost_commit.specs.Rows.{Said, no_entry, a_directory, row_path, put_by, is_above, first_said}
 use Rattle.ost_commit.specs.Refusals.{is_nothing, is_content, is_clear}
 use Rattle.ost_commit.specs.Folders.{with_entry, with_above, with_row, Gathers, new_at, Entered, Reached}
-use Rattle.ost_commit.proofs.Saying.{path_decides, or_nothing, first_assoc}
+use Rattle.ost_commit.proofs.Saying.{or_nothing, first_assoc}
 
 -- what is said the same is gathered the same
 pub gathers_same : (rows : List TreeRow) (s t : Elements → Said) (folders : List Folder) → ((q : Elements) → s q ≡ t q) → Gathers rows s folders → Gathers rows t folders

@@ -5,7 +5,9 @@ use Rattle.std.specs.Str.{bytes_eq}
 use Rattle.std.proofs.lemmas.Slice.Eq.{bytes_eq-Decides}
 use Rattle.std.proofs.lemmas.List.{length-set}
 use Rattle.std.proofs.lemmas.Bool.{false≢true}
-use Rattle.fp_host.specs.Paths.{Elements, path_eq, is_element}
+use Rattle.fp_base.proofs.Options.{none_some}
+use Rattle.fp_host.specs.Paths.{Elements, is_element}
+use Rattle.fp_host.proofs.Separate.{path_cases}
 use Rattle.ost_commit.specs.declared.row.TreeRow.{TreeRow}
 use Rattle.ost_commit.specs.declared.tree.Child.{Child}
 use Rattle.ost_commit.specs.declared.tree.Child.TheVariants as child
@@ -14,7 +16,7 @@ use Rattle.ost_commit.specs.Rows.{Said, no_entry, a_directory}
 use Rattle.ost_commit.specs.Refusals.{is_content}
 use Rattle.ost_commit.specs.Folders.{At, child_in, child_said, put_at, with_entry, Gathers, HasNew}
 use Rattle.ost_commit.proofs.Places.{at_within, at_one, set_cases, set_here, set_other, more_cases, more_left, more_right}
-use Rattle.ost_commit.proofs.Saying.{path_decides, entry_here, entry_elsewhere, entry_dir}
+use Rattle.ost_commit.proofs.Saying.{entry_here, entry_elsewhere, entry_dir}
 
 inner : (x y : List ℕ) (p q : Elements) → x ∷ p ≡ y ∷ q → (x ≡ y) × (p ≡ q)
 inner x y p q e = (cc, cc)
@@ -25,18 +27,8 @@ num_cases zero (suc b) = inr (λ e. absurd (omega (arith, e)))
 num_cases (suc a) zero = inr (λ e. absurd (omega (arith, e)))
 num_cases (suc a) (suc b) = elim (num_cases a b) [ inl e ↦ inl (ap suc e) | inr n ↦ inr (λ e. n (omega (arith, e))) ]
 
-by_test : {P : Type 0} (b : Bool) → (b ≡ true → P) → (P → b ≡ true) → P ⊎ (P → ⊥)
-by_test true d e = inl (d refl)
-by_test false d e = inr (λ h. false≢true (e h))
-
-path_cases : (q p : Elements) → (q ≡ p) ⊎ (q ≢ p)
-path_cases q p = by_test (path_eq q p) (path_decides q p).0 (path_decides q p).1
-
-no≢dir : {A : Type 0} → no_entry ≡ a_directory → A
+pub no≢dir : {A : Type 0} → no_entry ≡ a_directory → A
 no≢dir e = absurd (cc e)
-
-pub some_of_none : {A : Type 0} {a : A} → None ≡ Some a → ⊥
-some_of_none e = cc e
 
 -- what is new after the directories that were there: one without a name in it, where a directory comes
 pub record IsTail (folders : List Folder) (p : Elements) (v : Said) (c : Child) (tail : List Folder) : Type 0 where
@@ -174,7 +166,7 @@ module _ (rows : List TreeRow) (said : Elements → Said) (folders : List Folder
         | inl s ↦
             let b = new_below j y m s.0 (ap (λ (h : Folder). child_in h.children.entries y) s.1 ∙ is) in
             (b.0, (b.1.0, b.1.1, b.1.2 ∙ ap (λ q. y ∷ q) (sym (path_is g s.1))))
-        | inr t ↦ absurd (some_of_none (sym ((is_tail.new t.1.0 g t.1.1).2 y) ∙ is))
+        | inr t ↦ absurd (none_some (sym ((is_tail.new t.1.0 g t.1.1).2 y) ∙ is))
       ]
     ];
     apart = λ j m g h a b e. elim (was j g a) [
@@ -191,14 +183,14 @@ module _ (rows : List TreeRow) (said : Elements → Said) (folders : List Folder
       | inl o ↦ gathers.inside j g y k o.1 is
       | inr r ↦ elim r [
         | inl s ↦ new_inside y k (ap (λ (h : Folder). child_in h.children.entries y) s.1 ∙ is)
-        | inr t ↦ absurd (some_of_none (sym ((is_tail.new t.1.0 g t.1.1).2 y) ∙ is))
+        | inr t ↦ absurd (none_some (sym ((is_tail.new t.1.0 g t.1.1).2 y) ∙ is))
       ]
     ];
     named = λ j g y d a is. elim (cases j g a) [
       | inl o ↦ gathers.named j g y d o.1 is
       | inr r ↦ elim r [
         | inl s ↦ new_named y d (ap (λ (h : Folder). child_in h.children.entries y) s.1 ∙ is)
-        | inr t ↦ absurd (some_of_none (sym ((is_tail.new t.1.0 g t.1.1).2 y) ∙ is))
+        | inr t ↦ absurd (none_some (sym ((is_tail.new t.1.0 g t.1.1).2 y) ∙ is))
       ]
     ];
   }

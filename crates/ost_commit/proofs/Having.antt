@@ -6,7 +6,7 @@ use Rattle.std.specs.Str.{bytes_eq}
 use Rattle.std.specs.Ordering.{is_eq, nat_cmp}
 use Rattle.std.specs.Cmp.Lexicographic.{slice_cmp}
 use Rattle.std.specs.List.{AllByRecursion}
-use Rattle.std.proofs.lemmas.Bool.{false≢true}
+use Rattle.std.proofs.lemmas.Bool.{false≢true, and_parts}
 use Rattle.fp_base.specs.declared.object.ObjKind.{ObjKind}
 use Rattle.fp_base.specs.declared.object.ObjKind.TheVariants as kinds
 use Rattle.ost_model.specs.declared.object.Object.{Object}
@@ -21,17 +21,12 @@ use Rattle.ost_commit.specs.Rows.{content, put_by}
 use Rattle.ost_commit.specs.Refusals.{is_content}
 use Rattle.ost_commit.specs.Objects.{have_of, AreApart}
 use Rattle.fp_base.specs.Objects.{is_kind}
+use Rattle.fp_base.proofs.Kinds.{kind_is, kind_same}
 use Rattle.ost_commit.specs.Shows.{AreGood}
 use Rattle.ost_commit.specs.Digests.{IsDigestOf, AreDigests}
 use Rattle.ost_commit.specs.Tables.{object_in, built_of, built_meta, AreUsable}
 use Rattle.ost_commit.specs.Folders.{put_at}
 use Rattle.ost_commit.proofs.Keys.{AreDistinct, same_test, at_keys, none_new}
-
-same_kind : (kind : ObjKind) → is_kind kind kind ≡ true
-same_kind kinds.Commit = refl
-same_kind kinds.DirTree = refl
-same_kind kinds.DirMeta = refl
-same_kind kinds.File = refl
 
 and_same : (b c : Bool) → c ≡ true → (b && c) ≡ b
 and_same true c h = h
@@ -47,7 +42,7 @@ object_test e d = is_eq (slice_cmp nat_cmp d e.0)
 -- what a table has, and then what stands after it
 pub have_table : (kind : ObjKind) (es : List (List ℕ × Object)) (rest : List BuiltObject) (d : List ℕ) → have_of (map (built_of kind) es ++ rest) d kind ≡ option_or (object_in es d) (have_of rest d kind)
 have_table kind [] rest d = refl
-have_table kind (e ∷ es) rest d = go (bytes_eq e.0 d && is_kind kind kind) (object_test e d) (and_same (bytes_eq e.0 d) (is_kind kind kind) (same_kind kind) ∙ sym (same_test d e.0)) (have_table kind es rest d)
+have_table kind (e ∷ es) rest d = go (bytes_eq e.0 d && is_kind kind kind) (object_test e d) (and_same (bytes_eq e.0 d) (is_kind kind kind) (kind_same kind) ∙ sym (same_test d e.0)) (have_table kind es rest d)
   where
     go : (a b : Bool) → a ≡ b → have_of (map (built_of kind) es ++ rest) d kind ≡ option_or (object_in es d) (have_of rest d kind)
         → (if a then Some e.1 else have_of (map (built_of kind) es ++ rest) d kind) ≡ option_or (if b then Some e.1 else object_in es d) (have_of rest d kind)
@@ -90,28 +85,6 @@ digests_many (r ∷ rs) (d ∷ ds) all = ap suc (digests_many rs ds all.1)
 
 -- ---- all objects of a commit
 
-and_both : (b c : Bool) → (b && c) ≡ true → (b ≡ true) × (c ≡ true)
-and_both true c h = (refl, h)
-and_both false c h = absurd (false≢true h)
-
-kinds_same : (a b : ObjKind) → is_kind a b ≡ true → a ≡ b
-kinds_same kinds.Commit kinds.Commit h = refl
-kinds_same kinds.DirTree kinds.DirTree h = refl
-kinds_same kinds.DirMeta kinds.DirMeta h = refl
-kinds_same kinds.File kinds.File h = refl
-kinds_same kinds.Commit kinds.DirTree h = absurd (false≢true h)
-kinds_same kinds.Commit kinds.DirMeta h = absurd (false≢true h)
-kinds_same kinds.Commit kinds.File h = absurd (false≢true h)
-kinds_same kinds.DirTree kinds.Commit h = absurd (false≢true h)
-kinds_same kinds.DirTree kinds.DirMeta h = absurd (false≢true h)
-kinds_same kinds.DirTree kinds.File h = absurd (false≢true h)
-kinds_same kinds.DirMeta kinds.Commit h = absurd (false≢true h)
-kinds_same kinds.DirMeta kinds.DirTree h = absurd (false≢true h)
-kinds_same kinds.DirMeta kinds.File h = absurd (false≢true h)
-kinds_same kinds.File kinds.Commit h = absurd (false≢true h)
-kinds_same kinds.File kinds.DirTree h = absurd (false≢true h)
-kinds_same kinds.File kinds.DirMeta h = absurd (false≢true h)
-
 -- it may be used under its digest
 abbrev pub IsGood : BuiltObject → Type 0
 IsGood o = object_fault o.digest o.kind (Some o.object) ≡ None
@@ -125,9 +98,9 @@ all_good os all = record { good = go os all }
       where
         by : (b : Bool) → (bytes_eq o.digest d && is_kind o.kind kind) ≡ b → (if b then Some o.object else have_of os d kind) ≡ Some x → (have_of os d kind ≡ Some x → object_fault d kind (Some x) ≡ None) → object_fault d kind (Some x) ≡ None
         by true t h rest =
-            let parts = and_both (bytes_eq o.digest d) (is_kind o.kind kind) t in
+            let parts = and_parts (bytes_eq o.digest d) (is_kind o.kind kind) t in
             let digest = (bytes_eq-Decides o.digest d).0 parts.0 in
-            let same = kinds_same o.kind kind parts.1 in
+            let same = kind_is o.kind kind parts.1 in
             let object : o.object ≡ x = cc h in
             subst (λ z. object_fault z kind (Some x) ≡ None) digest (subst (λ k. object_fault o.digest k (Some x) ≡ None) same (subst (λ z. object_fault o.digest o.kind (Some z) ≡ None) object all.0))
         by false t h rest = rest h

@@ -1,5 +1,5 @@
 -- The objects of rows in a table.
-use Rattle.std.proofs.Common.{◌≡◌, ◌⊎◌, inl, inr, ◌<◌, ℕ, zero, suc, List, [], ◌∷◌, ◌++◌, append-nil, length, get_or, Bool, true, false, Some, None, refl, sym, ◌∙◌, ap, subst, arith}
+use Rattle.std.proofs.Common.{◌≡◌, ◌⊎◌, inl, inr, ◌<◌, ℕ, zero, suc, List, [], ◌∷◌, ◌++◌, length, get_or, Bool, true, false, Some, None, refl, sym, ◌∙◌, ap, subst, arith}
 use Rattle.std.specs.Prelude.{if◌then◌else◌}
 use Rattle.std.specs.Str.{bytes_eq}
 use Rattle.std.specs.List.{AllByRecursion}
@@ -9,8 +9,10 @@ use Rattle.fp_base.specs.declared.object.ObjKind.{ObjKind}
 use Rattle.fp_base.specs.declared.object.ObjKind.TheVariants as kinds
 use Rattle.ost_model.specs.declared.object.Object.{Object}
 use Rattle.ost_model.specs.declared.object.Object.TheVariants as objects
-use Rattle.ost_model.specs.Contents.{header, link_header, file_digest, link_digest}
+use Rattle.ost_model.specs.Contents.{header, file_digest, link_digest}
 use Rattle.sha2.specs.Sha256.{sha256}
+use Rattle.fp_base.proofs.Options.{none_some}
+use Rattle.fp_base.proofs.Lists.{all_to}
 use Rattle.ost_model.specs.Objects.{Have, object_fault}
 use Rattle.ost_commit.specs.declared.row.TreeRow.{TreeRow}
 use Rattle.ost_commit.specs.declared.row.TreeRow.TheVariants as row
@@ -28,10 +30,6 @@ use Rattle.ost_commit.proofs.Reading.{digest_if_good, row_good}
 pub all_push : {A : Type 0} (P : A → Type 0) (xs : List A) (a : A) → AllByRecursion P xs → P a → AllByRecursion P (xs ++ a ∷ [])
 all_push P [] a all one = (one, tt)
 all_push P (x ∷ xs) a all one = (all.0, all_push P xs a all.1 one)
-
-pub all_also : {A : Type 0} (P Q : A → Type 0) → ((a : A) → P a → Q a) → (xs : List A) → AllByRecursion P xs → AllByRecursion Q xs
-all_also P Q f [] all = tt
-all_also P Q f (x ∷ xs) all = (f x all.0, all_also P Q f xs all.1)
 
 pub all_at : {A : Type 0} (P : A → Type 0) (xs : List A) (i : ℕ) (a : A) → AllByRecursion P xs → At xs i a → P a
 all_at P [] i a all h = absurd h
@@ -71,7 +69,7 @@ usable_more kind old new d o usable good puts = record {
 pub contents_more : (before : List TreeRow) (r : TreeRow) (old new : List (List ℕ × Object)) (d : List ℕ) (o : Object) → AreContents before old → is_good_row r ≡ true → IsDigestOf r d → object_by r ≡ Some o
     → PutsObject old new d o → AreContents (before ++ r ∷ []) new
 contents_more before r old new d o contents good is by puts = record {
-  there = all_push (HasRow new) before r (all_also (HasRow old) (HasRow new) (row_kept old new puts.kept) before contents.there) (row_there new r d o is by puts.there);
+  there = all_push (HasRow new) before r (all_to (HasRow old) (HasRow new) (row_kept old new puts.kept) before contents.there) (row_there new r d o is by puts.there);
   usable = usable_more kinds.File old new d o contents.usable (row_good r d o good is by) puts;
 }
 
@@ -98,7 +96,7 @@ collide kind table d o usable good other = record {
 -- ---- rows whose objects are there
 
 pub holds_rows : (have : Have) (table : List (List ℕ × Object)) → ((d : List ℕ) (o : Object) → object_in table d ≡ Some o → have d kinds.File ≡ Some o) → (rows : List TreeRow) → AllByRecursion (HasRow table) rows → AllByRecursion (Holds have) rows
-holds_rows have table has rows all = all_also (HasRow table) (Holds have) go rows all
+holds_rows have table has rows all = all_to (HasRow table) (Holds have) go rows all
   where
     go : (r : TreeRow) → HasRow table r → Holds have r
     go (row.Dir path) h = tt
@@ -117,9 +115,6 @@ there_rows have (r ∷ rows) (d ∷ ds) all digests zero low is = go r all.0 dig
 there_rows have (r ∷ rows) (d ∷ ds) all digests (suc k) low is = there_rows have rows ds all.1 digests.1 k (omega (arith, low)) is
 
 -- ---- a table that an object comes to
-
-none_some : {A : Type 0} {a : A} → None ≡ Some a → ⊥
-none_some e = cc e
 
 pub puts_new : (old new : List (List ℕ × Object)) (d : List ℕ) (o : Object) → object_in old d ≡ None → ((q : List ℕ) → object_in new q ≡ (if bytes_eq d q then Some o else object_in old q)) → PutsObject old new d o
 puts_new old new d o none updates = record {
@@ -152,10 +147,6 @@ usable_none kind table is = subst (AreUsable kind) (sym is) (record { each = λ 
 pub file_item : (mode : ℕ) (bytes head body : List ℕ) → head ≡ header mode → body ≡ bytes → sha256 (head ++ body) ≡ file_digest mode bytes
 unfolding file_digest
 file_item mode bytes head body h b = ap (λ x. sha256 (x ++ body)) h ∙ ap (λ y. sha256 (header mode ++ y)) b
-
-pub link_item : (target head body : List ℕ) → head ≡ link_header target → body ≡ [] → sha256 (head ++ body) ≡ link_digest target
-unfolding link_digest
-link_item target head body h b = ap (λ x. sha256 (x ++ body)) h ∙ (ap (λ y. sha256 (link_header target ++ y)) b ∙ ap sha256 (append-nil (link_header target)))
 
 pub any_get : (ds : List (List ℕ)) (i : ℕ) (d : List ℕ) → i < length ds → d ≡ get_or ds i d → d ≡ get_or ds i []
 any_get [] i d low is = absurd (omega (arith, low))

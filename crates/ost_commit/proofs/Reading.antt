@@ -1,9 +1,8 @@
 -- Objects that may be used.
-use Rattle.std.proofs.Common.{◌≡◌, ◌≤◌, ◌*◌, ℕ, List, [], length, Bool, true, false, leb, Option, Some, None, refl, sym, ◌∙◌, ap, subst, arith}
+use Rattle.std.proofs.Common.{◌≡◌, ◌≤◌, ◌*◌, ℕ, List, [], length, Bool, true, leb, Option, Some, None, refl, sym, ◌∙◌, ap, subst, arith}
 use Rattle.std.specs.Option.{option_or}
-use Rattle.std.specs.Prelude.{◌&&◌, option_and_then, unwrap_or, Ok}
+use Rattle.std.specs.Prelude.{option_and_then, unwrap_or, Ok}
 use Rattle.std.specs.Str.{bytes_eq}
-use Rattle.std.proofs.lemmas.Bool.{false≢true}
 use Rattle.std.proofs.lemmas.Bool.Decides.{nat_tests}
 use Rattle.std.proofs.lemmas.Slice.Eq.{bytes_eq-Decides}
 use Rattle.gv_value.specs.Shape.{Shape}
@@ -14,6 +13,9 @@ use Rattle.gv_value.proofs.Exact.{reads_values}
 use Rattle.fp_base.specs.declared.object.ObjKind.{ObjKind}
 use Rattle.fp_base.specs.declared.object.ObjKind.TheVariants as kinds
 use Rattle.fp_base.specs.declared.rule.Rule.{Rule}
+use Rattle.fp_base.proofs.Booleans.{and_first, and_second}
+use Rattle.fp_base.proofs.Options.{first_none}
+use Rattle.fp_base.proofs.Texts.{bytes_eq-same}
 use Rattle.ost_model.specs.declared.object.Object.{Object}
 use Rattle.ost_model.specs.declared.object.Object.TheVariants as objects
 use Rattle.ost_model.specs.Contents.{is_permission, file_digest, link_digest, meta_digest}
@@ -22,6 +24,7 @@ use Rattle.ost_model.specs.Types.{commit_shape, tree_shape, meta_shape, related_
 use Rattle.ost_object.specs.Views.{tree_at}
 use Rattle.ost_model.specs.Readers.{judged, commit_breaks, tree_breaks, meta_breaks, commit_read, tree_read, meta_read, if_read, if_broken, broken_rule, meta_of}
 use Rattle.ost_model.specs.Objects.{Fault, unless, missing, too_long, refused_mode, corrupt, length_fault, mode_fault, digest_of, digest_fault, as_malformed, rule_fault, is_of_kind, kind_fault, content_fault, name_fault, dir_bits, dir_mode_fault, object_fault}
+use Rattle.ost_model.proofs.Faults.{unless_none}
 use Rattle.ost_commit.specs.declared.row.TreeRow.{TreeRow}
 use Rattle.ost_commit.specs.declared.row.TreeRow.TheVariants as row
 use Rattle.ost_commit.specs.Refusals.{is_good_row}
@@ -33,10 +36,6 @@ use Rattle.ost_commit.specs.Shows.{plain_meta}
 pub no_fault : (a b : Option Fault) → a ≡ None → b ≡ None → option_or a b ≡ None
 no_fault a b e f = ap (λ x. option_or x b) e ∙ f
 
-pub left_none : (a b : Option Fault) → option_or a b ≡ None → a ≡ None
-left_none None b h = refl
-left_none (Some f) b h = h
-
 pub right_none : (a b : Option Fault) → option_or a b ≡ None → b ≡ None
 right_none None b h = h
 right_none (Some f) b h = absurd (cc h)
@@ -44,28 +43,13 @@ right_none (Some f) b h = absurd (cc h)
 pass : (b : Bool) (f : Fault) → b ≡ true → unless b f ≡ None
 pass b f e = ap (λ x. unless x f) e
 
-passed : (b : Bool) (f : Fault) → unless b f ≡ None → b ≡ true
-passed true f h = refl
-passed false f h = absurd (cc h)
-
-same_bytes : (d : List ℕ) → bytes_eq d d ≡ true
-same_bytes d = (bytes_eq-Decides d d).1 refl
-
 low : (a b : ℕ) → a ≤ b → leb a b ≡ true
 low a b h = grind (arith, nat_tests)
-
-and_left : (a b : Bool) → (a && b) ≡ true → a ≡ true
-and_left true b h = refl
-and_left false b h = absurd (false≢true h)
-
-and_right : (a b : Bool) → (a && b) ≡ true → b ≡ true
-and_right true b h = h
-and_right false b h = absurd (false≢true h)
 
 -- ---- an object that may be used has the digest that names it
 
 pub named_if_good : (d : List ℕ) (kind : ObjKind) (o : Object) → object_fault d kind (Some o) ≡ None → name_fault d kind (Some o) ≡ None
-named_if_good d kind o h = left_none (name_fault d kind (Some o)) (dir_mode_fault kind (Some o)) h
+named_if_good d kind o h = first_none (name_fault d kind (Some o)) (dir_mode_fault kind (Some o)) h
 
 pub digest_if_good : (d : List ℕ) (kind : ObjKind) (o : Object) → object_fault d kind (Some o) ≡ None → digest_of o ≡ d
 digest_if_good d kind o h =
@@ -73,7 +57,7 @@ digest_if_good d kind o h =
     let content = right_none (kind_fault kind o) (content_fault d kind o) named in
     let rest = right_none (length_fault o) (option_or (mode_fault o) (option_or (digest_fault d o) (rule_fault kind o))) content in
     let last = right_none (mode_fault o) (option_or (digest_fault d o) (rule_fault kind o)) rest in
-    (bytes_eq-Decides (digest_of o) d).0 (passed (bytes_eq (digest_of o) d) (corrupt (digest_of o)) (left_none (digest_fault d o) (rule_fault kind o) last))
+    (bytes_eq-Decides (digest_of o) d).0 (unless_none (bytes_eq (digest_of o) d) (corrupt (digest_of o)) (first_none (digest_fault d o) (rule_fault kind o) last))
 
 -- ---- metadata objects
 
@@ -91,7 +75,7 @@ meta_named kind bytes of_kind few unbroken =
     (pass (is_of_kind kind (objects.Meta bytes)) missing of_kind)
     (no_fault (length_fault (objects.Meta bytes)) _ (pass (leb (length bytes) (16 * 1024 * 1024)) (too_long (length bytes)) (low (length bytes) (16 * 1024 * 1024) few))
     (no_fault (digest_fault (meta_digest bytes) (objects.Meta bytes)) (rule_fault kind (objects.Meta bytes))
-    (pass (bytes_eq (meta_digest bytes) (meta_digest bytes)) (corrupt (meta_digest bytes)) (same_bytes (meta_digest bytes)))
+    (pass (bytes_eq (meta_digest bytes) (meta_digest bytes)) (corrupt (meta_digest bytes)) (bytes_eq-same (meta_digest bytes)))
     (ap as_malformed unbroken)))
 
 pub tree_good : (bytes : List ℕ) (v : TreeView) → tree_read bytes ≡ Ok v → object_fault (meta_digest bytes) kinds.DirTree (Some (objects.Meta bytes)) ≡ None
@@ -113,22 +97,22 @@ file_good mode bytes bits few = no_fault (name_fault (file_digest mode bytes) ki
     (no_fault (length_fault (objects.File mode bytes)) _ (pass (leb (length bytes) (1024 * 1024 * 1024)) (too_long (length bytes)) few)
     (no_fault (mode_fault (objects.File mode bytes)) _ (pass (is_permission mode) (refused_mode mode) bits)
     (no_fault (digest_fault (file_digest mode bytes) (objects.File mode bytes)) None
-    (pass (bytes_eq (file_digest mode bytes) (file_digest mode bytes)) (corrupt (file_digest mode bytes)) (same_bytes (file_digest mode bytes))) refl))) refl
+    (pass (bytes_eq (file_digest mode bytes) (file_digest mode bytes)) (corrupt (file_digest mode bytes)) (bytes_eq-same (file_digest mode bytes))) refl))) refl
 
 link_good : (target : List ℕ) → object_fault (link_digest target) kinds.File (Some (objects.Link target)) ≡ None
 link_good target = no_fault (name_fault (link_digest target) kinds.File (Some (objects.Link target))) None
     (no_fault (digest_fault (link_digest target) (objects.Link target)) None
-    (pass (bytes_eq (link_digest target) (link_digest target)) (corrupt (link_digest target)) (same_bytes (link_digest target))) refl) refl
+    (pass (bytes_eq (link_digest target) (link_digest target)) (corrupt (link_digest target)) (bytes_eq-same (link_digest target))) refl) refl
 
 -- the object of a good row
 pub row_good : (r : TreeRow) (d : List ℕ) (o : Object) → is_good_row r ≡ true → IsDigestOf r d → object_by r ≡ Some o → object_fault d kinds.File (Some o) ≡ None
 row_good (row.Dir path) d o good is by = absurd (cc by)
 row_good (row.File path mode bytes) d o good is by =
-    let rest = and_right (leb (length path) 65) _ good in
+    let rest = and_second (leb (length path) 65) _ good in
     let object : objects.File mode bytes ≡ o = cc by in
     subst (λ x. object_fault d kinds.File (Some x) ≡ None) object
     (subst (λ x. object_fault x kinds.File (Some (objects.File mode bytes)) ≡ None) (sym is)
-    (file_good mode bytes (and_left (is_permission mode) _ rest) (and_right (is_permission mode) _ rest)))
+    (file_good mode bytes (and_first (is_permission mode) _ rest) (and_second (is_permission mode) _ rest)))
 row_good (row.Link path target) d o good is by =
     let object : objects.Link target ≡ o = cc by in
     subst (λ x. object_fault d kinds.File (Some x) ≡ None) object

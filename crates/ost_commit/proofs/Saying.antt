@@ -1,15 +1,11 @@
 -- What rows say, row by row.
 use Rattle.std.proofs.Common.{◌≡◌, ◌≢◌, List, [], ◌∷◌, ◌++◌, Bool, true, false, refl, ◌∙◌, ap}
 use Rattle.std.specs.Prelude.{if◌then◌else◌}
-use Rattle.std.specs.Bool.{Decides}
-use Rattle.std.proofs.lemmas.Slice.Eq.{bytes_eq-Decides, slice_eq-Decides}
 use Rattle.fp_host.specs.Paths.{Elements, path_eq}
+use Rattle.fp_host.proofs.Separate.{path_decides}
 use Rattle.ost_commit.specs.declared.row.TreeRow.{TreeRow}
 use Rattle.ost_commit.specs.Rows.{Said, no_entry, a_directory, content, said_by, first_said, said_by_rows, said_of_root, says}
 use Rattle.ost_commit.specs.Folders.{with_entry, with_row}
-
-pub path_decides : (q p : Elements) → Decides (path_eq q p) (q ≡ p)
-path_decides q p = slice_eq-Decides bytes_eq-Decides q p (path_eq q p) refl
 
 pub or_nothing : (a : Said) → first_said a no_entry ≡ a
 or_nothing no_entry = refl

@@ -3,22 +3,23 @@ use Rattle.std.proofs.Common.{◌≡◌, ◌⊎◌, inl, inr, ◌≤◌, ◌<◌
 use Rattle.std.specs.Option.{option_or}
 use Rattle.std.specs.Prelude.{if◌then◌else◌}
 use Rattle.std.specs.Str.{bytes_eq}
-use Rattle.std.proofs.lemmas.Slice.Eq.{bytes_eq-Decides}
 use Rattle.std.proofs.lemmas.Bool.Decides.{nat_tests}
 use Rattle.fp_host.specs.Paths.{Elements}
 use Rattle.fp_base.specs.declared.object.ObjKind.{ObjKind}
 use Rattle.fp_base.specs.declared.object.ObjKind.TheVariants as kinds
+use Rattle.fp_base.proofs.Texts.{bytes_eq-true}
 use Rattle.ost_model.specs.declared.object.Object.{Object}
 use Rattle.ost_model.specs.Fields.{DirRow, FileRow, CommitView}
 use Rattle.ost_model.specs.Readers.{tree_of, meta_of, commit_of}
 use Rattle.ost_model.specs.Objects.{Have, too_many, too_deep, object_fault}
 use Rattle.ost_model.specs.Order.{Place, In, each_in, inside, dir_places, file_place, file_places, tree_place, meta_place, read_as, commit_at, below_commit, root_row, order, first_fault, first_of, place_fault, found_at}
-use Rattle.ost_model.specs.Look.{Found, nothing, directory, file_at, find_dir, find_file, either, entry_in, next, at_root, look}
-use Rattle.ost_commit.specs.Rows.{Said, no_entry, a_directory, content}
+use Rattle.ost_model.specs.Look.{Found, nothing, directory, file_at, find_dir, find_file, entry_in, next, at_root, look}
+use Rattle.ost_model.proofs.Members.{in_append}
+use Rattle.ost_model.proofs.Looked.{either_dir}
+use Rattle.ost_model.proofs.Places.{each_same}
+use Rattle.ost_commit.specs.Rows.{Said, a_directory, content}
 use Rattle.ost_commit.specs.Shows.{found_said, meta_at, plain_meta, IsThere, Shows, IsTree, AreGood, Grows}
-
-no≢dir : {A : Type 0} → no_entry ≡ a_directory → A
-no≢dir e = absurd (cc e)
+use Rattle.ost_commit.proofs.Gathering.{no≢dir}
 
 content≢dir : {A : Type 0} (d : List ℕ) → content d ≡ a_directory → A
 content≢dir d e = absurd (cc e)
@@ -32,20 +33,12 @@ if_some : {A : Type 0} (b : Bool) (d e : A) (r : Option A) → if b then Some d 
 if_some true d e r is = inl (refl, cc)
 if_some false d e r is = inr is
 
-same_bytes : (x y : List ℕ) → bytes_eq x y ≡ true → x ≡ y
-same_bytes x y h = (bytes_eq-Decides x y).0 h
-
 dir_found : (x : List ℕ) (es : List DirRow) (e : DirRow) → find_dir x es ≡ Some e → In es e × (e.name ≡ x)
 dir_found x [] e is = absurd (cc is)
 dir_found x (d ∷ es) e is = elim (if_some (bytes_eq d.name x) d e (find_dir x es) is) [
-  | inl h ↦ (inl h.1, subst (λ (r : DirRow). r.name ≡ x) h.1 (same_bytes d.name x h.0))
+  | inl h ↦ (inl h.1, subst (λ (r : DirRow). r.name ≡ x) h.1 (bytes_eq-true d.name x h.0))
   | inr h ↦ let r = dir_found x es e h in (inr r.0, r.1)
 ]
-
-either_dir : (d : Option DirRow) (f : Option FileRow) (e : DirRow) → either d f ≡ directory e → d ≡ Some e
-either_dir None None e is = absurd (cc is)
-either_dir None (Some f) e is = absurd (cc is)
-either_dir (Some d) f e is = cc
 
 -- what Look has found at a path, with what stands below it
 pub record Seen (have : Have) (said : Elements → Said) (path : Elements) (found : Found) : Type 0 where
@@ -104,14 +97,9 @@ pub record IsGoodPlace (have : Have) (p : Place) : Type 0 where
 there_good : (have : Have) → AreGood have → (d : List ℕ) (kind : ObjKind) → IsThere have d kind → object_fault d kind (have d kind) ≡ None
 there_good have good d kind t = ap (object_fault d kind) t.is ∙ good.good d kind t.object t.is
 
-in_split : {A : Type 0} (xs ys : List A) (a : A) → In (xs ++ ys) a → In xs a ⊎ In ys a
-in_split [] ys a h = inr h
-in_split (x ∷ xs) ys a (inl e) = inl (inl e)
-in_split (x ∷ xs) ys a (inr h) = elim (in_split xs ys a h) [ inl k ↦ inl (inr k) | inr k ↦ inr k ]
-
 in_each : {A B : Type 0} (f : A → List B) (xs : List A) (b : B) → In (each_in f xs) b → (a : A) × In xs a × In (f a) b
 in_each f [] b h = absurd h
-in_each f (x ∷ xs) b h = elim (in_split (f x) (each_in f xs) b h) [ inl k ↦ (x, inl refl, k) | inr k ↦ let r = in_each f xs b k in (r.0, inr r.1, r.2) ]
+in_each f (x ∷ xs) b h = elim (in_append (f x) (each_in f xs) b h) [ inl k ↦ (x, inl refl, k) | inr k ↦ let r = in_each f xs b k in (r.0, inr r.1, r.2) ]
 
 in_files : (depth : ℕ) (fs : List FileRow) (p : Place) → In (file_places depth fs) p → (f : FileRow) × In fs f × (file_place depth f ≡ p)
 in_files depth [] p h = absurd h
@@ -137,7 +125,7 @@ module _ (have : Have) (said : Elements → Said) (good : AreGood have) where
     where
       within : leb 65 depth ≡ false → ((d : DirRow) → In s.view.dirs d → In (dir_places have levels (suc depth) d) p → IsGoodPlace have p)
           → In (inside (dir_places have levels (suc depth)) depth (Some s.view)) p → IsGoodPlace have p
-      within low below m = elim (in_split (file_places depth s.view.files) (each_in (dir_places have levels (suc depth)) s.view.dirs) p m) [
+      within low below m = elim (in_append (file_places depth s.view.files) (each_in (dir_places have levels (suc depth)) s.view.dirs) p m) [
         | inl k ↦ let f = in_files depth s.view.files p k in
             subst (IsGoodPlace have) f.2 (good_place f.0.digest kinds.File depth low (s.files f.0 f.1))
         | inr k ↦ let d = in_each (dir_places have levels (suc depth)) s.view.dirs p k in below d.0 d.1 d.2
@@ -162,10 +150,6 @@ module _ (have : Have) (said : Elements → Said) (good : AreGood have) where
   ])
 
 -- ---- more objects change nothing
-
-each_same : {A B : Type 0} (f g : A → List B) (xs : List A) → ((x : A) → In xs x → g x ≡ f x) → each_in g xs ≡ each_in f xs
-each_same f g [] same = refl
-each_same f g (x ∷ xs) same = ap (λ l. l ++ each_in g xs) (same x (inl refl)) ∙ ap (λ l. f x ++ l) (each_same f g xs (λ y h. same y (inr h)))
 
 read_more : {A : Type 0} (of : List ℕ → Option A) (i j : Have) → Grows i j → (d : List ℕ) (kind : ObjKind) (a : A) → read_as of (i d kind) ≡ Some a → read_as of (j d kind) ≡ Some a
 read_more of i j grows d kind a is = let t = read_there of i d kind a is in

@@ -1,9 +1,11 @@
 -- Rows that are taken, one after another.
 use Rattle.std.proofs.Common.{◌≡◌, ◌≢◌, inl, inr, ◌<◌, ◌≤◌, ◌+◌, ℕ, zero, suc, List, [], ◌∷◌, ◌++◌, append-nil, length, Bool, true, false, not, Option, Some, None, refl, sym, ◌∙◌, ap, subst, arith}
-use Rattle.std.specs.Prelude.{if◌then◌else◌, ◌&&◌, slice_set, is_some}
+use Rattle.std.specs.Prelude.{if◌then◌else◌, slice_set, is_some}
 use Rattle.std.specs.List.{AllByRecursion}
 use Rattle.std.proofs.lemmas.Bool.{false≢true}
 use Rattle.std.proofs.lemmas.List.{length-set}
+use Rattle.fp_base.proofs.Booleans.{and_first}
+use Rattle.fp_base.proofs.Options.{none_some, none_if_not_some}
 use Rattle.fp_host.specs.Paths.{Elements, is_element}
 use Rattle.ost_commit.specs.declared.row.TreeRow.{TreeRow}
 use Rattle.ost_commit.specs.declared.tree.Child.{Child}
@@ -15,7 +17,7 @@ use Rattle.ost_commit.specs.Refusals.{is_good_row, is_nothing, is_content, new_n
 use Rattle.ost_commit.specs.Folders.{At, child_in, folder_place, child_said, put_at, with_entry, with_row, Gathers, HasNew, new_at, new_root_at, Entered, Enters, TakesFolder, TakesContent}
 use Rattle.ost_commit.proofs.Places.{at_within, more_right}
 use Rattle.ost_commit.proofs.Saying.{says_push}
-use Rattle.ost_commit.proofs.Gathering.{IsTail, gathers_more, some_of_none}
+use Rattle.ost_commit.proofs.Gathering.{IsTail, gathers_more}
 use Rattle.ost_commit.proofs.Entering.{gathers_same, dir_again}
 
 -- ---- a directory that is entered
@@ -91,10 +93,6 @@ refused_row before rest r names all not_taken e =
 pub next_gathers : (rows before : List TreeRow) (r : TreeRow) (folders : List Folder) → Gathers rows (with_row (says before) r) folders → Gathers rows (says (before ++ r ∷ [])) folders
 next_gathers rows before r folders g = gathers_same rows (with_row (says before) r) (says (before ++ r ∷ [])) folders (λ q. sym (says_push before r q)) g
 
-good_if : (a b : Bool) → (a && b) ≡ true → a ≡ true
-good_if true b h = refl
-good_if false b h = absurd (false≢true h)
-
 -- each row is good by itself where none is refused
 pub good_rows : (before : List TreeRow) (names : ℕ) (rs : List TreeRow) → refused_remainder before names rs ≡ None → AllByRecursion (λ r. is_good_row r ≡ true) rs
 good_rows before names [] e = tt
@@ -103,7 +101,7 @@ good_rows before names (r ∷ rs) e = go (is_taken (says before) names r) refl (
   where
     go : (b : Bool) → is_taken (says before) names r ≡ b → (rest : Option ℕ) → (if b then rest else Some (length before + 1)) ≡ None
         → (rest ≡ None → AllByRecursion (λ s. is_good_row s ≡ true) rs) → AllByRecursion (λ s. is_good_row s ≡ true) (r ∷ rs)
-    go true t rest h more = (good_if (is_good_row r) _ t, more h)
+    go true t rest h more = (and_first (is_good_row r) _ t, more h)
     go false t rest h more = absurd (cc h)
 
 -- no rows
@@ -115,10 +113,10 @@ gathers_nothing rows f folders is path empty = subst (Gathers rows (says [])) (s
   path = λ i g a. ap (says []) (path_of i g a);
   shallow = λ i g a. subst (λ q. length q ≤ 64) (sym (path_of i g a)) (let low : 0 ≤ 64 = omega arith in low);
   each = λ i g x a. ap (child_said rows) (none_in i g x a);
-  below = λ i g x j a h. absurd (some_of_none (sym (none_in i g x a) ∙ h));
+  below = λ i g x j a h. absurd (none_some (sym (none_in i g x a) ∙ h));
   apart = λ i j g h a b e. (only i g a).0 ∙ sym (only j h b).0;
-  inside = λ i g x k a h. absurd (some_of_none (sym (none_in i g x a) ∙ h));
-  named = λ i g x c a h. absurd (some_of_none (sym (none_in i g x a) ∙ h));
+  inside = λ i g x k a h. absurd (none_some (sym (none_in i g x a) ∙ h));
+  named = λ i g x c a h. absurd (none_some (sym (none_in i g x a) ∙ h));
 })
   where
     only : (i : ℕ) (g : Folder) → At (f ∷ []) i g → (i ≡ 0) × (f ≡ g)
@@ -143,10 +141,6 @@ content_more no_entry h = absurd (false≢true h)
 content_more a_directory h = refl
 content_more (content d) h = refl
 
-none_from : {A : Type 0} (o : Option A) → is_some o ≡ false → o ≡ None
-none_from None h = refl
-none_from (Some a) h = absurd (false≢true (sym h))
-
 module _ (rows : List TreeRow) (said : Elements → Said) (old : Tree) (g : Gathers rows said old.folders.items) (i : ℕ) (f : Folder) (at : At old.folders.items i f) (x : List ℕ) where
   not_nothing : is_some (child_in f.children.entries x) ≡ true → is_nothing (said (x ∷ f.path)) ≡ false
   not_nothing some = go (child_in f.children.entries x) refl some
@@ -166,8 +160,8 @@ module _ (rows : List TreeRow) (said : Elements → Said) (old : Tree) (g : Gath
   pub first_taken : (r : TreeRow) (k : ℕ) (f' : Folder) (new : Tree) → is_some (child_in f.children.entries x) ≡ false → is_element x ≡ true → HasNew f f' x (child.Content k)
       → At rows k r → is_content (put_by r) ≡ true → new.folders.items ≡ slice_set old.folders.items i f' → new.names ≡ old.names + 1 → TakesContent rows said (x ∷ f.path) (put_by r) old new true
   first_taken r k f' new none element has at_row is folders names = record {
-    is = sym (ap is_nothing (said_none rows said old g i f at x (none_from (child_in f.children.entries x) none)));
-    gathers = λ e. content_put rows said old g i f at x r k f' new.folders.items (none_from (child_in f.children.entries x) none) element has (at_within rows k r at_row) (put_at_is rows k r at_row) is folders;
+    is = sym (ap is_nothing (said_none rows said old g i f at x (none_if_not_some (child_in f.children.entries x) none)));
+    gathers = λ e. content_put rows said old g i f at x r k f' new.folders.items (none_if_not_some (child_in f.children.entries x) none) element has (at_within rows k r at_row) (put_at_is rows k r at_row) is folders;
     names = λ e. names;
   }
 

@@ -1,3 +1,4 @@
 pub mod Spelled
 pub mod Told
 pub mod Values
+pub mod Links

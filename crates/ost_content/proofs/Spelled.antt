@@ -1,31 +1,23 @@
 -- The bytes of a header, one after the other.
-use Rattle.std.proofs.Common.{◌≡◌, ℕ, zero, suc, ◌+◌, ◌*◌, ◌/◌, ◌%◌, ◌≤◌, List, [], ◌∷◌, ◌++◌, length, take, None, refl, sym, ap, ◌∙◌, arith, length-append, append_assoc}
+use Rattle.std.proofs.Common.{◌≡◌, ℕ, zero, suc, ◌+◌, ◌≤◌, List, [], ◌∷◌, ◌++◌, length, take, None, refl, sym, ap, ◌∙◌, arith, length-append, append_assoc}
 use Rattle.std.proofs.lemmas.Bool.Decides.{nat_tests}
 use Rattle.std.proofs.lemmas.List.{append-nil}
 use Rattle.std.specs.Int.{w32, to_be_bytes}
 use Rattle.byteorder.specs.Endian.{little_bytes}
 use Rattle.gv_value.specs.declared.basic.Basic.TheVariants as basics
-use Rattle.gv_value.specs.Bytes.{le_bytes, le_value, zeros, AllBelow}
+use Rattle.gv_value.specs.Bytes.{le_bytes, le_value, zeros}
 use Rattle.gv_value.specs.Framing.{width, framed, tuple_body, tuple_offsets}
 use Rattle.gv_value.specs.Layout.{padding}
 use Rattle.gv_value.specs.Shape.{Shape, Shapes, no_shapes, shape}
 use Rattle.gv_value.specs.Spelling.{spelling, tuple_bytes}
-use Rattle.gv_value.proofs.Numbers.{length-le_bytes}
+use Rattle.gv_value.proofs.Numbers.{length-le_bytes, le_bytes-value}
 use Rattle.ost_model.specs.Contents.{number_shape, attributes_shape, header_shape, header_value, with_length, header_bytes, header, link_header}
 
 -- ---- numbers
 
--- bytes are what their number is written as
-le_bytes-le_value : (bytes : List ℕ) → AllBelow 256 bytes → le_bytes (length bytes) (le_value bytes) ≡ bytes
-le_bytes-le_value [] below = refl
-le_bytes-le_value (b ∷ bytes) below =
-    let low : (b + 256 * le_value bytes) % 256 ≡ b = omega arith in
-    let high : (b + 256 * le_value bytes) / 256 ≡ le_value bytes = omega arith in
-    rw (low, high, le_bytes-le_value bytes below.1) refl
-
 -- a number whose bytes are turned is written high byte first
 turned : (n : ℕ) → le_bytes 4 (le_value (to_be_bytes w32 n)) ≡ to_be_bytes w32 n
-turned n = le_bytes-le_value (to_be_bytes w32 n) (omega arith, (omega arith, (omega arith, (omega arith, tt))))
+turned n = le_bytes-value (to_be_bytes w32 n) (omega arith, (omega arith, (omega arith, (omega arith, tt))))
 
 -- the first of two bytes of a number are the number in fewer bytes
 pub first_bytes : (size n : ℕ) → size ≤ 2 → le_bytes size n ≡ take size (little_bytes 2 n)

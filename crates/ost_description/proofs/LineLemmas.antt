@@ -1,42 +1,11 @@
 -- Lines one after another.
-use Rattle.std.proofs.Common.{◌≡◌, ◌==◌, ℕ, ◌+◌, ◌<◌, ◌≤◌, Bool, true, false, List, [], ◌∷◌, length, take, drop, Some, None, Option, refl, ap, ◌∙◌, arith, cond, ltb}
+use Rattle.std.proofs.Common.{◌≡◌, ◌==◌, ℕ, ◌+◌, ◌<◌, List, [], ◌∷◌, length, Some, None, Option, refl, ap, ◌∙◌, arith}
 use Rattle.std.specs.Prelude.{if◌then◌else◌, option_map, is_some}
-use Rattle.std.specs.List.{All, position_or_len}
-use Rattle.std.proofs.lemmas.Bool.{ltb-true, ltb-false}
-use Rattle.std.proofs.lemmas.Option.{some_pair_parts}
-use Rattle.std.proofs.lemmas.List.{length-drop}
-use Rattle.std.proofs.lemmas.List.Sums.{fails_before_first}
 use Rattle.std.proofs.lemmas.List.Splits.{slice_split_none, slice_split_first, length-slice_split}
 use Rattle.ost_commit.specs.declared.row.TreeRow.{TreeRow}
 use Rattle.fp_base.specs.Parts.{parts_at}
+use Rattle.fp_base.proofs.Lines.{is_end, found, missed, none_ends}
 use Rattle.ost_description.specs.Descriptions.{pieces, first_by, row_in, row_before, rows_in, unformed_in}
-
-abbrev is_end : ℕ → Bool
-is_end b = b == 10
-
-abbrev cut_at : List ℕ → ℕ → List ℕ × List ℕ
-cut_at bytes n = (take n bytes, drop (n + 1) bytes)
-
-found_by : (b : Bool) (at : ℕ) (bytes line remainder : List ℕ) → option_map (cut_at bytes) (cond b (Some at) None) ≡ Some (line, remainder)
-    → (b ≡ true) × (take at bytes ≡ line) × (drop (at + 1) bytes ≡ remainder)
-found_by true at bytes line remainder e = let parts = some_pair_parts (take at bytes) line (drop (at + 1) bytes) remainder e in (refl, parts.0, parts.1)
-found_by false at bytes line remainder e = absurd cc
-
-missed_by : (b : Bool) (at : ℕ) (bytes : List ℕ) → option_map (cut_at bytes) (cond b (Some at) None) ≡ None → b ≡ false
-missed_by true at bytes e = absurd cc
-missed_by false at bytes e = refl
-
-found : (bytes line remainder : List ℕ) → parts_at 10 bytes ≡ Some (line, remainder)
-    → (position_or_len is_end bytes < length bytes) × (take (position_or_len is_end bytes) bytes ≡ line) × (drop (position_or_len is_end bytes + 1) bytes ≡ remainder)
-unfolding parts_at
-found bytes line remainder e = let parts = found_by (ltb (position_or_len is_end bytes) (length bytes)) (position_or_len is_end bytes) bytes line remainder e in (ltb-true _ _ parts.0, parts.1, parts.2)
-
-missed : (bytes : List ℕ) → parts_at 10 bytes ≡ None → length bytes ≤ position_or_len is_end bytes
-unfolding parts_at
-missed bytes e = ltb-false _ _ (missed_by (ltb (position_or_len is_end bytes) (length bytes)) (position_or_len is_end bytes) bytes e)
-
-none_ends : (bytes : List ℕ) → length bytes ≤ position_or_len is_end bytes → All (λ b. is_end b ≡ false) bytes
-none_ends bytes l k d m = fails_before_first is_end bytes k d (omega (arith, l, m))
 
 -- a line, and the pieces after it
 pub pieces_step : (bytes line remainder : List ℕ) → parts_at 10 bytes ≡ Some (line, remainder) → pieces bytes ≡ line ∷ pieces remainder
@@ -49,11 +18,6 @@ pieces_end bytes e = slice_split_none is_end bytes (none_ends bytes (missed byte
 
 pub some_pieces : (bytes : List ℕ) → 0 < length (pieces bytes)
 some_pieces bytes = omega (arith, length-slice_split is_end bytes)
-
-pub remainder_is_shorter : (bytes line remainder : List ℕ) → parts_at 10 bytes ≡ Some (line, remainder) → length remainder < length bytes
-remainder_is_shorter bytes line remainder e =
-    let f = found bytes line remainder e in
-    omega (arith, f.0, ap (λ (l : List ℕ). length l) f.2, length-drop (position_or_len is_end bytes + 1) bytes)
 
 -- ---- the first line
 

@@ -11,7 +11,7 @@ use Rattle.fp_host.specs.Moments.{Moments, Always, Makes}
 use Rattle.fp_host.proofs.Framed.{IsTold, keeps_refl, keeps_on, keeps_to}
 use Rattle.fp_host.proofs.Settled.{at_tree, settled_disk}
 use Rattle.fp_host.proofs.Goes.{begins, goes_on, makes_goes}
-use Rattle.fp_host.proofs.Ending.{ends_on, ends_call, ends_both, ends_goes, ends_frame, ends_to, goes_known}
+use Rattle.fp_host.proofs.Ending.{ends_on, ends_call, ends_both, ends_goes, ends_frame, ends_to, goes_known, to_tree}
 use Rattle.fp_small.specs.Clear.{IsWithin}
 use Rattle.fp_small.specs.Files.{KeepsFiles}
 use Rattle.fp_small.specs.Folders.{ancestors, AreFree, FoldersAt, DirsAt}
@@ -23,11 +23,12 @@ use Rattle.fp_small.proofs.Replacement.{ancestors_above}
 use Rattle.fp_name.specs.Refs.{Ref}
 use Rattle.fp_base.specs.declared.object.ObjKind.{ObjKind}
 use Rattle.ost_model.specs.declared.object.Object.{Object}
-use Rattle.ost_model.specs.Objects.{Have, object_path, object_at, object_fault, store}
-use Rattle.ost_model.specs.Order.{Place, In, order, first_fault}
-use Rattle.ost_model.proofs.Places.{faultless, first_same}
+use Rattle.ost_model.specs.Objects.{Have, object_path, object_at, store}
+use Rattle.ost_model.specs.Order.{first_fault}
+use Rattle.ost_model.proofs.Faults.{clean_more}
 use Rattle.ost_store.specs.Stays.{Stays}
 use Rattle.ost_store.proofs.Staying.{shown_stays}
+use Rattle.ost_store.proofs.ObjectPaths.{object_within}
 use Rattle.ost_commit.specs.declared.built.BuiltObject.{BuiltObject}
 use Rattle.ost_refs.specs.Places.{remotes}
 use Rattle.ost_refs.specs.Files.{ref_bytes}
@@ -36,8 +37,7 @@ use Rattle.ost_refs.specs.declared.place.RefPlace.TheVariants.{Head}
 use Rattle.ost_export.specs.Staging.{IsApart}
 use Rattle.ost_export.specs.Storing.{IsNoWork, IsWork, StoresObjects, IsFitFor, HasStored, CanStoreAll}
 use Rattle.ost_export.specs.Exports.{config_path, config_text, ref_path, a_remote, IsExportFolder, Furnishes, ExportsAt, ExportsName, Exports, ExportsSynced, FurnishesSynced, AreFit, IsOffered, IsExported, WasExported, CanExport, CanExportAll}
-use Rattle.ost_export.proofs.Paths.{IsBranch, two_branches, object_within, apart_of, branch_off, branch_under, objects_branch, config_branch, refs_branch, one_work, none_below}
-use Rattle.ost_export.proofs.Placed.{to_tree}
+use Rattle.ost_export.proofs.Paths.{IsBranch, two_branches, apart_of, branch_off, branch_under, objects_branch, config_branch, refs_branch, one_work, none_below}
 use Rattle.ost_export.proofs.Furnished.{refs_within, remotes_within, folder_cases, FurnishStep, furnishes_on, furnishes_objects, staging_on, work_of, staging_depth, step_config, step_remotes, can_config, can_remotes, can_write}
 
 -- ---- the frame
@@ -212,19 +212,6 @@ module _ {have : Have} {root : Elements} {r : Ref} (outer : IsNoWork root) {u v 
 
 -- ---- the end
 
-there_of : (d : List ℕ) (kind : ObjKind) (object : Option Object) → object_fault d kind object ≡ None → (o : Object) × (object ≡ Some o)
-there_of d kind None good = absurd (cc good)
-there_of d kind (Some o) good = (o, refl)
-
-clean_store : (have other : Have) (commit : List ℕ) → first_fault have commit ≡ None → ((d : List ℕ) (kind : ObjKind) (object : Object) → have d kind ≡ Some object → other d kind ≡ Some object) → first_fault other commit ≡ None
-clean_store have other commit clean stored = first_same have other commit agree ∙ clean
-  where
-    agree : (p : Place) → In (order have commit) p → other p.digest p.kind ≡ have p.digest p.kind
-    agree p has =
-        let good = (faultless have 0 (order have commit) clean p has).1 in
-        let o = there_of p.digest p.kind (have p.digest p.kind) good in
-        stored p.digest p.kind o.0 o.1 ∙ sym o.1
-
 module _ {have : Have} {root : Elements} {r : Ref} (commit : List ℕ) (outer : IsNoWork root) (clean : first_fault have commit ≡ None) {u v w : View} (tree : IsTree v) (tree' : IsTree w) (k : KnownAll have root r u v)
     (writes : Replaces (ref_path root r) (ref_bytes commit) v w) (was : WasReplaced (ref_path root r) (ref_bytes commit) v w) where
   apart : IsApart root k.known.place
@@ -251,7 +238,7 @@ module _ {have : Have} {root : Elements} {r : Ref} (commit : List ℕ) (outer : 
         config = (config_there.id, settled_disk w tree' was.settled disk l (config_path root) ∙ ap (spot_of w.files) config_there.name ∙ ap (holding config_there.id) config_there.row);
         ref = was.new.each disk l;
         stored = stored;
-        clean = clean_store have (store root disk) commit clean stored;
+        clean = clean_more have (store root disk) commit clean stored;
       }
 
   pub was_exported : WasExported have root r commit u w

@@ -2,6 +2,7 @@
 use Rattle.std.proofs.Common.{◌≡◌, ◌+◌, ◌<◌, ◌≤◌, inl, inr, ℕ, List, [], ◌∷◌, ◌++◌, length, take, get_or, true, Option, refl, sym, ◌∙◌, ap, subst}
 use Rattle.std.specs.List.{AllByRecursion}
 use Rattle.std.proofs.lemmas.List.{take_more, take_all}
+use Rattle.fp_base.proofs.Lists.{all_to as all_also}
 use Rattle.fp_host.specs.Paths.{Elements}
 use Rattle.fp_host.specs.View.{View}
 use Rattle.fp_host.specs.Frame.{AtEnd}
@@ -12,11 +13,12 @@ use Rattle.fp_small.specs.Clear.{IsCleared}
 use Rattle.fp_name.specs.Hex.{is_digest}
 use Rattle.ost_model.specs.Objects.{Have, object_path}
 use Rattle.ost_model.specs.Order.{In}
+use Rattle.ost_model.proofs.Members.{all_here}
+use Rattle.ost_store.proofs.ObjectPaths.{below_work}
 use Rattle.ost_commit.specs.declared.built.BuiltObject.{BuiltObject}
-use Rattle.ost_commit.proofs.Holding.{all_also, all_push}
+use Rattle.ost_commit.proofs.Holding.{all_push}
 use Rattle.ost_export.specs.Staging.{Named, name_of, IsApart, AreStaged, StagesOne, IsCovered, StagesSome, Works, IsKeepableObject, CanStageOne, CanStageAll}
-use Rattle.ost_export.proofs.Listed.{in_at, all_here}
-use Rattle.ost_export.proofs.Paths.{below_work}
+use Rattle.ost_export.proofs.Listed.{in_at}
 use Rattle.ost_export.proofs.Staged.{gathers_same}
 use Rattle.ost_export.proofs.Works.{works_stays, works_open}
 

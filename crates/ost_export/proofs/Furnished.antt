@@ -6,24 +6,26 @@ use Rattle.fp_host.specs.View.{View, IsTree}
 use Rattle.fp_host.specs.Calls.{IsFile}
 use Rattle.fp_host.specs.Frame.{Keeps, NoPath}
 use Rattle.fp_host.proofs.Framed.{keeps_on, keeps_to}
+use Rattle.fp_host.proofs.Above.{above_on, above_longer}
 use Rattle.fp_small.specs.Clear.{IsWithin}
 use Rattle.fp_small.specs.Files.{KeepsFiles}
 use Rattle.fp_small.specs.Folders.{IsFree, ancestors, AreFree, FoldersAt, DirsAt}
 use Rattle.fp_small.specs.Places.{repo, tmp, new_name}
 use Rattle.fp_small.specs.Replace.{IsStaging, folders_of, Replaces, IsFreeFile, CanReplace}
 use Rattle.fp_small.proofs.Keeping.{files_on, files_kept}
-use Rattle.fp_small.proofs.Emptying.{above_longer}
 use Rattle.fp_small.proofs.Replacement.{ancestors_above, one_staging}
+use Rattle.fp_small.proofs.Making.{free_at}
 use Rattle.fp_name.specs.Refs.{Ref}
 use Rattle.fp_base.specs.declared.object.ObjKind.{ObjKind}
 use Rattle.ost_model.specs.Objects.{Have, object_path}
 use Rattle.ost_refs.specs.Places.{remotes}
 use Rattle.ost_refs.specs.Changes.{CanWrite}
 use Rattle.ost_refs.specs.declared.place.RefPlace.TheVariants.{Head}
+use Rattle.ost_store.proofs.ObjectPaths.{object_within}
 use Rattle.ost_export.specs.Staging.{IsApart}
 use Rattle.ost_export.specs.Storing.{IsWork, StoresObjects}
 use Rattle.ost_export.specs.Exports.{config_path, config_text, ref_path, a_remote, IsFolderAbove, IsExportFolder, FurnishesAt, FurnishesName, Furnishes, CanExport}
-use Rattle.ost_export.proofs.Paths.{above_on, two_branches, object_within, branch_off, branch_under, objects_branch, config_branch, refs_branch, one_work, free_at, none_below}
+use Rattle.ost_export.proofs.Paths.{two_branches, branch_off, branch_under, objects_branch, config_branch, refs_branch, one_work, none_below}
 
 -- ---- paths
 

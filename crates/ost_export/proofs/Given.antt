@@ -1,17 +1,14 @@
 -- What an object that is ready may give, and what a staged object is read as.
-use Rattle.std.proofs.Common.{◌≡◌, inl, inr, ℕ, List, Option, Some, None, sym, ◌∙◌, ap, subst, if◌then◌else◌}
+use Rattle.std.proofs.Common.{◌≡◌, inl, inr, ℕ, List, Option, Some, sym, subst}
 use Rattle.fp_host.specs.Paths.{Elements, Slot, absent, dir, file, link}
 use Rattle.fp_host.specs.View.{View, Inode, IsTree}
 use Rattle.fp_host.specs.Calls.{IsLeaf, IsDirty}
-use Rattle.fp_host.specs.Outcome.{Spot, holds, points, MayHold, Gives, spot_of, holding, shows}
+use Rattle.fp_host.specs.Outcome.{Spot, MayHold, Gives, spot_of, holding, shows}
 use Rattle.fp_host.proofs.Settled.{at_tree}
 use Rattle.fp_base.specs.declared.object.ObjKind.{ObjKind}
-use Rattle.fp_base.specs.declared.object.ObjKind.TheVariants as kinds
 use Rattle.ost_model.specs.declared.object.Object.{Object}
-use Rattle.ost_model.specs.declared.object.Object.TheVariants as objects
-use Rattle.ost_model.specs.Objects.{name_fault, object_at}
+use Rattle.ost_model.specs.Objects.{object_at}
 use Rattle.ost_store.specs.Place.{IsReadyAs}
-use Rattle.ost_store.specs.Stage.{IsHeld}
 use Rattle.ost_export.specs.Placing.{IsTheObject}
 
 -- ---- what is given
@@ -32,26 +29,3 @@ module _ {u : View} (d : List ℕ) (kind : ObjKind) (object : Object) (t : Eleme
   -- what it may give is the object
   pub given : (p q : Elements) (spot : Spot) → Gives u p (u.names t) q spot → IsTheObject d kind object spot
   given p q spot g = subst (IsTheObject d kind object) (sym g.1.2) (by_slot (u.names t) g.1.0 g.1.1 ready.leaf ready.clean here)
-
--- ---- what a staged object is read as
-
-held_file : (v : View) (t : Elements) (id mode : ℕ) (bytes : List ℕ) → IsTree v → v.names t ≡ file id → v.files id ≡ Some (record { mode = mode; bytes = bytes }) → shows v t ≡ holds id mode bytes
-held_file v t id mode bytes tree name row = ap (spot_of v.files) (at_tree v tree t ∙ name) ∙ ap (holding id) row
-
-held_link : (v : View) (t : Elements) (text : List ℕ) → IsTree v → v.names t ≡ link text → shows v t ≡ points text
-held_link v t text tree name = ap (spot_of v.files) (at_tree v tree t ∙ name)
-
-pub held_object : (d : List ℕ) (kind : ObjKind) (t : Elements) (object : Object) (v : View) → IsTree v → IsHeld t object v → name_fault d kind (Some object) ≡ None → object_at kind (shows v t) ≡ Some object
-held_object d kinds.File t (objects.Meta bytes) v tree held good = absurd (cc good)
-held_object d kinds.Commit t (objects.Meta bytes) v tree held good = ap (object_at kinds.Commit) (held_file v t held.id 420 bytes tree held.name held.row)
-held_object d kinds.DirTree t (objects.Meta bytes) v tree held good = ap (object_at kinds.DirTree) (held_file v t held.id 420 bytes tree held.name held.row)
-held_object d kinds.DirMeta t (objects.Meta bytes) v tree held good = ap (object_at kinds.DirMeta) (held_file v t held.id 420 bytes tree held.name held.row)
-held_object d kinds.File t (objects.File mode bytes) v tree held good = ap (object_at kinds.File) (held_file v t held.id mode bytes tree held.name held.row)
-held_object d kinds.Commit t (objects.File mode bytes) v tree held good = absurd (cc good)
-held_object d kinds.DirTree t (objects.File mode bytes) v tree held good = absurd (cc good)
-held_object d kinds.DirMeta t (objects.File mode bytes) v tree held good = absurd (cc good)
-held_object d kinds.File t (objects.Link text) v tree held good =
-    ap (object_at kinds.File) (held_link v t text tree held) ∙ ap (λ b. if b then Some (objects.Link text) else None) (tree.linked t text (inl (sym held)))
-held_object d kinds.Commit t (objects.Link text) v tree held good = absurd (cc good)
-held_object d kinds.DirTree t (objects.Link text) v tree held good = absurd (cc good)
-held_object d kinds.DirMeta t (objects.Link text) v tree held good = absurd (cc good)

@@ -7,7 +7,6 @@ mod Objects
 mod Offering
 pub mod Paths
 mod Placed
-mod Ready
 pub mod Spared
 mod Staged
 mod Stored

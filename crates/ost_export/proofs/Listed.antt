@@ -10,21 +10,17 @@ use Rattle.fp_host.specs.View.{View}
 use Rattle.fp_host.specs.Paths.{Elements}
 use Rattle.fp_name.specs.Hex.{is_digest}
 use Rattle.fp_base.specs.declared.object.ObjKind.{ObjKind}
-use Rattle.fp_base.specs.declared.object.ObjKind.TheVariants as kinds
 use Rattle.ost_model.specs.declared.object.Object.{Object}
 use Rattle.ost_model.specs.Objects.{object_path}
 use Rattle.ost_model.specs.Order.{In}
+use Rattle.ost_model.proofs.Members.{all_here}
 use Rattle.ost_commit.specs.declared.built.BuiltObject.{BuiltObject}
 use Rattle.ost_commit.specs.Objects.{have_of, IsNamed, AreApart}
 use Rattle.fp_base.specs.Objects.{is_kind}
+use Rattle.fp_base.proofs.Kinds.{kind_is, kind_same}
 use Rattle.ost_export.specs.Staging.{Named, AreWhole, IsIn, IsCovered}
 
 -- ---- all of a list
-
-pub all_here : {A : Type 0} (P : A → Type 0) (xs : List A) (a : A) → AllByRecursion P xs → In xs a → P a
-all_here P [] a all has = absurd has
-all_here P (x ∷ xs) a all (inl is) = subst P is all.0
-all_here P (x ∷ xs) a all (inr has) = all_here P xs a all.1 has
 
 pub in_at : {A : Type 0} (xs : List A) (i : ℕ) (a : A) → i < length xs → a ≡ get_or xs i a → In xs a
 in_at [] i a low at = absurd (omega (arith, low))
@@ -32,30 +28,6 @@ in_at (x ∷ xs) zero a low at = inl (sym at)
 in_at (x ∷ xs) (suc i) a low at = inr (in_at xs i a (omega (arith, low)) at)
 
 -- ---- a kind and itself
-
-kind_same : (k : ObjKind) → is_kind k k ≡ true
-kind_same kinds.Commit = refl
-kind_same kinds.DirTree = refl
-kind_same kinds.DirMeta = refl
-kind_same kinds.File = refl
-
-kind_is : (k m : ObjKind) → is_kind k m ≡ true → k ≡ m
-kind_is kinds.Commit kinds.Commit is = refl
-kind_is kinds.Commit kinds.DirTree is = absurd (cc is)
-kind_is kinds.Commit kinds.DirMeta is = absurd (cc is)
-kind_is kinds.Commit kinds.File is = absurd (cc is)
-kind_is kinds.DirTree kinds.Commit is = absurd (cc is)
-kind_is kinds.DirTree kinds.DirTree is = refl
-kind_is kinds.DirTree kinds.DirMeta is = absurd (cc is)
-kind_is kinds.DirTree kinds.File is = absurd (cc is)
-kind_is kinds.DirMeta kinds.Commit is = absurd (cc is)
-kind_is kinds.DirMeta kinds.DirTree is = absurd (cc is)
-kind_is kinds.DirMeta kinds.DirMeta is = refl
-kind_is kinds.DirMeta kinds.File is = absurd (cc is)
-kind_is kinds.File kinds.Commit is = absurd (cc is)
-kind_is kinds.File kinds.DirTree is = absurd (cc is)
-kind_is kinds.File kinds.DirMeta is = absurd (cc is)
-kind_is kinds.File kinds.File is = refl
 
 abbrev is_of : BuiltObject → List ℕ → ObjKind → Bool
 is_of o d kind = bytes_eq o.digest d && is_kind o.kind kind

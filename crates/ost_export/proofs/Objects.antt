@@ -9,29 +9,31 @@ use Rattle.fp_host.specs.Moments.{Moments, Always}
 use Rattle.fp_host.proofs.Framed.{IsTold, keeps_on, keeps_to, keeps_same}
 use Rattle.fp_host.proofs.Settled.{at_tree}
 use Rattle.fp_host.proofs.Goes.{begins, goes_on}
-use Rattle.fp_host.proofs.Ending.{ends_on, ends_both, ends_goes, ends_looks, ends_to, goes_known}
+use Rattle.fp_host.proofs.Ending.{ends_on, ends_both, ends_goes, ends_looks, ends_to, goes_known, from_tree, to_tree}
+use Rattle.fp_host.proofs.Above.{above_longer}
 use Rattle.fp_small.specs.Clear.{IsWithin}
 use Rattle.fp_small.specs.Files.{KeepsFiles}
 use Rattle.fp_small.specs.Replace.{IsStaging}
 use Rattle.fp_small.proofs.Keeping.{files_on, files_same, files_kept}
-use Rattle.fp_small.proofs.Emptying.{cleared_absent, above_longer}
+use Rattle.fp_small.proofs.Emptying.{cleared_absent}
+use Rattle.fp_small.proofs.Making.{free_at}
 use Rattle.fp_name.specs.Hex.{is_digest}
 use Rattle.fp_base.specs.declared.object.ObjKind.{ObjKind}
-use Rattle.fp_base.specs.declared.object.ObjKind.TheVariants as kinds
 use Rattle.ost_model.specs.declared.object.Object.{Object}
 use Rattle.ost_model.specs.Objects.{Have, object_path, object_at, store}
 use Rattle.ost_model.specs.Order.{In}
+use Rattle.ost_model.proofs.Spots.{none_gone}
 use Rattle.ost_store.proofs.Staying.{shown_stays}
+use Rattle.ost_store.proofs.Holding.{held_object}
+use Rattle.ost_store.proofs.ObjectPaths.{below_work}
 use Rattle.ost_commit.specs.declared.built.BuiltObject.{BuiltObject}
 use Rattle.ost_commit.specs.Objects.{have_of}
 use Rattle.ost_store.specs.ObjectNames.{IsObjectName, IsAboveObject}
 use Rattle.ost_export.specs.Staging.{Named, IsApart, AreStaged, HasStaged, IsCovered, StagesSome, Works, CanStageAll}
 use Rattle.ost_export.specs.Placing.{Puts, PutsStaged, WasStored, CanStore}
 use Rattle.ost_export.specs.Storing.{IsNoWork, IsWork, StoresAt, StoresName, StoresObjects, HasStored, CanStoreAll}
-use Rattle.ost_export.proofs.Given.{held_object}
 use Rattle.ost_export.proofs.Listed.{covered_at}
-use Rattle.ost_export.proofs.Paths.{apart_of, above_work, below_work, off_object, off_above, one_work, free_at, none_below}
-use Rattle.ost_export.proofs.Placed.{from_tree, to_tree}
+use Rattle.ost_export.proofs.Paths.{apart_of, above_work, off_object, off_above, one_work, none_below}
 use Rattle.ost_export.proofs.Works.{works_stays}
 
 -- ---- one part of it, as the view u at the entry sees it
@@ -139,14 +141,8 @@ filled {root = root} {t = t} objects staged {u = u} {v = v} {w = w} tree b works
 
 -- ---- what is there in the end
 
-gone_none : (kind : ObjKind) → object_at kind gone ≡ None
-gone_none kinds.Commit = refl
-gone_none kinds.DirTree = refl
-gone_none kinds.DirMeta = refl
-gone_none kinds.File = refl
-
 absent_none : (root : Elements) (d : List ℕ) (kind : ObjKind) (v : View) → IsTree v → v.names (object_path root d kind) ≡ absent → store root (shows v) d kind ≡ None
-absent_none root d kind v tree none = ap (object_at kind) (ap (spot_of v.files) (at_tree v tree (object_path root d kind) ∙ none)) ∙ gone_none kind
+absent_none root d kind v tree none = ap (object_at kind) (ap (spot_of v.files) (at_tree v tree (object_path root d kind) ∙ none)) ∙ none_gone kind
 
 module _ {root t : Elements} (apart : IsApart root t) (objects : List BuiltObject) (staged : List Named) {u w x : View} (f : Filled (have_of objects) root t objects staged u w) (tree_w : IsTree w) (tree_x : IsTree x) (puts : Puts (have_of objects) root t staged w x) (was : WasStored root t staged w x) where
   shown_before : (d : List ℕ) (kind : ObjKind) → shows w (object_path root d kind) ≡ shows u (object_path root d kind)

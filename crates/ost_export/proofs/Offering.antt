@@ -1,18 +1,17 @@
 -- What is exported is offered.
-use Rattle.std.proofs.Common.{◌≡◌, ℕ, List, [], ◌∷◌, length, true, Some, None, Ok, refl, ◌∙◌, ap, arith, eqb, length-append}
+use Rattle.std.proofs.Common.{◌≡◌, ℕ, List, [], ◌∷◌, length, true, Some, None, Ok, refl, ◌∙◌, ap, arith, length-append}
 use Rattle.std.specs.Prelude.{◌*◌, ◌≤◌, if◌then◌else◌}
-use Rattle.std.specs.List.{list_all}
 use Rattle.std.specs.Str.{is_utf8, chars}
-use Rattle.std.proofs.lemmas.Bool.{le-leb, and_parts, eqb-true}
+use Rattle.std.proofs.lemmas.Bool.{le-leb}
 use lib.Utf8.{encode}
 use Rattle.fp_keyfile.specs.KeyFile.{file_of, with_pair, with_group, value_at}
 use Rattle.fp_keyfile.specs.Lines.{line_says}
 use Rattle.fp_host.specs.Paths.{Elements}
 use Rattle.fp_host.specs.Outcome.{Spot, gone, folder, holds, points, Disk}
 use Rattle.fp_host.specs.Remote.{contents}
-use Rattle.fp_name.specs.Hex.{hex, is_digest, is_byte}
+use Rattle.fp_name.specs.Hex.{hex, is_digest}
 use Rattle.fp_name.specs.Refs.{Ref}
-use Rattle.fp_name.proofs.HexTexts.{length-hex}
+use Rattle.fp_name.proofs.Lengths.{digest_long}
 use Rattle.fp_base.specs.declared.object.ObjKind.{ObjKind}
 use Rattle.fp_base.specs.declared.object.ObjKind.TheVariants as kinds
 use Rattle.fp_small.specs.declared.state.RemoteRow.{RemoteRow}
@@ -28,11 +27,6 @@ use Rattle.ost_export.specs.Remotes.{held_of, held_at}
 no_mode_refused : mode_in (small_file (1024 * 1024) (contents 420 config_text)) ≡ None
 unfolding file_of line_says with_pair with_group value_at is_utf8 chars encode
 no_mode_refused = refl
-
-digest_long : (d : List ℕ) → is_digest d ≡ true → length (hex d) ≡ 64
-digest_long d good =
-    let long : length d ≡ 32 = eqb-true (length d) 32 (and_parts (eqb (length d) 32) (list_all is_byte d) good).0 in
-    length-hex d ∙ ap (λ n. 2 * n) long
 
 ref_reads : (d : List ℕ) → is_digest d ≡ true → ref_said (small_file 65 (contents 420 (ref_bytes d))) ≡ files.Digest d
 ref_reads d good =

@@ -2,42 +2,21 @@
 use Rattle.std.proofs.Common.{◌≡◌, ◌⊎◌, inl, inr, ℕ, List, [], ◌∷◌, length, get_or, true, refl, sym, ◌∙◌, ap, subst, arith, codes}
 use Rattle.fp_host.specs.Paths.{Elements, absent, IsAbove}
 use Rattle.fp_host.specs.View.{View, IsTree}
+use Rattle.fp_host.proofs.Above.{below_child}
 use Rattle.fp_small.specs.Clear.{IsWithin}
-use Rattle.fp_small.specs.Folders.{IsFree}
 use Rattle.fp_small.specs.Places.{tmp, new_name, IsWorkName}
 use Rattle.fp_small.specs.Replace.{IsStaging}
-use Rattle.fp_small.proofs.Emptying.{above_longer, below_child}
 use Rattle.fp_small.proofs.Replacement.{one_staging}
+use Rattle.fp_small.proofs.Within.{within_on, within_up, one_child}
 use Rattle.fp_name.specs.Hex.{is_digest}
 use Rattle.fp_base.specs.declared.object.ObjKind.{ObjKind}
 use Rattle.ost_model.specs.Objects.{object_path}
-use Rattle.ost_model.specs.Stores.{objects_folder}
-use Rattle.ost_store.specs.ObjectNames.{IsObjectName, IsAboveObject}
+use Rattle.ost_store.specs.ObjectNames.{IsAboveObject}
+use Rattle.ost_store.proofs.ObjectPaths.{object_within}
 use Rattle.ost_export.specs.Staging.{IsApart}
 use Rattle.ost_export.specs.Storing.{IsNoWork, IsWork, IsStoreFolder}
 
 -- ---- one path and another
-
-pub above_on : (a b p : Elements) → IsAbove a b → IsAbove b p → IsAbove a p
-above_on a b [] up low = absurd low
-above_on a b (x ∷ rest) up (inl is) = inr (subst (IsAbove a) is up)
-above_on a b (x ∷ rest) up (inr higher) = inr (above_on a b rest up higher)
-
-pub within_on : (a b c : Elements) → IsWithin a b → IsWithin b c → IsWithin a c
-within_on a b c (inl is) second = subst (λ (x : Elements). IsWithin x c) is second
-within_on a b c (inr above) (inl is) = inr (subst (IsAbove a) (sym is) above)
-within_on a b c (inr above) (inr higher) = inr (above_on a b c above higher)
-
-within_up : (y : Elements) (x : List ℕ) (up : Elements) → IsAbove y (x ∷ up) → IsWithin y up
-within_up y x up (inl is) = inl (sym is)
-within_up y x up (inr higher) = inr higher
-
-pub one_child : (a b : List ℕ) (p q : Elements) → IsWithin (a ∷ p) q → IsWithin (b ∷ p) q → a ≡ b
-one_child a b p q (inl is) (inl other) = cc (is, other)
-one_child a b p q (inl is) (inr above) = absurd (omega (arith, above_longer (b ∷ p) q above, ap length is))
-one_child a b p q (inr above) (inl is) = absurd (omega (arith, above_longer (a ∷ p) q above, ap length is))
-one_child a b p [] (inr above) (inr other) = absurd above
-one_child a b p (x ∷ up) (inr above) (inr other) = one_child a b p up (within_up (a ∷ p) x up above) (within_up (b ∷ p) x up other)
 
 -- two folders of one path stand one in the other
 meet : (a b q : Elements) → IsWithin a q → IsWithin b q → IsWithin a b ⊎ IsWithin b a
@@ -56,16 +35,9 @@ over (x ∷ rest) off = root_above x rest
 
 -- ---- the folders of a store
 
-pub object_within : (root : Elements) (d : List ℕ) (kind : ObjKind) → IsWithin (objects_folder root) (object_path root d kind)
-object_within root d kind = inr (inr (inl refl))
-
 -- what is in one isn't in another, nor above it
 pub two_branches : (a b : List ℕ) (root q p : Elements) → (a ≡ b → ⊥) → IsWithin (a ∷ root) q → IsWithin (b ∷ root) p → IsWithin q p → ⊥
 two_branches a b root q p off in_a in_b below = off (one_child a b root p (within_on (a ∷ root) q p in_a below) in_b)
-
--- objects' names are equally long
-pub not_both : (root q : Elements) → IsObjectName root q → IsAboveObject root q → ⊥
-not_both root q name above = absurd (omega (arith, ap length name.at, above_longer q (object_path root above.digest above.kind) above.above))
 
 -- a folder of a store that isn't named as one of the work is
 pub record IsBranch (x : List ℕ) : Type 0 where
@@ -136,17 +108,10 @@ module _ {root t : Elements} (apart : IsApart root t) where
       by_place (inr (inr (inl is))) = inl (record { digest = d; kind = kind; digits = good; above = subst (λ (p : Elements). IsAbove p (object_path root d kind)) (sym is) (over (object_path root d kind) (λ none. cc none)) })
       by_place (inr (inr (inr none))) = absurd none
 
-pub below_work : (t : Elements) (d : List ℕ) (kind : ObjKind) (q : Elements) → q ≡ object_path t d kind → IsWithin t q
-below_work t d kind q is = inr (subst (IsAbove t) (sym is) (inr (inr (inl refl))))
-
 -- ---- the one place of the work
 
 pub one_work : {v : View} {t q : Elements} → IsStaging v t → IsWork v q → IsWithin t q
 one_work {q = q} s work = subst (λ (p : Elements). IsWithin p q) (one_staging work.staging s) work.within
-
-pub free_at : (v w : View) (q : Elements) → w.names q ≡ v.names q → IsFree v q → IsFree w q
-free_at v w q same (inl none) = inl (same ∙ none)
-free_at v w q same (inr there) = inr (same ∙ there)
 
 -- below what is absent nothing stands
 pub none_below : (v : View) → IsTree v → (p q : Elements) → v.names p ≡ absent → IsWithin p q → v.names q ≡ absent

@@ -1,42 +1,31 @@
 -- Staged objects that come to their names.
-use Rattle.std.proofs.Common.{◌≡◌, ◌≢◌, inl, inr, ℕ, List, [], ◌∷◌, ◌++◌, true, Option, refl, sym, ◌∙◌, ap, subst, Contains, arith}
+use Rattle.std.proofs.Common.{◌≡◌, ◌≢◌, inl, inr, List, [], ◌∷◌, ◌++◌, true, Option, refl, sym, ◌∙◌, ap, subst, Contains}
 use Rattle.fp_host.specs.Paths.{Elements, Slot, absent}
 use Rattle.fp_host.specs.View.{View, IsTree}
 use Rattle.fp_host.specs.Moments.{Moments, Always}
 use Rattle.fp_host.specs.Frame.{AtEnd}
 use Rattle.fp_host.proofs.Framed.{IsTold, keeps_refl, keeps_on, keeps_to}
-use Rattle.fp_host.proofs.Goes.{goes_on, begins}
-use Rattle.fp_host.proofs.Ending.{ends_on, ends_both, ends_goes, ends_in_tree, goes_known}
+use Rattle.fp_host.proofs.Goes.{goes_on}
+use Rattle.fp_host.proofs.Ending.{ends_on, ends_both, ends_goes, goes_known, from_tree, to_tree}
+use Rattle.fp_host.proofs.Above.{above_on}
 use Rattle.fp_small.specs.Clear.{IsWithin}
 use Rattle.fp_small.specs.Unsynced.{MakesNoFile}
-use Rattle.fp_small.proofs.Emptying.{above_longer}
+use Rattle.fp_small.proofs.Making.{free_at}
 use Rattle.fp_name.specs.Hex.{is_digest}
-use Rattle.fp_base.specs.declared.object.ObjKind.{ObjKind}
 use Rattle.ost_model.specs.Objects.{Have, object_path, object_at}
 use Rattle.ost_model.specs.Order.{In, IsOnce}
 use Rattle.ost_model.proofs.Stores.{one_name}
 use Rattle.ost_store.specs.Place.{Places, WasPlaced, CanPlace}
 use Rattle.ost_store.specs.Stays.{Stays}
-use Rattle.ost_store.proofs.Staying.{placed_stays, placed_there, shown_stays, ready_stays}
+use Rattle.ost_store.proofs.Staying.{placed_stays, placed_there, shown_stays, ready_stays, off_object as not_in_itself, stays_on, stays_same}
+use Rattle.ost_store.proofs.ObjectPaths.{below_work, not_both, above_object}
 use Rattle.ost_store.specs.ObjectNames.{AreOpen}
 use Rattle.ost_export.specs.Staging.{Named, IsApart}
 use Rattle.ost_export.specs.Placing.{Puts, PutsReady, IsReadyIn, AreReady, AreLacking, CanPlaceAll, CameTo, PlacesAll, PlacesSome}
 use Rattle.ost_export.proofs.Given.{given}
-use Rattle.ost_export.proofs.Paths.{off_object, above_on, below_work, not_both, free_at}
-use Rattle.ost_model.proofs.Once.{in_push, in_last, in_cases, once_front}
-use Rattle.ost_export.proofs.Works.{above_object}
-
--- ---- names that stay
-
-pub stays_on : {q : Elements} {u v w : View} → Stays q u v → Stays q v w → Stays q u w
-stays_on first second = record { name = second.name ∙ first.name; row = λ id f is some. second.row id f (first.name ∙ is) (first.row id f is some) }
-
-pub stays_same : {q : Elements} {v : View} → Stays q v v
-stays_same = record { name = refl; row = λ id f is some. some }
-
-not_in_itself : (root : Elements) (d e : List ℕ) (k m : ObjKind) → is_digest d ≡ true → is_digest e ≡ true → ((e ≡ d) × (m ≡ k) → ⊥) → IsWithin (object_path root e m) (object_path root d k) → ⊥
-not_in_itself root d e k m of_d of_e off (inl same) = let one = one_name root d e k m of_d of_e same in off (sym one.0, sym one.1)
-not_in_itself root d e k m of_d of_e off (inr above) = omega (arith, above_longer (object_path root e m) (object_path root d k) above)
+use Rattle.ost_export.proofs.Paths.{off_object}
+use Rattle.ost_model.proofs.Once.{in_push, once_front}
+use Rattle.ost_model.proofs.Members.{in_last, in_cases}
 
 -- ---- one object
 
@@ -166,14 +155,6 @@ pub all_placed : {root t : Elements} {objects : List Named} {u w : View} → Pla
 all_placed some = record { came = λ o has. elim (some.came o has) [ inl none ↦ absurd none | inr came ↦ came.1 ]; others = some.others }
 
 -- ---- over the moments
-
--- the first view of a told host is a tree
-pub from_tree : {a b : Option Moments} {Q : View → View → Type 0} → IsTold a → AtEnd Q a b → AtEnd (λ u w. IsTree u × Q u w) a b
-from_tree told first = record { goes = begins told first.goes (λ u w tree r. tt) (λ u w tree r q. (tree, q)) }
-
--- and so is the last one
-pub to_tree : {a b : Option Moments} {Q : View → View → Type 0} → IsTold b → AtEnd Q a b → AtEnd (λ u w. IsTree w × Q u w) a b
-to_tree told first = ends_in_tree told first (λ u w tree q. (tree, q))
 
 -- what is known between two objects
 abbrev pub Between : Have → Elements → Elements → List Named → List Named → View → View → Type 0

@@ -2,10 +2,11 @@
 use Rattle.std.proofs.Common.{◌≡◌, ◌≢◌, ◌⊎◌, inl, inr, ℕ, List, [], ◌∷◌, length, true, None, refl, sym, ◌∙◌, ap, subst, arith, codes}
 use Rattle.fp_host.specs.Paths.{Elements, Slot, absent, IsAbove}
 use Rattle.fp_host.specs.View.{View, IsTree}
+use Rattle.fp_host.proofs.Above.{above_longer}
 use Rattle.fp_small.specs.Clear.{IsWithin}
-use Rattle.fp_small.specs.Folders.{IsFree}
 use Rattle.fp_small.specs.Places.{IsBare, repo, tmp, new_name}
-use Rattle.fp_small.proofs.Emptying.{above_longer}
+use Rattle.fp_small.proofs.Within.{within_on}
+use Rattle.fp_small.proofs.Bare.{bare_free}
 use Rattle.fp_name.specs.Hex.{is_digest}
 use Rattle.fp_name.specs.Refs.{Ref}
 use Rattle.fp_base.specs.declared.object.ObjKind.{ObjKind}
@@ -14,6 +15,7 @@ use Rattle.ost_model.specs.Order.{first_fault}
 use Rattle.ost_refs.specs.Places.{place_path, remotes}
 use Rattle.ost_refs.specs.declared.place.RefPlace.{RefPlace}
 use Rattle.ost_refs.specs.declared.place.RefPlace.TheVariants.{Head, Remote}
+use Rattle.ost_store.proofs.ObjectPaths.{object_within}
 use Rattle.ost_commit.specs.declared.row.TreeRow.{TreeRow}
 use Rattle.ost_commit.specs.declared.built.Built.{Built}
 use Rattle.ost_commit.specs.Objects.{have_of}
@@ -21,7 +23,7 @@ use Rattle.ost_commit.specs.Built.{BuiltCommit}
 use Rattle.ost_export.specs.Staging.{IsApart, AreWhole}
 use Rattle.ost_export.specs.Storing.{IsNoWork, IsWork}
 use Rattle.ost_export.specs.Exports.{config_path, ref_path, IsExportFolder, ExportsName, Exports, AreFit, CanExport, IsSpared}
-use Rattle.ost_export.proofs.Paths.{within_on, two_branches, object_within, apart_of, branch_off, branch_under, objects_branch, refs_branch, none_below}
+use Rattle.ost_export.proofs.Paths.{two_branches, apart_of, branch_off, branch_under, objects_branch, refs_branch, none_below}
 use Rattle.ost_export.proofs.Furnished.{refs_within}
 
 -- ---- a path that is none of those that an export writes
@@ -184,10 +186,6 @@ elsewhere {root = root} {r = r} q off up no_tmp no_repo exports = spared (record
     by_place (inr above) = up above
 
 -- ---- where it may be done
-
-bare_free : (v : View) → IsBare v → (q : Elements) → IsFree v q
-bare_free v bare [] = inr bare.root
-bare_free v bare (x ∷ up) = inl (bare.none x up)
 
 pub bare_can : (root : Elements) (r : Ref) (v : View) → IsBare v → CanExport root r v
 bare_can root r v bare = record { config = inl (bare.none _ _); ref = inl (bare.none _ _); folders = λ q above. bare_free v bare q }

@@ -2,33 +2,26 @@
 use Rattle.std.proofs.Common.{◌≡◌, ◌⊎◌, inl, inr, ℕ, List, [], ◌∷◌, ◌++◌, Bool, true, false, Option, Some, None, refl, sym, ◌∙◌, ap, subst, arith}
 use Rattle.fp_host.specs.Paths.{Elements, absent, file}
 use Rattle.fp_host.specs.View.{View, Inode}
+use Rattle.fp_host.proofs.Above.{above_longer}
 use Rattle.fp_small.specs.Clear.{IsWithin}
-use Rattle.fp_small.proofs.Emptying.{above_longer}
 use Rattle.fp_small.proofs.Replacement.{ancestors_above}
 use Rattle.fp_name.specs.Hex.{is_digest}
 use Rattle.ost_model.specs.declared.object.Object.{Object}
-use Rattle.ost_model.specs.declared.object.Object.TheVariants as objects
 use Rattle.ost_model.specs.Objects.{Have, object_path, name_fault}
 use Rattle.ost_model.specs.Order.{In}
 use Rattle.ost_model.proofs.Stores.{one_name}
-use Rattle.ost_model.proofs.Once.{in_push, in_last, in_cases, once_push}
+use Rattle.ost_model.proofs.Once.{in_push, once_push}
+use Rattle.ost_model.proofs.Members.{in_last, in_cases}
 use Rattle.ost_store.specs.Gathers.{Gathers}
-use Rattle.ost_store.specs.Stage.{Stages, WasStaged, IsHeld, CanStage}
+use Rattle.ost_store.specs.Stage.{Stages, WasStaged, CanStage}
 use Rattle.ost_store.proofs.Staying.{staged_stays, held_stays, staged_held}
+use Rattle.ost_store.proofs.Holding.{leaf_there}
+use Rattle.ost_store.proofs.ObjectPaths.{not_both, above_object}
 use Rattle.ost_commit.specs.declared.built.BuiltObject.{BuiltObject}
 use Rattle.ost_store.specs.ObjectNames.{IsObjectName, AreOpen}
 use Rattle.ost_export.specs.Staging.{Named, name_of, IsStagedObject, AreStaged, IsAbsentSaid, IsLacking, StagesOne, IsIn, CanStageOne}
-use Rattle.ost_export.proofs.Paths.{not_both}
-use Rattle.ost_export.proofs.Works.{above_object}
-
--- ---- lists of objects
 
 -- ---- one object more
-
-leaf_there : (q : Elements) (object : Object) (v : View) → IsHeld q object v → v.names q ≡ absent → ⊥
-leaf_there q (objects.Meta bytes) v h none = absurd (cc (sym h.name ∙ none))
-leaf_there q (objects.File mode bytes) v h none = absurd (cc (sym h.name ∙ none))
-leaf_there q (objects.Link text) v h none = absurd (cc (sym h ∙ none))
 
 off_own : (t : Elements) (o p : Named) → (object_path t p.0 p.1 ≡ object_path t o.0 o.1 → ⊥) → IsWithin (object_path t p.0 p.1) (object_path t o.0 o.1) → ⊥
 off_own t o p off (inl same) = off (sym same)

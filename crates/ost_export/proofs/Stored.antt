@@ -1,5 +1,5 @@
 -- Staged objects come to their names between two syncs.
-use Rattle.std.proofs.Common.{inl, inr, ℕ, List, Option, Result, Ok, sym, ◌∙◌, ap, subst, Contains}
+use Rattle.std.proofs.Common.{inl, inr, ℕ, List, Option, Result, sym, ◌∙◌, ap, subst, Contains}
 use Rattle.fp_host.specs.Paths.{Elements, Slot, IsAbove}
 use Rattle.fp_host.specs.View.{View, IsTree}
 use Rattle.fp_host.specs.Calls.{syncs, Step}
@@ -9,28 +9,23 @@ use Rattle.fp_host.specs.declared.host.HostError.{HostError}
 use Rattle.fp_host.proofs.Follow.{called}
 use Rattle.fp_host.proofs.Framed.{IsTold, keeps_to, keeps_call}
 use Rattle.fp_host.proofs.Goes.{begins, goes_on, makes_goes}
-use Rattle.fp_host.proofs.Ending.{ends_call, ends_on, ends_both, ends_frame}
+use Rattle.fp_host.proofs.Ending.{ends_call, ends_on, ends_both, ends_frame, from_tree, to_tree}
 use Rattle.fp_small.specs.Clear.{GoneWithin, AbsentWithin, IsCleared, CanClear}
 use Rattle.fp_small.proofs.Keeping.{files_kept}
 use Rattle.fp_small.proofs.Staging.{synced}
+use Rattle.fp_small.proofs.Making.{free_at}
 use Rattle.fp_base.specs.declared.object.ObjKind.{ObjKind}
 use Rattle.ost_model.specs.Objects.{Have, object_path}
 use Rattle.ost_store.specs.Stays.{Stays}
-use Rattle.ost_store.proofs.Staying.{shown_stays, held_stays}
+use Rattle.ost_store.proofs.Staying.{shown_stays, held_stays, stays_on, Synced, synced_stays}
+use Rattle.ost_store.proofs.Ready.{staged_ready}
+use Rattle.ost_store.proofs.Holding.{held_object}
 use Rattle.ost_export.specs.Staging.{Named, IsApart, AreStaged}
 use Rattle.ost_export.specs.Placing.{Puts, PutsReady, PutsStaged, AreReady, CanPlaceAll, PlacesAll, WasStored, CanStore}
-use Rattle.ost_export.proofs.Given.{held_object}
-use Rattle.ost_export.proofs.Ready.{staged_ready}
-use Rattle.ost_export.proofs.Paths.{off_object, off_above, free_at}
-use Rattle.ost_export.proofs.Placed.{puts_on, stays_on, from_tree, to_tree}
+use Rattle.ost_export.proofs.Paths.{off_object, off_above}
+use Rattle.ost_export.proofs.Placed.{puts_on}
 
 -- ---- a sync
-
-abbrev pub Synced : View → View → Type 0
-Synced v w = Step syncs (Ok tt) v w
-
-pub synced_stays : {v w : View} (q : Elements) → Synced v w → Stays q v w
-synced_stays q step = record { name = ap (λ (x : View). x.names q) step.how.1; row = λ id f is some. ap (λ (x : View). x.files id) step.how.1 ∙ some }
 
 module _ {have : Have} {t : Elements} (objects : List Named) {v w : View} (step : Synced v w) where
   -- what is staged is ready

@@ -1,5 +1,5 @@
 -- Work in the folder of an export.
-use Rattle.std.proofs.Common.{◌≡◌, inl, inr, ℕ, List, true, Option, refl, sym, subst, Contains, codes}
+use Rattle.std.proofs.Common.{◌≡◌, inl, inr, ℕ, List, true, Option, refl, sym, subst, codes}
 use Rattle.fp_host.specs.Paths.{Elements, IsAbove}
 use Rattle.fp_host.specs.View.{View}
 use Rattle.fp_host.specs.Moments.{Moments, Always}
@@ -7,9 +7,8 @@ use Rattle.fp_host.specs.Frame.{Unchanged}
 use Rattle.fp_host.proofs.Framed.{IsTold, keeps_refl, keeps_on, keeps_to}
 use Rattle.fp_host.proofs.Goes.{stays, begins, goes_on}
 use Rattle.fp_small.specs.Clear.{IsWithin}
-use Rattle.fp_small.specs.Folders.{ancestors}
 use Rattle.fp_small.proofs.Keeping.{files_stay, files_on}
-use Rattle.fp_small.proofs.Replacement.{ancestors_above}
+use Rattle.fp_small.proofs.Making.{free_at}
 use Rattle.fp_name.specs.Hex.{is_digest}
 use Rattle.fp_base.specs.declared.object.ObjKind.{ObjKind}
 use Rattle.ost_model.specs.declared.object.Object.{Object}
@@ -17,8 +16,9 @@ use Rattle.ost_model.specs.Objects.{object_path}
 use Rattle.ost_store.specs.Stage.{Stages}
 use Rattle.ost_store.specs.Stays.{Stays}
 use Rattle.ost_store.specs.ObjectNames.{IsAboveObject, AreOpen}
+use Rattle.ost_store.proofs.ObjectPaths.{object_within, below_work, not_both, above_object}
 use Rattle.ost_export.specs.Staging.{IsApart, Works}
-use Rattle.ost_export.proofs.Paths.{below_work, not_both, off_object, branch_under, objects_branch, object_within, free_at}
+use Rattle.ost_export.proofs.Paths.{off_object, branch_under, objects_branch}
 
 pub works_refl : {t : Elements} {v : View} → Works t v v
 works_refl = record { keeps = keeps_refl; files = files_stay }
@@ -28,9 +28,6 @@ works_same {t = t} {v = v} same = subst (Works t v) (sym same) works_refl
 
 pub works_on : {t : Elements} {u v w : View} → Works t u v → Works t v w → Works t u w
 works_on first second = record { keeps = keeps_on first.keeps second.keeps; files = files_on first.files second.files }
-
-pub above_object : (t : Elements) (d : List ℕ) (kind : ObjKind) (q : Elements) → is_digest d ≡ true → Contains (ancestors (object_path t d kind)) q → IsAboveObject t q
-above_object t d kind q good has = record { digest = d; kind = kind; digits = good; above = ancestors_above (object_path t d kind) q has }
 
 pub staged_works : (t : Elements) (d : List ℕ) (kind : ObjKind) (object : Object) {u w : View} → is_digest d ≡ true → Stages (object_path t d kind) object u w → Works t u w
 staged_works t d kind object good s = record {

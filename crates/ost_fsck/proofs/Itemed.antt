@@ -9,21 +9,19 @@ use Rattle.fp_host.specs.Paths.{Elements, Slot, absent, dir, file, link, is_link
 use Rattle.fp_host.specs.View.{View, Inode, IsTree}
 use Rattle.fp_host.specs.Frame.{AtEnd}
 use Rattle.fp_host.specs.Moments.{Moments}
-use Rattle.fp_host.specs.Outcome.{Spot, holds, points, spot_of, holding, shows}
-use Rattle.fp_host.specs.Reads.{IsStat, StatOf, LinkOf}
-use Rattle.fp_host.specs.declared.host.HostError.{HostError}
-use Rattle.fp_host.specs.declared.host.HostError.TheVariants.{Clash}
+use Rattle.fp_host.specs.Outcome.{Spot, holds, points, holding, shows}
+use Rattle.fp_host.specs.Reads.{IsStat, StatOf}
 use Rattle.fp_host.specs.declared.host.Stat.{Stat}
-use Rattle.fp_host.specs.declared.host.Stat.TheVariants.{Link, File as StatFile}
-use Rattle.fp_host.proofs.Settled.{at_tree}
+use Rattle.fp_host.specs.declared.host.Stat.TheVariants.{File as StatFile}
 use Rattle.fp_host.proofs.Ending.{ends_on, ends_to}
 use Rattle.fp_host.proofs.Framed.{IsTold}
-use Rattle.fp_host.proofs.Cause.{clash_reads}
+use Rattle.fp_host.proofs.Shown.{shown}
 use Rattle.fp_small.specs.Load.{Loads, loaded_of}
 use Rattle.fp_small.specs.declared.loading.Loaded.TheVariants as loads
 use Rattle.fp_base.specs.declared.object.ObjKind.{ObjKind}
 use Rattle.fp_base.specs.declared.object.ObjKind.TheVariants as kinds
 use Rattle.sha2.specs.Sha256.{sha256}
+use Rattle.fp_base.proofs.Options.{if_ok_to}
 use Rattle.ost_model.specs.declared.object.Object.TheVariants as objects
 use Rattle.ost_model.specs.Contents.{is_permission, header, link_header, file_digest, link_digest, meta_digest}
 use Rattle.ost_model.specs.Objects.{Fault, too_long, refused_mode, corrupt, unless, may_be_link, object_at}
@@ -94,9 +92,6 @@ link_is_item text head body good is empty = record {
 
 -- ---- what stands at a path
 
-shown : (v : View) (p : Elements) (e : Slot) → IsTree v → v.names p ≡ e → shows v p ≡ spot_of v.files e
-shown v p e tree here = ap (spot_of v.files) (at_tree v tree p ∙ here)
-
 file_of : (v : View) (e : Slot) (id mode size : ℕ) → IsStat v e (StatFile id mode size) → (e ≡ file id) × ((f : Inode) × (v.files id ≡ Some f) × (mode ≡ f.mode))
 file_of v absent id mode size s = absurd (cc s)
 file_of v dir id mode size s = absurd (cc s)
@@ -118,18 +113,6 @@ file_at {id = id} kind item tree stat is = let spot = file_spot tree stat in is 
 pub link_at : (v : View) (p : Elements) (kind : ObjKind) (text : List ℕ) (item : Option Item) → IsTree v → v.names p ≡ link text → IsItemIn kind (points text) item → IsItemAt kind p v item
 link_at v p kind text item tree here is = subst (λ (spot : Spot). IsItemIn kind spot item) (sym (shown v p (link text) tree here)) is
 
-link_of : (v : View) (e : Slot) → IsStat v e Link → (text : List ℕ) × (e ≡ link text)
-link_of v absent s = absurd (cc s)
-link_of v dir s = absurd (cc s)
-link_of v (link text) s = (text, refl)
-link_of v (file id) s = absurd (cc s.2)
-
-pub stat_link : {p : Elements} {v w : View} → StatOf p (Ok Link) v w → (text : List ℕ) × (v.names p ≡ link text)
-stat_link {p = p} {v = v} stat = link_of v (v.names p) stat.tells.1
-
-pub clash_link : {p : Elements} {e : HostError} {v w : View} → LinkOf p (Err e) v w → e ≡ Clash → (text : List ℕ) × (v.names p ≡ link text) → ⊥
-clash_link {p = p} {e = e} {v = v} step is can = clash_reads {T = List ℕ} ((text : List ℕ) × (v.names p ≡ link text)) (λ text. v.names p ≡ link text) e step.tells is can
-
 -- what was loaded is what stands there
 loaded_file : (id mode : ℕ) (bytes had : List ℕ) → loads.Bytes bytes ≡ loaded_of small_most (holds id mode had) → (bytes ≡ had) × (length bytes ≤ small_most)
 loaded_file id mode bytes had is = go (leb (length had) small_most) refl is
@@ -146,10 +129,6 @@ loaded_at kind mode p v bytes item loaded is id had spot =
     subst (λ (s : Spot). IsItemIn kind s item) (sym (spot ∙ ap (λ (l : List ℕ). holds id mode l) (sym same.0))) (is same.1 id)
 
 -- ---- over the moments
-
-pub if_ok_to : {T E : Type 0} {P Q : T → Type 0} (r : Result T E) → ((t : T) → P t → Q t) → IfOk r P → IfOk r Q
-if_ok_to (Ok t) step is = step t is
-if_ok_to (Err e) step is = is
 
 -- what is said where something holds in the end
 pub ok_where : {T E : Type 0} {a b : Option Moments} {L : View → View → Type 0} (X : Type 0) (P : T → Type 0) (Q : T → View → View → Type 0) (r : Result T E) → (X → IfOk r P) → AtEnd L a b

@@ -14,11 +14,12 @@ use Rattle.fp_host.proofs.Settled.{at_tree}
 use Rattle.fp_base.specs.declared.object.ObjKind.{ObjKind}
 use Rattle.fp_base.specs.declared.object.ObjKind.TheVariants as kinds
 use Rattle.fp_base.specs.declared.rule.Rule.{Rule}
+use Rattle.fp_base.proofs.Options.{none_by_test, or_alone, if_ok_to}
 use Rattle.ost_model.specs.declared.object.Object.{Object}
 use Rattle.ost_model.specs.declared.object.Object.TheVariants as objects
 use Rattle.ost_model.specs.Contents.{meta_digest}
 use Rattle.ost_model.specs.Readers.{if_broken, broken_rule}
-use Rattle.ost_model.specs.Objects.{Fault, missing, too_long, corrupt, unless, as_malformed, may_be_link, kind_fault, content_fault, rule_fault, digest_fault, name_fault, object_at, object_fault, object_path, has_good_bits, Named}
+use Rattle.ost_model.specs.Objects.{missing, too_long, corrupt, unless, as_malformed, may_be_link, kind_fault, content_fault, rule_fault, digest_fault, name_fault, object_at, object_fault, object_path, has_good_bits, Named}
 use Rattle.ost_object.specs.Answers.{Breaks, mapped}
 use Rattle.ost_object.specs.declared.error.ObjectError.{ObjectError}
 use Rattle.ost_object.specs.declared.error.ObjectError.TheVariants as unread
@@ -127,12 +128,8 @@ module _ (d : List ℕ) (kind : ObjKind) (meta : may_be_link kind ≡ false) whe
 
 -- ---- files and links
 
-or_none : (f : Option Fault) → option_or f None ≡ f
-or_none None = refl
-or_none (Some f) = refl
-
 content_is : (d : List ℕ) (o : Object) → object_fault d kinds.File (Some o) ≡ name_fault d kinds.File (Some o)
-content_is d o = or_none (name_fault d kinds.File (Some o))
+content_is d o = or_alone (name_fault d kinds.File (Some o))
 
 pub content_true : (d : List ℕ) (there : Option Object) → IsGoodThere d there → true ≡ is_true d kinds.File there
 content_true d there good = sym (ap (is_true d kinds.File) good.is ∙ ap (λ f. not (is_some f)) (sym (content_is d good.object) ∙ good.good))
@@ -162,14 +159,10 @@ bits_alone d kind spot off = ap (λ b. b && is_true d kind (object_at kind spot)
 pub bits_both : (d : List ℕ) (kind : ObjKind) (spot : Spot) (is : Bool) → true ≡ has_good_bits spot → is ≡ is_true d kind (object_at kind spot) → is ≡ is_named d kind spot
 bits_both d kind spot is good same = same ∙ ap (λ b. b && is_true d kind (object_at kind spot)) good
 
-is_none : {A : Type 0} (f : Option A) → not (is_some f) ≡ true → f ≡ None
-is_none None e = refl
-is_none (Some f) e = absurd (cc e)
-
 pub named_is : (d : List ℕ) (kind : ObjKind) (spot : Spot) → is_named d kind spot ≡ true → Named d kind spot
 named_is d kind spot is =
     let both = and_parts (has_good_bits spot) (is_true d kind (object_at kind spot)) is in
-    record { bits = both.0; good = is_none (name_fault d kind (object_at kind spot)) both.1 }
+    record { bits = both.0; good = none_by_test (name_fault d kind (object_at kind spot)) both.1 }
 
 pub is_named_by : (d : List ℕ) (kind : ObjKind) (spot : Spot) → Named d kind spot → is_named d kind spot ≡ true
 is_named_by d kind spot named = and_from (has_good_bits spot) (is_true d kind (object_at kind spot)) named.bits (ap (λ f. not (is_some f)) named.good)
@@ -178,10 +171,6 @@ pub parts_broken : {A B : Type 0} (part : A → B) (read : Result A Rule) (rule 
 parts_broken part read rule e is broken = parts_break part read rule (subst (λ (x : ObjectError). Breaks x (mapped part read)) is broken)
 
 -- ---- over the moments
-
-if_ok_to : {T E : Type 0} {P Q : T → Type 0} (r : Result T E) → ((t : T) → P t → Q t) → IfOk r P → IfOk r Q
-if_ok_to (Ok t) step is = step t is
-if_ok_to (Err e) step is = is
 
 bits_are : (root path : Elements) (d : List ℕ) (kind : ObjKind) (are : Bool) → path ≡ object_path root d kind → (u : View) → AreBitsAt path u are → are ≡ has_good_bits (shows u (object_path root d kind))
 bits_are root path d kind are at_name u q = q.same ∙ ap (λ (p : Elements). has_good_bits (shows u p)) at_name

@@ -1,33 +1,15 @@
 -- What is picked path by path.
-use Rattle.std.proofs.Common.{◌≡◌, inl, inr, ◌<◌, ◌+◌, ℕ, suc, true, List, [], ◌∷◌, ◌++◌, map, take, drop, get_or, length, Option, Some, None, refl, sym, ◌∙◌, ap, subst, Contains, arith, append_assoc, append-nil}
+use Rattle.std.proofs.Common.{◌≡◌, inl, inr, ◌<◌, ◌+◌, ℕ, suc, true, List, [], ◌∷◌, ◌++◌, map, take, drop, get_or, length, Option, Some, None, sym, ◌∙◌, ap, subst, Contains, arith, append_assoc, append-nil}
 use Rattle.std.specs.Prelude.{◌↔◌}
 use Rattle.std.proofs.Math.Seq.{take-suc, take-length, drop-cons}
-use Rattle.std.proofs.lemmas.Bool.{and_parts, and_from}
 use Rattle.std.proofs.lemmas.List.{map-append, drop_all}
 use Rattle.std.proofs.lemmas.List.Elements.{Contains-append_left, Contains-push, Contains-push_cases}
+use Rattle.fp_base.proofs.Lists.{in_none}
 use Rattle.fp_host.specs.Paths.{Elements, path_text}
-use Rattle.fp_host.specs.Reads.{comes_first, is_ascending}
-use Rattle.fp_small.proofs.Ordered.{before_on}
-use Rattle.ost_store.proofs.Lists.{in_none}
+use Rattle.fp_host.specs.Reads.{is_ascending}
+use Rattle.fp_small.proofs.Ordered.{less_one}
 use Rattle.ost_fsck.specs.Picking.{Picks}
 use Rattle.ost_store.specs.Names.{with_found}
-
--- ---- lists that ascend
-
--- without one in the middle
-less_one : (xs : List (List ℕ)) (y : List ℕ) (ys : List (List ℕ)) → is_ascending (xs ++ y ∷ ys) ≡ true → is_ascending (xs ++ ys) ≡ true
-less_one [] y ys h = (and_parts (comes_first y ys) (is_ascending ys) h).1
-less_one (x ∷ []) y ys h =
-    let a = and_parts (comes_first x (y ∷ ys)) (is_ascending (y ∷ ys)) h in
-    let b = and_parts (comes_first y ys) (is_ascending ys) a.1 in
-    and_from (comes_first x ys) (is_ascending ys) (over ys a.0 b.0) b.1
-  where
-    over : (zs : List (List ℕ)) → comes_first x (y ∷ []) ≡ true → comes_first y zs ≡ true → comes_first x zs ≡ true
-    over [] first second = refl
-    over (z ∷ zs) first second = before_on x y z first second
-less_one (x ∷ w ∷ xs) y ys h =
-    let a = and_parts (comes_first x (w ∷ (xs ++ y ∷ ys))) (is_ascending (w ∷ (xs ++ y ∷ ys))) h in
-    and_from (comes_first x (w ∷ (xs ++ ys))) (is_ascending (w ∷ (xs ++ ys))) a.0 (less_one (w ∷ xs) y ys a.1)
 
 -- ---- path after path
 

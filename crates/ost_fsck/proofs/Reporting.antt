@@ -1,5 +1,5 @@
 -- A report from what is seen path by path.
-use Rattle.std.proofs.Common.{◌≡◌, inl, inr, ◌<◌, ◌≤◌, ◌+◌, ℕ, Bool, true, false, List, [], length, get_or, Option, Some, None, Result, Ok, Err, refl, sym, ◌∙◌, ap, subst, Contains, arith}
+use Rattle.std.proofs.Common.{◌≡◌, inl, inr, ◌<◌, ◌≤◌, ◌+◌, ℕ, Bool, true, false, List, [], length, get_or, Option, Some, None, Result, refl, sym, ◌∙◌, ap, subst, Contains, arith}
 use Rattle.std.specs.Prelude.{is_some, IfOk}
 use Rattle.std.specs.Int.{from_bool}
 use Rattle.std.proofs.lemmas.Bool.{both_ways}
@@ -14,6 +14,7 @@ use Rattle.fp_host.specs.Frame.{AtEnd, Unchanged}
 use Rattle.fp_host.proofs.Framed.{IsTold}
 use Rattle.fp_host.proofs.Ending.{ends_on, ends_both, ends_looks}
 use Rattle.fp_base.specs.declared.object.ObjKind.{ObjKind}
+use Rattle.fp_base.proofs.Options.{if_ok_to}
 use Rattle.ost_model.specs.Objects.{object_path, Named}
 use Rattle.ost_model.proofs.Stores.{one_name}
 use Rattle.ost_store.specs.Names.{ListsNames, with_found, name_in}
@@ -164,10 +165,6 @@ bool_within true = omega arith
 bool_within false = omega arith
 
 -- ---- over the moments
-
-if_ok_to : {T E : Type 0} {P Q : T → Type 0} (r : Result T E) → ((t : T) → P t → Q t) → IfOk r P → IfOk r Q
-if_ok_to (Ok t) step is = step t is
-if_ok_to (Err e) step is = is
 
 pub reported_all : {E : Type 0} {a b : Option Moments} (c : Option Moments) {root : Elements} {paths l : List Elements} (r : Result Report E) → l ≡ paths → IsTold a → IsTold b → Unchanged a b → AtEnd (λ u w. ListsNames root u paths) a b
     → IfOk r (λ report. AtEnd (λ u w. Checks root l u report) b c) → IfOk r (λ report. AtEnd (λ u w. Reports root (shows u) report) a c)

@@ -6,12 +6,13 @@ use Rattle.fp_base.specs.declared.object.ObjKind.{ObjKind}
 use Rattle.fp_base.specs.declared.object.ObjKind.TheVariants as kinds
 use Rattle.fp_name.specs.Hex.{is_digest, hex}
 use Rattle.sha2.specs.Sha256.{sha256, digest_bytes, hash_after, compress, rounds, schedule, first_words}
+use Rattle.fp_base.proofs.Lists.{in_first, in_rest, in_cases}
 use Rattle.ost_model.specs.declared.object.Object.TheVariants as objects
 use Rattle.ost_model.specs.Contents.{meta_digest}
 use Rattle.ost_model.specs.Objects.{corrupt, name_fault, object_path, Named}
 use Rattle.ost_model.proofs.Sample.{meta_named}
 use Rattle.ost_model.proofs.Stores.{one_name}
-use Rattle.ost_store.proofs.Lists.{in_cases, in_one, in_first, in_rest}
+use Rattle.ost_store.proofs.Lists.{in_one}
 use Rattle.ost_fsck.specs.declared.report.Finding.{Finding}
 use Rattle.ost_fsck.specs.declared.report.Finding.TheVariants as findings
 use Rattle.ost_fsck.specs.Report.{IsNameless, IsEntry, IsBad, IsSo}

@@ -2,10 +2,10 @@
 use Rattle.std.proofs.Common.{◌≡◌, inl, inr, ℕ, List, [], ◌∷◌, map, length, true, refl, sym, ◌∙◌, ap, subst, Contains}
 use Rattle.std.specs.Prelude.{◌↔◌}
 use Rattle.std.proofs.lemmas.Bool.{and_parts, both_ways}
+use Rattle.fp_base.proofs.Lists.{in_none, in_first, in_rest, in_cases}
 use Rattle.fp_host.specs.Reads.{comes_first, is_ascending}
 use Rattle.fp_small.specs.Order.{comes_before}
 use Rattle.fp_small.proofs.Ordered.{before_on, not_before_itself}
-use Rattle.ost_store.proofs.Lists.{in_none, in_cases, in_first, in_rest}
 use Rattle.ost_fsck.specs.declared.report.Finding.{Finding}
 use Rattle.ost_fsck.specs.declared.report.Report.{Report}
 use Rattle.ost_fsck.specs.Report.{text_in}

@@ -1,6 +1,5 @@
 -- Files and links of the remote that come to the work folder.
-use Rattle.std.proofs.Common.{◌≡◌, inl, inr, ℕ, List, [], length, Bool, true, false, Option, Some, None, Result, Ok, Err, refl, sym, ◌∙◌, ap, subst}
-use Rattle.std.specs.Option.{option_or}
+use Rattle.std.proofs.Common.{◌≡◌, inl, inr, ℕ, List, [], length, Bool, true, false, Option, Some, None, Result, Ok, Err, sym, ◌∙◌, ap, subst}
 use Rattle.std.specs.Prelude.{if◌then◌else◌, IfOk, OnOk, IsErrOf}
 use Rattle.std.specs.Result.{IsErrAnd}
 use Rattle.std.proofs.lemmas.Result.{err_from_is_err_and}
@@ -10,15 +9,14 @@ use Rattle.fp_host.specs.Moments.{Moments, Always}
 use Rattle.fp_host.specs.Outcome.{Nothing}
 use Rattle.fp_host.specs.Frame.{AtEnd, Frame, Keeps, Only, NoName}
 use Rattle.fp_host.specs.Remote.{Held, nothing, directory, contents, target, Holdings, bytes_of}
-use Rattle.fp_host.specs.declared.host.HostEnd.{HostEnd}
-use Rattle.fp_host.specs.declared.host.HostEnd.TheVariants as host_ends
 use Rattle.fp_host.proofs.Framed.{IsTold, keeps_refl, keeps_on, keeps_to}
 use Rattle.fp_host.proofs.Goes.{stays, begins, goes_on}
 use Rattle.fp_host.proofs.Ending.{ends_on, ends_both, ends_frame, goes_known}
 use Rattle.fp_base.specs.declared.object.ObjKind.TheVariants as kinds
+use Rattle.fp_base.proofs.Options.{first_none}
 use Rattle.ost_model.specs.declared.object.Object.{Object}
 use Rattle.ost_model.specs.declared.object.Object.TheVariants as objects
-use Rattle.ost_model.specs.Objects.{Fault, object_path, object_at, object_fault, name_fault, dir_mode_fault}
+use Rattle.ost_model.specs.Objects.{object_path, object_at, object_fault, name_fault, dir_mode_fault}
 use Rattle.ost_model.specs.Remotes.{as_spot, remote_at}
 use Rattle.fp_small.proofs.Keeping.{files_stay}
 use Rattle.ost_store.specs.Stage.{Stages, WasStaged, CanStage}
@@ -26,7 +24,7 @@ use Rattle.ost_store.proofs.Staged.{gathers_piece}
 use Rattle.ost_walk.specs.declared.ends.WalkEnd.{WalkEnd}
 use Rattle.ost_walk.specs.declared.ends.WalkEnd.TheVariants as ends
 use Rattle.ost_walk.specs.declared.ends.WalkFault.{WalkFault}
-use Rattle.ost_walk.specs.Ends.{EndsBy, RefusesBy, of_host}
+use Rattle.ost_walk.specs.Ends.{EndsBy, RefusesBy}
 use Rattle.ost_head.specs.Contents.{IsWithinLimits, IsGoodLink}
 use Rattle.ost_head.proofs.Checked.{RefusesFile, file_good, file_corrupt}
 use Rattle.ost_head.specs.Brings.{Comes, IsBrought, IsCorruptAs, RemoteHasFile, JudgesRemote, CanBring}
@@ -73,12 +71,8 @@ writing {t = t} {mode = mode} bytes told first known between frame =
 
 -- ---- faults
 
-or_first : (a b : Option Fault) → option_or a b ≡ None → a ≡ None
-or_first None b none = refl
-or_first (Some f) b none = absurd (cc none)
-
 pub named_of : (d : List ℕ) (object : Object) → object_fault d kinds.File (Some object) ≡ None → name_fault d kinds.File (Some object) ≡ None
-named_of d object good = or_first (name_fault d kinds.File (Some object)) (dir_mode_fault kinds.File (Some object)) good
+named_of d object good = first_none (name_fault d kinds.File (Some object)) (dir_mode_fault kinds.File (Some object)) good
 
 -- ---- the remote's file
 
@@ -172,17 +166,6 @@ same_end {E = E} r s e x is err fault =
     let p = err_from_is_err_and s err in
     let q : p.0 ≡ x = cc (p.1, fault) in
     is ∙ ap (λ (y : E). Err y) (sym p.2 ∙ q)
-
-host_fault : (e : HostEnd) → of_host e ≡ ends.HostFault → e ≡ host_ends.Fault
-host_fault host_ends.Fault is = refl
-host_fault host_ends.NoMemory is = absurd (cc is)
-
--- and of one whose end is that of a host's
-pub host_end : {T U : Type 0} (r : Result T HostEnd) (s : Result U WalkEnd) (e : HostEnd) → r ≡ Err e → IsErrAnd s (λ end. end ≡ of_host e) → IsErrOf s ends.HostFault → IsErrOf r host_ends.Fault
-host_end r s e is err fault =
-    let p = err_from_is_err_and s err in
-    let q : p.0 ≡ ends.HostFault = cc (p.1, fault) in
-    is ∙ ap (λ (y : HostEnd). Err y) (host_fault e (sym p.2 ∙ q))
 
 -- where nothing was refused nothing is
 pub unrefused : {T U : Type 0} (held : Holdings) (url d : List ℕ) (r : Result T WalkEnd) (s : Result U WalkEnd) (e : WalkEnd) → r ≡ Err e → IsErrAnd s (λ end. end ≡ e) → ((w : WalkFault) → IsErrOf r (ends.Refused w) → ⊥) → JudgesRemote held url d s

@@ -10,12 +10,14 @@ use Rattle.fp_host.specs.Outcome.{points}
 use Rattle.fp_host.specs.Remote.{Held, nothing, directory, contents, target, IsNode, bytes_of}
 use Rattle.fp_host.specs.declared.remotes.Node.{Node}
 use Rattle.fp_host.specs.declared.remotes.Node.TheVariants as nodes
+use Rattle.fp_host.proofs.Nodes.{node_file, node_link}
 use Rattle.fp_base.specs.declared.object.ObjKind.TheVariants as kinds
 use Rattle.ost_model.specs.declared.object.Object.{Object}
 use Rattle.ost_model.specs.declared.object.Object.TheVariants as objects
 use Rattle.ost_model.specs.Contents.{is_permission, file_digest, link_digest}
 use Rattle.ost_model.specs.Objects.{Fault, unless, too_long, refused_mode, corrupt, digest_fault, object_at, object_fault}
 use Rattle.ost_model.specs.Remotes.{as_spot}
+use Rattle.ost_model.proofs.Spots.{link_there}
 use Rattle.ost_walk.specs.declared.ends.ObjectFault.{ObjectFault}
 use Rattle.ost_walk.specs.declared.ends.ObjectFault.TheVariants as faults
 use Rattle.ost_walk.specs.declared.ends.WalkEnd.{WalkEnd}
@@ -76,9 +78,6 @@ module _ (d : List ℕ) (mode size : ℕ) (bytes : List ℕ) (few : length bytes
 
 -- ---- a link
 
-pub link_there : (text : List ℕ) → is_link_text text ≡ true → object_at kinds.File (points text) ≡ Some (objects.Link text)
-link_there text good = ap (λ b. if b then Some (objects.Link text) else None) good
-
 pub link_missing : (d text : List ℕ) (end : WalkEnd) → is_link_text text ≡ false → end ≡ refusal d kinds.File faults.Missing → RefusesFile d (object_at kinds.File (points text)) end
 link_missing d text end off is = refuses d (object_fault d kinds.File (object_at kinds.File (points text))) faults.Missing end is (ap (λ b. object_fault d kinds.File (if b then Some (objects.Link text) else None)) off)
 
@@ -93,18 +92,6 @@ link_corrupt d text got end good is off ended = subst (λ (o : Option Object). R
     (refuses d (object_fault d kinds.File (Some (objects.Link text))) (faults.Corrupt got) end ended (of_link d text false (other_bytes (link_digest text) d got is off) ∙ ap (λ (x : List ℕ). Some (corrupt x)) (sym is)))
 
 -- ---- what a node tells
-
-node_file : (h : Held) (mode size : ℕ) → IsNode h (nodes.File mode size) → (h ≡ contents mode (bytes_of h)) × (length (bytes_of h) ≡ size)
-node_file nothing mode size is = absurd (cc is)
-node_file directory mode size is = absurd (cc is)
-node_file (contents m bytes) mode size is = (ap (λ (k : ℕ). contents k bytes) (cc is), cc is)
-node_file (target text) mode size is = absurd (cc is)
-
-node_link : (h : Held) (text : List ℕ) → IsNode h (nodes.Link text) → h ≡ target text
-node_link nothing text is = absurd (cc is)
-node_link directory text is = absurd (cc is)
-node_link (contents m bytes) text is = absurd (cc is)
-node_link (target t) text is = ap target (cc is)
 
 -- what is neither a file nor a link is no object
 node_none : (h : Held) (node : Node) → IsNode h node → (node ≡ nodes.Absent) ⊎ (node ≡ nodes.Dir) → object_at kinds.File (as_spot h) ≡ None

@@ -5,36 +5,25 @@ use Rattle.std.specs.Prelude.{◌⊎◌, not, if◌then◌else◌}
 use Rattle.std.proofs.lemmas.Bool.{le-leb, lt-leb}
 use Rattle.fp_host.specs.Paths.{Elements, is_link_text}
 use Rattle.fp_host.specs.Remote.{Held, nothing, directory, contents, target, IsNode, bytes_of}
-use Rattle.fp_host.specs.Outcome.{holds, points}
+use Rattle.fp_host.specs.Outcome.{points}
 use Rattle.fp_host.specs.declared.remotes.Node.{Node}
 use Rattle.fp_host.specs.declared.remotes.Node.TheVariants as nodes
+use Rattle.fp_host.proofs.Nodes.{node_file}
 use Rattle.fp_base.specs.declared.object.ObjKind.{ObjKind}
 use Rattle.fp_base.specs.declared.object.ObjKind.TheVariants as kinds
 use Rattle.ost_model.specs.declared.object.Object.{Object}
 use Rattle.ost_model.specs.declared.object.Object.TheVariants as objects
 use Rattle.ost_model.specs.Contents.{is_permission}
-use Rattle.ost_model.specs.Objects.{Fault, missing, too_long, refused_mode, unless, may_be_link, digest_fault, mode_fault, rule_fault, content_fault, dir_mode_fault, object_at, object_fault}
+use Rattle.ost_model.specs.Objects.{Fault, too_long, refused_mode, unless, may_be_link, digest_fault, mode_fault, object_at, object_fault}
 use Rattle.ost_model.specs.Remotes.{as_spot}
+use Rattle.ost_model.proofs.Faults.{long_fault}
+use Rattle.ost_model.proofs.Spots.{held_meta}
 use Rattle.ost_walk.specs.declared.ends.ObjectFault.TheVariants as faults
 use Rattle.ost_walk.specs.declared.ends.WalkEnd.{WalkEnd}
 use Rattle.ost_walk.specs.Ends.{RefusesBy, IsFaultOf, refusal}
 use Rattle.ost_head.specs.Objects.{IsFit, Reads}
 use Rattle.ost_head.specs.Fetches.{ReadsAt}
 use Rattle.ost_head.proofs.Judged.{refuses}
-
--- ---- metadata objects
-
-pub held_meta : (kind : ObjKind) → may_be_link kind ≡ false → (id mode : ℕ) (bytes : List ℕ) → object_at kind (holds id mode bytes) ≡ Some (objects.Meta bytes)
-held_meta kinds.Commit meta id mode bytes = refl
-held_meta kinds.DirTree meta id mode bytes = refl
-held_meta kinds.DirMeta meta id mode bytes = refl
-held_meta kinds.File meta id mode bytes = absurd (cc meta)
-
-pub long_fault : (d : List ℕ) (kind : ObjKind) (bytes : List ℕ) → may_be_link kind ≡ false → 16 * 1024 * 1024 < length bytes → object_fault d kind (Some (objects.Meta bytes)) ≡ Some (too_long (length bytes))
-long_fault d kind bytes meta long =
-    let o = objects.Meta bytes in
-    ap (λ b. option_or (option_or (unless (not b) missing) (content_fault d kind o)) (dir_mode_fault kind (Some o))) meta
-    ∙ ap (λ b. option_or (option_or (unless b (too_long (length bytes))) (option_or (digest_fault d o) (rule_fault kind o))) (dir_mode_fault kind (Some o))) (lt-leb (length bytes) (16 * 1024 * 1024) long)
 
 -- ---- the faults of a file before its digest
 
@@ -50,18 +39,6 @@ moded_file d mode bytes short off =
     ∙ ap (λ b. option_or (option_or (unless b (refused_mode mode)) (option_or (digest_fault d o) None)) None) off
 
 -- ---- what a node tells
-
-pub node_file : (h : Held) (mode size : ℕ) → IsNode h (nodes.File mode size) → (h ≡ contents mode (bytes_of h)) × (length (bytes_of h) ≡ size)
-node_file nothing mode size is = absurd (cc is)
-node_file directory mode size is = absurd (cc is)
-node_file (contents m bytes) mode size is = (ap (λ (k : ℕ). contents k bytes) (cc is), cc is)
-node_file (target text) mode size is = absurd (cc is)
-
-pub node_link : (h : Held) (text : List ℕ) → IsNode h (nodes.Link text) → h ≡ target text
-node_link nothing text is = absurd (cc is)
-node_link directory text is = absurd (cc is)
-node_link (contents m bytes) text is = absurd (cc is)
-node_link (target t) text is = ap target (cc is)
 
 -- what is neither a file nor a link is no object
 node_none : (h : Held) (node : Node) (kind : ObjKind) → IsNode h node → (node ≡ nodes.Absent) ⊎ (node ≡ nodes.Dir) → object_at kind (as_spot h) ≡ None

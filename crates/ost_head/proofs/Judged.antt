@@ -7,31 +7,23 @@ use Rattle.std.proofs.lemmas.Slice.Eq.{bytes_eq-Decides}
 use Rattle.fp_base.specs.declared.object.ObjKind.{ObjKind}
 use Rattle.fp_base.specs.declared.object.ObjKind.TheVariants as kinds
 use Rattle.fp_base.specs.declared.rule.Rule.{Rule}
+use Rattle.fp_base.proofs.Options.{or_assoc}
 use Rattle.ost_model.specs.declared.object.Object.{Object}
-use Rattle.ost_model.specs.declared.object.Object.TheVariants as objects
 use Rattle.ost_model.specs.Contents.{is_permission}
 use Rattle.ost_model.specs.Fields.{CommitView}
 use Rattle.ost_model.specs.Readers.{if_broken}
-use Rattle.ost_model.specs.Objects.{Fault, missing, corrupt, refused_mode, unless, as_malformed, is_of_kind, kind_fault, length_fault, mode_fault, digest_fault, digest_of, rule_fault, content_fault, dir_mode_fault, object_fault}
+use Rattle.ost_model.specs.Objects.{Fault, missing, corrupt, unless, as_malformed, is_of_kind, kind_fault, length_fault, mode_fault, digest_fault, digest_of, rule_fault, content_fault, dir_mode_fault, object_fault}
 use Rattle.ost_object.specs.declared.error.ObjectError.{ObjectError}
 use Rattle.ost_object.specs.declared.error.ObjectError.TheVariants as unread
 use Rattle.ost_object.specs.Answers.{Breaks, mapped}
 use Rattle.ost_object.specs.Views.{root_in}
-use Rattle.ost_store.specs.Stage.{IsKeepable}
+use Rattle.ost_store.proofs.Holding.{bits_kept}
 use Rattle.ost_walk.specs.declared.ends.ObjectFault.{ObjectFault}
 use Rattle.ost_walk.specs.declared.ends.ObjectFault.TheVariants as faults
 use Rattle.ost_walk.specs.declared.ends.WalkEnd.{WalkEnd}
 use Rattle.ost_walk.specs.declared.ends.WalkEnd.TheVariants as ends
 use Rattle.ost_walk.specs.Ends.{RefusesBy, EndsBy, IsFaultOf, fault_of, refusal, unread_end}
 use Rattle.ost_head.specs.Objects.{IsFit, Checks, rules_fault}
-
-or_nothing : (f : Option Fault) → option_or f None ≡ f
-or_nothing None = refl
-or_nothing (Some f) = refl
-
-or_twice : (f g h : Option Fault) → option_or (option_or f g) h ≡ option_or f (option_or g h)
-or_twice None g h = refl
-or_twice (Some f) g h = refl
 
 -- ---- a refusal
 
@@ -41,11 +33,6 @@ refuses d kind fault f end is has = subst (λ (e : WalkEnd). RefusesBy (IsFaultO
 
 -- ---- an object that is fit
 
-bits_kept : (o : Object) → IsKeepable o → mode_fault o ≡ None
-bits_kept (objects.Meta bytes) keepable = refl
-bits_kept (objects.File mode bytes) keepable = ap (λ b. unless b (refused_mode mode)) keepable
-bits_kept (objects.Link text) keepable = refl
-
 module _ (d : List ℕ) (kind : ObjKind) (o : Object) (fit : IsFit kind o) where
   -- its faults are those of its digest and of its rules
   fit_fault : object_fault d kind (Some o) ≡ option_or (digest_fault d o) (rules_fault kind o)
@@ -53,7 +40,7 @@ module _ (d : List ℕ) (kind : ObjKind) (o : Object) (fit : IsFit kind o) where
       ap (λ b. option_or (option_or (unless b missing) (content_fault d kind o)) (dir_mode_fault kind (Some o))) fit.kind_is
       ∙ ap (λ f. option_or (option_or f (option_or (mode_fault o) (option_or (digest_fault d o) (rule_fault kind o)))) (dir_mode_fault kind (Some o))) fit.short
       ∙ ap (λ f. option_or (option_or f (option_or (digest_fault d o) (rule_fault kind o))) (dir_mode_fault kind (Some o))) (bits_kept o fit.keepable)
-      ∙ or_twice (digest_fault d o) (rule_fault kind o) (dir_mode_fault kind (Some o))
+      ∙ or_assoc (digest_fault d o) (rule_fault kind o) (dir_mode_fault kind (Some o))
 
   -- its digest is another
   pub other_digest : (A : Type 0) (got : List ℕ) (end : WalkEnd) → got ≡ digest_of o → (got ≡ d → ⊥) → end ≡ refusal d kind (faults.Corrupt got) → Checks {A = A} d kind o (Err end)
@@ -74,16 +61,9 @@ module _ (d : List ℕ) (kind : ObjKind) (o : Object) (fit : IsFit kind o) where
 
 -- ---- the rules of a commit
 
-mapped_ok : (read : Result CommitView Rule) (root : List ℕ × List ℕ) → mapped root_in read ≡ Ok root → if_broken read ≡ None
-mapped_ok (Ok v) root is = refl
-mapped_ok (Err rule) root is = absurd (cc is)
-
 mapped_err : (read : Result CommitView Rule) (rule : Rule) → mapped root_in read ≡ Err rule → if_broken read ≡ Some rule
 mapped_err (Ok v) rule is = absurd (cc is)
 mapped_err (Err other) rule is = let same : other ≡ rule = cc is in ap (λ (r : Rule). Some r) same
-
-pub commit_reads : (read : Result CommitView Rule) (root : List ℕ × List ℕ) → mapped root_in read ≡ Ok root → option_or (as_malformed (if_broken read)) None ≡ None
-commit_reads read root is = ap (λ f. option_or (as_malformed f) None) (mapped_ok read root is)
 
 pub commit_breaks : (d : List ℕ) (read : Result CommitView Rule) (error : ObjectError) → Breaks error (mapped root_in read)
     → RefusesBy (IsFaultOf d kinds.Commit (option_or (as_malformed (if_broken read)) None)) (unread_end d kinds.Commit error)

@@ -1,9 +1,8 @@
 mod Judged
-mod Fetched
+pub mod Fetched
 mod Stored
 mod Loaded
-mod Quiet
-mod Looking
+pub mod Looking
 mod Headed
 mod Parted
 mod Entered

@@ -13,11 +13,10 @@ use Rattle.ost_model.proofs.Good.{good_tree, good_commit}
 use Rattle.ost_object.specs.Answers.{Breaks}
 use Rattle.ost_object.specs.declared.error.ObjectError.{ObjectError}
 use Rattle.ost_object.specs.declared.error.ObjectError.TheVariants as unread
-use Rattle.ost_walk.specs.declared.ends.WalkFault.{WalkFault}
 use Rattle.ost_walk.specs.declared.ends.WalkEnd.{WalkEnd}
-use Rattle.ost_walk.specs.declared.ends.WalkEnd.TheVariants as walks
 use Rattle.ost_walk.specs.Ends.{RefusesBy, EndsBy, IsFaultOf, unread_end}
 use Rattle.ost_walk.specs.Steps.{own_fault}
+use Rattle.ost_walk.proofs.Ended.{never_refused}
 use Rattle.ost_head.specs.Objects.{IsGood}
 use Rattle.ost_head.specs.Parts.{ReadsAs, IsReadAs}
 
@@ -58,20 +57,14 @@ tree_no_other d (objects.Link text) not good = absurd (cc good)
 pub found_good : (have : Have) (d : List ℕ) (kind : ObjKind) (o : Object) → IsGood d kind (have d kind) o → own_fault have d kind ≡ None
 found_good have d kind o g = ap (object_fault d kind) g.is ∙ g.good
 
-nothing_refused : (refused : WalkFault → Type 0) (end : WalkEnd) → RefusesBy (λ w. ⊥) end → RefusesBy refused end
-nothing_refused refused (walks.Refused w) none = absurd none
-nothing_refused refused walks.HostFault none = tt
-nothing_refused refused walks.RemoteFault none = tt
-nothing_refused refused walks.NoMemory none = tt
-
 pub commit_found : {A : Type 0} (view : A → CommitView) (have : Have) (d : List ℕ) (o : Object) (r : Result A WalkEnd) → IsGood d kinds.Commit (have d kinds.Commit) o
     → (object_fault d kinds.Commit (Some o) ≡ None → ReadsAs view (read_as commit_of (Some o)) r)
     → EndsBy (λ c. IsReadAs (own_fault have d kinds.Commit) (commit_at have d) (view c)) (IsFaultOf d kinds.Commit (own_fault have d kinds.Commit)) r
 commit_found view have d o (Ok c) g reads = record { good = found_good have d kinds.Commit o g; read = ap (read_as commit_of) g.is ∙ reads g.good }
-commit_found view have d o (Err end) g reads = nothing_refused _ end (reads g.good)
+commit_found view have d o (Err end) g reads = never_refused _ end (reads g.good)
 
 pub tree_found : {A : Type 0} (view : A → TreeView) (have : Have) (d : List ℕ) (o : Object) (r : Result A WalkEnd) → IsGood d kinds.DirTree (have d kinds.DirTree) o
     → (object_fault d kinds.DirTree (Some o) ≡ None → ReadsAs view (read_as tree_of (Some o)) r)
     → EndsBy (λ t. IsReadAs (own_fault have d kinds.DirTree) (tree_at have d) (view t)) (IsFaultOf d kinds.DirTree (own_fault have d kinds.DirTree)) r
 tree_found view have d o (Ok t) g reads = record { good = found_good have d kinds.DirTree o g; read = ap (read_as tree_of) g.is ∙ reads g.good }
-tree_found view have d o (Err end) g reads = nothing_refused _ end (reads g.good)
+tree_found view have d o (Err end) g reads = never_refused _ end (reads g.good)

@@ -1,8 +1,8 @@
 -- What the store tells of a file or link.
-use Rattle.std.proofs.Common.{◌≡◌, ◌≤◌, ℕ, List, length, Bool, true, false, leb, Option, Some, None, arith, refl, sym, ◌∙◌, ap, subst}
+use Rattle.std.proofs.Common.{◌≡◌, ◌≤◌, ℕ, List, length, Bool, true, false, leb, Option, Some, None, arith, sym, ◌∙◌, ap, subst}
 use Rattle.std.specs.Prelude.{if◌then◌else◌}
 use Rattle.fp_host.specs.Paths.{Elements, is_link_text}
-use Rattle.fp_host.specs.Outcome.{Spot, gone, folder, holds, points, shows}
+use Rattle.fp_host.specs.Outcome.{shows}
 use Rattle.fp_host.specs.View.{View}
 use Rattle.fp_host.specs.Moments.{Moments}
 use Rattle.fp_host.specs.Frame.{AtEnd, Unchanged}
@@ -11,7 +11,8 @@ use Rattle.fp_host.proofs.Cause.{Rose-later}
 use Rattle.fp_base.specs.declared.object.ObjKind.TheVariants as kinds
 use Rattle.ost_model.specs.declared.object.Object.{Object}
 use Rattle.ost_model.specs.declared.object.Object.TheVariants as objects
-use Rattle.ost_model.specs.Objects.{object_at, object_path, store}
+use Rattle.ost_model.specs.Objects.{object_path, store}
+use Rattle.ost_model.proofs.Spots.{link_good}
 use Rattle.ost_store.specs.Reads.{got_of, Gets, HasFile}
 use Rattle.ost_store.specs.declared.reading.Got.{Got}
 use Rattle.ost_store.specs.declared.reading.Got.TheVariants as got
@@ -33,7 +34,7 @@ file_told mode size most (Some (objects.File m bytes)) is = go (leb (length byte
     go true e = record { bytes = bytes; is = ap (λ (k : ℕ). Some (objects.File k bytes)) (cc e); long = cc e }
     go false e = absurd (cc e)
 
-link_told : (text : List ℕ) (most : ℕ) (o : Option Object) → got.Link text ≡ got_of most o → o ≡ Some (objects.Link text)
+pub link_told : (text : List ℕ) (most : ℕ) (o : Option Object) → got.Link text ≡ got_of most o → o ≡ Some (objects.Link text)
 link_told text most None is = absurd (cc is)
 link_told text most (Some (objects.Link t)) is = ap (λ (x : List ℕ). Some (objects.Link x)) (cc is)
 link_told text most (Some (objects.Meta bytes)) is = absurd (go (leb (length bytes) most) is)
@@ -47,22 +48,10 @@ link_told text most (Some (objects.File m bytes)) is = absurd (go (leb (length b
     go true e = cc e
     go false e = cc e
 
--- ---- a link's text is one
-
-link_good : (text : List ℕ) (spot : Spot) → object_at kinds.File spot ≡ Some (objects.Link text) → is_link_text text ≡ true
-link_good text gone is = absurd (cc is)
-link_good text folder is = absurd (cc is)
-link_good text (holds id mode bytes) is = absurd (cc is)
-link_good text (points t) is = go (is_link_text t) refl is
-  where
-    go : (b : Bool) → is_link_text t ≡ b → (if b then Some (objects.Link t) else None) ≡ Some (objects.Link text) → is_link_text text ≡ true
-    go true at e = let same : t ≡ text = cc e in ap is_link_text (sym same) ∙ at
-    go false at e = absurd (cc e)
-
 -- ---- a file or link that is told
 
 -- what was told of the store's file or link
-told_of : (root : Elements) (d : List ℕ) (most : ℕ) (told : Got) {a b : Option Moments} (m : Moments) → a ≡ Some m → AtEnd (λ u w. Gets root d kinds.File most u told) a b → told ≡ got_of most (store root (shows m.now) d kinds.File)
+pub told_of : (root : Elements) (d : List ℕ) (most : ℕ) (told : Got) {a b : Option Moments} (m : Moments) → a ≡ Some m → AtEnd (λ u w. Gets root d kinds.File most u told) a b → told ≡ got_of most (store root (shows m.now) d kinds.File)
 told_of root d most told m at ends = (ends.goes.told m at).3.is
 
 pub stored_file : (root : Elements) (d : List ℕ) (most : ℕ) (told : Got) {a b : Option Moments} (m : Moments) → a ≡ Some m → AtEnd (λ u w. Gets root d kinds.File most u told) a b → (mode size : ℕ) → told ≡ got.File mode size → HasFile root d m.now

@@ -10,3 +10,7 @@ pub mod Sample
 pub mod Supplied
 pub mod Once
 pub mod Stored
+pub mod Members
+pub mod Faults
+pub mod Spots
+pub mod Readers

@@ -11,8 +11,9 @@ use Rattle.ost_model.specs.Readers.{tree_of, commit_of}
 use Rattle.ost_model.specs.Objects.{Have, too_deep, object_fault}
 use Rattle.ost_model.specs.Order.{Place, In, inside, dir_places, file_place, file_places, tree_place, read_as, tree_at, commit_at, below_commit, root_row, commit_place, place_fault, found_at, first_of, order, first_fault, Agree}
 use Rattle.ost_model.specs.Look.{Found, nothing, directory, file_at, find_dir, find_file, either, entry_in, next, at_root, look, found_places, look_places, look_fault, Reached, FileReached}
-use Rattle.ost_model.proofs.Places.{in_left, in_right, in_each, faultless}
+use Rattle.ost_model.proofs.Places.{in_each, faultless}
 use Rattle.ost_model.proofs.Pending.{first_append}
+use Rattle.ost_model.proofs.Members.{in_left, in_right}
 
 head_in : (have : Have) (fuel depth : ℕ) (e : DirRow) → In (dir_places have fuel depth e) (tree_place depth e)
 head_in have zero depth e = inl refl
@@ -32,11 +33,11 @@ from_root have commit e (Some c) is found =
       sub = λ p h. inr (subst (λ k. In (below_commit have k) p) (sym is) (subst (λ (r : DirRow). In (dir_places have 65 0 r) p) (sym row) h));
     }
 
-if_some : {A : Type 0} (b : Bool) (d e : A) (r : Option A) → if b then Some d else r ≡ Some e → (d ≡ e) ⊎ (r ≡ Some e)
+pub if_some : {A : Type 0} (b : Bool) (d e : A) (r : Option A) → if b then Some d else r ≡ Some e → (d ≡ e) ⊎ (r ≡ Some e)
 if_some true d e r is = inl cc
 if_some false d e r is = inr is
 
-dir_found : (x : List ℕ) (es : List DirRow) (e : DirRow) → find_dir x es ≡ Some e → In es e
+pub dir_found : (x : List ℕ) (es : List DirRow) (e : DirRow) → find_dir x es ≡ Some e → In es e
 dir_found x [] e is = absurd (cc is)
 dir_found x (d ∷ es) e is = elim (if_some (bytes_eq d.name x) d e (find_dir x es) is) [ inl h ↦ inl h | inr h ↦ inr (dir_found x es e h) ]
 
@@ -52,7 +53,7 @@ entered {have = have} {commit = commit} {e = e} none r v is = go r.fuel r.sum r.
         absurd (false≢true (sym (faultless have 0 (order have commit) none (tree_place r.depth e) (tree_reached r)).0 ∙ ap (leb 65) deep))
     go (suc f) sum sub = (f, sum, λ p h. sub p (inr (inr (subst (λ k. In (inside (dir_places have f (suc r.depth)) r.depth k) p) (sym is) h))))
 
-either_dir : (d : Option DirRow) (f : Option FileRow) (e : DirRow) → either d f ≡ directory e → d ≡ Some e
+pub either_dir : (d : Option DirRow) (f : Option FileRow) (e : DirRow) → either d f ≡ directory e → d ≡ Some e
 either_dir None None e is = absurd (cc is)
 either_dir None (Some f) e is = absurd (cc is)
 either_dir (Some d) f e is = cc
@@ -166,3 +167,8 @@ module _ (have : Have) (commit : List ℕ) (none : first_fault have commit ≡ N
       first_append (λ k. place_fault have 0) 0 (look_places have commit up) (found_places (length (x ∷ up)) (look have commit (x ∷ up)))
       ∙ ap (λ f. option_or f (first_of (λ k. place_fault have 0) (0 + length (look_places have commit up)) (found_places (length (x ∷ up)) (look have commit (x ∷ up))))) (no_fault_on_path up)
       ∙ no_fault_in (0 + length (look_places have commit up)) (length (x ∷ up)) (look have commit (x ∷ up)) (found_within (x ∷ up))
+
+pub found_cases : (found : Found) → (found ≡ nothing) ⊎ (found ≡ nothing → ⊥)
+found_cases nothing = inl refl
+found_cases (directory e) = inr (λ is. cc is)
+found_cases (file_at d) = inr (λ is. cc is)

@@ -1,21 +1,12 @@
 -- Lists in which nothing comes twice.
-use Rattle.std.proofs.Common.{◌≡◌, ◌⊎◌, inl, inr, List, [], ◌∷◌, ◌++◌, refl, sym, subst}
+use Rattle.std.proofs.Common.{inl, inr, List, [], ◌∷◌, ◌++◌, sym, subst}
 use Rattle.ost_model.specs.Order.{In, IsOnce}
+use Rattle.ost_model.proofs.Members.{in_last, in_cases}
 
 pub in_push : {A : Type 0} (os : List A) (o p : A) → In os p → In (os ++ o ∷ []) p
 in_push [] o p has = absurd has
 in_push (x ∷ os) o p (inl is) = inl is
 in_push (x ∷ os) o p (inr has) = inr (in_push os o p has)
-
-pub in_last : {A : Type 0} (os : List A) (o : A) → In (os ++ o ∷ []) o
-in_last [] o = inl refl
-in_last (x ∷ os) o = inr (in_last os o)
-
-pub in_cases : {A : Type 0} (os : List A) (o p : A) → In (os ++ o ∷ []) p → In os p ⊎ (o ≡ p)
-in_cases [] o p (inl is) = inr is
-in_cases [] o p (inr none) = absurd none
-in_cases (x ∷ os) o p (inl is) = inl (inl is)
-in_cases (x ∷ os) o p (inr has) = elim (in_cases os o p has) [ inl h ↦ inl (inr h) | inr is ↦ inr is ]
 
 pub once_push : {A : Type 0} (os : List A) (o : A) → IsOnce os → (In os o → ⊥) → IsOnce (os ++ o ∷ [])
 once_push [] o once new = (λ none. none, tt)

@@ -6,15 +6,7 @@ use Rattle.ost_model.specs.Fields.{DirRow, CommitView, TreeView}
 use Rattle.ost_model.specs.Readers.{tree_of, commit_of}
 use Rattle.ost_model.specs.Objects.{Have, Fault, too_many, too_deep, object_fault}
 use Rattle.ost_model.specs.Order.{Place, In, each_in, inside, dir_places, file_places, tree_place, meta_place, read_as, tree_at, commit_at, below_commit, root_row, commit_place, order, limited, place_fault, found_at, first_of, first_fault, Agree}
-
-pub in_left : {A : Type 0} (xs ys : List A) (a : A) → In xs a → In (xs ++ ys) a
-in_left [] ys a h = absurd h
-in_left (x ∷ xs) ys a (inl e) = inl e
-in_left (x ∷ xs) ys a (inr h) = inr (in_left xs ys a h)
-
-pub in_right : {A : Type 0} (xs ys : List A) (a : A) → In ys a → In (xs ++ ys) a
-in_right [] ys a h = h
-in_right (x ∷ xs) ys a h = inr (in_right xs ys a h)
+use Rattle.ost_model.proofs.Members.{in_left, in_right}
 
 pub in_each : {A B : Type 0} (f : A → List B) (xs : List A) (x : A) (b : B) → In xs x → In (f x) b → In (each_in f xs) b
 in_each f [] x b h k = absurd h

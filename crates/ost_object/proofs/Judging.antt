@@ -1,18 +1,15 @@
 -- A commit that is judged by its digests.
-use Rattle.std.proofs.Common.{◌≡◌, ℕ, List, Option, Some, None, IsErrAnd, refl, sym, ap, ◌∙◌, subst}
+use Rattle.std.proofs.Common.{◌≡◌, ℕ, List, Option, Some, None, IsErrAnd, sym, ap, ◌∙◌, subst}
 use Rattle.std.specs.Prelude.{Result, Ok, Err}
 use Rattle.fp_base.specs.declared.rule.Rule.{Rule}
 use Rattle.fp_base.specs.declared.rule.Rule.TheVariants as rules
 use Rattle.ost_model.specs.Fields.{CommitView}
 use Rattle.ost_model.specs.Readers.{commit_breaks, judged, kept}
+use Rattle.ost_model.proofs.Readers.{kept_ok}
 use Rattle.ost_object.specs.declared.error.ObjectError.{ObjectError}
 use Rattle.ost_object.specs.declared.error.ObjectError.TheVariants as errors
 use Rattle.ost_object.specs.Answers.{Misses, Tries, Breaks, Reads, mapped}
 use Rattle.ost_object.specs.Views.{digests_in, root_in}
-
-kept-ok : {A : Type 0} (r : Option Rule) (a b : A) → kept r a ≡ Ok b → (r ≡ None) × (a ≡ b)
-kept-ok None a b e = (refl, cc)
-kept-ok (Some rule) a b e = absurd cc
 
 kept-err : {A B : Type 0} (r : Option Rule) (a : A) (b : B) (rule : Rule) → kept r a ≡ Err rule → kept r b ≡ Err rule
 kept-err None a b rule e = absurd cc
@@ -22,7 +19,7 @@ module _ (o : Option CommitView) (y : CommitView) (is : o ≡ Some y) where
   -- no rule is broken
   pub judged-good : (digests : List ℕ × List ℕ × List ℕ) → kept (commit_breaks y) (digests_in y) ≡ Ok digests → (judged commit_breaks o ≡ Ok y) × (digests ≡ digests_in y)
   judged-good digests e =
-      let k = kept-ok (commit_breaks y) (digests_in y) digests e in
+      let k = kept_ok (commit_breaks y) (digests_in y) digests e in
       (ap (judged commit_breaks) is ∙ ap (λ (r : Option Rule). kept r y) k.0, sym k.1)
 
   -- one is

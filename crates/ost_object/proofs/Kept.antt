@@ -1,5 +1,6 @@
 -- Values that are kept as bytes.
 use Rattle.std.proofs.Common.{◌≡◌, ℕ, suc, ◌≤◌, ◌<◌, ◌&&◌, Bool, true, List, [], ◌∷◌, ◌-◌, length, Option, Some, None, option_map, option_and_then, refl, sym, ap, ◌∙◌, subst, arith, bytes_eq}
+use Rattle.std.proofs.lemmas.Option.{same_Some}
 use Rattle.std.specs.Prelude.{unwrap_or, Result, Ok, Err}
 use Rattle.std.specs.Option.{is_some, IsSome}
 use Rattle.std.specs.Int.{w64}
@@ -14,7 +15,7 @@ use Rattle.gv_value.specs.Spelled.{Spelled}
 use Rattle.gv_value.specs.Texts.{is_text}
 use Rattle.gv_value.specs.Tree.{Content, Tree, nothing, byte_trees}
 use Rattle.gv_value.specs.Views.{plain}
-use Rattle.gv_value.proofs.Lists.{then_some, map_some, guarded}
+use Rattle.gv_value.proofs.Lists.{then_some, map_some}
 use Rattle.gv_decode.proofs.Contained.{alone}
 use Rattle.gv_decode.proofs.Rooms.{byte_array-read}
 use Rattle.ost_model.specs.Contents.{bytes_shape}
@@ -22,6 +23,7 @@ use Rattle.ost_model.specs.Types.{text_shape}
 use Rattle.ost_model.specs.Fields.{bytes_in, text_in, time_in}
 use Rattle.ost_model.specs.Binding.{same_text, is_named, binding_name}
 use Rattle.fp_base.specs.declared.rule.Rule.TheVariants as rules
+use Rattle.fp_base.proofs.Options.{guarded}
 use Rattle.ost_object.specs.declared.error.ObjectError.{ObjectError}
 use Rattle.ost_object.specs.declared.error.ObjectError.TheVariants as errors
 use Rattle.ost_object.specs.Answers.{Finds}
@@ -55,12 +57,9 @@ decodes t bytes (Err errors.NoMemory) h = tt
 
 -- ---- fields in a commit
 
-same_some : {A : Type 0} (a b : A) → Some a ≡ Some b → a ≡ b
-same_some a b e = cc
-
 pub bytes-field : (bytes : List ℕ) (v : Tree) → AllBelow 256 bytes → value_at 63 bytes_shape bytes ≡ Some v → bytes_in v ≡ Some bytes
 bytes-field bytes v below e =
-    let is : Tree.array (byte_trees bytes) ≡ v = same_some _ v (sym (byte_array-read 62 bytes below) ∙ e) in
+    let is : Tree.array (byte_trees bytes) ≡ v = same_Some _ v (sym (byte_array-read 62 bytes below) ∙ e) in
     ap bytes_in (sym is) ∙ bytes_back bytes
 
 text-leaf : (bytes : List ℕ) (v : Tree) → value_at 63 text_shape bytes ≡ Some v → (text : List ℕ) × (text_in v ≡ Some text)
@@ -68,7 +67,7 @@ text-leaf bytes v e =
     let leaf = map_some (Tree.leaf basics.Str) (reading.text_at string bytes) v e in
     let text = then_some (text_if string) (before_zero (length bytes - 1) bytes) leaf.0 leaf.1 in
     let is = guarded (is_text string text.0) (Some (Content.text text.0)) leaf.0 text.2 in
-    let same : Content.text text.0 ≡ leaf.0 = same_some _ leaf.0 is.1 in
+    let same : Content.text text.0 ≡ leaf.0 = same_Some _ leaf.0 is.1 in
     (text.0, ap text_in (sym leaf.2) ∙ ap (λ (c : Content). text_in (Tree.leaf basics.Str c)) (sym same))
 
 pub text-field : (bytes : List ℕ) (v : Tree) → length bytes ≤ 16777216 → value_at 63 text_shape bytes ≡ Some v → text_in v ≡ Some (text_at bytes)

@@ -13,3 +13,4 @@ pub mod Rows
 pub mod Shapes
 pub mod Trees
 pub mod Written
+pub mod Roots

@@ -4,12 +4,13 @@ use Rattle.std.proofs.Math.Seq.{drop-cons}
 use Rattle.std.proofs.lemmas.Bool.{and_parts}
 use Rattle.std.proofs.lemmas.Cmp.{nat_list_cmp_total}
 use Rattle.std.proofs.lemmas.Map.Text.{is_eq-slice_cmp}
-use Rattle.std.specs.Ordering.{nat_cmp, is_lt, is_eq, ordering_reverse}
+use Rattle.std.specs.Ordering.{nat_cmp, is_lt, is_eq}
 use Rattle.std.specs.declared.cmp.Ordering.{Ordering}
 use Rattle.std.specs.declared.cmp.Ordering.TheVariants.{Less, Equal, Greater}
 use Rattle.std.specs.Cmp.Lexicographic.{slice_cmp}
 use Rattle.std.specs.List.{list_any}
 use Rattle.std.specs.Str.{bytes_eq}
+use Rattle.fp_base.proofs.Texts.{less_from, flip, flip_less}
 use Rattle.fp_host.specs.Reads.{is_ascending}
 use Rattle.ost_model.specs.Readers.{shares, file_name, dir_name}
 use Rattle.ost_object.specs.declared.dirtree.FileEntry.{FileEntry}
@@ -19,19 +20,8 @@ use Rattle.ost_object.specs.Views.{file_row, dir_row, names_of_files, names_of_d
 abbrev compare : List ℕ → List ℕ → Ordering
 compare = slice_cmp nat_cmp
 
-less_from : (o : Ordering) → is_lt o ≡ true → o ≡ Less
-less_from Less t = refl
-less_from Equal t = absurd (cc)
-less_from Greater t = absurd (cc)
-
 same_as : (x y : List ℕ) (o : Ordering) → compare x y ≡ o → bytes_eq x y ≡ is_eq o
 same_as x y o is = sym (is_eq-slice_cmp x y) ∙ ap is_eq is
-
-flip : (x y : List ℕ) → compare x y ≡ Greater → compare y x ≡ Less
-flip x y is = nat_list_cmp_total.antisymm y x ∙ ap ordering_reverse is
-
-flip_less : (x y : List ℕ) → compare x y ≡ Less → compare y x ≡ Greater
-flip_less x y is = nat_list_cmp_total.antisymm y x ∙ ap ordering_reverse is
 
 -- a name below the first is none of them
 none_below : (x y : List ℕ) (ys : List (List ℕ)) → compare x y ≡ Less → is_ascending (y ∷ ys) ≡ true → list_any (bytes_eq x) (y ∷ ys) ≡ false

@@ -1,10 +1,10 @@
 -- The value that says a commit is the only one that says it.
-use Rattle.std.proofs.Common.{◌≡◌, ℕ, ◌^◌, ◌<◌, ◌≤◌, Bool, true, false, ◌&&◌, List, [], ◌∷◌, ◌++◌, length, Option, Some, None, refl, sym, ap, ◌∙◌, subst, arith, length-append, flat_map}
+use Rattle.std.proofs.Common.{◌≡◌, ℕ, ◌^◌, ◌<◌, ◌≤◌, Bool, true, false, ◌&&◌, List, [], ◌∷◌, ◌++◌, length, Option, Some, None, refl, sym, ap, ◌∙◌, subst, arith, length-append}
 use Rattle.std.specs.Prelude.{option_map, option_and_then, unwrap_or, Ok}
 use Rattle.gv_value.specs.declared.limits.TheConstants.{MOST_BYTES}
 use Rattle.gv_value.specs.declared.basic.Basic.TheVariants as basics
-use Rattle.gv_value.specs.Bytes.{zeros, le_bytes}
-use Rattle.gv_value.specs.Framing.{Part, placed, laid, width, framed, parts_of, tuple_body, tuple_offsets}
+use Rattle.gv_value.specs.Bytes.{zeros}
+use Rattle.gv_value.specs.Framing.{Part, placed, laid, framed, parts_of, tuple_body, tuple_offsets}
 use Rattle.gv_value.specs.Layout.{padding, align_of}
 use Rattle.gv_value.specs.Shape.{Shape, Shapes, no_shapes, shape}
 use Rattle.gv_value.specs.Spelled.{SpelledWithin, EachSpelled, TupleSpelled, Spelled}
@@ -21,6 +21,7 @@ use Rattle.ost_object.specs.declared.error.ObjectError.{ObjectError}
 use Rattle.ost_object.specs.declared.error.ObjectError.TheVariants as errors
 use Rattle.ost_object.specs.Writes.{HasNoSpelling, Refuses}
 use Rattle.gv_value.proofs.Exact.{spells_values}
+use Rattle.gv_value.proofs.Unique.{body_short}
 use Rattle.ost_object.specs.Values.{time_value, bytes_value}
 use Rattle.ost_object.proofs.OneValue.{text_is, time_is, bytes_are}
 use Rattle.ost_object.proofs.Rows.{bytes_back}
@@ -114,9 +115,6 @@ has_part : (body : List ℕ) (part : Part) (others : List Part) → length part.
 has_part body part others =
     omega (arith, length-laid (placed body part) others, length-append body (zeros (padding (length body) part.0) ++ part.1), length-append (zeros (padding (length body) part.0)) part.1)
 
-longer : (body offsets : List ℕ) → length body ≤ length (framed body offsets)
-longer body offsets = omega (arith, length-append body (flat_map (le_bytes (width (length body) (length offsets))) offsets))
-
 spelled_alone : (t : Shape) (v : Tree) (child : List ℕ) → SpelledWithin 63 t v child → SpelledWithin 64 t v child
 spelled_alone t v child h = let both = bounds_depth 63 64 t v child h in both.1 (omega (arith, both.0))
 
@@ -142,7 +140,7 @@ members_of a p r s b t d m bytes (c0 ∷ c1 ∷ c2 ∷ cs) short each is =
     let body = tuple_body (shape dictionary_shape seven_shapes) (c0 ∷ c1 ∷ c2 ∷ cs) in
     let offsets = tuple_offsets (shape dictionary_shape seven_shapes) (c0 ∷ c1 ∷ c2 ∷ cs) in
     let whole : length bytes ≡ length (framed body offsets) = ap length is in
-    let inside : length body ≤ length bytes = omega (arith, whole, longer body offsets) in
+    let inside : length body ≤ length bytes = omega (arith, whole, body_short body offsets) in
     let first : length c0 ≤ length body = has_part [] (align_of dictionary_shape, c0) (parts_of seven_shapes (c1 ∷ c2 ∷ cs)) in
     let third : length c2 ≤ length body =
     has_part (placed (placed [] (align_of dictionary_shape, c0)) (align_of bytes_shape, c1)) (align_of related_shape, c2) (parts_of five_shapes cs) in

@@ -1,9 +1,9 @@
 -- Objects that are found unused.
-use Rattle.std.proofs.Common.{◌≡◌, inl, inr, ◌<◌, ◌+◌, ℕ, suc, Bool, true, false, List, [], ◌∷◌, ◌++◌, map, take, drop, get_or, length, Option, Some, None, Result, Ok, Err, refl, sym, ◌∙◌, ap, subst, Contains, arith, append_assoc, append-nil}
+use Rattle.std.proofs.Common.{◌≡◌, inl, inr, ◌<◌, ◌+◌, ℕ, suc, Bool, true, false, List, [], ◌∷◌, ◌++◌, map, take, drop, get_or, length, Option, Some, None, Result, refl, sym, ◌∙◌, ap, subst, Contains, arith, append_assoc, append-nil}
 use Rattle.std.specs.Prelude.{◌↔◌, is_some, IfOk}
 use Rattle.fp_host.specs.declared.host.HostEnd.{HostEnd}
 use Rattle.std.proofs.Math.Seq.{take-suc, take-length, drop-cons}
-use Rattle.std.proofs.lemmas.Bool.{and_parts, and_from, both_ways}
+use Rattle.std.proofs.lemmas.Bool.{both_ways}
 use Rattle.std.proofs.lemmas.List.{map-append, drop_all}
 use Rattle.std.proofs.lemmas.List.Elements.{Contains-append_left, Contains-push, Contains-push_cases}
 use Rattle.fp_host.specs.Paths.{Elements, Slot, absent, dir, file, link, elements_of, path_text}
@@ -11,19 +11,20 @@ use Rattle.fp_host.specs.View.{View, IsTree}
 use Rattle.fp_host.specs.Calls.{IsLeaf}
 use Rattle.fp_host.specs.Outcome.{gone, folder, spot_of, shows}
 use Rattle.fp_host.proofs.Settled.{at_tree}
-use Rattle.fp_host.specs.Reads.{comes_first, is_ascending}
+use Rattle.fp_host.specs.Reads.{is_ascending}
 use Rattle.fp_host.specs.Frame.{AtEnd, Unchanged}
 use Rattle.fp_host.specs.Moments.{Moments}
 use Rattle.fp_host.proofs.Framed.{IsTold}
 use Rattle.fp_host.proofs.Ending.{ends_on, ends_both, ends_looks}
-use Rattle.fp_small.proofs.Ordered.{before_on}
+use Rattle.fp_small.proofs.Ordered.{less_one}
 use Rattle.fp_base.specs.declared.object.ObjKind.{ObjKind}
 use Rattle.fp_base.specs.declared.object.ObjKind.TheVariants as kinds
+use Rattle.fp_base.proofs.Options.{if_ok_to}
+use Rattle.fp_base.proofs.Lists.{in_none}
 use Rattle.ost_model.specs.Objects.{object_path, object_at, store}
 use Rattle.ost_model.proofs.Stores.{one_name}
 use Rattle.ost_store.specs.Names.{ListsNames, IsNamed, with_found, name_in, name_text}
 use Rattle.ost_store.specs.Reads.{IsThere}
-use Rattle.ost_store.proofs.Lists.{in_none}
 use Rattle.ost_prune.specs.Prune.{IsUnused, ListsUnused}
 use Rattle.ost_prune.specs.Texts.{AreUsedTexts, UnlessFaulty}
 use Rattle.ost_prune.specs.Finding.{IsUnusedAt, PicksUnused}
@@ -57,23 +58,6 @@ module _ (root : Elements) (keep : List (List ℕ)) (path : Elements) (v : View)
       let same = one_name root p.0 o.0 p.1 o.1 is.digits named.0 (sym name ∙ named.1) in
       let object : p ≡ o = (λ i. (same.0 i, same.1 i)) in
       both_ways (is_some (store root (shows v) o.0 o.1)) (sym away.is) (sym (ap (λ (x : Object). is_some (store root (shows v) x.0 x.1)) object) ∙ is.there)
-
--- ---- lists that ascend
-
--- without one in the middle
-less_one : (xs : List (List ℕ)) (y : List ℕ) (ys : List (List ℕ)) → is_ascending (xs ++ y ∷ ys) ≡ true → is_ascending (xs ++ ys) ≡ true
-less_one [] y ys h = (and_parts (comes_first y ys) (is_ascending ys) h).1
-less_one (x ∷ []) y ys h =
-    let a = and_parts (comes_first x (y ∷ ys)) (is_ascending (y ∷ ys)) h in
-    let b = and_parts (comes_first y ys) (is_ascending ys) a.1 in
-    and_from (comes_first x ys) (is_ascending ys) (over ys a.0 b.0) b.1
-  where
-    over : (zs : List (List ℕ)) → comes_first x (y ∷ []) ≡ true → comes_first y zs ≡ true → comes_first x zs ≡ true
-    over [] first second = refl
-    over (z ∷ zs) first second = before_on x y z first second
-less_one (x ∷ w ∷ xs) y ys h =
-    let a = and_parts (comes_first x (w ∷ (xs ++ y ∷ ys))) (is_ascending (w ∷ (xs ++ y ∷ ys))) h in
-    and_from (comes_first x (w ∷ (xs ++ ys))) (is_ascending (w ∷ (xs ++ ys))) a.0 (less_one (w ∷ xs) y ys a.1)
 
 -- ---- name after name
 
@@ -186,10 +170,6 @@ all_unused root keep paths v found tree names picks = record {
 }
 
 -- ---- over the moments
-
-if_ok_to : {T E : Type 0} {P Q : T → Type 0} (r : Result T E) → ((t : T) → P t → Q t) → IfOk r P → IfOk r Q
-if_ok_to (Ok t) step is = step t is
-if_ok_to (Err e) step is = is
 
 -- what was found, where something was
 pub of_found : {A : Type 0} {found : Option A} {a : A} → found ≡ Some a → (root : Elements) (keep : List (List ℕ)) (v : View) (Is : A → Type 0) → UnlessFaulty root keep v Is found → Is a

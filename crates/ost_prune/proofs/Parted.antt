@@ -1,8 +1,8 @@
 -- Commits that go before other objects.
-use Rattle.std.proofs.Common.{◌≡◌, inl, inr, ◌<◌, ◌+◌, ℕ, Bool, true, false, not, cond, List, [], ◌∷◌, ◌++◌, map, take, get_or, length, Option, refl, sym, ◌∙◌, ap, subst, Contains, append-nil}
+use Rattle.std.proofs.Common.{◌≡◌, inl, inr, ◌<◌, ◌+◌, ℕ, Bool, true, false, cond, List, [], ◌∷◌, ◌++◌, map, take, get_or, length, Option, refl, sym, ◌∙◌, ap, subst, Contains, append-nil}
 use Rattle.std.specs.Prelude.{is_some}
 use Rattle.std.specs.List.{filter}
-use Rattle.std.proofs.lemmas.Bool.{and_parts, and_from, both_ways, cases_Bool, not_from_false}
+use Rattle.std.proofs.lemmas.Bool.{and_parts, and_from, both_ways, cases_Bool, not_from_false, not-true}
 use Rattle.std.proofs.Math.Seq.{take-length}
 use Rattle.std.proofs.lemmas.List.Elements.{filter_more}
 use Rattle.fp_host.specs.Paths.{Elements, absent}
@@ -13,13 +13,12 @@ use Rattle.fp_host.specs.Reads.{comes_first, is_ascending}
 use Rattle.fp_host.proofs.Framed.{IsTold, frame_start, frame_within}
 use Rattle.fp_host.proofs.Goes.{stays, begins, goes_on}
 use Rattle.fp_host.proofs.Ending.{goes_known, ends_on, ends_both, ends_frame, ends_looks}
-use Rattle.fp_small.specs.Order.{comes_before}
-use Rattle.fp_small.proofs.Ordered.{before_on}
+use Rattle.fp_small.proofs.Ordered.{comes_first-on}
 use Rattle.fp_name.specs.Hex.{is_digest}
 use Rattle.fp_base.specs.declared.object.ObjKind.{ObjKind}
+use Rattle.fp_base.proofs.Lists.{in_none, in_first, in_rest, in_cases}
 use Rattle.ost_model.specs.Objects.{object_at}
 use Rattle.ost_model.proofs.Stores.{one_name}
-use Rattle.ost_store.proofs.Lists.{in_none, in_cases, in_first, in_rest}
 use Rattle.ost_store.proofs.Staying.{shown_stays}
 use Rattle.ost_prune.specs.Prune.{is_commit, CommitsFirst, ListsUnused}
 use Rattle.ost_store.specs.Names.{name_in, name_text}
@@ -57,17 +56,13 @@ to_filter p (x ∷ xs) o has is = elim (cases_Bool (p x)) [
       subst (λ (b : Bool). Contains (cond b (x ∷ filter p xs) (filter p xs)) o) (sym fails) here
 ]
 
-comes_over : (x y : List ℕ) (zs : List (List ℕ)) → comes_before x y ≡ true → comes_first y zs ≡ true → comes_first x zs ≡ true
-comes_over x y [] first second = refl
-comes_over x y (z ∷ zs) first second = before_on x y z first second
-
 first_left : (root : Elements) (p : Object → Bool) (t : List ℕ) (xs : List Object) → comes_first t (map (name_text root) xs) ≡ true → is_ascending (map (name_text root) xs) ≡ true → comes_first t (map (name_text root) (filter p xs)) ≡ true
 first_left root p t [] first h = refl
 first_left root p t (x ∷ xs) first h = elim (cases_Bool (p x)) [
   | inl holds ↦ subst (λ (b : Bool). comes_first t (map (name_text root) (cond b (x ∷ filter p xs) (filter p xs))) ≡ true) (sym holds) first
   | inr fails ↦
       let a = and_parts (comes_first (name_text root x) (map (name_text root) xs)) (is_ascending (map (name_text root) xs)) h in
-      subst (λ (b : Bool). comes_first t (map (name_text root) (cond b (x ∷ filter p xs) (filter p xs))) ≡ true) (sym fails) (first_left root p t xs (comes_over t (name_text root x) (map (name_text root) xs) first a.0) a.1)
+      subst (λ (b : Bool). comes_first t (map (name_text root) (cond b (x ∷ filter p xs) (filter p xs))) ≡ true) (sym fails) (first_left root p t xs (comes_first-on t (name_text root x) (map (name_text root) xs) first a.0) a.1)
 ]
 
 still_ascending : (root : Elements) (p : Object → Bool) (xs : List Object) → is_ascending (map (name_text root) xs) ≡ true → is_ascending (map (name_text root) (filter p xs)) ≡ true
@@ -97,10 +92,6 @@ pub all_parted : (p : Object → Bool) (objects : List Object) (i : ℕ) {had : 
 all_parted p objects i is so_far = so_far ∙ ap (filter p) (ap (λ (k : ℕ). take k objects) (sym is) ∙ take-length objects)
 
 -- ---- the commits, and then the others
-
-not_commit : (b : Bool) → not b ≡ true → b ≡ false
-not_commit true is = absurd (cc is)
-not_commit false is = refl
 
 pub among_part : (root : Elements) (p : Object → Bool) (objects : List Object) (q : Elements) → IsAmong root (filter p objects) q → IsAmong root objects q
 among_part root p objects q a = record { object = a.object; among = (from_filter p objects a.object a.among).0; name = a.name }
@@ -135,7 +126,7 @@ module _ (root : Elements) (objects : List Object) where
     digits = λ o has. can.digits o (from_filter is_other objects o has).0;
     there = λ o has.
         let f = from_filter is_other objects o has in
-        let name = other_stays can.digits keeps o f.0 (not_commit (is_commit o) f.1) in
+        let name = other_stays can.digits keeps o f.0 (not-true (is_commit o) f.1) in
         let shown = shown_stays (name_in root o) u v (record { name = name; row = λ id g at row. keeps.files id g row (λ q none at. none) }) tree tree' in
         record { there = ap (λ s. is_some (object_at o.1 s)) shown ∙ (can.there o f.0).there };
     ascending = still_ascending root is_other objects can.ascending;

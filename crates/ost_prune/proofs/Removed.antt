@@ -12,11 +12,11 @@ use Rattle.fp_host.specs.Frame.{Keeps, NoPath}
 use Rattle.fp_host.specs.Reads.{comes_first, is_ascending}
 use Rattle.fp_small.specs.Clear.{GoneAt, AbsentAt}
 use Rattle.fp_small.specs.Order.{comes_before}
-use Rattle.fp_small.proofs.Ordered.{before_on, not_before_itself}
+use Rattle.fp_small.proofs.Ordered.{not_before_itself, first_below}
 use Rattle.fp_base.specs.declared.object.ObjKind.{ObjKind}
+use Rattle.fp_base.proofs.Lists.{in_none, in_first, in_cases, in_map}
 use Rattle.ost_model.specs.Objects.{object_path, object_at}
 use Rattle.ost_store.specs.Place.{HasObject, WasRemoved}
-use Rattle.ost_store.proofs.Lists.{in_none, in_cases, in_first, in_map}
 use Rattle.ost_store.proofs.Staying.{shown_stays}
 use Rattle.ost_model.proofs.Stores.{one_name}
 use Rattle.fp_host.proofs.Framed.{keeps_on, keeps_to}
@@ -25,16 +25,6 @@ use Rattle.ost_prune.specs.Removing.{IsAmong, GoneAmong, AbsentAmong, AreGone, C
 
 abbrev Object : Type 0
 Object = List ℕ × ObjKind
-
--- a list whose texts ascend has no object twice
-first_below : (x : List ℕ) (ys : List (List ℕ)) (z : List ℕ) → comes_first x ys ≡ true → is_ascending ys ≡ true → Contains ys z → comes_before x z ≡ true
-first_below x [] z first h has = absurd (in_none z has)
-first_below x (y ∷ ys) z first h has = elim (in_cases y ys z has) [
-  | inl same ↦ subst (λ (w : List ℕ). comes_before x w ≡ true) (sym same) first
-  | inr later ↦
-      let a = and_parts (comes_first y ys) (is_ascending ys) h in
-      before_on x y z first (first_below y ys z a.0 a.1 later)
-]
 
 not_again : (root : Elements) (xs : List Object) (o : Object) (ys : List Object) → is_ascending (map (name_text root) (xs ++ o ∷ ys)) ≡ true → Contains xs o → ⊥
 not_again root [] o ys h has = in_none o has

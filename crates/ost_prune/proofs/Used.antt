@@ -14,12 +14,12 @@ use Rattle.fp_host.specs.Frame.{AtEnd, Unchanged}
 use Rattle.fp_host.specs.Moments.{Moments}
 use Rattle.fp_host.proofs.Goes.{knowing}
 use Rattle.fp_base.specs.declared.object.ObjKind.{ObjKind}
+use Rattle.fp_base.proofs.Lists.{in_none, in_first, in_rest, in_cases}
 use Rattle.ost_model.specs.Objects.{Have, store}
 use Rattle.ost_model.specs.Order.{order, first_fault}
 use Rattle.ost_model.specs.Used.{used_fault}
 use Rattle.ost_model.proofs.Stores.{one_name}
 use Rattle.ost_model.proofs.Good.{walks_none}
-use Rattle.ost_store.proofs.Lists.{in_none, in_cases, in_first, in_rest}
 use Rattle.ost_model.specs.Remotes.{Stores}
 use Rattle.ost_walk.specs.declared.ends.WalkEnd.{WalkEnd}
 use Rattle.ost_walk.specs.declared.ends.WalkEnd.TheVariants as ends

@@ -1,15 +1,16 @@
 -- Work beside the objects of a store.
-use Rattle.std.proofs.Common.{◌≡◌, ◌⊎◌, inl, inr, ℕ, List, [], ◌∷◌, length, true, None, Option, Some, refl, sym, ◌∙◌, ap, subst, arith}
+use Rattle.std.proofs.Common.{◌≡◌, ◌⊎◌, inl, inr, ℕ, List, true, None, Option, Some, refl, sym, ◌∙◌, ap, subst}
 use Rattle.fp_host.specs.Paths.{Elements, Slot, absent, dir, file, link, IsAbove}
 use Rattle.fp_host.specs.View.{View, Inode, IsTree}
-use Rattle.fp_host.specs.Outcome.{Spot, gone, shows, spot_of, holding, Leaves}
+use Rattle.fp_host.specs.Outcome.{Spot, gone, shows, spot_of, holding}
 use Rattle.fp_host.specs.Moments.{Moments, Always}
 use Rattle.fp_host.specs.Remote.{Holdings}
 use Rattle.fp_host.proofs.Framed.{IsTold}
 use Rattle.fp_host.proofs.Settled.{at_tree}
+use Rattle.fp_host.proofs.Above.{above_on}
+use Rattle.fp_host.proofs.Shown.{now_left}
 use Rattle.fp_small.specs.Clear.{IsWithin}
-use Rattle.fp_small.specs.Folders.{IsFree}
-use Rattle.fp_small.proofs.Emptying.{above_longer}
+use Rattle.fp_small.proofs.Making.{free_at}
 use Rattle.fp_name.specs.Hex.{is_digest}
 use Rattle.fp_base.specs.declared.object.ObjKind.{ObjKind}
 use Rattle.ost_model.specs.Objects.{Have, object_path, object_at, store, supply, name_fault}
@@ -19,33 +20,18 @@ use Rattle.ost_model.proofs.Stores.{objects_are_named}
 use Rattle.ost_store.specs.Stays.{Stays}
 use Rattle.ost_store.specs.Place.{LeavesStore}
 use Rattle.ost_store.proofs.Staying.{shown_stays}
-use Rattle.ost_store.specs.ObjectNames.{IsObjectName, IsAboveObject, AreOpen}
+use Rattle.ost_store.proofs.ObjectPaths.{object_within, below_work, not_both}
+use Rattle.ost_store.specs.ObjectNames.{IsAboveObject, AreOpen}
 use Rattle.ost_pull.specs.Work.{WorksAt, WorksName, Works}
 use Rattle.ost_pull.specs.Pulls.{IsApart}
-use Rattle.ost_pull.proofs.Kept.{below_work, above_work}
+use Rattle.ost_pull.proofs.Kept.{above_work}
 
 -- ---- paths
-
-pub object_within : (root : Elements) (d : List ℕ) (kind : ObjKind) → IsWithin (objects_folder root) (object_path root d kind)
-object_within root d kind = inr (inr (inl refl))
 
 above_folder : (root : Elements) (d : List ℕ) (kind : ObjKind) (q : Elements) → IsAbove q (object_path root d kind) → IsWithin (objects_folder root) q ⊎ IsAbove q (objects_folder root)
 above_folder root d kind q (inl is) = inl (inr (subst (IsAbove (objects_folder root)) (sym is) (inl refl)))
 above_folder root d kind q (inr (inl is)) = inl (inl is)
 above_folder root d kind q (inr (inr higher)) = inr higher
-
-pub above_on : (a b p : Elements) → IsAbove a b → IsAbove b p → IsAbove a p
-above_on a b [] up low = absurd low
-above_on a b (x ∷ rest) up (inl is) = inr (subst (IsAbove a) is up)
-above_on a b (x ∷ rest) up (inr higher) = inr (above_on a b rest up higher)
-
--- objects' names are equally long
-pub not_both : (root q : Elements) → IsObjectName root q → IsAboveObject root q → ⊥
-not_both root q name above = absurd (omega (arith, ap length name.at, above_longer q (object_path root above.digest above.kind) above.above))
-
-pub free_at : (v w : View) (q : Elements) → w.names q ≡ v.names q → IsFree v q → IsFree w q
-free_at v w q same (inl none) = inl (same ∙ none)
-free_at v w q same (inr there) = inr (same ∙ there)
 
 -- ---- apart from the store
 
@@ -124,13 +110,9 @@ spot_absent v q tree is = go (v.names q) refl is
     go (link text) at held = absurd (cc held)
     go (file id) at held = absurd (no_row id (v.files id) refl at held)
 
--- what stands is one of the outcomes
-pub stands : (v : View) → Leaves v (shows v)
-stands v = record { names = v.names; files = v.files; may_be = λ p. inl refl; rows = λ id. inl refl; seen = λ p. refl }
-
 pub lacking_name : (root : Elements) (d : List ℕ) (kind : ObjKind) (v : View) → IsTree v → LeavesStore root v → is_digest d ≡ true → store root (shows v) d kind ≡ None → v.names (object_path root d kind) ≡ absent
 lacking_name root d kind v tree true_names good none =
-    elim (objects_are_named root (shows v) (true_names.each (shows v) (stands v)) d kind good) [
+    elim (objects_are_named root (shows v) (true_names.each (shows v) (now_left v)) d kind good) [
       | inl away ↦ spot_absent v (object_path root d kind) tree (ap (spot_of v.files) (sym (at_tree v tree (object_path root d kind))) ∙ away)
       | inr named ↦ absurd (cc (sym (ap (name_fault d kind) none) ∙ named.good))
     ]

@@ -1,16 +1,11 @@
 -- Files and links of the remote that are kept in the work folder.
-use Rattle.std.proofs.Common.{◌≡◌, inl, inr, ℕ, List, true, Option, Some, None, Result, Ok, Err, refl, sym, ◌∙◌, ap, subst}
+use Rattle.std.proofs.Common.{◌≡◌, inl, inr, ℕ, List, true, Option, Some, None, Ok, sym, ◌∙◌, ap, subst}
 use Rattle.std.specs.Option.{option_or}
-use Rattle.std.specs.Prelude.{IsErrOf}
-use Rattle.std.specs.Result.{IsErrAnd}
-use Rattle.std.proofs.lemmas.Result.{err_from_is_err_and}
 use Rattle.fp_host.specs.Paths.{Elements}
 use Rattle.fp_host.specs.View.{View}
 use Rattle.fp_host.specs.Moments.{Moments, Always}
 use Rattle.fp_host.specs.Remote.{Holdings}
 use Rattle.fp_host.specs.Reads.{StatOf}
-use Rattle.fp_host.specs.declared.host.HostEnd.{HostEnd}
-use Rattle.fp_host.specs.declared.host.HostEnd.TheVariants as host_ends
 use Rattle.fp_host.specs.declared.host.Stat.TheVariants as stats
 use Rattle.fp_host.proofs.Framed.{IsTold, keeps_to}
 use Rattle.fp_host.proofs.Goes.{goes_on}
@@ -23,13 +18,11 @@ use Rattle.ost_model.specs.declared.object.Object.{Object}
 use Rattle.ost_model.specs.Objects.{Fault, object_path, object_fault, name_fault, dir_mode_fault}
 use Rattle.ost_model.specs.Order.{In}
 use Rattle.ost_model.specs.Remotes.{remote_at}
-use Rattle.ost_walk.specs.declared.ends.WalkEnd.{WalkEnd}
-use Rattle.ost_walk.specs.declared.ends.WalkEnd.TheVariants as ends
-use Rattle.ost_walk.specs.Ends.{of_host}
 use Rattle.ost_head.specs.Brings.{Comes, CanBring}
 use Rattle.ost_store.specs.ObjectNames.{AreOpen}
+use Rattle.ost_store.proofs.ObjectPaths.{below_work, above_object}
 use Rattle.ost_pull.specs.Work.{Works, AreKept}
-use Rattle.ost_pull.proofs.Kept.{works_on, below_work, above_object}
+use Rattle.ost_pull.proofs.Kept.{works_on}
 
 -- ---- at each moment
 
@@ -73,15 +66,3 @@ can_bring {t = t} {p = p} {u = u} d good at stat opened = record {
   free = ap (λ (x : View). x.names p) stat.same ∙ stat_absent stat;
   folders = subst (AreFree (ancestors p)) (sym stat.same) (subst (λ (q : Elements). AreFree (ancestors q) u) (sym at) (record { free = λ q has. opened.free q (above_object t d kinds.File q good has) }));
 }
-
--- ---- the end of a `?` that is a host's
-
-host_fault : (e : HostEnd) → of_host e ≡ ends.HostFault → e ≡ host_ends.Fault
-host_fault host_ends.Fault is = refl
-host_fault host_ends.NoMemory is = absurd (cc is)
-
-pub host_end : {T U : Type 0} (r : Result T HostEnd) (s : Result U WalkEnd) (e : HostEnd) → r ≡ Err e → IsErrAnd s (λ end. end ≡ of_host e) → IsErrOf s ends.HostFault → IsErrOf r host_ends.Fault
-host_end r s e is err fault =
-    let p = err_from_is_err_and s err in
-    let q : p.0 ≡ ends.HostFault = cc (p.1, fault) in
-    is ∙ ap (λ (y : HostEnd). Err y) (host_fault e (sym p.2 ∙ q))

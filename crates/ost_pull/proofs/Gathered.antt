@@ -5,11 +5,11 @@ use Rattle.fp_host.specs.View.{View, Inode}
 use Rattle.fp_host.specs.Outcome.{Spot}
 use Rattle.fp_host.specs.Frame.{Keeps, NoPath}
 use Rattle.fp_host.specs.Remote.{Holdings}
+use Rattle.fp_host.proofs.Above.{above_longer}
 use Rattle.fp_small.specs.Clear.{IsWithin, IsCleared}
 use Rattle.fp_small.specs.Files.{KeepsFiles}
 use Rattle.fp_small.specs.Folders.{ancestors}
 use Rattle.fp_small.specs.Shares.{Shares}
-use Rattle.fp_small.proofs.Emptying.{above_longer}
 use Rattle.fp_small.proofs.Replacement.{ancestors_above}
 use Rattle.fp_name.specs.Hex.{is_digest}
 use Rattle.fp_base.specs.declared.object.ObjKind.{ObjKind}

@@ -1,24 +1,14 @@
 -- What an object that is ready may give.
-use Rattle.std.proofs.Common.{◌≡◌, inl, inr, ℕ, List, Option, None, refl, sym, ◌∙◌, ap, subst}
+use Rattle.std.proofs.Common.{◌≡◌, inl, inr, ℕ, List, Option, sym, subst}
 use Rattle.fp_host.specs.Paths.{Elements, Slot, absent, dir, file, link, at}
 use Rattle.fp_host.specs.View.{View, Inode}
 use Rattle.fp_host.specs.Calls.{IsLeaf, IsDirty}
-use Rattle.fp_host.specs.Outcome.{Spot, gone, MayHold, Gives, spot_of, holding}
+use Rattle.fp_host.specs.Outcome.{Spot, MayHold, Gives, spot_of, holding}
 use Rattle.fp_host.proofs.Separate.{at_cases}
 use Rattle.fp_base.specs.declared.object.ObjKind.{ObjKind}
-use Rattle.fp_base.specs.declared.object.ObjKind.TheVariants as kinds
-use Rattle.ost_model.specs.Objects.{name_fault, object_at, Named}
+use Rattle.ost_model.specs.Objects.{Named}
+use Rattle.ost_model.proofs.Spots.{not_gone}
 use Rattle.ost_store.specs.Place.{IsReadyAs}
-
-none_gone : (kind : ObjKind) → object_at kind gone ≡ None
-none_gone kinds.Commit = refl
-none_gone kinds.DirTree = refl
-none_gone kinds.DirMeta = refl
-none_gone kinds.File = refl
-
--- what is Named is there
-not_gone : (d : List ℕ) (kind : ObjKind) → Named d kind gone → ⊥
-not_gone d kind named = absurd (cc (sym (ap (name_fault d kind) (none_gone kind)) ∙ named.good))
 
 module _ {u : View} (d : List ℕ) (kind : ObjKind) (t : Elements) (ready : IsReadyAs d kind t u) where
   stands : at u.names t ≡ u.names t

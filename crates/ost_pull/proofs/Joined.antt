@@ -10,6 +10,7 @@ use Rattle.fp_host.specs.View.{View, IsTree}
 use Rattle.fp_host.specs.Remote.{Holdings}
 use Rattle.ost_model.specs.Objects.{Have}
 use Rattle.ost_model.specs.Order.{In}
+use Rattle.ost_model.proofs.Members.{in_left, in_right}
 use Rattle.ost_walk.specs.declared.ends.WalkEnd.{WalkEnd}
 use Rattle.ost_walk.specs.declared.ends.WalkEnd.TheVariants as ends
 use Rattle.ost_walk.specs.Ends.{RefusesBy}
@@ -21,15 +22,6 @@ use Rattle.ost_pull.proofs.Gathered.{gathered_on}
 use Rattle.ost_pull.proofs.Apart.{works_object}
 use Rattle.ost_pull.proofs.Kept.{Named}
 use Rattle.ost_pull.proofs.Taken.{bad_append, in_before}
-
-in_left : (xs ys : List Named) (o : Named) → In xs o → In (xs ++ ys) o
-in_left [] ys o has = absurd has
-in_left (x ∷ xs) ys o (inl is) = inl is
-in_left (x ∷ xs) ys o (inr has) = inr (in_left xs ys o has)
-
-in_right : (xs ys : List Named) (o : Named) → In ys o → In (xs ++ ys) o
-in_right [] ys o has = has
-in_right (x ∷ xs) ys o has = inr (in_right xs ys o has)
 
 in_either : (xs ys : List Named) (o : Named) → In (xs ++ ys) o → In xs o ⊎ In ys o
 in_either [] ys o has = inr has

@@ -1,5 +1,5 @@
 -- Objects that are kept in the work folder, one by one.
-use Rattle.std.proofs.Common.{◌≡◌, ◌⊎◌, inl, inr, ℕ, List, [], ◌∷◌, ◌++◌, true, Option, Some, None, Result, Ok, refl, sym, ◌∙◌, ap, subst, arith, Err, Contains}
+use Rattle.std.proofs.Common.{◌≡◌, ◌⊎◌, inl, inr, ℕ, List, [], ◌∷◌, ◌++◌, true, Option, Some, None, Result, Ok, refl, sym, ◌∙◌, ap, subst, arith, Err}
 use Rattle.fp_host.specs.Paths.{Elements, Slot, absent, dir, file, link, IsAbove}
 use Rattle.fp_host.specs.View.{View, IsTree}
 use Rattle.fp_host.specs.Moments.{Moments, Always, Makes}
@@ -15,25 +15,26 @@ use Rattle.fp_host.proofs.Framed.{IsTold, keeps_refl, keeps_on, keeps_to, keeps_
 use Rattle.fp_host.specs.Frame.{Keeps, Frame, AtEnd, Unchanged, NoPath}
 use Rattle.fp_host.proofs.Goes.{stays, begins, goes_on, makes_goes}
 use Rattle.fp_host.proofs.Ending.{ends_goes, ends_call, ends_to, ends_on, ends_both}
+use Rattle.fp_host.proofs.Above.{above_longer}
 use Rattle.fp_small.specs.Clear.{IsWithin, GoneWithin, AbsentWithin}
 use Rattle.fp_small.specs.Folders.{ancestors, AreFree}
 use Rattle.fp_small.proofs.Keeping.{files_on, files_kept, files_stay, files_synced}
 use Rattle.fp_small.proofs.Making.{stat_absent}
-use Rattle.fp_small.proofs.Emptying.{above_longer}
 use Rattle.fp_small.proofs.Replacement.{ancestors_above}
 use Rattle.fp_name.specs.Hex.{is_digest}
 use Rattle.fp_base.specs.declared.object.ObjKind.{ObjKind}
 use Rattle.ost_model.specs.declared.object.Object.{Object}
-use Rattle.ost_model.specs.declared.object.Object.TheVariants as objects
 use Rattle.ost_model.specs.Objects.{object_path, name_fault}
 use Rattle.ost_model.specs.Order.{In}
 use Rattle.ost_model.proofs.Stores.{one_name}
-use Rattle.ost_model.proofs.Once.{in_push, in_last, in_cases, once_push}
-use Rattle.ost_store.specs.Stage.{Stages, WasStaged, IsHeld, IsStaged, CanStage}
-use Rattle.ost_store.proofs.Staying.{staged_stays, held_stays}
+use Rattle.ost_model.proofs.Once.{in_push, once_push}
+use Rattle.ost_model.proofs.Members.{in_last, in_cases}
+use Rattle.ost_store.specs.Stage.{Stages, WasStaged, IsHeld, CanStage}
+use Rattle.ost_store.proofs.Staying.{staged_stays, held_stays, staged_held}
+use Rattle.ost_store.proofs.Holding.{leaf_there}
+use Rattle.ost_store.proofs.ObjectPaths.{below_work, above_object}
 use Rattle.ost_head.specs.Found.{RemoteHas}
 use Rattle.ost_pull.proofs.Gathered.{gathered_same, gathered_staged}
-use Rattle.ost_store.specs.ObjectNames.{IsAboveObject}
 use Rattle.ost_pull.specs.Work.{Works, IsKept, AreKept, KeepsOne, CanKeep}
 
 -- ---- work in the folder
@@ -47,17 +48,11 @@ works_same {t = t} {v = v} same = subst (Works t v) (sym same) works_refl
 pub works_on : {t : Elements} {u v w : View} → Works t u v → Works t v w → Works t u w
 works_on first second = record { keeps = keeps_on first.keeps second.keeps; files = files_on first.files second.files }
 
-pub below_work : (t : Elements) (d : List ℕ) (kind : ObjKind) (q : Elements) → q ≡ object_path t d kind → IsWithin t q
-below_work t d kind q is = inr (subst (IsAbove t) (sym is) (inr (inr (inl refl))))
-
 pub above_work : (t : Elements) (d : List ℕ) (kind : ObjKind) (q : Elements) → IsAbove q (object_path t d kind) → IsWithin t q ⊎ IsAbove q t
 above_work t d kind q (inl is) = inl (inr (subst (IsAbove t) (sym is) (inr (inl refl))))
 above_work t d kind q (inr (inl is)) = inl (inr (subst (IsAbove t) (sym is) (inl refl)))
 above_work t d kind q (inr (inr (inl is))) = inl (inl is)
 above_work t d kind q (inr (inr (inr higher))) = inr higher
-
-pub above_object : (t : Elements) (d : List ℕ) (kind : ObjKind) (q : Elements) → is_digest d ≡ true → Contains (ancestors (object_path t d kind)) q → IsAboveObject t q
-above_object t d kind q good has = record { digest = d; kind = kind; digits = good; above = ancestors_above (object_path t d kind) q has }
 
 pub staged_works : (t : Elements) (d : List ℕ) (kind : ObjKind) (object : Object) {u w : View} → is_digest d ≡ true → Stages (object_path t d kind) object u w → Works t u w
 staged_works t d kind object good s = record {
@@ -130,11 +125,6 @@ Named = List ℕ × ObjKind
 
 -- ---- an object that is kept already
 
-leaf_there : (q : Elements) (object : Object) (v : View) → IsHeld q object v → v.names q ≡ absent → ⊥
-leaf_there q (objects.Meta bytes) v h none = absurd (cc (sym h.name ∙ none))
-leaf_there q (objects.File mode bytes) v h none = absurd (cc (sym h.name ∙ none))
-leaf_there q (objects.Link text) v h none = absurd (cc (sym h ∙ none))
-
 not_absent : (v : View) (e : Slot) (s : Stat) → IsStat v e s → (s ≡ stats.Absent → ⊥) → e ≡ absent → ⊥
 not_absent v absent s is off none = off is
 not_absent v dir s is off none = cc none
@@ -195,11 +185,6 @@ module _ {t : Elements} {url : List ℕ} {holds : Option Holdings} (o : Named) (
     );
     gathers = gathered_staged t o.0 o.1 object good stages was;
   }
-
-staged_held : (t : Elements) (object : Object) (v : View) → IsStaged t object v → IsHeld t object v
-staged_held t (objects.Meta bytes) v h = record { id = h.id; name = h.name; row = h.row }
-staged_held t (objects.File mode bytes) v h = record { id = h.id; name = h.name; row = h.row }
-staged_held t (objects.Link text) v h = h
 
 -- ---- at the end
 

@@ -11,6 +11,7 @@ use Rattle.fp_host.proofs.Ending.{ends_on, ends_both, ends_goes, goes_known}
 use Rattle.fp_name.specs.Hex.{is_digest}
 use Rattle.ost_model.specs.Objects.{object_path}
 use Rattle.ost_model.specs.Order.{In, IsOnce}
+use Rattle.ost_model.proofs.Members.{in_left, in_right}
 use Rattle.ost_store.specs.Place.{Places, WasPlaced}
 use Rattle.ost_pull.specs.Pulls.{IsApart}
 use Rattle.ost_pull.specs.Placing.{AreReady, AreLacking, ComesLast, FirstComesLast}
@@ -19,18 +20,9 @@ use Rattle.ost_pull.proofs.Placed.{other_stays}
 
 -- ---- an object between others
 
-in_front : (xs ys : List Named) (o : Named) → In xs o → In (xs ++ ys) o
-in_front [] ys o has = absurd has
-in_front (x ∷ xs) ys o (inl is) = inl is
-in_front (x ∷ xs) ys o (inr has) = inr (in_front xs ys o has)
-
-in_back : (xs ys : List Named) (o : Named) → In ys o → In (xs ++ ys) o
-in_back [] ys o has = has
-in_back (x ∷ xs) ys o has = inr (in_back xs ys o has)
-
 not_before : (xs ys : List Named) (o : Named) → IsOnce (xs ++ o ∷ ys) → (p : Named) → In xs p → p ≡ o → ⊥
 not_before [] ys o once p has same = has
-not_before (x ∷ xs) ys o once p (inl is) same = once.0 (subst (In (xs ++ o ∷ ys)) (sym (is ∙ same)) (in_back xs (o ∷ ys) o (inl refl)))
+not_before (x ∷ xs) ys o once p (inl is) same = once.0 (subst (In (xs ++ o ∷ ys)) (sym (is ∙ same)) (in_right xs (o ∷ ys) o (inl refl)))
 not_before (x ∷ xs) ys o once p (inr has) same = not_before xs ys o once.1 p has same
 
 not_after : (xs ys : List Named) (o : Named) → IsOnce (xs ++ o ∷ ys) → (p : Named) → In ys p → p ≡ o → ⊥
@@ -60,18 +52,18 @@ module _ (root t : Elements) (apart : IsApart root t) (objects left : List Named
   digits p has = (ready.each p (subst (λ (l : List Named). In l p) (sym parted) has)).digits
 
   own_digits : is_digest o.0 ≡ true
-  own_digits = digits o (in_back left (o ∷ so_far.come) o (inl refl))
+  own_digits = digits o (in_right left (o ∷ so_far.come) o (inl refl))
 
   module _ {w : View} (places : Places (object_path t o.0 o.1) (object_path root o.0 o.1) v w) where
     waits : (p : Named) → In left p → w.names (object_path root p.0 p.1) ≡ absent
     waits p has =
-        (other_stays root t apart o own_digits places p (digits p (in_front left (o ∷ so_far.come) p has)) (not_before left so_far.come o once p has)).name
-        ∙ so_far.free p (in_front left (o ∷ []) p has)
+        (other_stays root t apart o own_digits places p (digits p (in_left left (o ∷ so_far.come) p has)) (not_before left so_far.come o once p has)).name
+        ∙ so_far.free p (in_left left (o ∷ []) p has)
 
     stands : (p : Named) → In so_far.come p → w.names (object_path root p.0 p.1) ≢ absent
     stands p has none =
         so_far.there p has
-        (sym (other_stays root t apart o own_digits places p (digits p (in_back left (o ∷ so_far.come) p (inr has))) (not_after left so_far.come o once p has)).name ∙ none)
+        (sym (other_stays root t apart o own_digits places p (digits p (in_right left (o ∷ so_far.come) p (inr has))) (not_after left so_far.come o once p has)).name ∙ none)
 
     pub comes_last : (first : Named) (others : List Named) → objects ≡ first ∷ others → ComesLast root first others w
     comes_last first others is = record { last = by left refl }

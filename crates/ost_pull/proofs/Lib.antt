@@ -1,7 +1,6 @@
 mod Gathered
 mod Kept
 mod Contents
-mod Ready
 mod Given
 mod Apart
 mod Pulled
@@ -10,7 +9,7 @@ mod Placed
 mod Last
 mod Stored
 mod Whole
-mod Samples
+pub mod Samples
 mod Read
 mod Batched
 mod Joined

@@ -4,10 +4,11 @@ use Rattle.fp_host.specs.Paths.{Elements, Slot, absent, IsAbove}
 use Rattle.fp_host.specs.View.{View}
 use Rattle.fp_host.specs.Outcome.{Spot}
 use Rattle.fp_host.proofs.Framed.{keeps_refl, keeps_to}
+use Rattle.fp_host.proofs.Above.{above_longer}
 use Rattle.fp_small.specs.Clear.{IsWithin, CanClear}
 use Rattle.fp_small.specs.declared.limits.TheConstants.{MOST_ELEMENTS}
 use Rattle.fp_small.proofs.Keeping.{files_on, files_stay}
-use Rattle.fp_small.proofs.Emptying.{above_longer}
+use Rattle.fp_small.proofs.Making.{free_at}
 use Rattle.fp_name.specs.Hex.{hex}
 use Rattle.fp_base.specs.declared.object.ObjKind.{ObjKind}
 use Rattle.ost_model.specs.Objects.{object_path}
@@ -16,10 +17,10 @@ use Rattle.ost_model.specs.Stores.{objects_folder, is_prefix, MayBePrefix, MayBe
 use Rattle.ost_model.proofs.Stores.{store_goes_on}
 use Rattle.ost_store.specs.Place.{LeavesStore}
 use Rattle.ost_store.proofs.Elements.{prefix_is_one}
+use Rattle.ost_store.proofs.ObjectPaths.{object_within, below_work, not_both}
 use Rattle.ost_store.specs.ObjectNames.{AreOpen}
 use Rattle.ost_pull.specs.Work.{Works}
-use Rattle.ost_pull.proofs.Apart.{object_within, off_object, off_above, works_off, spot_off, not_both, free_at}
-use Rattle.ost_pull.proofs.Kept.{below_work}
+use Rattle.ost_pull.proofs.Apart.{off_object, off_above, works_off, spot_off}
 use Rattle.ost_pull.specs.Pulls.{IsApart, PullsAt, PullsName, Pulls}
 
 -- ---- lengths

@@ -1,53 +1,34 @@
 -- Small objects of a remote that are read whole.
 use Rattle.std.proofs.Common.{◌≡◌, ◌==◌, ◌&&◌, ◌≤◌, ◌*◌, ◌++◌, ℕ, List, [], length, leb, true, false, Option, Some, None, refl, sym, ◌∙◌, ap, subst, arith}
 use Rattle.std.specs.Option.{option_or}
-use Rattle.std.specs.Prelude.{not, if◌then◌else◌, IfOk, IfSome, Result, Ok, Err}
+use Rattle.std.specs.Prelude.{not, IfOk, IfSome, Result, Ok}
 use Rattle.std.specs.List.{list_all}
 use Rattle.std.specs.Str.{bytes_eq, is_utf8}
 use Rattle.std.proofs.lemmas.Bool.{and_parts, le-leb, leb-true}
-use Rattle.std.proofs.lemmas.List.{append-nil}
 use Rattle.std.proofs.lemmas.Slice.Eq.{bytes_eq-Decides}
 use Rattle.sha2.specs.Sha256.{sha256}
 use Rattle.fp_host.specs.Paths.{Elements, is_link_text}
-use Rattle.fp_host.specs.Outcome.{holds, points}
-use Rattle.fp_host.specs.Remote.{Held, Holdings, nothing, directory, contents, target, IsNode, bytes_of}
+use Rattle.fp_host.specs.Outcome.{points}
+use Rattle.fp_host.specs.Remote.{Held, Holdings, IsNode, bytes_of}
 use Rattle.fp_host.specs.declared.remotes.Node.TheVariants as nodes
+use Rattle.fp_host.proofs.Nodes.{node_file, node_link}
 use Rattle.fp_base.specs.declared.object.ObjKind.{ObjKind}
 use Rattle.fp_base.specs.declared.object.ObjKind.TheVariants as kinds
 use Rattle.ost_model.specs.declared.object.Object.{Object}
 use Rattle.ost_model.specs.declared.object.Object.TheVariants as objects
-use Rattle.ost_model.specs.Contents.{is_permission, header, link_header, file_digest, link_digest, meta_digest}
-use Rattle.ost_model.specs.Objects.{Fault, missing, too_long, refused_mode, corrupt, unless, as_malformed, may_be_link, digest_of, digest_fault, mode_fault, rule_fault, content_fault, dir_mode_fault, object_at, object_path, object_fault}
-use Rattle.fp_base.specs.declared.rule.Rule.{Rule}
-use Rattle.ost_model.specs.Fields.{CommitView}
-use Rattle.ost_model.specs.Readers.{commit_read, if_broken}
+use Rattle.ost_model.specs.Contents.{is_permission, header, file_digest, meta_digest}
+use Rattle.ost_model.specs.Objects.{missing, too_long, corrupt, unless, may_be_link, digest_of, digest_fault, mode_fault, rule_fault, content_fault, dir_mode_fault, object_at, object_path, object_fault}
+use Rattle.fp_base.proofs.Options.{or_assoc}
+use Rattle.ost_model.specs.Readers.{commit_read}
 use Rattle.ost_model.specs.Remotes.{as_spot, remote_at}
+use Rattle.ost_model.proofs.Spots.{held_meta}
 use Rattle.ost_object.specs.Answers.{mapped}
 use Rattle.ost_object.specs.Views.{root_in}
-use Rattle.ost_store.specs.Stage.{IsKeepable}
+use Rattle.ost_object.proofs.Roots.{commit_reads}
+use Rattle.ost_store.proofs.Holding.{bits_kept}
 use Rattle.ost_walk.specs.declared.ends.WalkEnd.{WalkEnd}
 use Rattle.ost_head.specs.Objects.{IsFit, rules_fault}
 use Rattle.par_digest.specs.declared.limits.TheConstants.{MOST_SMALL_BYTES}
-
--- ---- what a node of a remote tells
-
-node_file : (h : Held) (mode size : ℕ) → IsNode h (nodes.File mode size) → (h ≡ contents mode (bytes_of h)) × (length (bytes_of h) ≡ size)
-node_file nothing mode size is = absurd (cc is)
-node_file directory mode size is = absurd (cc is)
-node_file (contents m bytes) mode size is = (ap (λ (k : ℕ). contents k bytes) (cc is), cc is)
-node_file (target text) mode size is = absurd (cc is)
-
-node_link : (h : Held) (text : List ℕ) → IsNode h (nodes.Link text) → h ≡ target text
-node_link nothing text is = absurd (cc is)
-node_link directory text is = absurd (cc is)
-node_link (contents m bytes) text is = absurd (cc is)
-node_link (target t) text is = ap target (cc is)
-
-held_meta : (kind : ObjKind) → may_be_link kind ≡ false → (id mode : ℕ) (bytes : List ℕ) → object_at kind (holds id mode bytes) ≡ Some (objects.Meta bytes)
-held_meta kinds.Commit meta id mode bytes = refl
-held_meta kinds.DirTree meta id mode bytes = refl
-held_meta kinds.DirMeta meta id mode bytes = refl
-held_meta kinds.File meta id mode bytes = absurd (cc meta)
 
 -- ---- the object that stands there
 
@@ -60,9 +41,6 @@ pub meta_there : (h : Held) (kind : ObjKind) (mode size : ℕ) (bytes : List ℕ
 meta_there h kind mode size bytes meta node whole =
     let is = node_file h mode size node in
     ap (λ x. object_at kind (as_spot x)) is.0 ∙ held_meta kind meta 0 mode (bytes_of h) ∙ ap (λ (b : List ℕ). Some (objects.Meta b)) (sym (whole is.1))
-
-pub text_there : (text : List ℕ) → is_link_text text ≡ true → object_at kinds.File (points text) ≡ Some (objects.Link text)
-text_there text good = ap (λ b. if b then Some (objects.Link text) else None) good
 
 pub link_there : (h : Held) (text : List ℕ) (found : Option Object) → IsNode h (nodes.Link text) → IfSome found (λ object. object_at kinds.File (points text) ≡ Some object) → IfSome found (λ object. object_at kinds.File (as_spot h) ≡ Some object)
 link_there h text found node there = subst (λ (x : Held). IfSome found (λ object. object_at kinds.File (as_spot x) ≡ Some object)) (sym (node_link h text node)) there
@@ -81,9 +59,6 @@ object_there held url d kind k p root r is top kind_is there =
 pub fit_file : (mode size : ℕ) (bytes : List ℕ) → length bytes ≤ size → size ≤ MOST_SMALL_BYTES → is_permission mode ≡ true → IsFit kinds.File (objects.File mode bytes)
 fit_file mode size bytes few short bits = record { kind_is = refl; short = ap (λ b. unless b (too_long (length bytes))) (le-leb (length bytes) (1024 * 1024 * 1024) (omega (arith, few, short))); keepable = bits }
 
-pub fit_link : (text : List ℕ) → is_link_text text ≡ true → IsFit kinds.File (objects.Link text)
-fit_link text good = record { kind_is = refl; short = refl; keepable = good }
-
 pub short_link : (text : List ℕ) → is_link_text text ≡ true → length text ≤ MOST_SMALL_BYTES
 short_link text good =
     let front = and_parts (leb 1 (length text)) (leb (length text) 4095 && (list_all (λ b. not (b == 0)) text && is_utf8 text)) good in
@@ -99,31 +74,14 @@ pub file_item : (mode : ℕ) (bytes head : List ℕ) → head ≡ header mode �
 unfolding file_digest
 file_item mode bytes head h = ap (λ x. sha256 (x ++ bytes)) h
 
-pub link_item : (text head body : List ℕ) → head ≡ link_header text → body ≡ [] → sha256 (head ++ body) ≡ link_digest text
-unfolding link_digest
-link_item text head body h b = ap (λ x. sha256 (x ++ body)) h ∙ (ap (λ y. sha256 (link_header text ++ y)) b ∙ ap sha256 (append-nil (link_header text)))
-
 pub meta_item : (bytes head : List ℕ) → head ≡ [] → sha256 (head ++ bytes) ≡ meta_digest bytes
 unfolding meta_digest
 meta_item bytes head h = ap (λ x. sha256 (x ++ bytes)) h
 
 -- ---- it is good
 
-read_whole : (read : Result CommitView Rule) (root : List ℕ × List ℕ) → mapped root_in read ≡ Ok root → option_or (as_malformed (if_broken read)) None ≡ None
-read_whole (Ok v) root is = refl
-read_whole (Err rule) root is = absurd (cc is)
-
 pub commit_keeps : (bytes : List ℕ) (root : List ℕ × List ℕ) → mapped root_in (commit_read bytes) ≡ Ok root → rules_fault kinds.Commit (objects.Meta bytes) ≡ None
-commit_keeps bytes root is = read_whole (commit_read bytes) root is
-
-or_twice : (f g h : Option Fault) → option_or (option_or f g) h ≡ option_or f (option_or g h)
-or_twice None g h = refl
-or_twice (Some f) g h = refl
-
-bits_kept : (o : Object) → IsKeepable o → mode_fault o ≡ None
-bits_kept (objects.Meta bytes) keepable = refl
-bits_kept (objects.File mode bytes) keepable = ap (λ b. unless b (refused_mode mode)) keepable
-bits_kept (objects.Link text) keepable = refl
+commit_keeps bytes root is = commit_reads (commit_read bytes) root is
 
 -- the faults of an object that is fit are those of its digest and of its rules
 fit_fault : (d : List ℕ) (kind : ObjKind) (o : Object) → IsFit kind o → object_fault d kind (Some o) ≡ option_or (digest_fault d o) (rules_fault kind o)
@@ -131,7 +89,7 @@ fit_fault d kind o fit =
     ap (λ b. option_or (option_or (unless b missing) (content_fault d kind o)) (dir_mode_fault kind (Some o))) fit.kind_is
     ∙ ap (λ f. option_or (option_or f (option_or (mode_fault o) (option_or (digest_fault d o) (rule_fault kind o)))) (dir_mode_fault kind (Some o))) fit.short
     ∙ ap (λ f. option_or (option_or f (option_or (digest_fault d o) (rule_fault kind o))) (dir_mode_fault kind (Some o))) (bits_kept o fit.keepable)
-    ∙ or_twice (digest_fault d o) (rule_fault kind o) (dir_mode_fault kind (Some o))
+    ∙ or_assoc (digest_fault d o) (rule_fault kind o) (dir_mode_fault kind (Some o))
 
 pub good_by_rules : (d : List ℕ) (kind : ObjKind) (o : Object) (got : List ℕ) → IsFit kind o → got ≡ digest_of o → got ≡ d → rules_fault kind o ≡ None → object_fault d kind (Some o) ≡ None
 good_by_rules d kind o got fit is same rules =

@@ -4,29 +4,18 @@ use Rattle.fp_host.specs.Paths.{Elements, absent, IsAbove}
 use Rattle.fp_host.specs.View.{View, IsTree}
 use Rattle.fp_host.specs.Outcome.{IsSettled, shows, spot_of}
 use Rattle.fp_host.proofs.Settled.{at_tree, settled_disk}
+use Rattle.fp_host.proofs.Above.{below_child, above_longer}
 use Rattle.fp_small.specs.Clear.{IsWithin}
-use Rattle.fp_small.specs.Folders.{IsFree}
 use Rattle.fp_small.specs.Places.{IsBare, repo, tmp}
-use Rattle.fp_small.proofs.Emptying.{above_longer, below_child}
+use Rattle.fp_small.proofs.Within.{one_child}
+use Rattle.fp_small.proofs.Bare.{bare_free}
 use Rattle.ost_model.specs.Objects.{object_path, object_at, store}
 use Rattle.ost_model.specs.Order.{first_fault}
 use Rattle.ost_model.specs.Stores.{objects_folder}
-use Rattle.ost_model.proofs.Stores.{nothing_is_a_store}
-use Rattle.ost_store.specs.Place.{LeavesStore}
+use Rattle.ost_store.proofs.Samples.{empty_store}
 use Rattle.ost_pull.specs.Pulls.{IsApart, CanPull, HasPulled}
 
 -- ---- folders side by side
-
-one_child : (a b : List ℕ) (p q : Elements) → IsWithin (a ∷ p) q → IsWithin (b ∷ p) q → a ≡ b
-one_child a b p q (inl is) (inl other) = cc (is, other)
-one_child a b p q (inl is) (inr above) = absurd (omega (arith, above_longer (b ∷ p) q above, ap length is))
-one_child a b p q (inr above) (inl is) = absurd (omega (arith, above_longer (a ∷ p) q above, ap length is))
-one_child a b p [] (inr above) (inr other) = absurd above
-one_child a b p (x ∷ up) (inr above) (inr other) = one_child a b p up (within above) (within other)
-  where
-    within : {y : List ℕ} → IsAbove (y ∷ p) (x ∷ up) → IsWithin (y ∷ p) up
-    within (inl is) = inl (sym is)
-    within (inr higher) = inr higher
 
 not_same : codes "objects" ≡ codes "tmp" → ⊥
 not_same same = absurd (omega (arith, ap length same))
@@ -53,10 +42,6 @@ work_apart name = record {
 
 -- ---- the root alone
 
-bare_free : (v : View) → IsBare v → (q : Elements) → IsFree v q
-bare_free v bare [] = inr bare.root
-bare_free v bare (x ∷ up) = inl (bare.none x up)
-
 bare_below : (v : View) → IsBare v → (p q : Elements) → IsAbove p q → v.names q ≡ absent
 bare_below v bare p [] above = absurd above
 bare_below v bare p (x ∷ up) above = bare.none x up
@@ -64,12 +49,6 @@ bare_below v bare p (x ∷ up) above = bare.none x up
 bare_names : (v : View) → IsBare v → (rest : Elements) (xx : List ℕ) → v.names (rest ++ (xx ∷ objects_folder repo)) ≡ absent
 bare_names v bare [] xx = bare.none xx (objects_folder repo)
 bare_names v bare (x ∷ rest) xx = bare.none x (rest ++ (xx ∷ objects_folder repo))
-
--- where nothing stands below `objects` and all is settled
-empty_store : (root : Elements) (v : View) → IsTree v → IsSettled v → ((rest : Elements) (xx : List ℕ) → v.names (rest ++ (xx ∷ objects_folder root)) ≡ absent) → LeavesStore root v
-empty_store root v tree settled none = record {
-  each = λ disk left. nothing_is_a_store root disk (λ rest xx. settled_disk v tree settled disk left (rest ++ (xx ∷ objects_folder root)) ∙ ap (spot_of v.files) (none rest xx));
-}
 
 pub bare_pulls : (name : List ℕ) (v : View) → IsBare v → IsTree v → IsSettled v → CanPull repo (name ∷ tmp) v
 bare_pulls name v bare tree settled = record {

@@ -1,5 +1,5 @@
 -- Objects that are kept come to their names between two syncs.
-use Rattle.std.proofs.Common.{inl, inr, ℕ, List, Option, Result, Ok, sym, ◌∙◌, ap, subst, Contains}
+use Rattle.std.proofs.Common.{inl, inr, ℕ, List, Option, Result, sym, ◌∙◌, ap, subst, Contains}
 use Rattle.fp_host.specs.Paths.{Elements, Slot, file}
 use Rattle.fp_host.specs.View.{View, IsTree}
 use Rattle.fp_host.specs.Calls.{syncs, Step}
@@ -9,39 +9,34 @@ use Rattle.fp_host.specs.Frame.{Frame, AtEnd, NoPath}
 use Rattle.fp_host.specs.declared.host.HostError.{HostError}
 use Rattle.fp_host.proofs.Framed.{IsTold}
 use Rattle.fp_host.proofs.Goes.{begins, goes_on, makes_goes}
-use Rattle.fp_host.proofs.Ending.{ends_call, ends_on, ends_both, ends_frame}
+use Rattle.fp_host.proofs.Ending.{ends_call, ends_on, ends_both, ends_frame, from_tree, to_tree}
 use Rattle.fp_small.specs.Clear.{GoneWithin, AbsentWithin, IsCleared, CanClear}
 use Rattle.fp_small.specs.Files.{KeepsFiles, SameFiles}
 use Rattle.fp_small.specs.Shares.{Shares}
 use Rattle.fp_small.proofs.Keeping.{files_kept, files_on, files_synced}
 use Rattle.fp_small.proofs.Sharing.{shares_same, shares_empty, shares_on}
 use Rattle.fp_small.proofs.Staging.{synced}
+use Rattle.fp_small.proofs.Making.{free_at}
 use Rattle.fp_base.specs.declared.object.ObjKind.{ObjKind}
 use Rattle.ost_model.specs.Objects.{object_path}
 use Rattle.ost_store.specs.Place.{LeavesStore}
 use Rattle.ost_store.specs.Stays.{Stays}
-use Rattle.ost_pull.proofs.Ready.{staged_ready}
-use Rattle.ost_store.proofs.Staying.{shown_stays}
+use Rattle.ost_store.proofs.Staying.{shown_stays, stays_on, Synced, synced_stays}
+use Rattle.ost_store.proofs.Ready.{staged_ready}
+use Rattle.ost_store.proofs.ObjectPaths.{object_within}
 use Rattle.ost_pull.specs.Pulls.{IsApart}
 use Rattle.ost_pull.specs.Placing.{AreReady, AreLacking, CanPlaceAll, PlacesAll, PullsReady, PullsKept, WasStored, CanStore}
 use Rattle.ost_pull.specs.Takes.{AreTaken}
 use Rattle.ost_store.specs.ObjectNames.{AreOpen}
 use Rattle.ost_pull.specs.Work.{Works}
-use Rattle.ost_pull.proofs.Apart.{lacking_name, free_at, works_stays, object_within}
+use Rattle.ost_pull.proofs.Apart.{lacking_name, works_stays}
 use Rattle.ost_pull.proofs.Kept.{Named, synced_works, cleared_works}
-use Rattle.ost_pull.proofs.Placed.{stays_on, from_tree, to_tree}
 use Rattle.ost_pull.proofs.Pulled.{pulls_on, pulls_work, pulls_clears}
 
 -- ---- a sync
 
 files_of : {v w : View} → SameFiles v w → KeepsFiles v w
 files_of same = record { rows = λ id f some. same.rows id ∙ some; stood = same.stood }
-
-abbrev pub Synced : View → View → Type 0
-Synced v w = Step syncs (Ok tt) v w
-
-synced_stays : {v w : View} (q : Elements) → Synced v w → Stays q v w
-synced_stays q step = record { name = ap (λ (x : View). x.names q) step.how.1; row = λ id f is some. ap (λ (x : View). x.files id) step.how.1 ∙ some }
 
 -- no file was put anywhere
 abbrev PutsBack : View → View → Type 0

@@ -16,11 +16,12 @@ use Rattle.fp_host.specs.declared.host.HostEnd.TheVariants as host_ends
 use Rattle.fp_host.proofs.Cause.{passed_on}
 use Rattle.fp_host.proofs.Framed.{IsTold}
 use Rattle.fp_host.proofs.Goes.{knowing}
-use Rattle.fp_host.proofs.Ending.{ends_on, ends_both, ends_goes, ends_in_tree}
+use Rattle.fp_host.proofs.Ending.{ends_on, ends_both, ends_goes, to_tree}
 use Rattle.fp_small.specs.Clear.{AbsentWithin, GoneWithin, IsCleared}
 use Rattle.fp_name.specs.Hex.{is_digest}
 use Rattle.fp_base.specs.declared.object.ObjKind.{ObjKind}
 use Rattle.fp_base.specs.declared.object.ObjKind.TheVariants as kinds
+use Rattle.fp_base.proofs.Options.{or_assoc}
 use Rattle.ost_model.specs.declared.object.Object.{Object}
 use Rattle.ost_model.specs.Objects.{Have, Fault, object_path, object_fault, store, supply}
 use Rattle.ost_model.specs.Order.{Place, In, first_fault}
@@ -40,11 +41,13 @@ use Rattle.ost_head.specs.Brings.{JudgesRemote}
 use Rattle.ost_pull.specs.Pulls.{IsApart, CanPull}
 use Rattle.ost_pull.specs.Takes.{IsCovered, AreTaken, AreTakenNow, TakesOne, TakesAll, AddsAmong, CoversOrder}
 use Rattle.ost_store.specs.ObjectNames.{AreOpen}
+use Rattle.ost_store.proofs.ObjectPaths.{below_work, above_object}
 use Rattle.ost_pull.specs.Work.{Works, Gathered, KeepsOne, Adds, CanKeep}
 use Rattle.ost_pull.proofs.Apart.{works_object}
 use Rattle.ost_pull.proofs.Gathered.{gathered_same, gathered_on}
-use Rattle.ost_pull.proofs.Kept.{Named, below_work, above_work, above_object}
-use Rattle.ost_model.proofs.Once.{in_push, in_last, in_cases}
+use Rattle.ost_pull.proofs.Kept.{Named, above_work}
+use Rattle.ost_model.proofs.Once.{in_push}
+use Rattle.ost_model.proofs.Members.{in_last, in_cases}
 
 -- ---- ends
 
@@ -80,15 +83,8 @@ caused_later {fa = fa} {fb = fb} {fc = fc} passes le cause = record { later = om
 pub no_fault : {F : Type 0} {a : Option Moments} {C : View → Type 0} {fa fc : ℕ} → (F → ⊥) → fa ≤ fc → IsCaused F a C fa fc
 no_fault none le = record { later = le; fault = λ is m at can. absurd (none is) }
 
-pub remotes_pass : {F G : Type 0} {before now : ℕ} → (G → F) → IsRemotes F before now → IsRemotes G before now
-remotes_pass passes cause = record { later = cause.later; rose = λ is. cause.rose (passes is) }
-
 pub no_remotes : {F : Type 0} {before now : ℕ} → (F → ⊥) → before ≤ now → IsRemotes F before now
 no_remotes none le = record { later = le; rose = λ is. absurd (none is) }
-
--- the last view of a told host is a tree
-pub ends_to_tree : {a b : Option Moments} {Q : View → View → Type 0} → IsTold b → AtEnd Q a b → AtEnd (λ u w. IsTree w × Q u w) a b
-ends_to_tree told first = ends_in_tree told first (λ u w tree q. (tree, q))
 
 -- what was taken goes on to be so
 pub taken_from : {root t : Elements} {url : List ℕ} {holds : Option Holdings} {kept : List Named} {a b : Option Moments} {Q : View → View → Type 0} → AtEnd Q a b → (m : Moments) → a ≡ Some m → ((w : View) → Q m.now w → AreTaken root t url holds kept w)
@@ -185,7 +181,7 @@ module _ {root t : Elements} {url : List ℕ} {holds : Option Holdings} (apart :
   pub new_taken : {a b c : Option Moments} → IsTold b → IsTold c → AtEnd (λ u v. (v ≡ u) × (store root (shows u) o.0 o.1 ≡ None)) a b → Always (Works t) b c → AtEnd (KeepsOne t url holds o before after) b c
       → AtEnd (TakesOne root t url holds o before after) a c
   new_taken told told' first works keeps =
-      ends_on (ends_to_tree told' (ends_both (ends_goes told works) keeps)) first told (λ u v w tree q s. kept_new tree s.0 q.0 q.1 s.1.0 s.1.1)
+      ends_on (to_tree told' (ends_both (ends_goes told works) keeps)) first told (λ u v w tree q s. kept_new tree s.0 q.0 q.1 s.1.0 s.1.1)
 
 pub can_keep : {t : Elements} {u v : View} (o : Named) (object : Object) → is_digest o.0 ≡ true → IsKeepable object → v ≡ u → AreOpen t u → CanKeep t o.0 o.1 object v
 can_keep {t = t} o object good keepable same open_above = record {
@@ -197,10 +193,6 @@ pub good_of : {have : Have} (d : List ℕ) (kind : ObjKind) (object : Object) �
 good_of d kind object is good = record { good = ap (object_fault d kind) is ∙ good }
 
 -- ---- one after another
-
-or_assoc : {A : Type 0} (a b c : Option A) → option_or (option_or a b) c ≡ option_or a (option_or b c)
-or_assoc None b c = refl
-or_assoc (Some x) b c = refl
 
 pub bad_append : (have : Have) (xs ys : List Named) → first_bad have (xs ++ ys) ≡ option_or (first_bad have xs) (first_bad have ys)
 bad_append have [] ys = refl
@@ -274,13 +266,6 @@ module _ (have : Have) (objects : List Named) (i : ℕ) (o : Named) (low : i < l
   next_bad ends.NoMemory here = tt
 
 -- ---- a survey
-
--- nothing is refused by an end of which nothing is refused
-pub never_refused : (P : WalkFault → Type 0) (end : WalkEnd) → RefusesBy (λ w. ⊥) end → RefusesBy P end
-never_refused P (ends.Refused w) none = absurd none
-never_refused P ends.HostFault none = tt
-never_refused P ends.RemoteFault none = tt
-never_refused P ends.NoMemory none = tt
 
 -- nor by one that is no refusal
 pub never_named : {A : Type 0} (P : WalkFault → Type 0) (end : WalkEnd) → ((w : WalkFault) → IsErrOf {T = A} (Err end) (ends.Refused w) → ⊥) → RefusesBy P end

@@ -1,12 +1,12 @@
 -- A commit that is pulled.
 use Rattle.std.proofs.Common.{◌≡◌, ◌≢◌, inl, inr, ℕ, List, [], ◌∷◌, get_or, map, true, Option, Some, None, Err, refl, sym, ◌∙◌, ap, subst, Contains}
 use Rattle.std.specs.Option.{option_or}
-use Rattle.std.specs.Prelude.{IsErrOf, option_map, if◌then◌else◌}
+use Rattle.std.specs.Prelude.{IsErrOf, option_map}
 use Rattle.fp_host.specs.Paths.{Elements, Slot, absent, dir, file, link}
 use Rattle.fp_host.specs.View.{View, Inode, IsTree}
 use Rattle.fp_host.specs.Calls.{syncs, done, IsLeaf}
 use Rattle.fp_host.specs.Moments.{Moments, Always}
-use Rattle.fp_host.specs.Outcome.{Disk, Leaves, shows, spot_of, holding, holds, points}
+use Rattle.fp_host.specs.Outcome.{Disk, Leaves, shows, spot_of, holds}
 use Rattle.fp_host.specs.Remote.{Holdings}
 use Rattle.fp_host.specs.Frame.{Frame, AtEnd, NoPath}
 use Rattle.fp_host.specs.declared.host.HostEnd.{HostEnd}
@@ -15,22 +15,22 @@ use Rattle.fp_host.proofs.Framed.{IsTold}
 use Rattle.fp_host.proofs.Kept.{tree_sync}
 use Rattle.fp_host.proofs.Goes.{begins, goes_on, knowing}
 use Rattle.fp_host.proofs.Settled.{at_tree, settled_disk}
-use Rattle.fp_host.proofs.Ending.{ends_on, ends_both, ends_goes, ends_frame, goes_known}
+use Rattle.fp_host.proofs.Ending.{ends_on, ends_both, ends_goes, ends_frame, goes_known, from_tree, to_tree}
+use Rattle.fp_host.proofs.Shown.{held_file}
 use Rattle.fp_small.specs.Clear.{GoneWithin, AbsentWithin, IsCleared, CanClear}
 use Rattle.fp_small.specs.declared.refusal.Refusal.{Refusal}
 use Rattle.fp_name.specs.Hex.{is_digest}
 use Rattle.fp_base.specs.declared.object.ObjKind.{ObjKind}
-use Rattle.fp_base.specs.declared.object.ObjKind.TheVariants as kinds
-use Rattle.ost_model.specs.declared.object.Object.{Object}
-use Rattle.ost_model.specs.declared.object.Object.TheVariants as objects
-use Rattle.ost_model.specs.Objects.{Have, Fault, object_path, object_at, store, supply, name_fault, Named as NamedAs}
+use Rattle.ost_model.specs.Objects.{Have, Fault, object_path, object_at, store, supply, Named as NamedAs}
 use Rattle.ost_model.specs.Order.{Place, In, order, first_fault}
 use Rattle.ost_model.specs.Stores.{objects_folder}
 use Rattle.ost_model.specs.Remotes.{Supplies, remote, remote_at}
 use Rattle.ost_store.specs.Created.{MadeFile, WasMade, WasPutSince, Creates}
 use Rattle.ost_store.proofs.Creating.{object_below}
-use Rattle.ost_store.specs.Stage.{IsHeld}
 use Rattle.ost_store.proofs.Staying.{shown_stays}
+use Rattle.ost_store.proofs.Ready.{staged_ready}
+use Rattle.ost_store.proofs.Holding.{held_object}
+use Rattle.ost_store.proofs.ObjectPaths.{object_within, below_work}
 use Rattle.ost_walk.specs.declared.ends.WalkFault.{WalkFault}
 use Rattle.ost_walk.specs.declared.ends.WalkEnd.{WalkEnd}
 use Rattle.ost_walk.specs.declared.ends.WalkEnd.TheVariants as walks
@@ -40,40 +40,15 @@ use Rattle.ost_walk.specs.Steps.{place_name}
 use Rattle.ost_walk.specs.Surveys.{named_fault, first_named, told_fault}
 use Rattle.ost_walk.specs.PullEnds.{RefusesBy, of_host, of_walk}
 use Rattle.ost_walk.specs.Refusals.{refusal_of}
-use Rattle.ost_walk.specs.declared.pull_end.PullEnd.TheVariants as ends
+use Rattle.ost_walk.specs.declared.pull_end.PullEnd.TheVariants as pull_ends
 use Rattle.ost_pull.specs.Pulls.{IsApart, IsLacked, PullsSoundly, WasPulled, WasRefused, CanPull, first_refusal}
 use Rattle.ost_pull.specs.Placing.{PullsKept, WasStored, CanStore}
 use Rattle.ost_pull.specs.Takes.{IsCovered, AreTaken, CoversOrder}
 use Rattle.ost_pull.specs.Work.{GathersAnew, Works}
-use Rattle.ost_pull.proofs.Apart.{works_stays, works_off, works_object, object_within}
+use Rattle.ost_pull.proofs.Apart.{works_stays, works_off, works_object}
 use Rattle.ost_pull.proofs.Gathered.{shares_pulled}
-use Rattle.ost_pull.proofs.Kept.{Named, cleared_works, works_on, above_work, below_work}
-use Rattle.ost_pull.proofs.Placed.{from_tree, to_tree}
-use Rattle.ost_pull.proofs.Ready.{staged_ready}
+use Rattle.ost_pull.proofs.Kept.{Named, cleared_works, works_on, above_work}
 use Rattle.ost_pull.proofs.Pulled.{pulls_on, pulls_work, pulls_store, pulls_open, pulls_clears}
-
--- ---- what a kept object is read as
-
-held_file : (v : View) (t : Elements) (id mode : ℕ) (bytes : List ℕ) → IsTree v → v.names t ≡ file id → v.files id ≡ Some (record { mode = mode; bytes = bytes }) → shows v t ≡ holds id mode bytes
-held_file v t id mode bytes tree name row = ap (spot_of v.files) (at_tree v tree t ∙ name) ∙ ap (holding id) row
-
-held_link : (v : View) (t : Elements) (text : List ℕ) → IsTree v → v.names t ≡ link text → shows v t ≡ points text
-held_link v t text tree name = ap (spot_of v.files) (at_tree v tree t ∙ name)
-
-pub held_object : (d : List ℕ) (kind : ObjKind) (t : Elements) (object : Object) (v : View) → IsTree v → IsHeld t object v → name_fault d kind (Some object) ≡ None → object_at kind (shows v t) ≡ Some object
-held_object d kinds.File t (objects.Meta bytes) v tree held good = absurd (cc good)
-held_object d kinds.Commit t (objects.Meta bytes) v tree held good = ap (object_at kinds.Commit) (held_file v t held.id 420 bytes tree held.name held.row)
-held_object d kinds.DirTree t (objects.Meta bytes) v tree held good = ap (object_at kinds.DirTree) (held_file v t held.id 420 bytes tree held.name held.row)
-held_object d kinds.DirMeta t (objects.Meta bytes) v tree held good = ap (object_at kinds.DirMeta) (held_file v t held.id 420 bytes tree held.name held.row)
-held_object d kinds.File t (objects.File mode bytes) v tree held good = ap (object_at kinds.File) (held_file v t held.id mode bytes tree held.name held.row)
-held_object d kinds.Commit t (objects.File mode bytes) v tree held good = absurd (cc good)
-held_object d kinds.DirTree t (objects.File mode bytes) v tree held good = absurd (cc good)
-held_object d kinds.DirMeta t (objects.File mode bytes) v tree held good = absurd (cc good)
-held_object d kinds.File t (objects.Link text) v tree held good =
-    ap (object_at kinds.File) (held_link v t text tree held) ∙ ap (λ b. if b then Some (objects.Link text) else None) (tree.linked t text (inl (sym held)))
-held_object d kinds.Commit t (objects.Link text) v tree held good = absurd (cc good)
-held_object d kinds.DirTree t (objects.Link text) v tree held good = absurd (cc good)
-held_object d kinds.DirMeta t (objects.Link text) v tree held good = absurd (cc good)
 
 -- ---- what is stored in the end
 
@@ -285,33 +260,29 @@ walk_refused have commit walks.HostFault is = tt
 walk_refused have commit walks.RemoteFault is = tt
 walk_refused have commit walks.NoMemory is = tt
 
-pub host_refused : (first : Option Refusal) (e : HostEnd) → RefusesBy (λ r. first ≡ Some r) (of_host e)
-host_refused first host_ends.Fault = tt
-host_refused first host_ends.NoMemory = tt
-
 pub none_refused : (have : Have) (commit : List ℕ) → first_fault have commit ≡ None → first_refusal have commit ≡ None
 none_refused have commit none = ap (option_map (λ f. refusal_of f.0.digest f.0.kind f.1)) none
 
 -- how it ends
-pub host_no_refusal : {A : Type 0} (e : HostEnd) (r : Refusal) → IsErrOf {T = A} (Err (of_host e)) (ends.Refused r) → ⊥
+pub host_no_refusal : {A : Type 0} (e : HostEnd) (r : Refusal) → IsErrOf {T = A} (Err (of_host e)) (pull_ends.Refused r) → ⊥
 host_no_refusal host_ends.Fault r is = absurd (cc is)
 host_no_refusal host_ends.NoMemory r is = absurd (cc is)
 
-pub host_no_remote : {A : Type 0} (e : HostEnd) → IsErrOf {T = A} (Err (of_host e)) ends.RemoteFault → ⊥
+pub host_no_remote : {A : Type 0} (e : HostEnd) → IsErrOf {T = A} (Err (of_host e)) pull_ends.RemoteFault → ⊥
 host_no_remote host_ends.Fault is = absurd (cc is)
 host_no_remote host_ends.NoMemory is = absurd (cc is)
 
-pub host_is_fault : {A B : Type 0} (e : HostEnd) → IsErrOf {T = A} (Err (of_host e)) ends.HostFault → IsErrOf {T = B} (Err e) host_ends.Fault
+pub host_is_fault : {A B : Type 0} (e : HostEnd) → IsErrOf {T = A} (Err (of_host e)) pull_ends.HostFault → IsErrOf {T = B} (Err e) host_ends.Fault
 host_is_fault host_ends.Fault is = refl
 host_is_fault host_ends.NoMemory is = absurd (cc is)
 
-pub walk_is_fault : {A B : Type 0} (e : WalkEnd) → IsErrOf {T = A} (Err (of_walk e)) ends.HostFault → IsErrOf {T = B} (Err e) walks.HostFault
+pub walk_is_fault : {A B : Type 0} (e : WalkEnd) → IsErrOf {T = A} (Err (of_walk e)) pull_ends.HostFault → IsErrOf {T = B} (Err e) walks.HostFault
 walk_is_fault (walks.Refused w) is = absurd (cc is)
 walk_is_fault walks.HostFault is = refl
 walk_is_fault walks.RemoteFault is = absurd (cc is)
 walk_is_fault walks.NoMemory is = absurd (cc is)
 
-pub walk_is_remote : {A B : Type 0} (e : WalkEnd) → IsErrOf {T = A} (Err (of_walk e)) ends.RemoteFault → IsErrOf {T = B} (Err e) walks.RemoteFault
+pub walk_is_remote : {A B : Type 0} (e : WalkEnd) → IsErrOf {T = A} (Err (of_walk e)) pull_ends.RemoteFault → IsErrOf {T = B} (Err e) walks.RemoteFault
 walk_is_remote (walks.Refused w) is = absurd (cc is)
 walk_is_remote walks.HostFault is = absurd (cc is)
 walk_is_remote walks.RemoteFault is = refl

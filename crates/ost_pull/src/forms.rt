@@ -28,7 +28,7 @@ pub(crate) enum Form {
 
 /// The object's form, and the item that its digest is taken of. No bytes of a file or of a metadata
 /// object are copied.
-#[tactic(auto, using(crate::proofs::Read::file_item, crate::proofs::Read::meta_item, crate::proofs::Read::link_item))]
+#[tactic(auto, using(crate::proofs::Read::file_item, crate::proofs::Read::meta_item, ost_content::proofs::Links::link_item))]
 pub(crate) fn parted(alloc: Global, object: Object) -> Result<(Form, Item), AllocError>
     requires { IsKeepable object }
     ensures { IfOk result (λ parts. IsParted object parts.0 parts.1) }

@@ -51,7 +51,7 @@ fn small_file<R: Remotes>(
 }
 
 /// The link with this text, where the text may be a link's.
-#[tactic(auto, using(crate::proofs::Read::fit_link, crate::proofs::Read::short_link, crate::proofs::Read::text_there))]
+#[tactic(auto, using(ost_head::proofs::Fetched::fit_link, crate::proofs::Read::short_link, ost_model::proofs::Spots::link_there))]
 fn small_link(text: Text) -> Option<Object>
     ensures fit { IfSome result (IsFit kinds.File) }
     ensures small { IfSome result IsSmall }

@@ -1,16 +1,16 @@
 -- What the files of refs say.
-use Rattle.std.proofs.Common.{◌≡◌, ◌<◌, ℕ, true, List, [], ◌∷◌, ◌++◌, length, take, drop, Option, Some, None, refl, sym, ◌∙◌, ap, arith, if◌then◌else◌, inl, inr, ◌*◌, eqb}
+use Rattle.std.proofs.Common.{◌≡◌, ◌<◌, ℕ, true, List, [], ◌∷◌, ◌++◌, length, take, drop, Option, Some, None, refl, sym, ◌∙◌, ap, arith, if◌then◌else◌, inl, inr}
 use Rattle.std.specs.Str.{bytes_eq}
 use Rattle.std.proofs.Math.Seq.{take-append_seam, drop-append_seam}
 use Rattle.std.proofs.lemmas.List.{take-append-drop, length-drop}
-use Rattle.std.proofs.lemmas.Bool.{cases_Bool, cases_lt, and_parts, eqb-true, le-leb, lt-leb, false_from_ne_true}
+use Rattle.std.proofs.lemmas.Bool.{cases_Bool, cases_lt, le-leb, lt-leb, false_from_ne_true}
 use Rattle.std.proofs.lemmas.Slice.Eq.{bytes_eq-Decides}
 use Rattle.fp_host.specs.Paths.{Elements}
 use Rattle.fp_host.specs.View.{View}
 use Rattle.fp_host.specs.Outcome.{Spot, gone, folder, holds, points, shows}
-use Rattle.fp_name.specs.Hex.{hex, unhex, is_digest, is_byte}
-use Rattle.std.specs.List.{list_all}
-use Rattle.fp_name.proofs.HexTexts.{length-hex, unhex-hex, unhex-some}
+use Rattle.fp_name.specs.Hex.{hex, unhex, is_digest}
+use Rattle.fp_name.proofs.HexTexts.{unhex-hex, unhex-some}
+use Rattle.fp_name.proofs.Lengths.{digest_long}
 use Rattle.fp_small.specs.Load.{Loads, loaded_of}
 use Rattle.fp_small.specs.declared.loading.Loaded.{Loaded}
 use Rattle.fp_small.specs.declared.loading.Loaded.TheVariants.{Bytes, Absent as NoFile, TooLong, NotFile}
@@ -19,11 +19,6 @@ use Rattle.ost_refs.specs.declared.place.RefFile.{RefFile}
 use Rattle.ost_refs.specs.declared.place.RefFile.TheVariants.{Digest, Absent, Bad}
 
 -- ---- written and read
-
-digest_long : (d : List ℕ) → is_digest d ≡ true → length (hex d) ≡ 64
-digest_long d good =
-    let long : length d ≡ 32 = eqb-true (length d) 32 (and_parts (eqb (length d) 32) (list_all is_byte d) good).0 in
-    length-hex d ∙ ap (λ n. 2 * n) long
 
 file_ends : (digits : List ℕ) → length digits ≡ 64 → ref_file (digits ++ 10 ∷ []) ≡ said (unhex digits)
 file_ends digits long =

@@ -3,7 +3,7 @@ use Rattle.std.proofs.Common.{◌≡◌, ◌⊎◌, inl, inr, ℕ, ◌+◌, ◌<
 use Rattle.std.specs.Prelude.{String, string_bytes, ◌↔◌}
 use Rattle.std.specs.declared.cmp.Ordering.{Ordering}
 use Rattle.std.specs.declared.cmp.Ordering.TheVariants.{Less, Equal, Greater}
-use Rattle.std.specs.Ordering.{is_lt, is_eq, nat_cmp, match_ordering}
+use Rattle.std.specs.Ordering.{is_lt, nat_cmp, match_ordering}
 use Rattle.std.specs.Cmp.Lexicographic.{slice_cmp}
 use Rattle.std.specs.List.{AllByRecursion}
 use Rattle.std.specs.List.Sorted.{IsStrictlySortedBy}
@@ -13,8 +13,8 @@ use Rattle.std.specs.Map.{keys_of, values_of}
 use Rattle.std.proofs.lemmas.Bool.{and_from}
 use Rattle.std.proofs.lemmas.List.{take_more}
 use Rattle.std.proofs.lemmas.List.Elements.{Contains-append_left, Contains-append_right, Contains-append_cases, Contains-push, Contains-push_cases, Contains-get_or}
-use Rattle.std.proofs.lemmas.Map.Text.{is_eq-slice_cmp}
-use Rattle.std.proofs.lemmas.Slice.Eq.{bytes_eq-Decides}
+use Rattle.fp_base.proofs.Lists.{in_none, in_first, in_rest, in_cases}
+use Rattle.fp_base.proofs.Texts.{equal_texts}
 use Rattle.fp_host.specs.Paths.{Elements, path_text, elements_of}
 use Rattle.fp_host.specs.View.{View, IsTree}
 use Rattle.fp_host.specs.Calls.{IsFile}
@@ -26,15 +26,11 @@ use Rattle.ost_refs.specs.Found.{place_named, ArePaths, Puts, Adds, AreFound, Fi
 use Rattle.ost_refs.specs.Lists.{texts_of, ListsRefs}
 use Rattle.ost_refs.specs.declared.place.RefPlace.{RefPlace}
 use Rattle.ost_refs.proofs.Places.{place_same}
-use Rattle.ost_refs.proofs.Levels.{in_none, in_cases, in_first, in_rest}
 use Rattle.ost_refs.proofs.Named.{named_path, place_back, file_level}
 
 -- the text is that of the place's path
 abbrev pub Keyed : {Z : Type 0} → Elements → String Z × RefPlace → Type 0
 Keyed root e = IsTextOf (string_bytes e.0) (place_path root e.1)
-
-equal_texts : {Z : Type 0} (a b : String Z) → string_cmp a b ≡ Equal → string_bytes a ≡ string_bytes b
-equal_texts a b h = (bytes_eq-Decides (string_bytes a) (string_bytes b)).0 (sym (is_eq-slice_cmp (string_bytes a) (string_bytes b)) ∙ ap is_eq h)
 
 -- equal texts are those of one place
 one_place : {Z : Type 0} (root : Elements) (a b : String Z) (x y : RefPlace) → Keyed root (a, x) → Keyed root (b, y) → string_cmp a b ≡ Equal → x ≡ y

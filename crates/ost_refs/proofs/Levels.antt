@@ -1,43 +1,13 @@
 -- The paths at one depth below a folder.
-use Rattle.std.proofs.Common.{◌≡◌, ◌⊎◌, inl, inr, ℕ, suc, ◌+◌, ◌<◌, List, [], ◌∷◌, ◌++◌, length, take, map, get_or, sym, ◌∙◌, ap, subst, Contains, arith}
+use Rattle.std.proofs.Common.{◌≡◌, inl, inr, ℕ, suc, ◌+◌, ◌<◌, List, [], ◌∷◌, ◌++◌, length, take, map, get_or, sym, ◌∙◌, ap, subst, Contains, arith}
 use Rattle.std.proofs.lemmas.List.{take_more}
 use Rattle.std.proofs.lemmas.List.Elements.{Contains-append_left, Contains-append_right, Contains-append_cases, Contains-push, Contains-push_cases}
+use Rattle.fp_base.proofs.Lists.{in_none, in_first, in_cases, in_map, from_map}
 use Rattle.fp_host.specs.Paths.{Elements}
 use Rattle.fp_host.specs.View.{View}
 use Rattle.fp_small.specs.Naming.{ListsIn}
 use Rattle.fp_small.specs.Walks.{IsBelow, IsLevel}
 use Rattle.ost_refs.specs.Walks.{AreBelow, AreLevel}
-
--- ---- what lists have
-
-pub in_none : {A : Type 0} (x : A) → Contains [] x → ⊥
-in_none x has = absurd (omega (arith, has.1))
-
-pub in_cases : {A : Type 0} (y : A) (ys : List A) (x : A) → Contains (y ∷ ys) x → (x ≡ y) ⊎ Contains ys x
-in_cases y ys x has = elim (Contains-append_cases (y ∷ []) ys x has) [
-  | inl first ↦ elim (Contains-push_cases [] y x first) [ inl none ↦ absurd (in_none x none) | inr same ↦ inl (sym same) ]
-  | inr later ↦ inr later
-]
-
-pub in_first : {A : Type 0} (x : A) (xs : List A) → Contains (x ∷ xs) x
-in_first x xs = Contains-append_left (x ∷ []) xs x (Contains-push [] x)
-
-pub in_rest : {A : Type 0} (y : A) (ys : List A) (x : A) → Contains ys x → Contains (y ∷ ys) x
-in_rest y ys x has = Contains-append_right (y ∷ []) ys x has
-
-in_map : {A B : Type 0} (f : A → B) (xs : List A) (x : A) → Contains xs x → Contains (map f xs) (f x)
-in_map f [] x has = absurd (in_none x has)
-in_map f (y ∷ ys) x has = elim (in_cases y ys x has) [
-  | inl same ↦ subst (λ z. Contains (f y ∷ map f ys) (f z)) (sym same) (in_first (f y) (map f ys))
-  | inr later ↦ in_rest (f y) (map f ys) (f x) (in_map f ys x later)
-]
-
-from_map : {A B : Type 0} (f : A → B) (xs : List A) (q : B) → Contains (map f xs) q → (x : A) × Contains xs x × (q ≡ f x)
-from_map f [] q has = absurd (in_none q has)
-from_map f (y ∷ ys) q has = elim (in_cases (f y) (map f ys) q has) [
-  | inl same ↦ (y, in_first y ys, same)
-  | inr later ↦ let found = from_map f ys q later in (found.0, in_rest y ys found.0 found.1, found.2)
-]
 
 -- ---- the names of one folder more
 

@@ -6,18 +6,17 @@ use Rattle.std.proofs.lemmas.List.{length-drop}
 use Rattle.fp_host.specs.Paths.{Elements, absent}
 use Rattle.fp_host.specs.View.{View, IsTree}
 use Rattle.fp_host.specs.Calls.{IsFile}
+use Rattle.fp_host.proofs.Separate.{head_of, tail_of}
+use Rattle.fp_host.proofs.Shown.{some_above}
 use Rattle.fp_name.specs.Grammar.{is_remote_name}
-use Rattle.fp_name.specs.Kinds.{kind_word, kind_of}
+use Rattle.fp_name.specs.Kinds.{kind_word}
 use Rattle.fp_name.specs.Refs.{Ref, is_ref, remainder_kind, of_parts, if_ref}
-use Rattle.fp_name.specs.declared.kind.RefKind.{RefKind}
-use Rattle.fp_name.specs.declared.kind.RefKind.TheVariants.{App, Runtime}
-use Rattle.fp_name.proofs.Refs.{parts_are}
+use Rattle.fp_name.proofs.Refs.{parts_are, kind_back}
 use Rattle.ost_refs.specs.Places.{heads, remotes, ref_below, place_path, is_place}
 use Rattle.fp_small.specs.Walks.{IsLevel}
 use Rattle.ost_refs.specs.Found.{ref_named, remote_named, place_named}
 use Rattle.ost_refs.specs.declared.place.RefPlace.{RefPlace}
 use Rattle.ost_refs.specs.declared.place.RefPlace.TheVariants.{Head, Remote}
-use Rattle.ost_refs.proofs.Places.{first_same, rest_same}
 
 -- ---- the six innermost elements
 
@@ -39,7 +38,7 @@ module _ (b a i k f : List ℕ) where
   by_names (x ∷ y ∷ z ∷ w ∷ []) hb ha hi hk hf = absurd (cc hf)
   by_names (x ∷ y ∷ z ∷ w ∷ u ∷ []) hb ha hi hk hf = absurd (cc hf)
   by_names (x ∷ y ∷ z ∷ w ∷ u ∷ t ∷ up) hb ha hi hk hf =
-      (u, refl, λ j. named_in (first_same hf j) u (ref_named (first_same hk j) (first_same hi j) (first_same ha j) (first_same hb j)))
+      (u, refl, λ j. named_in (head_of hf j) u (ref_named (head_of hk j) (head_of hi j) (head_of ha j) (head_of hb j)))
 
   module _ (p arch id kind folder : Elements) (in_arch : arch ≡ drop 1 p) (in_id : id ≡ drop 2 p) (in_kind : kind ≡ drop 3 p) (in_folder : folder ≡ drop 5 p)
       (hb : p ≡ b ∷ drop 1 p) (ha : arch ≡ a ∷ drop 1 arch) (hi : id ≡ i ∷ drop 1 id) (hk : kind ≡ k ∷ drop 1 kind) (hf : folder ≡ f ∷ drop 1 folder) where
@@ -51,14 +50,10 @@ module _ (b a i k f : List ℕ) where
 
     pub names_remote : (r : Option Ref) → r ≡ ref_named k i a b → bytes_eq f (codes "remotes") ≡ true → (origin : Elements) (o : List ℕ) → origin ≡ drop 4 p → origin ≡ o ∷ drop 1 origin → place_named p ≡ remote_named o r
     names_remote r is remote origin o in_origin ho =
-        let same : named.0 ≡ o = first_same (sym named.1 ∙ sym in_origin ∙ ho) in
+        let same : named.0 ≡ o = head_of (sym named.1 ∙ sym in_origin ∙ ho) in
         named.2 ∙ ap (λ c. if c then remote_named named.0 (ref_named k i a b) else option_map Head (ref_named k i a b)) remote ∙ (λ j. remote_named (same j) (sym is j))
 
 -- ---- from a place to its path and back
-
-kind_back : (kind : RefKind) → kind_of (kind_word kind) ≡ Some kind
-kind_back App = refl
-kind_back Runtime = refl
 
 ref_back : (r : Ref) → is_ref r ≡ true → ref_named (kind_word r.kind) r.id r.arch r.branch ≡ Some r
 ref_back r good =
@@ -88,10 +83,10 @@ ref_path : (up : Elements) (k i a b : List ℕ) (r : Ref) → ref_named k i a b 
 ref_path up k i a b r h =
     let is = of_some (of_parts (k ∷ i ∷ a ∷ b ∷ [])) r h in
     let kind = parts_are (k ∷ i ∷ a ∷ b ∷ []) r is.0 in
-    let id = rest_same kind in
-    let arch = rest_same id in
-    let branch = rest_same arch in
-    (is.1, λ j. sym (first_same branch) j ∷ sym (first_same arch) j ∷ sym (first_same id) j ∷ sym (first_same kind) j ∷ up)
+    let id = tail_of kind in
+    let arch = tail_of id in
+    let branch = tail_of arch in
+    (is.1, λ j. sym (head_of branch) j ∷ sym (head_of arch) j ∷ sym (head_of id) j ∷ sym (head_of kind) j ∷ up)
 
 head_some : (o : Option Ref) (place : RefPlace) → option_map Head o ≡ Some place → (r : Ref) × (o ≡ Some r) × (place ≡ Head r)
 head_some None place h = absurd (cc h)
@@ -146,9 +141,6 @@ named_path root v q place (inr level) h =
     let is = five (remotes root) v q level in
     let path = remote_path root is.0 is.1 is.2 is.3 is.4 place (ap place_named (sym is.5) ∙ h) in
     (path.0, path.1 ∙ sym is.5)
-
-some_above : {v : View} → IsTree v → (x : List ℕ) (up : Elements) → v.names (x ∷ up) ≢ absent → v.names up ≢ absent
-some_above tree x up some none = elim (tree.above x up) [ inl gone ↦ some gone | inr there ↦ absurd (cc (none, there)) ]
 
 -- where the file of a ref stands, a ref may stand
 pub file_level : {v : View} → IsTree v → (root : Elements) (place : RefPlace) → IsFile (v.names (place_path root place)) → IsLevel 4 (heads root) v (place_path root place) ⊎ IsLevel 5 (remotes root) v (place_path root place)

@@ -5,10 +5,10 @@ use Rattle.std.proofs.lemmas.Bool.{false≢true}
 use Rattle.std.proofs.lemmas.Slice.Eq.{bytes_eq-Decides}
 use Rattle.fp_host.specs.Paths.{Elements, IsAbove}
 use Rattle.fp_host.specs.View.{View}
+use Rattle.fp_host.proofs.Separate.{head_of, tail_of}
 use Rattle.fp_name.specs.Kinds.{kind_word}
 use Rattle.fp_name.specs.Refs.{Ref, ref_with}
-use Rattle.fp_name.specs.declared.kind.RefKind.{RefKind}
-use Rattle.fp_name.specs.declared.kind.RefKind.TheVariants.{App, Runtime}
+use Rattle.fp_name.proofs.Refs.{kind_same}
 use Rattle.fp_small.specs.Places.{tmp}
 use Rattle.fp_small.specs.Replace.{CanReplace}
 use Rattle.fp_small.specs.Clear.{IsWithin}
@@ -20,30 +20,18 @@ use Rattle.ost_refs.specs.declared.place.RefPlace.TheVariants.{Head, Remote}
 pub apart : (x y : List ℕ) → bytes_eq x y ≡ false → x ≡ y → ⊥
 apart x y differ same = false≢true (sym differ ∙ (bytes_eq-Decides x y).1 same)
 
-pub first_same : {x y : List ℕ} {up down : Elements} → x ∷ up ≡ y ∷ down → x ≡ y
-first_same h = cc h
-
-pub rest_same : {x y : List ℕ} {up down : Elements} → x ∷ up ≡ y ∷ down → up ≡ down
-rest_same h = cc h
-
 -- ---- each place has a path of its own
-
-kind_same : (a b : RefKind) → kind_word a ≡ kind_word b → a ≡ b
-kind_same App App h = refl
-kind_same App Runtime h = absurd (apart (codes "app") (codes "runtime") refl h)
-kind_same Runtime App h = absurd (apart (codes "runtime") (codes "app") refl h)
-kind_same Runtime Runtime h = refl
 
 pub below_same : (up down : Elements) (r s : Ref) → ref_below up r ≡ ref_below down s → (r ≡ s) × (up ≡ down)
 below_same up down r s h =
-    let arch = rest_same h in
-    let id = rest_same arch in
-    let kind = rest_same id in
-    let kinds = kind_same r.kind s.kind (first_same kind) in
-    ((λ i. ref_with (kinds i) (first_same id i) (first_same arch i) (first_same h i)), rest_same kind)
+    let arch = tail_of h in
+    let id = tail_of arch in
+    let kind = tail_of id in
+    let kinds = kind_same r.kind s.kind (head_of kind) in
+    ((λ i. ref_with (kinds i) (head_of id i) (head_of arch i) (head_of h i)), tail_of kind)
 
 no_remote : (root : Elements) (origin : List ℕ) → heads root ≡ origin ∷ remotes root → ⊥
-no_remote root origin h = apart (codes "refs") (codes "remotes") refl (first_same (rest_same h))
+no_remote root origin h = apart (codes "refs") (codes "remotes") refl (head_of (tail_of h))
 
 pub place_same : (root : Elements) (a b : RefPlace) → place_path root a ≡ place_path root b → a ≡ b
 place_same root (Head r) (Head s) h = ap Head (below_same (heads root) (heads root) r s h).0
@@ -51,7 +39,7 @@ place_same root (Head r) (Remote origin s) h = absurd (no_remote root origin (be
 place_same root (Remote origin r) (Head s) h = absurd (no_remote root origin (sym (below_same (origin ∷ remotes root) (heads root) r s h).1))
 place_same root (Remote origin r) (Remote other s) h =
     let both = below_same (origin ∷ remotes root) (other ∷ remotes root) r s h in
-    λ i. Remote (first_same both.1 i) (both.0 i)
+    λ i. Remote (head_of both.1 i) (both.0 i)
 
 -- ---- no place is in repo/tmp
 
@@ -60,16 +48,16 @@ longer x y z up h = absurd (omega (arith, ap (λ (l : Elements). length l) h))
 
 module _ (root : Elements) (no_work : IsWithin tmp root → ⊥) where
   off_refs : (tmp ≡ codes "refs" ∷ root) ⊎ IsAbove tmp (codes "refs" ∷ root) → ⊥
-  off_refs (inl is) = apart (codes "tmp") (codes "refs") refl (first_same is)
+  off_refs (inl is) = apart (codes "tmp") (codes "refs") refl (head_of is)
   off_refs (inr (inl is)) = no_work (inl (sym is))
   off_refs (inr (inr above)) = no_work (inr above)
 
   off_heads : (tmp ≡ heads root) ⊎ IsAbove tmp (heads root) → ⊥
-  off_heads (inl is) = apart (codes "tmp") (codes "heads") refl (first_same is)
+  off_heads (inl is) = apart (codes "tmp") (codes "heads") refl (head_of is)
   off_heads (inr above) = off_refs above
 
   off_remotes : (tmp ≡ remotes root) ⊎ IsAbove tmp (remotes root) → ⊥
-  off_remotes (inl is) = apart (codes "tmp") (codes "remotes") refl (first_same is)
+  off_remotes (inl is) = apart (codes "tmp") (codes "remotes") refl (head_of is)
   off_remotes (inr above) = off_refs above
 
   off_origin : (origin : List ℕ) → (tmp ≡ origin ∷ remotes root) ⊎ IsAbove tmp (origin ∷ remotes root) → ⊥

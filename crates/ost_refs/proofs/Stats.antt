@@ -1,17 +1,12 @@
 -- Whether a file stands at a path.
-use Rattle.std.proofs.Common.{◌≡◌, ℕ, Ok, refl, subst, length}
-use Rattle.fp_host.specs.Paths.{Elements, Slot, absent, dir, file, link}
+use Rattle.std.proofs.Common.{◌≡◌, ℕ, Ok, subst, length}
+use Rattle.fp_host.specs.Paths.{Elements}
 use Rattle.fp_host.specs.View.{View}
 use Rattle.fp_host.specs.Calls.{IsFile}
 use Rattle.fp_host.specs.Reads.{StatOf, IsStat}
 use Rattle.fp_host.specs.declared.host.Stat.{Stat}
 use Rattle.fp_host.specs.declared.host.Stat.TheVariants.{File as StatFile}
-
-file_of : (v : View) (e : Slot) (id mode size : ℕ) → IsStat v e (StatFile id mode size) → IsFile e
-file_of v absent id mode size s = absurd (cc s)
-file_of v dir id mode size s = absurd (cc s)
-file_of v (link text) id mode size s = absurd (cc s)
-file_of v (file k) id mode size s = (k, refl)
+use Rattle.fp_host.proofs.Slots.{file_of}
 
 pub stat_is_file : {p : Elements} {v w : View} {id mode size : ℕ} → StatOf p (Ok (StatFile id mode size)) v w → IsFile (v.names p)
 stat_is_file {p = p} {v = v} {id = id} {mode = mode} {size = size} stat = file_of v (v.names p) id mode size stat.tells.1

@@ -42,7 +42,7 @@ pub fn path_of(root: &Path, place: &RefPlace) -> Result<Path, AllocError>
 }
 
 /// The path of KIND/ID/ARCH/BRANCH in the folder.
-#[tactic(auto, using(crate::proofs::Elements::element_kind, crate::proofs::Elements::element_id, crate::proofs::Elements::element_arch, crate::proofs::Elements::element_branch))]
+#[tactic(auto, using(fp_small::proofs::Elements::element_kind, fp_small::proofs::Elements::element_id, fp_small::proofs::Elements::element_arch, fp_small::proofs::Elements::element_branch))]
 fn path_below(folder: &Path, name: &RefName) -> Result<Path, AllocError>
     ensures { IfOk result (λ path. path ≡ ref_below folder.now name.now) }
 {

@@ -1,24 +1,24 @@
 -- What is told of an object, from what stands at its name.
-use Rattle.std.proofs.Common.{◌≡◌, ◌≤◌, ◌<◌, ◌⊎◌, inl, inr, ℕ, List, length, Bool, true, false, Option, Some, None, Ok, Err, refl, sym, ◌∙◌, ap, subst, if◌then◌else◌}
+use Rattle.std.proofs.Common.{◌≡◌, ◌≤◌, ◌<◌, ◌⊎◌, inl, inr, ℕ, List, length, Bool, true, false, Option, Some, None, Ok, refl, sym, ◌∙◌, ap, subst, if◌then◌else◌}
 use Rattle.std.specs.Prelude.{is_some}
 use Rattle.std.proofs.lemmas.Bool.{le-leb, lt-leb}
 use Rattle.fp_host.specs.Paths.{Elements, Slot, absent, dir, file, link, is_link_text, at}
 use Rattle.fp_host.specs.View.{View, Inode, IsTree}
 use Rattle.fp_host.specs.Calls.{Can, IsLeaf, unlinks}
 use Rattle.fp_host.specs.Outcome.{Spot, gone, folder, holds, points, spot_of, holding, shows}
-use Rattle.fp_host.specs.Reads.{StatOf, IsStat, IsRead, ReadOf, LinkOf}
+use Rattle.fp_host.specs.Reads.{StatOf, IsStat, IsRead, ReadOf}
 use Rattle.fp_host.specs.declared.host.Stat.{Stat}
 use Rattle.fp_host.specs.declared.host.Stat.TheVariants.{Absent, Dir, Link, File as StatFile}
-use Rattle.fp_host.specs.declared.host.HostError.{HostError}
-use Rattle.fp_host.specs.declared.host.HostError.TheVariants.{Clash}
-use Rattle.fp_host.proofs.Cause.{clash_reads}
 use Rattle.fp_host.proofs.Settled.{at_tree}
+use Rattle.fp_host.proofs.Slots.{stat_link}
+use Rattle.fp_host.proofs.Shown.{shown}
 use Rattle.fp_small.proofs.Making.{stat_absent, stat_dir}
 use Rattle.fp_base.specs.declared.object.ObjKind.{ObjKind}
 use Rattle.fp_base.specs.declared.object.ObjKind.TheVariants as kinds
 use Rattle.ost_model.specs.declared.object.Object.TheVariants as objects
 use Rattle.ost_model.specs.Objects.{object_path, object_at}
 use Rattle.ost_model.specs.Objects.{may_be_link}
+use Rattle.ost_model.proofs.Spots.{none_gone, none_folder}
 use Rattle.ost_store.specs.Reads.{IsThere, got_of, GetsAt, ReadsPiece}
 use Rattle.ost_store.specs.Place.{HasObject}
 use Rattle.ost_store.specs.declared.reading.Got.{Got}
@@ -33,18 +33,6 @@ file_of v (link text) id mode size s = absurd (cc s)
 file_of v (file k) id mode size s =
     let same : id ≡ k = cc s.2 in
     (ap file (sym same), (s.0, ap v.files same ∙ s.1, cc s.2, cc s.2))
-
-link_of : (v : View) (e : Slot) → IsStat v e Link → (text : List ℕ) × (e ≡ link text)
-link_of v absent s = absurd (cc s)
-link_of v dir s = absurd (cc s)
-link_of v (link text) s = (text, refl)
-link_of v (file id) s = absurd (cc s.2)
-
-pub stat_link : {p : Elements} {v w : View} → StatOf p (Ok Link) v w → (text : List ℕ) × (v.names p ≡ link text)
-stat_link {p = p} {v = v} stat = link_of v (v.names p) stat.tells.1
-
-shown : (v : View) (p : Elements) (e : Slot) → IsTree v → v.names p ≡ e → shows v p ≡ spot_of v.files e
-shown v p e tree here = ap (spot_of v.files) (at_tree v tree p ∙ here)
 
 file_spot : {p : Elements} {v w : View} {id mode size : ℕ} → IsTree v → StatOf p (Ok (StatFile id mode size)) v w → (bytes : List ℕ) × (shows v p ≡ holds id mode bytes) × (size ≡ length bytes)
 file_spot {p = p} {v = v} {id = id} {mode = mode} {size = size} tree stat =
@@ -71,18 +59,6 @@ there_link kinds.DirTree text good = refl
 there_link kinds.DirMeta text good = refl
 there_link kinds.File text good = ap (λ b. is_some (if b then Some (objects.Link text) else None)) good
 
-pub none_gone : (kind : ObjKind) → object_at kind gone ≡ None
-none_gone kinds.Commit = refl
-none_gone kinds.DirTree = refl
-none_gone kinds.DirMeta = refl
-none_gone kinds.File = refl
-
-none_folder : (kind : ObjKind) → object_at kind folder ≡ None
-none_folder kinds.Commit = refl
-none_folder kinds.DirTree = refl
-none_folder kinds.DirMeta = refl
-none_folder kinds.File = refl
-
 none_at : (kind : ObjKind) (spot : Spot) → (spot ≡ gone) ⊎ (spot ≡ folder) → object_at kind spot ≡ None
 none_at kind spot (inl is) = ap (object_at kind) is ∙ none_gone kind
 none_at kind spot (inr is) = ap (object_at kind) is ∙ none_folder kind
@@ -103,9 +79,6 @@ module _ {p : Elements} {v : View} (root : Elements) (d : List ℕ) (kind : ObjK
       there_by (points is.0) b (shown v p (link is.0) tree is.1) (there_link kind is.0 (tree.linked p is.0 (inl (sym is.1))) ∙ sym tells)
 
 -- ---- the object
-
-pub clash_link : {p : Elements} {e : HostError} {v w : View} → LinkOf p (Err e) v w → e ≡ Clash → (text : List ℕ) × (v.names p ≡ link text) → ⊥
-clash_link {p = p} {e = e} {v = v} step is can = clash_reads {T = List ℕ} ((text : List ℕ) × (v.names p ≡ link text)) (λ text. v.names p ≡ link text) e step.tells is can
 
 got_by : {most : ℕ} {told : Got} (v : View) (p : Elements) (spot : Spot) → shows v p ≡ spot → got_of most (object_at kinds.File spot) ≡ told → GetsAt kinds.File p most v told
 got_by {most = most} v p spot is tells = record { is = sym (ap (λ (s : Spot). got_of most (object_at kinds.File s)) is ∙ tells) }

@@ -4,9 +4,12 @@ use Rattle.std.specs.Prelude.{◌↔◌}
 use Rattle.std.proofs.lemmas.Bool.{cases_lt}
 use Rattle.std.proofs.lemmas.List.{take_more}
 use Rattle.std.proofs.lemmas.List.Elements.{Contains-append_left, Contains-append_right, Contains-append_cases, Contains-push, Contains-push_cases}
-use Rattle.fp_host.specs.Paths.{Elements, Slot, absent, dir, file, link, IsAbove}
+use Rattle.fp_base.proofs.Lists.{in_none, in_first, in_cases, in_map, from_map}
+use Rattle.fp_host.specs.Paths.{Elements, absent, dir, IsAbove}
 use Rattle.fp_host.specs.View.{View, IsTree}
 use Rattle.fp_host.specs.Calls.{IsLeaf}
+use Rattle.fp_host.proofs.Separate.{absent_cases}
+use Rattle.fp_host.proofs.Slots.{leaf_there}
 use Rattle.fp_small.specs.Naming.{ListsIn}
 use Rattle.fp_small.specs.Clear.{IsWithin, Reaches}
 use Rattle.fp_small.proofs.Emptying.{emptied_no_dir}
@@ -14,7 +17,7 @@ use Rattle.ost_model.specs.Stores.{objects_folder}
 use Rattle.ost_store.specs.Names.{CanList}
 use Rattle.fp_small.specs.Walks.{IsBelow, IsLevel}
 use Rattle.ost_store.specs.Walks.{Visits, VisitsAll, AreLeavesWithin, AreLeavesBelow}
-use Rattle.ost_store.proofs.Lists.{in_none, in_one, in_cases, in_first, in_map, from_map}
+use Rattle.ost_store.proofs.Lists.{in_one}
 
 -- ---- a walk, level by level
 
@@ -196,12 +199,6 @@ level_above (suc k) n folder v (x ∷ up) deep is = elim (cases_lt k n) [
   | inr more ↦ level_above k n folder v up more is.0
 ]
 
-leaf_there : (e : Slot) → IsLeaf e → e ≢ absent
-leaf_there absent leaf = λ none. leaf
-leaf_there dir leaf = λ none. leaf
-leaf_there (file id) leaf = λ none. cc none
-leaf_there (link text) leaf = λ none. cc none
-
 -- where nothing is left, all is found
 pub all_found : {v : View} (n : ℕ) (folder : Elements) (level found : List Elements) → IsTree v → IsAtLevel n folder v level found → level ≡ [] → AreLeavesWithin folder v found
 all_found {v = v} n folder level found tree at none = record {
@@ -224,16 +221,10 @@ all_found {v = v} n folder level found tree at none = record {
       | inr deep ↦ let r = level_above one.0 n folder v q deep one.1 in absurd (empty r.0 r.1)
     ]
 
-slot_cases : (e : Slot) → (e ≡ absent) ⊎ (e ≢ absent)
-slot_cases absent = inl refl
-slot_cases dir = inr (λ none. cc none)
-slot_cases (file id) = inr (λ none. cc none)
-slot_cases (link text) = inr (λ none. cc none)
-
 -- where nothing is left, nothing is deeper
 pub all_reached : {v : View} (n : ℕ) (folder : Elements) (level found : List Elements) → IsTree v → IsAtLevel (n + 1) folder v level found → level ≡ [] → Reaches folder n v
 all_reached {v = v} n folder level found tree at none = record {
-  far = λ q above. elim (slot_cases (v.names q)) [ inl gone ↦ inl gone | inr some ↦ inr (near q (level_of tree folder q above some)) ];
+  far = λ q above. elim (absent_cases (v.names q)) [ inl gone ↦ inl gone | inr some ↦ inr (near q (level_of tree folder q above some)) ];
 }
   where
     empty : (r : Elements) → IsLevel (n + 1) folder v r → ⊥

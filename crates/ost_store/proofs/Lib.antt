@@ -4,12 +4,14 @@ mod Gets
 mod Levels
 pub mod Lists
 mod Placed
-mod Ready
+pub mod Ready
 mod Sorted
 pub mod Staged
 mod Stored
 pub mod Said
 pub mod Staying
-mod Samples
+pub mod Samples
 pub mod Creating
 mod Contents
+pub mod Holding
+pub mod ObjectPaths

@@ -14,8 +14,8 @@ use Rattle.fp_host.proofs.Settled.{at_tree}
 use Rattle.fp_host.proofs.Follow.{called}
 use Rattle.fp_host.proofs.Framed.{IsTold, keeps_on, keeps_to, keeps_same, keeps_call}
 use Rattle.fp_host.proofs.Goes.{begins, goes_on, makes_goes}
+use Rattle.fp_host.proofs.Above.{above_longer}
 use Rattle.fp_small.specs.Folders.{ancestors, FoldersAt, DirsAt, AreFree, AreDirs}
-use Rattle.fp_small.proofs.Emptying.{above_longer}
 use Rattle.fp_small.proofs.Replacement.{ancestors_above, parent_in}
 use Rattle.fp_base.specs.declared.object.ObjKind.{ObjKind}
 use Rattle.fp_name.specs.Hex.{hex}

@@ -1,7 +1,5 @@
 -- A staged object is ready to be placed after a sync.
-use Rattle.std.proofs.Common.{◌≡◌, inl, ℕ, List, Bool, true, false, Option, Some, None, refl, sym, ◌∙◌, ap, subst}
-use Rattle.std.specs.Option.{option_or}
-use Rattle.std.specs.Prelude.{if◌then◌else◌}
+use Rattle.std.proofs.Common.{◌≡◌, inl, ℕ, List, true, Some, None, sym, ◌∙◌, ap, subst}
 use Rattle.std.proofs.lemmas.Bool.{false≢true}
 use Rattle.fp_host.specs.Paths.{Elements, Slot, absent, dir, file, link, is_link_text}
 use Rattle.fp_host.specs.View.{View, IsTree}
@@ -9,52 +7,12 @@ use Rattle.fp_host.specs.Calls.{syncs, done, IsLeaf, IsDirty}
 use Rattle.fp_host.specs.Outcome.{holds, points, spot_of, holding}
 use Rattle.fp_host.proofs.Settled.{at_tree}
 use Rattle.fp_base.specs.declared.object.ObjKind.{ObjKind}
-use Rattle.fp_base.specs.declared.object.ObjKind.TheVariants as kinds
 use Rattle.ost_model.specs.declared.object.Object.{Object}
 use Rattle.ost_model.specs.declared.object.Object.TheVariants as objects
-use Rattle.ost_model.specs.Contents.{is_permission}
-use Rattle.ost_model.specs.Objects.{Fault, name_fault, kind_fault, content_fault, length_fault, mode_fault, digest_fault, rule_fault, unless, Named, refused_mode}
+use Rattle.ost_model.specs.Objects.{name_fault, Named}
+use Rattle.ost_model.proofs.Faults.{named_file, named_meta, named_link}
 use Rattle.ost_store.specs.Stage.{IsFileOf, IsHeld}
 use Rattle.ost_store.specs.Place.{IsReadyAs}
-
--- ---- what names an object
-
-first_none : {A : Type 0} (a b : Option A) → option_or a b ≡ None → a ≡ None
-first_none None b none = refl
-first_none (Some x) b none = absurd (cc none)
-
-second_none : {A : Type 0} (a b : Option A) → option_or a b ≡ None → b ≡ None
-second_none None b none = none
-second_none (Some x) b none = absurd (cc none)
-
-kept : (b : Bool) (f : Fault) → unless b f ≡ None → b ≡ true
-kept true f none = refl
-kept false f none = absurd (cc none)
-
-file_bits : (d : List ℕ) (kind : ObjKind) (mode : ℕ) (bytes : List ℕ) → name_fault d kind (Some (objects.File mode bytes)) ≡ None → is_permission mode ≡ true
-file_bits d kind mode bytes good =
-    let o = objects.File mode bytes in
-    let of_kind = second_none (kind_fault kind o) (content_fault d kind o) good in
-    let after = second_none (length_fault o) (option_or (mode_fault o) (option_or (digest_fault d o) (rule_fault kind o))) of_kind in
-    kept (is_permission mode) (refused_mode mode) (first_none (mode_fault o) (option_or (digest_fault d o) (rule_fault kind o)) after)
-
-named_file : (d : List ℕ) (kind : ObjKind) (id mode : ℕ) (bytes : List ℕ) → name_fault d kind (Some (objects.File mode bytes)) ≡ None → Named d kind (holds id mode bytes)
-named_file d kinds.File id mode bytes good = record { bits = file_bits d kinds.File mode bytes good; good = good }
-named_file d kinds.Commit id mode bytes good = absurd (cc good)
-named_file d kinds.DirTree id mode bytes good = absurd (cc good)
-named_file d kinds.DirMeta id mode bytes good = absurd (cc good)
-
-named_meta : (d : List ℕ) (kind : ObjKind) (id : ℕ) (bytes : List ℕ) → name_fault d kind (Some (objects.Meta bytes)) ≡ None → Named d kind (holds id 420 bytes)
-named_meta d kinds.File id bytes good = absurd (cc good)
-named_meta d kinds.Commit id bytes good = record { bits = refl; good = good }
-named_meta d kinds.DirTree id bytes good = record { bits = refl; good = good }
-named_meta d kinds.DirMeta id bytes good = record { bits = refl; good = good }
-
-named_link : (d : List ℕ) (kind : ObjKind) (text : List ℕ) → is_link_text text ≡ true → name_fault d kind (Some (objects.Link text)) ≡ None → Named d kind (points text)
-named_link d kinds.File text linked good = record { bits = refl; good = ap (λ b. name_fault d kinds.File (if b then Some (objects.Link text) else None)) linked ∙ good }
-named_link d kinds.Commit text linked good = absurd (cc good)
-named_link d kinds.DirTree text linked good = absurd (cc good)
-named_link d kinds.DirMeta text linked good = absurd (cc good)
 
 -- ---- after a sync
 

@@ -3,7 +3,7 @@ use Rattle.std.proofs.Common.{◌≡◌, ◌⊎◌, inl, inr, true, List, [], �
 use Rattle.std.specs.Prelude.{String, string_bytes, ◌↔◌}
 use Rattle.std.specs.declared.cmp.Ordering.{Ordering}
 use Rattle.std.specs.declared.cmp.Ordering.TheVariants.{Less, Equal, Greater}
-use Rattle.std.specs.Ordering.{is_lt, is_eq, nat_cmp, match_ordering}
+use Rattle.std.specs.Ordering.{is_lt, nat_cmp, match_ordering}
 use Rattle.std.specs.Cmp.Lexicographic.{slice_cmp}
 use Rattle.std.specs.List.{AllByRecursion}
 use Rattle.std.specs.List.Sorted.{IsStrictlySortedBy}
@@ -12,8 +12,8 @@ use Rattle.std.specs.BTreeMap.{insert_entry}
 use Rattle.std.specs.Map.{keys_of, values_of}
 use Rattle.std.proofs.lemmas.Bool.{and_from}
 use Rattle.std.proofs.lemmas.List.Elements.{Contains-append_left, Contains-push, Contains-push_cases}
-use Rattle.std.proofs.lemmas.Map.Text.{is_eq-slice_cmp}
-use Rattle.std.proofs.lemmas.Slice.Eq.{bytes_eq-Decides}
+use Rattle.fp_base.proofs.Lists.{in_none, in_cases, in_first, in_rest}
+use Rattle.fp_base.proofs.Texts.{equal_texts}
 use Rattle.fp_host.specs.Paths.{Elements, path_text, elements_of}
 use Rattle.fp_host.specs.View.{View}
 use Rattle.fp_host.specs.Reads.{comes_first, is_ascending}
@@ -21,14 +21,10 @@ use Rattle.ost_model.specs.Stores.{objects_folder}
 use Rattle.ost_store.specs.Names.{ListsNames}
 use Rattle.fp_small.specs.Walks.{IsTextOf}
 use Rattle.ost_store.specs.Walks.{AreKeyed, AreLeavesBelow, IsInOrder}
-use Rattle.ost_store.proofs.Lists.{in_none, in_cases, in_first, in_rest}
 
 -- the text is that of the path
 abbrev pub Keyed : {Z : Type 0} → String Z × Elements → Type 0
 Keyed e = IsTextOf (string_bytes e.0) e.1
-
-equal_texts : {Z : Type 0} (a b : String Z) → string_cmp a b ≡ Equal → string_bytes a ≡ string_bytes b
-equal_texts a b h = (bytes_eq-Decides (string_bytes a) (string_bytes b)).0 (sym (is_eq-slice_cmp (string_bytes a) (string_bytes b)) ∙ ap is_eq h)
 
 -- equal texts are those of one path
 one_path : {Z : Type 0} (a b : String Z) (x y : Elements) → IsTextOf (string_bytes a) x → IsTextOf (string_bytes b) y → string_cmp a b ≡ Equal → x ≡ y

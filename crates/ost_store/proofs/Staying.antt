@@ -1,15 +1,16 @@
 -- Names that stay as they are.
-use Rattle.std.proofs.Common.{◌≡◌, ◌≢◌, inl, inr, ℕ, List, true, Option, Some, None, refl, sym, ◌∙◌, ap, subst, arith}
+use Rattle.std.proofs.Common.{◌≡◌, ◌≢◌, inl, inr, ℕ, List, true, Option, Some, None, refl, sym, ◌∙◌, ap, subst, arith, Ok}
 use Rattle.fp_host.specs.Paths.{Elements, Slot, absent, dir, file, link}
 use Rattle.fp_host.specs.View.{View, Inode, IsTree}
-use Rattle.fp_host.specs.Calls.{IsLeaf, IsDirty}
+use Rattle.fp_host.specs.Calls.{IsLeaf, IsDirty, syncs, Step}
 use Rattle.fp_host.specs.Outcome.{Nothing, holding, spot_of, shows}
 use Rattle.fp_host.specs.Frame.{Keeps, NoPath, Only, NoName}
 use Rattle.fp_host.proofs.Settled.{at_tree}
+use Rattle.fp_host.proofs.Above.{above_longer}
 use Rattle.fp_small.specs.Clear.{IsWithin, GoneAt, AbsentAt}
 use Rattle.fp_small.specs.Unsynced.{Unsynced}
+use Rattle.fp_small.specs.Files.{KeepsFiles}
 use Rattle.fp_small.proofs.Keeping.{files_kept}
-use Rattle.fp_small.proofs.Emptying.{above_longer}
 use Rattle.fp_small.proofs.Replacement.{ancestors_above}
 use Rattle.fp_name.specs.Hex.{is_digest}
 use Rattle.fp_base.specs.declared.object.ObjKind.{ObjKind}
@@ -124,7 +125,7 @@ placed_object root t d kind u w places was tree tree' ready = subst (Named d kin
 
 -- ---- the other objects
 
-off_object : (root : Elements) (d e : List ℕ) (k m : ObjKind) → is_digest d ≡ true → is_digest e ≡ true → ((e ≡ d) × (m ≡ k) → ⊥) → IsWithin (object_path root e m) (object_path root d k) → ⊥
+pub off_object : (root : Elements) (d e : List ℕ) (k m : ObjKind) → is_digest d ≡ true → is_digest e ≡ true → ((e ≡ d) × (m ≡ k) → ⊥) → IsWithin (object_path root e m) (object_path root d k) → ⊥
 off_object root d e k m of_d of_e off (inl same) =
     let one = one_name root d e k m of_d of_e same in
     off (sym one.0, sym one.1)
@@ -146,3 +147,20 @@ pub staged_held : (t : Elements) (object : Object) (v : View) → IsStaged t obj
 staged_held t (objects.Meta bytes) v h = record { id = h.id; name = h.name; row = h.row }
 staged_held t (objects.File mode bytes) v h = record { id = h.id; name = h.name; row = h.row }
 staged_held t (objects.Link text) v h = h
+
+pub stays_on : {q : Elements} {u v w : View} → Stays q u v → Stays q v w → Stays q u w
+stays_on first second = record { name = second.name ∙ first.name; row = λ id f is some. second.row id f (first.name ∙ is) (first.row id f is some) }
+
+pub stays_same : {q : Elements} {v : View} → Stays q v v
+stays_same = record { name = refl; row = λ id f is some. some }
+
+-- where a name is the same and files stay, the same shows
+pub same_shows : {u v : View} → IsTree u → IsTree v → KeepsFiles u v → (q : Elements) → v.names q ≡ u.names q → shows v q ≡ shows u q
+same_shows {u = u} {v = v} tree next files q name = shown_stays q u v (record { name = name; row = λ id f is some. files.rows id f some }) tree next
+
+-- a sync leaves each name
+abbrev pub Synced : View → View → Type 0
+Synced v w = Step syncs (Ok tt) v w
+
+pub synced_stays : {v w : View} (q : Elements) → Synced v w → Stays q v w
+synced_stays q step = record { name = ap (λ (x : View). x.names q) step.how.1; row = λ id f is some. ap (λ (x : View). x.files id) step.how.1 ∙ some }

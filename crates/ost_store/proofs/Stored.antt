@@ -7,23 +7,19 @@ use Rattle.fp_host.specs.Calls.{IsLeaf, IsDirty}
 use Rattle.fp_host.specs.Outcome.{Spot, Disk, Leaves, Nothing, gone, MayHold, Gives, spot_of, holding}
 use Rattle.fp_host.specs.Frame.{Keeps, NoPath, Only, NoName}
 use Rattle.fp_host.proofs.Separate.{at_cases}
-use Rattle.fp_small.proofs.Emptying.{above_longer}
+use Rattle.fp_host.proofs.Above.{above_on, above_longer}
 use Rattle.fp_small.proofs.Replacement.{ancestors_above}
 use Rattle.fp_base.specs.declared.object.ObjKind.{ObjKind}
 use Rattle.ost_model.specs.declared.object.Object.{Object}
-use Rattle.ost_model.specs.Objects.{object_path, name_fault, Named}
+use Rattle.ost_model.specs.Objects.{object_path, Named}
 use Rattle.fp_base.specs.Objects.{kind_text}
 use Rattle.ost_model.specs.Stores.{objects_folder, is_prefix, MayBePrefix, MayBeObject}
 use Rattle.ost_model.proofs.Stores.{store_goes_on, store_same}
+use Rattle.ost_model.proofs.Spots.{not_gone}
 use Rattle.fp_small.specs.Clear.{GoneAt, AbsentAt}
 use Rattle.ost_store.specs.Stage.{Stages}
 use Rattle.ost_store.specs.Place.{PlacesAt, Places, IsReadyAs, LeavesObject, LeavesStore}
 use Rattle.ost_store.proofs.Elements.{prefix_is_one}
-use Rattle.ost_store.proofs.Gets.{none_gone}
-
--- what is Named is there
-not_gone : (d : List ℕ) (kind : ObjKind) → Named d kind gone → ⊥
-not_gone d kind named = absurd (cc (sym (ap (name_fault d kind) (none_gone kind)) ∙ named.good))
 
 module _ {u : View} (d : List ℕ) (kind : ObjKind) (t : Elements) (ready : IsReadyAs d kind t u) where
   stands : at u.names t ≡ u.names t
@@ -116,11 +112,6 @@ left_store root p u w keeps before = record {
 
 -- ---- an object that is staged
 
-below_both : (a b p : Elements) → IsAbove a b → IsAbove b p → IsAbove a p
-below_both a b [] up low = absurd low
-below_both a b (x ∷ rest) up (inl is) = inr (subst (IsAbove a) is up)
-below_both a b (x ∷ rest) up (inr higher) = inr (below_both a b rest up higher)
-
 ends_below : (rest : Elements) (xx : List ℕ) (up : Elements) → IsAbove up (rest ++ (xx ∷ up))
 ends_below [] xx up = inl refl
 ends_below (x ∷ rest) xx up = inr (ends_below rest xx up)
@@ -131,7 +122,7 @@ module _ (root t : Elements) (object : Object) {u w : View} (stages : Stages t o
     | inl same ↦ same
     | inr given ↦ elim given [
       | inl g ↦ absurd (off (subst (IsAbove (objects_folder root)) g.0 below))
-      | inr made ↦ absurd (off (below_both (objects_folder root) q t below (ancestors_above t q made.0)))
+      | inr made ↦ absurd (off (above_on (objects_folder root) q t below (ancestors_above t q made.0)))
     ]
   ]
 

@@ -3,7 +3,7 @@ use Rattle.std.proofs.Common.{◌≡◌, ◌≤◌, ◌<◌, ◌*◌, ℕ, List,
 use Rattle.std.specs.Option.{option_or}
 use Rattle.std.specs.Prelude.{not}
 use Rattle.std.specs.Str.{bytes_eq}
-use Rattle.std.proofs.lemmas.Bool.{le-leb, lt-leb, false_from_ne_true}
+use Rattle.std.proofs.lemmas.Bool.{le-leb, false_from_ne_true}
 use Rattle.std.proofs.lemmas.Slice.Eq.{bytes_eq-Decides}
 use Rattle.ost_model.specs.Contents.{meta_digest}
 use Rattle.fp_host.specs.Paths.{Elements}
@@ -17,7 +17,7 @@ use Rattle.fp_base.specs.declared.object.ObjKind.{ObjKind}
 use Rattle.fp_base.specs.declared.object.ObjKind.TheVariants as kinds
 use Rattle.ost_model.specs.declared.object.Object.{Object}
 use Rattle.ost_model.specs.declared.object.Object.TheVariants as objects
-use Rattle.ost_model.specs.Objects.{Have, may_be_link, store, missing, too_long, corrupt, unless, content_fault, digest_fault, rule_fault, dir_mode_fault, object_path, object_at, object_fault}
+use Rattle.ost_model.specs.Objects.{Have, may_be_link, store, missing, too_long, corrupt, unless, content_fault, rule_fault, dir_mode_fault, object_path, object_at, object_fault}
 use Rattle.ost_store.specs.Reads.{got_of, Gets}
 use Rattle.ost_store.specs.declared.reading.Got.{Got}
 use Rattle.ost_store.specs.declared.reading.Got.TheVariants as got
@@ -27,6 +27,8 @@ use Rattle.ost_walk.specs.declared.ends.WalkEnd.{WalkEnd}
 use Rattle.ost_walk.specs.declared.ends.WalkEnd.TheVariants as ends
 use Rattle.ost_walk.specs.Ends.{fault_of, refusal}
 use Rattle.ost_model.specs.Remotes.{as_spot, remote_at, remote, Supplies}
+use Rattle.ost_model.proofs.Faults.{long_fault}
+use Rattle.ost_model.proofs.Spots.{held_meta}
 use Rattle.ost_walk.specs.Steps.{Fetches}
 
 -- ---- a refusal
@@ -36,21 +38,10 @@ refuses d kind object f is has = subst (λ (e : WalkEnd). Fetches d kind object 
 
 -- ---- a file that keeps a metadata object
 
-pub held_meta : (kind : ObjKind) → may_be_link kind ≡ false → (id mode : ℕ) (bytes : List ℕ) → object_at kind (holds id mode bytes) ≡ Some (objects.Meta bytes)
-held_meta kinds.Commit meta id mode bytes = refl
-held_meta kinds.DirTree meta id mode bytes = refl
-held_meta kinds.DirMeta meta id mode bytes = refl
-held_meta kinds.File meta id mode bytes = absurd (cc meta)
-
 -- the faults of a metadata object's bytes
 of_kind : (d : List ℕ) (kind : ObjKind) (bytes : List ℕ) → may_be_link kind ≡ false
     → object_fault d kind (Some (objects.Meta bytes)) ≡ option_or (content_fault d kind (objects.Meta bytes)) (dir_mode_fault kind (Some (objects.Meta bytes)))
 of_kind d kind bytes meta = ap (λ b. option_or (option_or (unless (not b) missing) (content_fault d kind (objects.Meta bytes))) (dir_mode_fault kind (Some (objects.Meta bytes)))) meta
-
-pub long_fault : (d : List ℕ) (kind : ObjKind) (bytes : List ℕ) → may_be_link kind ≡ false → 16 * 1024 * 1024 < length bytes → object_fault d kind (Some (objects.Meta bytes)) ≡ Some (too_long (length bytes))
-long_fault d kind bytes meta long =
-    of_kind d kind bytes meta
-    ∙ ap (λ b. option_or (option_or (unless b (too_long (length bytes))) (option_or (digest_fault d (objects.Meta bytes)) (rule_fault kind (objects.Meta bytes)))) (dir_mode_fault kind (Some (objects.Meta bytes)))) (lt-leb (length bytes) (16 * 1024 * 1024) long)
 
 corrupt_fault : (d : List ℕ) (kind : ObjKind) (bytes : List ℕ) → may_be_link kind ≡ false → leb (length bytes) (16 * 1024 * 1024) ≡ true → bytes_eq (meta_digest bytes) d ≡ false
     → object_fault d kind (Some (objects.Meta bytes)) ≡ Some (corrupt (meta_digest bytes))

@@ -4,7 +4,7 @@ use Rattle.std.specs.Option.{option_or}
 use Rattle.std.specs.Prelude.{String, string_bytes, ◌↔◌}
 use Rattle.std.specs.declared.cmp.Ordering.{Ordering}
 use Rattle.std.specs.declared.cmp.Ordering.TheVariants.{Less, Equal, Greater}
-use Rattle.std.specs.Ordering.{is_lt, is_eq, nat_cmp, match_ordering}
+use Rattle.std.specs.Ordering.{is_lt, nat_cmp, match_ordering}
 use Rattle.std.specs.Cmp.Lexicographic.{slice_cmp}
 use Rattle.std.specs.List.{AllByRecursion}
 use Rattle.std.specs.List.Sorted.{IsStrictlySortedBy}
@@ -15,16 +15,15 @@ use Rattle.std.proofs.Math.Seq.{take-suc, take-length, drop-cons}
 use Rattle.std.proofs.lemmas.Bool.{and_from}
 use Rattle.std.proofs.lemmas.List.{take-append-drop}
 use Rattle.std.proofs.lemmas.List.Elements.{Contains-append_left, Contains-push, Contains-push_cases}
-use Rattle.std.proofs.lemmas.Map.Text.{is_eq-slice_cmp}
-use Rattle.std.proofs.lemmas.Slice.Eq.{bytes_eq-Decides}
 use Rattle.fp_host.specs.Paths.{elements_of}
 use Rattle.fp_host.specs.Reads.{comes_first, is_ascending}
 use Rattle.fp_base.specs.declared.object.ObjKind.{ObjKind}
+use Rattle.fp_base.proofs.Lists.{in_none, in_first, in_rest, in_cases}
+use Rattle.fp_base.proofs.Texts.{equal_texts}
 use Rattle.ost_model.specs.Objects.{Have}
 use Rattle.ost_model.specs.Order.{Place, In, order, first_walk_fault}
 use Rattle.ost_model.specs.Used.{object_text, used_fault}
 use Rattle.ost_model.proofs.Stores.{one_name}
-use Rattle.ost_store.proofs.Lists.{in_none, in_cases, in_first, in_rest}
 use Rattle.ost_walk.specs.declared.ends.WalkEnd.{WalkEnd}
 use Rattle.ost_walk.specs.declared.ends.WalkEnd.TheVariants as ends
 use Rattle.ost_walk.specs.Ends.{RefusesBy, IsFirst}
@@ -36,9 +35,6 @@ Object = List ℕ × ObjKind
 
 abbrev pub Keyed : {Z : Type 0} → String Z × Object → Type 0
 Keyed e = IsKeyOf (string_bytes e.0) e.1
-
-equal_texts : {Z : Type 0} (a b : String Z) → string_cmp a b ≡ Equal → string_bytes a ≡ string_bytes b
-equal_texts a b h = (bytes_eq-Decides (string_bytes a) (string_bytes b)).0 (sym (is_eq-slice_cmp (string_bytes a) (string_bytes b)) ∙ ap is_eq h)
 
 -- equal texts are those of one object
 one_object : {Z : Type 0} (a b : String Z) (x y : Object) → IsKeyOf (string_bytes a) x → IsKeyOf (string_bytes b) y → string_cmp a b ≡ Equal → x ≡ y

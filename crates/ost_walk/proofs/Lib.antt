@@ -7,3 +7,5 @@ pub mod Quiet
 mod Followed
 mod Kept
 mod Surveyed
+pub mod Ended
+pub mod PullEnded

@@ -1,6 +1,6 @@
 -- Calls that only look, one after another.
 use Rattle.std.proofs.Common.{◌≡◌, ℕ, List, Option, Some, None, Result, Ok, Err, refl, sym, ap, subst, ◌∙◌, arith}
-use Rattle.std.specs.Option.{option_or}
+use Rattle.fp_base.proofs.Options.{or_alone}
 use Rattle.fp_host.specs.Paths.{Elements}
 use Rattle.fp_host.specs.View.{View}
 use Rattle.fp_host.specs.Outcome.{shows}
@@ -77,10 +77,6 @@ supplied {root = root} {url = url} looks s =
     }
 
 -- ---- the store alone
-
-or_alone : {A : Type 0} (o : Option A) → option_or o None ≡ o
-or_alone None = refl
-or_alone (Some a) = refl
 
 supply_alone : (own : Have) (held : Holdings) → supply own (remote held None) ≡ own
 supply_alone own held = λ i d kind. or_alone (own d kind) i

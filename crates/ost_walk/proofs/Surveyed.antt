@@ -5,6 +5,7 @@ use Rattle.std.specs.Prelude.{option_map}
 use Rattle.std.proofs.lemmas.List.{map-append}
 use Rattle.fp_base.specs.declared.object.ObjKind.{ObjKind}
 use Rattle.fp_base.specs.declared.object.ObjKind.TheVariants as kinds
+use Rattle.fp_base.proofs.Options.{or_alone, or_assoc}
 use Rattle.ost_model.specs.Objects.{Have, Fault, too_many, too_deep, object_fault}
 use Rattle.ost_model.specs.Order.{Place, order, first_of, found_at, first_fault, first_walk_fault, place_fault, walk_fault, limited, of_metadata, commit_place, below_commit, commit_at}
 use Rattle.ost_model.specs.Walk.{open_places, heads}
@@ -27,14 +28,6 @@ abbrev Named : Type 0
 Named = Object × Fault
 
 -- ---- options
-
-or_assoc : {A : Type 0} (a b c : Option A) → option_or (option_or a b) c ≡ option_or a (option_or b c)
-or_assoc None b c = refl
-or_assoc (Some x) b c = refl
-
-or_alone : {A : Type 0} (o : Option A) → option_or o None ≡ o
-or_alone None = refl
-or_alone (Some a) = refl
 
 -- what is said after a value plays no part
 or_some : {A : Type 0} (a : Option A) (x : A) (c : Option A) → option_or (option_or a (Some x)) c ≡ option_or a (Some x)
@@ -176,13 +169,6 @@ commit_stops have commit (ends.Refused w) is first = record {
 commit_stops have commit ends.HostFault is first = tt
 commit_stops have commit ends.RemoteFault is first = tt
 commit_stops have commit ends.NoMemory is first = tt
-
--- nothing is refused by an end of which nothing is refused
-pub never_refused : (P : WalkFault → Type 0) (end : WalkEnd) → RefusesBy (λ w. ⊥) end → RefusesBy P end
-never_refused P (ends.Refused w) none = absurd none
-never_refused P ends.HostFault none = tt
-never_refused P ends.RemoteFault none = tt
-never_refused P ends.NoMemory none = tt
 
 -- ---- what was looked at
 

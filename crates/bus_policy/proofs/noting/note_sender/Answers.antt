@@ -1,10 +1,10 @@
 use Rattle.std.proofs.Common.{List, ℕ, Bool, Option, ap, ◌∙◌}
+use Rattle.std.proofs.lemmas.Result.{on_ok_weaker}
 use Rattle.std.specs.Prelude.{if◌then◌else◌, ◌&&◌, is_some}
 use Rattle.indexmap.specs.IndexMap.{get_by_text}
 use Rattle.std.specs.Str.{bytes_eq}
 use Rattle.bus_policy.specs.Events.{is_unique_like}
 use Rattle.bus_policy.specs.Watching.{known_of, with_message_if, with_call_if}
-use Rattle.bus_policy.proofs.Telling.{ok_then}
 use Rattle.bus_policy.proofs.Happening.{sent}
 use Rattle.bus_policy.proofs.noting.note_sender.Goals as goal
 
@@ -13,7 +13,7 @@ returns-clause-ok g c = λ bytes.
     let policy = c.args.rules.now in
     let header = c.args.header.now in
     let sender = c.in-Some.sender in
-    ok_then c.learn.result (λ h q.
+    on_ok_weaker c.learn.result (λ h q.
     let k = known_of policy (get_by_text c.args.peers.now q) in
     h q
     ∙ ap (λ (s : List ℕ). if bytes_eq s q then with_message_if c.is_written_by.result (with_call_if c.serial_to_wait.result k) else k) c.as_str-2.ensures

@@ -1,8 +1,9 @@
 use Rattle.std.proofs.Common.{◌≡◌, ℕ, List, Option, Some, ap, sym, ◌∙◌, rules}
 use Rattle.indexmap.specs.IndexMap.{get_by_text}
 use Rattle.std.proofs.lemmas.Map.Text.{hash_map_updates_text}
+use Rattle.std.proofs.lemmas.Result.{on_ok_weaker}
 use Rattle.bus_policy.specs.Watching.{known_of, with_news}
-use Rattle.bus_policy.proofs.Telling.{told, kept, same_known, ok_then, err_then}
+use Rattle.bus_policy.proofs.Telling.{told, kept, same_known, err_then}
 use Rattle.bus_policy.proofs.Keeping.{put_keeps, there_known, learned_known}
 use Rattle.bus_policy.proofs.peers.learn_more.Goals as goal
 
@@ -14,7 +15,7 @@ returns-in-Some-clause-ok g c =
     let peer = c.learn.new.self in
     let there : before name ≡ Some c.in-Some.peer.now = sym c.in-Some.ensures.value in
     let put = hash_map_updates_text name c.args.peers.now (c.get_mut.follows.lender peer) (Some peer) ((c.get_mut.follows.holds peer).3 (search rules)) in
-    ok_then c.learn.result (λ e q. ap (known_of policy) (put q) ∙ told policy name q before peer (with_news policy c.args.news) (e ∙ ap (with_news policy c.args.news) (same_known policy _ _ (sym there)))) c.learn.ensures.ok
+    on_ok_weaker c.learn.result (λ e q. ap (known_of policy) (put q) ∙ told policy name q before peer (with_news policy c.args.news) (e ∙ ap (with_news policy c.args.news) (same_known policy _ _ (sym there)))) c.learn.ensures.ok
 
 pub returns-in-Some-clause-err : goal.returns-in-Some-clause-err
 returns-in-Some-clause-err g c =

@@ -1,7 +1,8 @@
 use Rattle.std.proofs.Common.{rules, ◌≡◌, arith, refl, ◌∙◌, Some, true}
 use Rattle.fp_base.specs.Parts.{parts_at}
+use Rattle.fp_base.proofs.Lines.{remainder_is_shorter}
 use Rattle.bus_stream.specs.Recordings.{recording_of, said, Took, with_line}
-use Rattle.bus_stream.proofs.RecordingLaws.{good_line, bad_line, nothing_left, no_newline, remainder_is_shorter}
+use Rattle.bus_stream.proofs.RecordingLaws.{good_line, bad_line, nothing_left, no_newline}
 use Rattle.bus_stream.proofs.recording.read_recording.Goals as goal
 
 pub loop-line-init : goal.loop-line-init

@@ -3,9 +3,11 @@ use Rattle.fp_host.specs.Paths.{Elements, is_element}
 use Rattle.fp_host.specs.Outcome.{shows}
 use Rattle.fp_host.proofs.Ending.{ends_to, ends_start}
 use Rattle.fp_name.specs.Hex.{hex, unhex}
+use Rattle.fp_name.proofs.HexTexts.{unhex_ok, unhex_err}
+use Rattle.fp_small.proofs.Elements.{digest_element}
 use Rattle.dep_states.specs.Names.{deploy, text_dir}
 use Rattle.dep_open.specs.Parts.{IsRowOf}
-use Rattle.dep_open.proofs.Linked.{no_digest, deploy_there, digest_element, row_good, unhex_ok, unhex_err}
+use Rattle.dep_open.proofs.Linked.{no_digest, deploy_there, row_good}
 use Rattle.dep_open.proofs.refs.read_commit.Goals as goal
 
 pub returns-in_default-clause-tells : goal.returns-in_default-clause-tells

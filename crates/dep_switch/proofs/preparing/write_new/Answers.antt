@@ -4,8 +4,9 @@ use Rattle.fp_host.specs.Calls.{Can, CanCreate, IsNoDir, appends}
 use Rattle.fp_host.proofs.Cause.{clash_step, clash_create, same_fault}
 use Rattle.fp_host.proofs.Ending.{ends_start, ends_call, ends_frame, ends_both, ends_on, call_caused, fault_caused}
 use Rattle.fp_small.proofs.Staging.{can_append}
+use Rattle.fp_small.proofs.Replacement.{free_no_dir}
 use Rattle.dep_switch.specs.Writing.{CanWrite}
-use Rattle.dep_switch.proofs.Writes.{taken, created, written_so_far, begun_end, appended, file_written, no_dir, can_create}
+use Rattle.dep_switch.proofs.Writes.{taken, created, written_so_far, begun_end, appended, file_written, can_create}
 use Rattle.dep_switch.proofs.preparing.write_new.Goals as goal
 
 pub returns-in_err-take_away-clause-any_moment : goal.returns-in_err-take_away-clause-any_moment
@@ -16,7 +17,7 @@ returns-in_err-take_away-clause-fault_has_cause g c =
     let t = g.met.H.Host.is_tree in
     let p = c.args.path.now in
     fault_caused (CanWrite p) (λ v. IsNoDir (v.names p)) _ _ _ _ _ (t c.args.host.now) (omega arith) (ends_start (t c.args.host.now)) c.take_away.ensures.fault_has_cause (same_fault _ _ _ c.in_err-take_away.was c.from_residual.ensures.1)
-    (λ u v tree same can. subst (λ (x : View). IsNoDir (x.names p)) (sym same) (no_dir p u can.free))
+    (λ u v tree same can. subst (λ (x : View). IsNoDir (x.names p)) (sym same) (free_no_dir p u can.free))
 
 pub returns-in_err-create-clause-any_moment : goal.returns-in_err-create-clause-any_moment
 returns-in_err-create-clause-any_moment g c =

@@ -5,11 +5,13 @@ use Rattle.fp_host.specs.Paths.{is_element}
 use Rattle.fp_host.proofs.Framed.{frame_start, frame_within}
 use Rattle.fp_host.proofs.Ending.{ends_to, ends_start, fault_caused}
 use Rattle.fp_name.specs.Hex.{unhex}
+use Rattle.fp_name.proofs.HexTexts.{unhex_ok, unhex_err}
 use Rattle.fp_small.specs.Clear.{CanClear}
+use Rattle.fp_small.proofs.Elements.{digest_element}
 use Rattle.dep_states.specs.Frames.{KeptIn}
 use Rattle.dep_states.specs.Sound.{Opens}
 use Rattle.dep_tidy.proofs.Clearing.{can_clear}
-use Rattle.dep_tidy.proofs.UnkeptFolders.{unhex_ok, unhex_err, digest_element, none_bad, none_kept, dir_is, clear_gives, clear_puts, none_cleared}
+use Rattle.dep_tidy.proofs.UnkeptFolders.{none_bad, none_kept, dir_is, clear_gives, clear_puts, none_cleared}
 use Rattle.dep_tidy.proofs.folders.clear_name.Goals as goal
 
 pub returns-in_default-clause-frame : goal.returns-in_default-clause-frame

@@ -1,7 +1,7 @@
 use Rattle.std.proofs.Common.{refl, sym}
 use Rattle.std.specs.Str.{bytes_eq}
 use Rattle.std.proofs.lemmas.Bool.{false_from_ne_true}
-use Rattle.fp_small.proofs.Ordered.{bytes_eq-is, bytes_eq-itself}
+use Rattle.fp_base.proofs.Texts.{bytes_eq-true, bytes_eq-same}
 use Rattle.fl_change.proofs.laws.deleted_remotes_answer.Goals as goal
 
 pub returns-clause-absent : goal.returns-clause-absent
@@ -17,7 +17,7 @@ pub returns-clause-none : goal.returns-clause-none
 returns-clause-none c name = refl
 
 pub returns-clause-first : goal.returns-clause-first
-returns-clause-first c name row more same = rw (sym same, bytes_eq-itself row.origin) refl
+returns-clause-first c name row more same = rw (sym same, bytes_eq-same row.origin) refl
 
 pub returns-clause-next : goal.returns-clause-next
-returns-clause-next c name row more differ = rw (false_from_ne_true (bytes_eq row.origin name) (λ t. differ (bytes_eq-is row.origin name t))) refl
+returns-clause-next c name row more differ = rw (false_from_ne_true (bytes_eq row.origin name) (λ t. differ (bytes_eq-true row.origin name t))) refl

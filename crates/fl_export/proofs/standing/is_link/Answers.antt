@@ -4,7 +4,8 @@ use Rattle.fp_host.specs.View.{View, IsTree}
 use Rattle.fp_host.specs.Reads.{StatOf, LinkOf}
 use Rattle.fp_host.proofs.Looking.{looks_start, looks_stat, looks_read_link}
 use Rattle.fp_host.proofs.Ending.{ends_call, ends_on, call_caused}
-use Rattle.fl_export.proofs.Tested.{tells_of, link_told, no_link_told, stat_link, clash_link}
+use Rattle.fp_host.proofs.Slots.{stat_link, clash_link}
+use Rattle.fl_export.proofs.Tested.{tells_of, link_told, no_link_told}
 use Rattle.fl_export.proofs.standing.is_link.Goals as goal
 
 pub returns-in_err-stat-clause-unchanged : goal.returns-in_err-stat-clause-unchanged

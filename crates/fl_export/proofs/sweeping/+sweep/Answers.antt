@@ -8,12 +8,13 @@ use Rattle.fp_host.specs.Reads.{StatOf}
 use Rattle.fp_host.proofs.Cause.{same_fault}
 use Rattle.fp_host.proofs.Goes.{begins, goes_on, makes_goes}
 use Rattle.fp_host.proofs.Ending.{ends_call, ends_on, ends_to, ends_both, ends_goes, ends_in_tree, fault_caused}
+use Rattle.fp_host.proofs.Slots.{no_dir_leaf, leaf_no_folder}
 use Rattle.fp_small.specs.Naming.{ListsIn}
 use Rattle.fp_small.specs.Clear.{IsWithin, Reaches}
 use Rattle.fp_small.proofs.Making.{stat_dir, stat_absent, lists_of}
-use Rattle.fp_small.proofs.Emptying.{stat_leaf, reaches_no_dir, leaf_no_dir, AreReached, none_reached, one_reached, all_reached}
+use Rattle.fp_small.proofs.Emptying.{stat_leaf, reaches_no_dir, AreReached, none_reached, one_reached, all_reached}
 use Rattle.fl_export.specs.Steps.{Sweeps, HasNoStaleIn}
-use Rattle.fl_export.proofs.Swept.{sweeps_same, sweeps_to, leaf_swept, leaf_done, absent_done, folder_done, leaf_is_no_dir, AreSwept, none_swept, child_on, swept_next, within_reach, reach_on, all_swept, from_same, names_swept}
+use Rattle.fl_export.proofs.Swept.{sweeps_same, sweeps_to, leaf_swept, leaf_done, absent_done, folder_done, AreSwept, none_swept, child_on, swept_next, within_reach, reach_on, all_swept, from_same, names_swept}
 use Rattle.fl_export.proofs.sweeping.+sweep.Goals as goal
 
 -- ---- the names in a folder
@@ -146,7 +147,7 @@ sweep_within-returns-in_default g t c =
       on_success = on_ok_weaker c.sweep_path.result (λ done. ends_in_tree (tree c.sweep_path.new.host) (ends_on {Q' = λ u w. IsTree w → HasNoStaleIn (IsWithin p) c.args.places.now w} (ends_both (ends_goes (tree c.stat.new.self) c.sweep_path.ensures.any_moment) done) (ends_call (tree c.args.host.now) c.in_ok-stat.ensures.step) (tree c.stat.new.self)
           (λ u v w is s q next. leaf_done next s.same (stat_leaf s c.in_default.not-Absent c.in_default.not-Dir) q.0 q.1)) (λ u w is q. q is)) c.sweep_path.ensures.on_success;
       reach = on_ok_weaker c.sweep_path.result (λ done. ends_on {Q' = λ u w. Reaches p c.args.depth u} done (ends_call (tree c.args.host.now) c.in_ok-stat.ensures.step) (tree c.stat.new.self)
-          (λ u v w is s q. reaches_no_dir p c.args.depth (subst IsTree s.same is) (leaf_no_dir (u.names p) (stat_leaf s c.in_default.not-Absent c.in_default.not-Dir)))) c.sweep_path.ensures.on_success;
+          (λ u v w is s q. reaches_no_dir p c.args.depth (subst IsTree s.same is) (leaf_no_folder (u.names p) (stat_leaf s c.in_default.not-Absent c.in_default.not-Dir)))) c.sweep_path.ensures.on_success;
       fault_has_cause = fault_caused (Reaches p c.args.depth) (λ v. IsNoDir (v.names p)) _ _ _ _ _ (tree c.args.host.now) c.stat.ensures.fault_has_cause.later (ends_call (tree c.args.host.now) c.in_ok-stat.ensures.step) c.sweep_path.ensures.fault_has_cause (λ e. e)
-          (λ u v is s can. subst (λ (x : View). IsNoDir (x.names p)) (sym s.same) (leaf_is_no_dir (u.names p) (stat_leaf s c.in_default.not-Absent c.in_default.not-Dir)));
+          (λ u v is s can. subst (λ (x : View). IsNoDir (x.names p)) (sym s.same) (no_dir_leaf (u.names p) (stat_leaf s c.in_default.not-Absent c.in_default.not-Dir)));
     }

@@ -1,6 +1,6 @@
 use Rattle.std.proofs.Common.{refl}
 use Rattle.fp_host.specs.Outcome.{shows}
-use Rattle.dep_tidy.proofs.Views.{now_left}
+use Rattle.fp_host.proofs.Shown.{now_left}
 use Rattle.fl_top.proofs.laws.settled_views_reopen.Goals as goal
 
 pub returns : goal.returns

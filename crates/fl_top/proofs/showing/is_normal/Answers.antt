@@ -2,8 +2,8 @@ use Rattle.std.proofs.Common.{Err, ap, sym, ◌∙◌, subst}
 use Rattle.std.specs.Option.{is_some}
 use Rattle.gv_value.specs.Reading.{value_of}
 use Rattle.gv_value.specs.Views.{shape_of}
+use Rattle.gv_value.proofs.Long.{long_is_none, short_is_none}
 use Rattle.gv_decode.specs.Decoded.{Passes}
-use Rattle.dep_states.proofs.DeployShapes.{long_is_none, short_is_none}
 use Rattle.fl_top.proofs.Shown.{some_checked}
 use Rattle.fl_top.proofs.showing.is_normal.Goals as goal
 

@@ -8,10 +8,11 @@ use Rattle.fp_host.specs.Reads.{StatOf}
 use Rattle.fp_host.proofs.Cause.{clash_step, same_fault}
 use Rattle.fp_host.proofs.Framed.{frame_start, frame_stat, frame_list, frame_within, frame_remove_dir, frame_unlink}
 use Rattle.fp_host.proofs.Ending.{ends_call, ends_on, ends_to, ends_both, ends_frame, ends_in_tree, fault_caused, call_caused}
+use Rattle.fp_host.proofs.Slots.{leaf_no_folder}
 use Rattle.fp_small.specs.Naming.{ListsIn}
 use Rattle.fp_small.specs.Clear.{GoneBelow, AbsentBelow, IsCleared, Reaches, ReachesDown}
 use Rattle.fp_small.proofs.Making.{stat_dir, stat_absent, lists_of}
-use Rattle.fp_small.proofs.Emptying.{within_child, AreCleared, none_yet, one_cleared, within_reach, reaches_child, reaches_no_dir, leaf_no_dir, AreReached, none_reached, one_reached, all_reached, none_left, cleared_absent, unlinked, dir_removed, can_remove}
+use Rattle.fp_small.proofs.Emptying.{within_child, AreCleared, none_yet, one_cleared, within_reach, reaches_child, reaches_no_dir, AreReached, none_reached, one_reached, all_reached, none_left, cleared_absent, unlinked, dir_removed, can_remove}
 use Rattle.fp_small.proofs.clearing.+clear.Goals as goal
 
 pub clear_names-returns-in_err-names-clause-frame : goal.clear_names-returns-in_err-names-clause-frame
@@ -145,7 +146,7 @@ pub clear_within-returns-in_ok-unlink-in-File-clause-reach : goal.clear_within-r
 clear_within-returns-in_ok-unlink-in-File-clause-reach g t c =
     let tree = g.met.H.Host.is_tree in
     let p = c.args.path.now in
-    ends_on (ends_call (tree c.stat.new.self) c.in_ok-unlink-in-File.ensures.step) (ends_call (tree c.args.host.now) c.stat.ensures.step) (tree c.stat.new.self) (λ u v w is q s. subst (Reaches p c.args.depth) q.same (reaches_no_dir p c.args.depth is (leaf_no_dir (v.names p) s.how.0)))
+    ends_on (ends_call (tree c.stat.new.self) c.in_ok-unlink-in-File.ensures.step) (ends_call (tree c.args.host.now) c.stat.ensures.step) (tree c.stat.new.self) (λ u v w is q s. subst (Reaches p c.args.depth) q.same (reaches_no_dir p c.args.depth is (leaf_no_folder (v.names p) s.how.0)))
 
 pub clear_within-returns-in_ok-remove_dir-in-Dir-clause-frame : goal.clear_within-returns-in_ok-remove_dir-in-Dir-clause-frame
 clear_within-returns-in_ok-remove_dir-in-Dir-clause-frame g t c =

@@ -1,6 +1,6 @@
 use Rattle.std.proofs.Common.{◌≡◌, ◌+◌, ◌-◌, ◌&&◌, drop, ap, sym, ◌∙◌, arith}
 use Rattle.fp_host.specs.Reads.{is_ascending}
-use Rattle.fp_small.proofs.OldReads.{is_ascending-drop, is_ascending-last}
+use Rattle.fp_host.proofs.Ascending.{is_ascending-drop, is_ascending-last}
 use Rattle.fp_small.proofs.old_pins.are_ascending.Goals as goal
 
 pub returns-then-not-comes_before : goal.returns-then-not-comes_before

@@ -1,6 +1,7 @@
 use Rattle.std.proofs.Common.{◌≡◌, ℕ, ◌+◌, ◌-◌, ◌≤◌, ◌<◌, List, ◌∷◌, length, drop, Some, sym, ap, ◌∙◌, subst, arith, rules, IsTrue}
 use Rattle.std.specs.Option.{is_some}
 use Rattle.gv_value.proofs.Known.{AllBelow-fits}
+use Rattle.gv_value.proofs.Planned.{shape-Maybe}
 use Rattle.gv_value.specs.Layout.{align_of, size_of}
 use Rattle.gv_value.specs.Plans.{is_plan, plan_shape, plan_shapes}
 use Rattle.gv_value.specs.Reading.{value_at, read_all, read_each}
@@ -11,7 +12,7 @@ use Rattle.gv_decode.specs.Decoded.{Passes, slices}
 use Rattle.gv_decode.proofs.OneByOne.{each-passes, short-at, good-at, each-next, each-count}
 use Rattle.gv_decode.proofs.Partings.{parted-short}
 use Rattle.gv_decode.proofs.Passing.{passes-same, passes-form, passes-entry, bytes-pass}
-use Rattle.gv_decode.proofs.Rooms.{in-room, shape-Array, shape-Maybe, shape-Tuple, entry-is, members_at}
+use Rattle.gv_decode.proofs.Rooms.{in-room, shape-Array, shape-Tuple, entry-is, members_at}
 use Rattle.gv_decode.proofs.Short.{array-short, tuple-short}
 use Rattle.gv_decode.proofs.checking.+check.Goals as goal
 

@@ -4,8 +4,9 @@ use Rattle.gv_value.specs.Shape.{Shape, Shapes, tuple}
 use Rattle.gv_value.specs.Framing.{tuple_children}
 use Rattle.gv_value.specs.Layout.{size_of}
 use Rattle.gv_value.specs.declared.plan.Plan.{Plan}
+use Rattle.gv_value.proofs.Planned.{shape-Variant, shape-Maybe}
 use Rattle.gv_decode.specs.Decoded.{slices, children_of}
-use Rattle.gv_decode.proofs.Rooms.{gives-same, shape-Basic, shape-Variant, shape-Array, shape-Maybe, shape-Tuple, entry-is}
+use Rattle.gv_decode.proofs.Rooms.{gives-same, shape-Basic, shape-Array, shape-Tuple, entry-is}
 use Rattle.gv_decode.proofs.decoding.children_by.Goals as goal
 
 pub returns-in-Array : goal.returns-in-Array

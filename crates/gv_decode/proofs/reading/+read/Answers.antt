@@ -1,6 +1,7 @@
 use Rattle.std.proofs.Common.{◌≡◌, ℕ, ◌+◌, ◌-◌, ◌<◌, ◌≤◌, List, [], ◌∷◌, ◌++◌, length, drop, Some, sym, ap, ◌∙◌, subst, arith, rules, IsTrue}
 use Rattle.gv_value.proofs.Known.{AllBelow-fits}
 use Rattle.gv_value.proofs.Seen.{plain-Just}
+use Rattle.gv_value.proofs.Planned.{shape-Variant, shape-Maybe}
 use Rattle.gv_value.specs.Layout.{align_of, size_of}
 use Rattle.gv_value.specs.Plans.{is_plan, plan_shape, plan_shapes}
 use Rattle.gv_value.specs.Reading.{value_at, read_all, read_each}
@@ -14,7 +15,7 @@ use Rattle.gv_value.specs.declared.value.GvValue.TheVariants as values
 use Rattle.gv_decode.specs.Decoded.{Fails, slices}
 use Rattle.gv_decode.proofs.OneByOne.{ReadSoFar, read-more, read-ends, all-read, each-read, short-at, good-at, all-next, each-next, each-count, all-ended, each-ended}
 use Rattle.gv_decode.proofs.Partings.{parted-short}
-use Rattle.gv_decode.proofs.Rooms.{two-read, maybe-read, gives-err, gives-same, in-room, shape-Variant, shape-Array, shape-Maybe, shape-Tuple, tuple-read, tuple-fails, entry-is, entry-read, entry-fails, members_at, bytes-read}
+use Rattle.gv_decode.proofs.Rooms.{two-read, maybe-read, gives-err, gives-same, in-room, shape-Array, shape-Tuple, tuple-read, tuple-fails, entry-is, entry-read, entry-fails, members_at, bytes-read}
 use Rattle.gv_decode.proofs.Short.{array-short, tuple-short}
 use Rattle.gv_decode.proofs.reading.+read.Goals as goal
 

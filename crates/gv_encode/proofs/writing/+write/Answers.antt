@@ -3,6 +3,7 @@ use Rattle.std.specs.List.{concat}
 use Rattle.std.proofs.lemmas.Bool.{and_parts, true≢false}
 use Rattle.std.proofs.lemmas.List.{drop_more}
 use Rattle.gv_value.proofs.Extents.{filled-from}
+use Rattle.gv_value.proofs.Planned.{shape-Variant, shape-Maybe}
 use Rattle.gv_value.specs.Bytes.{zeros, le_bytes}
 use Rattle.gv_value.specs.Capped.{IsExtent}
 use Rattle.gv_value.specs.Framing.{Part, width, framed, ends, laid, parts_of, same_parts, written, is_none_left, put_offset}
@@ -19,7 +20,7 @@ use Rattle.gv_value.specs.declared.value.GvValue.{GvValue}
 use Rattle.gv_encode.specs.Encoded.{Fails, Adds}
 use Rattle.gv_encode.proofs.Elements.{counts-differ}
 use Rattle.gv_encode.proofs.Pairs.{just-fails, key-fails, value-fails, entry-closed, push-noted, put-noted, none-left, closed, closed-fails}
-use Rattle.gv_encode.proofs.Parts.{down, shape-Variant, shape-Maybe, good-Maybe, entry-is, entry-two, two-of, bytes-spelled}
+use Rattle.gv_encode.proofs.Parts.{down, good-Maybe, entry-is, entry-two, two-of, bytes-spelled}
 use Rattle.gv_encode.proofs.Placed.{Placing, placing-le, placing-more, placing-fails}
 use Rattle.gv_encode.proofs.Steps.{adds-same, adds-err, fails-front, Coming, coming-more, coming-fails}
 use Rattle.gv_encode.proofs.writing.+write.Goals as goal

@@ -12,8 +12,9 @@ use Rattle.fp_small.specs.Places.{repo}
 use Rattle.op_change.proofs.Apart.{pull_apart}
 use Rattle.op_change.proofs.Brings.{where_told}
 use Rattle.fp_host.specs.View.{IsTree}
+use Rattle.ost_walk.proofs.Ended.{remotes_on}
 use Rattle.op_change.proofs.Fetched.{RoomMade}
-use Rattle.op_change.proofs.Passing.{host_no_refusal, host_no_remote, host_fault, host_refuses, passes, refuses_on, remotes_on}
+use Rattle.op_change.proofs.Passing.{host_no_refusal, host_no_remote, host_fault, host_refuses, passes, refuses_on}
 use Rattle.op_change.proofs.Steps.{room_at, has_room_at, pulls_at, pulled_at, goes_room, goes_pull, at_pull, goes_furnish, end_furnish, end_reserved, end_turned, room_can, known_tree, pull_can, furnish_can, refuses_none, supplies_after, true_after, true_at, room_cause_at, pull_cause_at, refused_at, supplies_at, never_reserved, turned_by}
 use Rattle.op_change.proofs.fetching.fetch.Goals as goal
 

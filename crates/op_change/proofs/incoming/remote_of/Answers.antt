@@ -1,9 +1,10 @@
 use Rattle.std.proofs.Common.{List, ap, sym, ◌∙◌}
 use Rattle.std.specs.Option.{option_copied}
+use Rattle.fp_base.proofs.Options.{none_some}
 use Rattle.fp_small.specs.Config.{name_of}
 use Rattle.fp_small.specs.declared.state.RemoteRow.{RemoteRow}
 use Rattle.dep_states.specs.Shown.{at_name}
-use Rattle.op_change.proofs.Brought.{row_there, none_some}
+use Rattle.op_change.proofs.Brought.{row_there}
 use Rattle.op_change.proofs.incoming.remote_of.Goals as goal
 
 pub unreachable-requires : goal.unreachable-requires

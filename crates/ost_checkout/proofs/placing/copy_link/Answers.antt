@@ -4,9 +4,10 @@ use Rattle.fp_host.specs.Paths.{link}
 use Rattle.fp_host.specs.Calls.{Can, makes_link}
 use Rattle.fp_host.proofs.Cause.{clash_step}
 use Rattle.fp_host.proofs.Ending.{ends_start, ends_call, ends_on, ends_to, call_caused}
+use Rattle.fp_host.proofs.Slots.{clash_link as no_link}
 use Rattle.fp_small.proofs.Unsynced.{none_on, none_same, step_none}
 use Rattle.ost_checkout.specs.Placing.{WasCopied, CanCopyLink}
-use Rattle.ost_checkout.proofs.Copied.{read_only, text_linking, no_link, can_link_text, link_made}
+use Rattle.ost_checkout.proofs.Copied.{read_only, text_linking, can_link_text, link_made}
 use Rattle.ost_checkout.proofs.placing.copy_link.Goals as goal
 
 pub returns-in_err-text-clause-any_moment : goal.returns-in_err-text-clause-any_moment

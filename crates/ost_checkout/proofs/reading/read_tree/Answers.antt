@@ -3,10 +3,11 @@ use Rattle.fp_host.specs.Outcome.{shows}
 use Rattle.fp_host.proofs.Cause.{same_fault}
 use Rattle.fp_host.proofs.Ending.{ends_to}
 use Rattle.fp_base.specs.declared.object.ObjKind.TheVariants as kinds
+use Rattle.fp_base.proofs.Options.{if_ok_to}
 use Rattle.ost_model.specs.Objects.{store}
 use Rattle.ost_store.specs.declared.reading.Got.{Got}
 use Rattle.ost_store.specs.Reads.{Gets}
-use Rattle.ost_checkout.proofs.Read.{if_ok_to, is_tree, tree_reads, meta_told}
+use Rattle.ost_checkout.proofs.Read.{is_tree, tree_reads, meta_told}
 use Rattle.ost_checkout.proofs.reading.read_tree.Goals as goal
 
 pub returns-in_err-bytes-clause-fault_has_cause : goal.returns-in_err-bytes-clause-fault_has_cause

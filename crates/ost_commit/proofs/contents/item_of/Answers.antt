@@ -1,9 +1,10 @@
 use Rattle.std.proofs.Common.{◌≡◌, ◌++◌, sym, ◌∙◌, ap, subst}
 use Rattle.sha2.specs.Sha256.{sha256}
 use Rattle.ost_model.specs.Contents.{header, link_header}
+use Rattle.ost_content.proofs.Links.{link_item}
 use Rattle.ost_commit.specs.declared.row.TreeRow.{TreeRow}
 use Rattle.ost_commit.specs.Digests.{IsDigestOf}
-use Rattle.ost_commit.proofs.Holding.{file_item, link_item}
+use Rattle.ost_commit.proofs.Holding.{file_item}
 use Rattle.ost_commit.proofs.contents.item_of.Goals as goal
 
 pub returns-in_ok-copy-in-File : goal.returns-in_ok-copy-in-File

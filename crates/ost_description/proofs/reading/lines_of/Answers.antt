@@ -1,7 +1,8 @@
 use Rattle.std.proofs.Common.{◌≡◌, ◌++◌, ◌∷◌, [], length, sym, ap, ◌∙◌, rules, arith, append_assoc, length-append}
 use Rattle.std.proofs.lemmas.List.{append-nil}
+use Rattle.fp_base.proofs.Lines.{remainder_is_shorter}
 use Rattle.ost_description.specs.Descriptions.{rows_in, pieces}
-use Rattle.ost_description.proofs.LineLemmas.{rows_step, rows_stop, rows_end, unformed_step, unformed_stop, unformed_end, remainder_is_shorter}
+use Rattle.ost_description.proofs.LineLemmas.{rows_step, rows_stop, rows_end, unformed_step, unformed_stop, unformed_end}
 use Rattle.ost_description.proofs.reading.lines_of.Goals as goal
 
 pub returns-in_default-2-clause-rows : goal.returns-in_default-2-clause-rows

@@ -1,6 +1,7 @@
 use Rattle.std.proofs.Common.{◌≡◌, None, rules}
+use Rattle.fp_base.proofs.Lines.{remainder_is_shorter}
 use Rattle.ost_description.specs.Descriptions.{subject_in, first_by, pieces}
-use Rattle.ost_description.proofs.LineLemmas.{no_line, bad_first, good_first, remainder_is_shorter}
+use Rattle.ost_description.proofs.LineLemmas.{no_line, bad_first, good_first}
 use Rattle.ost_description.proofs.reading.subject_line.Goals as goal
 
 pub returns-in_err-line-clause-line : goal.returns-in_err-line-clause-line

@@ -4,7 +4,7 @@ use Rattle.fp_host.specs.Paths.{absent}
 use Rattle.fp_host.specs.Frame.{AtEnd}
 use Rattle.fp_host.specs.Moments.{Always}
 use Rattle.fp_host.proofs.Cause.{same_fault}
-use Rattle.fp_host.proofs.Ending.{ends_start, ends_goes, ends_on, fault_caused}
+use Rattle.fp_host.proofs.Ending.{ends_start, ends_goes, ends_on, fault_caused, to_tree}
 use Rattle.fp_host.proofs.Framed.{keeps_refl}
 use Rattle.fp_host.proofs.Goes.{stays}
 use Rattle.fp_small.specs.Folders.{ancestors, AreFree}
@@ -19,7 +19,6 @@ use Rattle.ost_refs.specs.declared.place.RefPlace.{RefPlace}
 use Rattle.ost_export.specs.Staging.{AreWhole}
 use Rattle.ost_export.specs.Storing.{StoresObjects, HasStored, CanStoreAll}
 use Rattle.ost_export.specs.Exports.{CanExportAll, Furnishes, a_remote, config_path}
-use Rattle.ost_export.proofs.Placed.{to_tree}
 use Rattle.ost_export.proofs.Exported.{furnishes_first, known_at, furnishes_config, config_at, furnishes_remotes, remotes_at, exports_all, exports_last, exported_at, can_objects, can_write_config, can_make_remotes, can_write_ref}
 use Rattle.ost_export.proofs.exporting.write_offer.Goals as goal
 

@@ -1,13 +1,12 @@
 use Rattle.std.proofs.Common.{[], arith}
 use Rattle.std.proofs.lemmas.Result.{on_ok_weaker}
 use Rattle.fp_host.proofs.Cause.{same_fault}
-use Rattle.fp_host.proofs.Ending.{fault_caused}
+use Rattle.fp_host.proofs.Ending.{fault_caused, to_tree}
 use Rattle.ost_commit.specs.Objects.{have_of}
 use Rattle.ost_export.specs.Staging.{CanStageAll}
 use Rattle.ost_export.specs.Placing.{CanStore}
 use Rattle.ost_export.specs.Storing.{CanStoreAll}
 use Rattle.ost_export.proofs.Paths.{apart_named}
-use Rattle.ost_export.proofs.Placed.{to_tree}
 use Rattle.ost_export.proofs.Objects.{stores_looks, begun_at, stores_works, filled_at, stores_puts, stored_at, can_stage_all, can_store}
 use Rattle.ost_export.proofs.storing.store_objects.Goals as goal
 

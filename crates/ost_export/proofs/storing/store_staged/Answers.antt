@@ -1,10 +1,9 @@
 use Rattle.std.proofs.Common.{arith}
 use Rattle.fp_host.specs.Calls.{syncs, Can}
 use Rattle.fp_host.proofs.Cause.{clash_step, same_fault}
-use Rattle.fp_host.proofs.Ending.{goes_last, ends_start, ends_call, ends_goes, call_caused, fault_caused}
+use Rattle.fp_host.proofs.Ending.{goes_last, ends_start, ends_call, ends_goes, call_caused, fault_caused, from_tree, to_tree}
 use Rattle.fp_small.specs.Clear.{CanClear}
 use Rattle.ost_export.specs.Placing.{CanPlaceAll, CanStore}
-use Rattle.ost_export.proofs.Placed.{from_tree, to_tree}
 use Rattle.ost_export.proofs.Stored.{can_place, stores_sync, stores_place, stores_clear, stores_again, placed_at, cleared_at, stored_at, clears_still}
 use Rattle.ost_export.proofs.storing.store_staged.Goals as goal
 

@@ -6,7 +6,8 @@ use Rattle.fp_host.specs.declared.host.HostEnd.TheVariants.{Fault}
 use Rattle.fp_host.proofs.Cause.{passed_on}
 use Rattle.fp_host.proofs.Looking.{looks_start, looks_stat, looks_read_link, looks_within}
 use Rattle.fp_host.proofs.Ending.{ends_call, ends_on, ends_to, call_caused}
-use Rattle.ost_fsck.proofs.Itemed.{stat_link, clash_link, file_after, link_at}
+use Rattle.fp_host.proofs.Slots.{stat_link, clash_link}
+use Rattle.ost_fsck.proofs.Itemed.{file_after, link_at}
 use Rattle.ost_fsck.proofs.item.small_item.Goals as goal
 
 pub returns-in_err-mode-clause-unchanged : goal.returns-in_err-mode-clause-unchanged

@@ -1,8 +1,8 @@
 use Rattle.std.proofs.Common.{None, subst}
+use Rattle.fp_base.proofs.Options.{if_ok_to}
 use Rattle.fp_host.proofs.Ending.{ends_start, ends_to}
 use Rattle.ost_store.specs.Names.{IsNamed}
 use Rattle.ost_fsck.proofs.Batched.{named_row, as_before}
-use Rattle.ost_fsck.proofs.Itemed.{if_ok_to}
 use Rattle.ost_fsck.proofs.row.read.Goals as goal
 
 pub returns-in-Some-clause-tells : goal.returns-in-Some-clause-tells

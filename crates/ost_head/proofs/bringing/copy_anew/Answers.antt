@@ -5,9 +5,10 @@ use Rattle.fp_host.proofs.Ending.{ends_start}
 use Rattle.ost_model.specs.declared.object.Object.TheVariants as objects
 use Rattle.ost_store.specs.Stage.{CanStage}
 use Rattle.ost_walk.specs.declared.ends.WalkEnd.TheVariants as ends
+use Rattle.ost_walk.proofs.Ended.{host_end}
 use Rattle.ost_head.specs.Brings.{CanBring}
 use Rattle.ost_head.specs.Copies.{IsNewFile}
-use Rattle.ost_head.proofs.Brought.{always_comes, copy_comes, copied_anew, started_new, can_start, host_end}
+use Rattle.ost_head.proofs.Brought.{always_comes, copy_comes, copied_anew, started_new, can_start}
 use Rattle.ost_head.proofs.bringing.copy_anew.Goals as goal
 
 pub returns-in_err-stage_file-clause-any_moment : goal.returns-in_err-stage_file-clause-any_moment

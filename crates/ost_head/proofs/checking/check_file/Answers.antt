@@ -1,4 +1,4 @@
-use Rattle.ost_head.proofs.Brought.{host_end}
+use Rattle.ost_walk.proofs.Ended.{host_end}
 use Rattle.ost_head.proofs.checking.check_file.Goals as goal
 
 pub returns-in_err-got-clause-fault_has_cause : goal.returns-in_err-got-clause-fault_has_cause

@@ -1,8 +1,9 @@
 use Rattle.std.proofs.Common.{sym, subst, inl, inr}
 use Rattle.fp_host.specs.Remote.{Held, IsNode}
+use Rattle.fp_host.proofs.Nodes.{node_link}
 use Rattle.fp_base.specs.declared.object.ObjKind.TheVariants as kinds
 use Rattle.ost_head.specs.Fetches.{ReadsAt}
-use Rattle.ost_head.proofs.Fetched.{node_link, none_read}
+use Rattle.ost_head.proofs.Fetched.{none_read}
 use Rattle.ost_head.proofs.fetching.read_content.Goals as goal
 
 pub returns-in-Link-clause-tells : goal.returns-in-Link-clause-tells

@@ -5,8 +5,8 @@ use Rattle.ost_model.specs.Objects.{Have}
 use Rattle.ost_model.specs.Remotes.{Supplies}
 use Rattle.ost_object.specs.Views.{commit_view, tree_view}
 use Rattle.ost_walk.specs.PullEnds.{Answers}
+use Rattle.ost_walk.proofs.Quiet.{supplied}
 use Rattle.ost_head.specs.Heads.{head_of}
-use Rattle.ost_head.proofs.Quiet.{supplied}
 use Rattle.ost_head.proofs.Looking.{looks_on, looks_err}
 use Rattle.ost_head.proofs.Headed.{passed}
 use Rattle.ost_head.proofs.head.read_head.Goals as goal

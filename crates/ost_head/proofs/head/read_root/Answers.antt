@@ -1,6 +1,6 @@
 use Rattle.std.proofs.Common.{◌∙◌}
 use Rattle.ost_object.specs.Views.{commit_view, tree_view}
-use Rattle.ost_head.proofs.Quiet.{looks_on, looks_ok, looks_err, supplied}
+use Rattle.ost_walk.proofs.Quiet.{looks_ok, looks_err, looks_on, supplied}
 use Rattle.ost_head.proofs.Headed.{commit_off, commit_on, later_off}
 use Rattle.ost_head.proofs.head.read_root.Goals as goal
 

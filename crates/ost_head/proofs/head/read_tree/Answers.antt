@@ -1,5 +1,5 @@
 use Rattle.ost_object.specs.Views.{commit_view, tree_view}
-use Rattle.ost_head.proofs.Quiet.{looks_on, looks_ok, looks_err, supplied}
+use Rattle.ost_walk.proofs.Quiet.{looks_ok, looks_err, looks_on, supplied}
 use Rattle.ost_head.proofs.Headed.{tree_off, meta_off, meta_on}
 use Rattle.ost_head.proofs.head.read_tree.Goals as goal
 

@@ -4,10 +4,11 @@ use Rattle.ost_model.specs.declared.object.Object.TheVariants as objects
 use Rattle.ost_model.specs.Readers.{commit_read}
 use Rattle.ost_object.specs.Answers.{Breaks, mapped}
 use Rattle.ost_object.specs.Views.{root_in, root_view}
+use Rattle.ost_object.proofs.Roots.{commit_reads}
 use Rattle.ost_walk.specs.declared.ends.WalkEnd.{WalkEnd}
 use Rattle.ost_walk.specs.Ends.{RefusesBy, IsFaultOf}
 use Rattle.ost_head.specs.Objects.{rules_fault}
-use Rattle.ost_head.proofs.Judged.{commit_reads, commit_breaks}
+use Rattle.ost_head.proofs.Judged.{commit_breaks}
 use Rattle.ost_head.proofs.judging.check_commit.Goals as goal
 
 pub returns-in-Ok-clause-tells : goal.returns-in-Ok-clause-tells

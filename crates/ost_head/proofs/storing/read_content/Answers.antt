@@ -1,8 +1,9 @@
 use Rattle.std.proofs.Common.{IsErrOf}
 use Rattle.fp_host.proofs.Looking.{looks_within}
 use Rattle.ost_walk.specs.declared.ends.WalkEnd.TheVariants as walks
-use Rattle.ost_head.proofs.Stored.{stored_file, stored_link, counted_after}
+use Rattle.ost_head.proofs.Stored.{stored_link}
 use Rattle.ost_head.proofs.storing.read_content.Goals as goal
+use Rattle.ost_head.proofs.Told.{stored_file, counted_after}
 
 pub returns-in-File-clause-unchanged : goal.returns-in-File-clause-unchanged
 returns-in-File-clause-unchanged g c = looks_within c.read_file.ensures.unchanged c.get.ensures.unchanged (g.met.H.Host.is_tree c.get.new.host)

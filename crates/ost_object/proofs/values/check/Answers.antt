@@ -1,8 +1,8 @@
 use Rattle.std.proofs.Common.{Err, refl, ap, ◌∙◌, subst}
 use Rattle.gv_value.specs.Reading.{value_of}
 use Rattle.gv_value.specs.Views.{shape_of}
+use Rattle.gv_value.proofs.Long.{long_is_none, short_is_none}
 use Rattle.gv_decode.specs.Decoded.{Passes}
-use Rattle.ost_object.proofs.Shapes.{long_is_none, short_is_none}
 use Rattle.ost_object.proofs.values.check.Goals as goal
 
 pub returns-in-Err-TooLong : goal.returns-in-Err-TooLong

@@ -6,11 +6,12 @@ use Rattle.fp_host.specs.View.{View}
 use Rattle.fp_host.proofs.Cause.{Rose-later}
 use Rattle.fp_host.proofs.Ending.{ends_on, ends_looks}
 use Rattle.ost_walk.specs.Surveys.{first_named, told_fault}
+use Rattle.ost_walk.proofs.Ended.{remotes_on, never_refused}
 use Rattle.ost_pull.specs.Takes.{AreTaken, AreTakenNow, TakesAll}
 use Rattle.ost_store.specs.ObjectNames.{AreOpen}
 use Rattle.ost_pull.specs.Work.{Gathered}
 use Rattle.ost_pull.proofs.Kept.{works_start, works_looks, works_within}
-use Rattle.ost_pull.proofs.Taken.{passed, counted, remotes_pass, survey_judged, covers_order, ok_two, placed_supplies, still_supplied, never_refused, taken_from}
+use Rattle.ost_pull.proofs.Taken.{passed, counted, survey_judged, covers_order, ok_two, placed_supplies, still_supplied, taken_from}
 use Rattle.ost_pull.proofs.Trusted.{trust_later}
 use Rattle.ost_pull.proofs.gathering.take_order.Goals as goal
 
@@ -99,4 +100,4 @@ returns-clause-fault_has_cause g c = counted (λ is. cc is) c.in-Err.ensures.loo
 
 pub returns-clause-remote_fault_has_cause :
     goal.returns-clause-remote_fault_has_cause
-returns-clause-remote_fault_has_cause g c = remotes_pass (λ is. cc is) c.in-Err.ensures.looks.remote
+returns-clause-remote_fault_has_cause g c = remotes_on (λ is. cc is) c.in-Err.ensures.looks.remote

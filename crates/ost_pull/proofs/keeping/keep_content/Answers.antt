@@ -6,7 +6,8 @@ use Rattle.fp_host.specs.declared.host.Stat.{Stat}
 use Rattle.fp_host.proofs.Ending.{ends_call}
 use Rattle.ost_head.specs.Brings.{CanBring}
 use Rattle.ost_store.specs.ObjectNames.{AreOpen}
-use Rattle.ost_pull.proofs.Contents.{host_end, works_bring, kept_good, can_bring}
+use Rattle.ost_walk.proofs.Ended.{host_end}
+use Rattle.ost_pull.proofs.Contents.{works_bring, kept_good, can_bring}
 use Rattle.ost_pull.proofs.Kept.{works_start, works_looks, keeps_new, keeps_already}
 use Rattle.ost_pull.proofs.Taken.{passed, ok_two}
 use Rattle.ost_pull.proofs.keeping.keep_content.Goals as goal

@@ -1,11 +1,10 @@
 use Rattle.std.proofs.Common.{arith}
 use Rattle.fp_host.specs.Calls.{syncs, Can}
 use Rattle.fp_host.proofs.Cause.{clash_step, same_fault}
-use Rattle.fp_host.proofs.Ending.{goes_last, ends_start, ends_call, ends_goes, call_caused, fault_caused}
+use Rattle.fp_host.proofs.Ending.{goes_last, ends_start, ends_call, ends_goes, call_caused, fault_caused, from_tree, to_tree}
 use Rattle.fp_small.specs.Clear.{CanClear}
 use Rattle.ost_pull.specs.Placing.{CanPlaceAll, CanStore}
 use Rattle.ost_pull.proofs.Kept.{works_clear, works_sync}
-use Rattle.ost_pull.proofs.Placed.{from_tree, to_tree}
 use Rattle.ost_pull.proofs.Stored.{can_place, stores_sync, stores_place, stores_work, placed_at, cleared_at, stored_at, clears_still}
 use Rattle.ost_pull.proofs.placing.store_kept.Goals as goal
 

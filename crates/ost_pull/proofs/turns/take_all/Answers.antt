@@ -3,7 +3,7 @@ use Rattle.std.specs.List.{between}
 use Rattle.fp_host.specs.Frame.{AtEnd}
 use Rattle.fp_host.specs.Remote.{Holdings}
 use Rattle.fp_host.proofs.Cause.{Rose-later}
-use Rattle.fp_host.proofs.Ending.{ends_start, ends_to, ends_on, ends_both, ends_goes}
+use Rattle.fp_host.proofs.Ending.{ends_start, ends_to, ends_on, ends_both, ends_goes, to_tree}
 use Rattle.fp_base.specs.declared.object.ObjKind.{ObjKind}
 use Rattle.ost_walk.specs.Surveys.{first_bad}
 use Rattle.ost_pull.specs.Takes.{AreTakenNow, TakesAll, AddsAmong}
@@ -11,7 +11,7 @@ use Rattle.ost_store.specs.ObjectNames.{AreOpen}
 use Rattle.ost_pull.proofs.Apart.{works_supplies, works_open}
 use Rattle.ost_pull.proofs.Kept.{works_start, works_within}
 use Rattle.ost_pull.proofs.Joined.{taken_more, added_more, good_more, bad_more}
-use Rattle.ost_pull.proofs.Taken.{none_taken, all_is, passed, ends_to_tree, taken_from}
+use Rattle.ost_pull.proofs.Taken.{none_taken, all_is, passed, taken_from}
 use Rattle.ost_pull.proofs.Trusted.{trust_later}
 use Rattle.ost_pull.proofs.turns.take_all.Goals as goal
 
@@ -43,7 +43,7 @@ loop-at-preserved g c =
       same = c.take_batch.ensures.same ∙ before.same;
       only = added_more objects i j (omega (arith, le)) c.args.kept.now.items c.loop-at.kept.items c.take_batch.new.kept.items before.only c.in-Ok.ensures.only;
       taken = ends_on
-          (ends_to_tree (t c.take_batch.new.host) (ends_both (ends_goes (t c.loop-at.host) c.take_batch.ensures.any_moment)
+          (to_tree (t c.take_batch.new.host) (ends_both (ends_goes (t c.loop-at.host) c.take_batch.ensures.any_moment)
           (subst (λ (holds : Option Holdings). AtEnd (TakesAll c.args.root.now c.args.work.now c.args.url.now holds (between i j objects) c.loop-at.kept.items c.take_batch.new.kept.items) (g.H.Host.moments c.loop-at.host) (g.H.Host.moments c.take_batch.new.host)) before.same c.in-Ok.ensures.on_success)))
           before.taken (t c.loop-at.host)
           (λ u v w tree q s. taken_more objects i j (omega (arith, le)) c.args.kept.now.items c.loop-at.kept.items c.take_batch.new.kept.items c.requires tree s.0 c.in-Ok.ensures.noted q s.1.0 s.1.1);

@@ -6,11 +6,12 @@ use Rattle.fp_host.specs.Remote.{Holdings}
 use Rattle.fp_host.proofs.Cause.{Rose-later}
 use Rattle.fp_host.proofs.Ending.{ends_on, ends_looks}
 use Rattle.ost_walk.specs.Surveys.{first_bad, told_fault}
+use Rattle.ost_walk.proofs.Ended.{remotes_on}
 use Rattle.ost_pull.specs.Takes.{AreTaken, AreTakenNow, TakesAll}
 use Rattle.ost_store.specs.ObjectNames.{AreOpen}
 use Rattle.ost_pull.proofs.Batched.{ready_same}
 use Rattle.ost_pull.proofs.Kept.{works_looks, works_within}
-use Rattle.ost_pull.proofs.Taken.{passed, counted, remotes_pass, still_supplied, taken_from, never_named}
+use Rattle.ost_pull.proofs.Taken.{passed, counted, still_supplied, taken_from, never_named}
 use Rattle.ost_pull.proofs.Trusted.{trust_later}
 use Rattle.ost_pull.proofs.turns.take_batch.Goals as goal
 
@@ -81,4 +82,4 @@ pub returns-in-Err-clause-fault_has_cause : goal.returns-in-Err-clause-fault_has
 returns-in-Err-clause-fault_has_cause g c = counted (λ is. cc is) c.in-Err.ensures.fault_has_cause
 
 pub returns-in-Err-clause-remote_fault_has_cause : goal.returns-in-Err-clause-remote_fault_has_cause
-returns-in-Err-clause-remote_fault_has_cause g c = remotes_pass (λ is. cc is) c.in-Err.ensures.remote_fault_has_cause
+returns-in-Err-clause-remote_fault_has_cause g c = remotes_on (λ is. cc is) c.in-Err.ensures.remote_fault_has_cause

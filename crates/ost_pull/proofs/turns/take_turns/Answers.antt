@@ -2,7 +2,7 @@ use Rattle.std.proofs.Common.{List, ℕ, Option, refl, sym, ◌∙◌, ap, subst
 use Rattle.fp_host.specs.Frame.{AtEnd}
 use Rattle.fp_host.specs.Remote.{Holdings}
 use Rattle.fp_host.proofs.Cause.{Rose-later}
-use Rattle.fp_host.proofs.Ending.{ends_start, ends_to, ends_on, ends_both, ends_goes}
+use Rattle.fp_host.proofs.Ending.{ends_start, ends_to, ends_on, ends_both, ends_goes, to_tree}
 use Rattle.fp_base.specs.declared.object.ObjKind.{ObjKind}
 use Rattle.ost_walk.specs.Surveys.{first_bad}
 use Rattle.ost_pull.specs.Batches.{IsReady}
@@ -10,7 +10,7 @@ use Rattle.ost_pull.specs.Takes.{AreTakenNow, TakesOne, TakesAll, AddsAmong}
 use Rattle.ost_store.specs.ObjectNames.{AreOpen}
 use Rattle.ost_pull.proofs.Apart.{works_supplies, works_open}
 use Rattle.ost_pull.proofs.Kept.{works_start, works_within}
-use Rattle.ost_pull.proofs.Taken.{none_taken, next_taken, next_added, next_good, next_bad, all_is, passed, ends_to_tree, taken_from}
+use Rattle.ost_pull.proofs.Taken.{none_taken, next_taken, next_added, next_good, next_bad, all_is, passed, taken_from}
 use Rattle.ost_pull.proofs.Batched.{ready_later}
 use Rattle.ost_pull.proofs.Joined.{noted_next}
 use Rattle.ost_pull.proofs.Trusted.{trust_later}
@@ -45,7 +45,7 @@ loop-at-preserved g c =
       only = next_added objects i o low is c.args.kept.now.items c.loop-at.kept.items c.take_turn.new.kept.items c.in-Ok.ensures.adds before.only;
       noted = noted_next o c.args.kept.now.items c.loop-at.kept.items c.take_turn.new.kept.items c.in-Ok.ensures.adds before.noted;
       taken = ends_on
-          (ends_to_tree (t c.take_turn.new.host) (ends_both (ends_goes (t c.loop-at.host) c.take_turn.ensures.any_moment)
+          (to_tree (t c.take_turn.new.host) (ends_both (ends_goes (t c.loop-at.host) c.take_turn.ensures.any_moment)
           (subst (λ (holds : Option Holdings). AtEnd (TakesOne c.args.root.now c.args.work.now c.args.url.now holds (o.0, o.1) c.loop-at.kept.items c.take_turn.new.kept.items) (g.H.Host.moments c.loop-at.host) (g.H.Host.moments c.take_turn.new.host)) before.same c.in-Ok.ensures.on_success)))
           before.taken (t c.loop-at.host)
           (λ u v w tree q s. next_taken objects i o low is c.args.kept.now.items c.loop-at.kept.items c.take_turn.new.kept.items c.in-Ok.ensures.adds c.requires.apart tree s.0 q s.1.0 s.1.1);

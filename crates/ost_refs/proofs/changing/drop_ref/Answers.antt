@@ -6,8 +6,9 @@ use Rattle.fp_host.proofs.Cause.{same_fault}
 use Rattle.fp_host.proofs.Framed.{frame_sync}
 use Rattle.fp_host.proofs.Ending.{ends_call, ends_on, ends_in_tree}
 use Rattle.fp_small.proofs.Replacement.{free_no_dir}
+use Rattle.fp_small.proofs.Emptying.{frame_at, ends_at}
 use Rattle.ost_refs.specs.Places.{place_path}
-use Rattle.ost_refs.proofs.Drops.{dropped, frame_at, ends_at}
+use Rattle.ost_refs.proofs.Drops.{dropped}
 use Rattle.ost_refs.proofs.changing.drop_ref.Goals as goal
 
 pub returns-in_err-take_away-clause-fault_has_cause : goal.returns-in_err-take_away-clause-fault_has_cause

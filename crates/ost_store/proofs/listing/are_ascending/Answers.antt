@@ -4,7 +4,7 @@ use Rattle.std.specs.Cmp.Lexicographic.{slice_cmp}
 use Rattle.std.proofs.lemmas.List.{get_or-map, length-map}
 use Rattle.fp_host.specs.Paths.{Elements, path_text}
 use Rattle.fp_host.specs.Reads.{is_ascending}
-use Rattle.fp_small.proofs.OldReads.{is_ascending-drop, is_ascending-last}
+use Rattle.fp_host.proofs.Ascending.{is_ascending-drop, is_ascending-last}
 use Rattle.ost_store.proofs.listing.are_ascending.Goals as goal
 
 -- the texts from this path on

@@ -4,7 +4,8 @@ use Rattle.fp_host.specs.View.{View, IsTree}
 use Rattle.fp_host.specs.Reads.{StatOf}
 use Rattle.fp_host.proofs.Looking.{looks_start, looks_stat, looks_read_link}
 use Rattle.fp_host.proofs.Ending.{ends_call, ends_on, ends_in_tree, call_caused}
-use Rattle.ost_store.proofs.Gets.{stat_link, clash_link, got_none, got_long, got_file, got_link}
+use Rattle.fp_host.proofs.Slots.{stat_link, clash_link}
+use Rattle.ost_store.proofs.Gets.{got_none, got_long, got_file, got_link}
 use Rattle.ost_store.proofs.reading.get_content.Goals as goal
 
 pub returns-in_err-stat-clause-unchanged : goal.returns-in_err-stat-clause-unchanged

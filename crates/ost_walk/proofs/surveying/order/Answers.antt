@@ -5,8 +5,9 @@ use Rattle.ost_walk.specs.declared.ends.WalkEnd.{WalkEnd}
 use Rattle.ost_walk.specs.Ends.{EndsBy, IsFirst}
 use Rattle.ost_walk.specs.Steps.{IsOrder}
 use Rattle.ost_walk.proofs.Quiet.{looks_err}
-use Rattle.ost_walk.proofs.Surveyed.{order_told, never_refused, looks_as, looks_whole}
+use Rattle.ost_walk.proofs.Surveyed.{order_told, looks_as, looks_whole}
 use Rattle.ost_walk.proofs.surveying.order.Goals as goal
+use Rattle.ost_walk.proofs.Ended.{never_refused}
 
 pub returns-in-Ok-clause-looks : goal.returns-in-Ok-clause-looks
 returns-in-Ok-clause-looks g c = looks_as c.whole.ensures (looks_whole c.in-Ok.ensures.looks)

@@ -1,5 +1,6 @@
 -- Each call tells nothing, and has its trait's bounds from its own clauses.
-use Rattle.dep_tests.proofs.Untold.{untold, done_cause, done_needs, starved_cause}
+use Rattle.fp_host.proofs.Untold.{untold}
+use Rattle.dep_tests.proofs.Untold.{done_cause, done_needs, starved_cause}
 use Rattle.dep_tests.proofs.wide_host.WideHostHost.TheImpl.Goals as goal
 
 pub stat-tells : goal.stat-tells

@@ -1,5 +1,6 @@
 -- Each call counts, tells nothing of content, and has its trait's bounds from its own clauses.
-use Rattle.fp_realhost.proofs.Causes.{untold, cause}
+use Rattle.fp_host.proofs.Untold.{untold}
+use Rattle.fp_realhost.proofs.Causes.{cause}
 use Rattle.fp_realhost.proofs.host_dir.HostDirHost.TheImpl.Goals as goal
 
 pub stat-tells : goal.stat-tells

@@ -1,8 +1,8 @@
--- Names that ascend, from a place on.
-use Rattle.std.proofs.Common.{◌≡◌, ℕ, suc, ◌+◌, ◌-◌, ◌<◌, ◌≤◌, true, ◌&&◌, List, [], ◌∷◌, length, get_or, drop, refl, sym, ◌∙◌, ap, arith, length-drop}
-use Rattle.std.proofs.Math.Seq.{drop-cons}
+-- Names in order.
 use Rattle.std.specs.Ordering.{is_lt, nat_cmp}
 use Rattle.std.specs.Cmp.Lexicographic.{slice_cmp}
+use Rattle.std.proofs.Common.{sym, ap, drop, List, get_or, length, suc, arith, ℕ, ◌≡◌, ◌-◌, ◌<◌, ◌≤◌, ◌&&◌, ◌∷◌, ◌∙◌, length-drop, refl, true, ◌+◌, []}
+use Rattle.std.proofs.Math.Seq.{drop-cons}
 use Rattle.fp_host.specs.Reads.{is_ascending}
 
 -- of two neighbours the first comes before, and the rest ascends
@@ -15,7 +15,7 @@ is_ascending-drop xs i x y low high at_x at_y =
     let from_y : drop i xs ≡ y ∷ drop (suc i) xs = drop-cons xs i y high ∙ ap (λ h. h ∷ drop (suc i) xs) (sym at_y) in
     ap is_ascending from_x ∙ ap (λ r. is_ascending (x ∷ r)) from_y ∙ ap (λ r. is_lt (slice_cmp nat_cmp x y) && is_ascending r) (sym from_y)
 
--- one name or none ascends
+-- one pattern or none ascends
 pub is_ascending-last : (xs : List (List ℕ)) (i : ℕ) → length xs ≤ i + 1 → is_ascending (drop i xs) ≡ true
 is_ascending-last xs i h = short (drop i xs) (omega (arith, length-drop i xs))
   where
