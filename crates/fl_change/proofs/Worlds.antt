@@ -28,7 +28,7 @@ use Rattle.dep_tidy.proofs.Pruned.{row_keeps}
 use Rattle.fl_change.specs.World.{World, world_at, world_after, worlds_after, is_at, kept_commits, is_used, used_of}
 use Rattle.fp_base.specs.Objects.{is_kind}
 use Rattle.fp_base.proofs.Lists.{in_none, in_cases}
-use Rattle.fp_base.proofs.Kinds.{kind_is, kind_same}
+use Rattle.fp_base.proofs.ObjectKinds.{kind_is, kind_same}
 use Rattle.fl_change.specs.Performs.{Holds}
 
 -- ---- what a list has

@@ -9,7 +9,7 @@ use Rattle.std.proofs.lemmas.Slice.Eq.{bytes_eq-Decides}
 use Rattle.fp_base.specs.Objects.{is_kind}
 use Rattle.fp_base.specs.declared.object.ObjKind.{ObjKind}
 use Rattle.fp_base.proofs.Booleans.{true_false}
-use Rattle.fp_base.proofs.Kinds.{kind_is as kinds_same}
+use Rattle.fp_base.proofs.ObjectKinds.{kind_is as kinds_same}
 use Rattle.fp_host.specs.Paths.{Elements, path_eq}
 use Rattle.fp_host.specs.Outcome.{Spot, gone, folder, Disk}
 use Rattle.fp_host.proofs.Separate.{path_decides}

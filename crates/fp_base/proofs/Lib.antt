@@ -2,5 +2,5 @@ pub mod Booleans
 pub mod Options
 pub mod Lists
 pub mod Texts
-pub mod Kinds
+pub mod ObjectKinds
 pub mod Lines

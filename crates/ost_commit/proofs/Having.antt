@@ -21,7 +21,7 @@ use Rattle.ost_commit.specs.Rows.{content, put_by}
 use Rattle.ost_commit.specs.Refusals.{is_content}
 use Rattle.ost_commit.specs.Objects.{have_of, AreApart}
 use Rattle.fp_base.specs.Objects.{is_kind}
-use Rattle.fp_base.proofs.Kinds.{kind_is, kind_same}
+use Rattle.fp_base.proofs.ObjectKinds.{kind_is, kind_same}
 use Rattle.ost_commit.specs.Shows.{AreGood}
 use Rattle.ost_commit.specs.Digests.{IsDigestOf, AreDigests}
 use Rattle.ost_commit.specs.Tables.{object_in, built_of, built_meta, AreUsable}

@@ -17,7 +17,7 @@ use Rattle.ost_model.proofs.Members.{all_here}
 use Rattle.ost_commit.specs.declared.built.BuiltObject.{BuiltObject}
 use Rattle.ost_commit.specs.Objects.{have_of, IsNamed, AreApart}
 use Rattle.fp_base.specs.Objects.{is_kind}
-use Rattle.fp_base.proofs.Kinds.{kind_is, kind_same}
+use Rattle.fp_base.proofs.ObjectKinds.{kind_is, kind_same}
 use Rattle.ost_export.specs.Staging.{Named, AreWhole, IsIn, IsCovered}
 
 -- ---- all of a list
