@@ -149,7 +149,7 @@ row_of Batch = command_row (own (codes "batch") ∷ []) altering true
 row_of Fsck = command_row (own (codes "fsck") ∷ []) checking false
 row_of (Export origin name) =
     command_row (own (codes "export") ∷ one_text remote origin ∷ any_ref name ∷ [])
-        (making origin name) true
+    (making origin name) true
 row_of (Exercise apps) =
     command_row (own (codes "exercise") ∷ apps_number apps ∷ []) altering false
 
