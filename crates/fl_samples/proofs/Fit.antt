@@ -15,12 +15,11 @@ use Rattle.ost_store.specs.Names.{CanList}
 use Rattle.dep_states.specs.Sound.{IsSound}
 use Rattle.dep_states.proofs.Single.{some_is}
 use Rattle.fl_words.specs.Forms.{command_of}
-use Rattle.fl_words.specs.Words.{is_command}
+use Rattle.fl_words.specs.Words.{is_command, work_of}
 use Rattle.fl_words.specs.declared.command.Command.{Command}
 use Rattle.fl_words.specs.declared.command.Command.TheVariants.{Export as Exporting}
 use Rattle.fl_words.proofs.ReadBack.{read_back}
 use Rattle.fl_make.specs.Making.{CanMake}
-use Rattle.fl_top.specs.Kinds.{work_of}
 use Rattle.fl_top.specs.Runs.{IsFreeAs, IsFreeFor}
 use Rattle.fl_top.specs.Whole.{IsFit, StartsFit}
 

@@ -6,7 +6,7 @@ use Rattle.fp_small.specs.declared.op.Op.{Op}
 use Rattle.fp_small.specs.declared.state.State.{State}
 use Rattle.ost_walk.specs.Ends.{Outside}
 use Rattle.fl_words.specs.declared.command.Command.{Command}
-use Rattle.fl_words.specs.declared.command.Command.TheVariants.{Change as Changing, List as Listed, Show as Showing, Filter as Filtering, Batch, Fsck, Export as Exporting, Exercise as Exercising}
+use Rattle.fl_words.specs.declared.command.Command.TheVariants.{Change as Changing, Batch, Exercise as Exercising}
 use Rattle.fl_change.specs.Performs.{Works}
 use Rattle.fl_change.specs.declared.end.RunEnd.{RunEnd}
 use Rattle.fl_change.specs.declared.end.RunEnd.TheVariants.{RemoteFault}
@@ -39,10 +39,6 @@ asks_work F passes works = record {
 -- a command that changes no state brings nothing, so it never fails by them
 pub fails_changing : (command : Command) (left : Option (List ℕ)) {F : Type 0} {old new : Option Holdings} {before now : ℕ} → AsksRemotes (OpsBy command left) F old new before now → F → changes_state command ≡ true
 fails_changing (Changing change) left asks failed = refl
-fails_changing (Listed listing) left asks failed = absurd ((asks.unasked (λ a. a.1)).1 failed)
-fails_changing (Showing thing) left asks failed = absurd ((asks.unasked (λ a. a.1)).1 failed)
-fails_changing (Filtering source) left asks failed = absurd ((asks.unasked (λ a. a.1)).1 failed)
 fails_changing Batch left asks failed = refl
-fails_changing Fsck left asks failed = absurd ((asks.unasked (λ a. a.1)).1 failed)
 fails_changing (Exercising apps) left asks failed = refl
-fails_changing (Exporting remote name) left asks failed = absurd ((asks.unasked (λ a. a.1)).1 failed)
+fails_changing _ left asks failed = absurd ((asks.unasked (λ a. a.1)).1 failed)

@@ -19,7 +19,7 @@ use Rattle.dep_states.specs.After.{Done, after_all}
 use Rattle.fl_lines.specs.Lines.{refusal_text, refs_text, pins_text, remotes_text}
 use Rattle.fl_words.specs.Batch.{batch_of}
 use Rattle.fl_words.specs.declared.command.Command.{Command}
-use Rattle.fl_words.specs.declared.command.Command.TheVariants.{Change as Changing, List as Listed, Show as Showing, Filter as Filtering, Batch, Fsck, Export as Exporting, Exercise as Exercising}
+use Rattle.fl_words.specs.declared.command.Command.TheVariants.{List as Listed, Show as Showing, Filter as Filtering, Fsck, Export as Exporting}
 use Rattle.fl_words.specs.declared.command.Change.{Change}
 use Rattle.fl_words.specs.declared.command.Listing.{Listing}
 use Rattle.fl_words.specs.declared.command.Listing.TheVariants as listings
@@ -42,7 +42,7 @@ use Rattle.fl_change.specs.Answer.{Answer, Piece, lines_of, last_of, pieces_text
 use Rattle.fl_export.specs.Exported.{exported}
 use Rattle.fl_top.specs.Fsck.{report_text}
 use Rattle.fl_top.specs.Exports.{exports_text, HasExports, LeavesExports}
-use Rattle.fl_top.specs.Answer.{Given, listing_answer, checked, override_text, shown_by, shown_answer, of_batch, answer_over, by_read, by_value, by_type, commit_shown, tree_shown, meta_shown, value_shown, over_input, launch_over, of_launch, on_session, on_system, rules_over, by_rules, of_recording, filtered_by, filter_by, of_description, commit_made}
+use Rattle.fl_top.specs.Answer.{Given, listing_answer, override_text, shown_by, shown_answer, of_batch, How, how, by_changes, by_batch, by_exercise, by_world, by_input, answer_by, answer_over, by_read, by_value, by_type, commit_shown, tree_shown, meta_shown, value_shown, over_input, launch_over, of_launch, on_session, on_system, rules_over, by_rules, of_recording, filtered_by, filter_by, of_description, commit_made}
 use Rattle.fl_change.specs.Turns.{changing}
 use Rattle.fl_top.specs.Objects.{commit_lines, tree_lines, meta_lines}
 use Rattle.gv_value.specs.Shape.{Shape}
@@ -385,12 +385,26 @@ made_plain : (commit bytes : List ℕ) → IsPlain (commit_made commit bytes)
 unfolding commit_made
 made_plain commit bytes = description_plain commit (described bytes)
 
+-- what a command answers by the world, or by the input, is plain
+abbrev IsPlainly : How → Type 0
+IsPlainly (by_world f) = (given : Given) (x : World) → IsPlain (f given x)
+IsPlainly (by_input f) = (given : Given) (shown : Result World Elements) (bytes : List ℕ) → IsPlain (f given shown bytes)
+IsPlainly _ = Unit {0}
+
+plainly : (command : Command) → IsPlainly (how command)
+plainly (Listed listing) = λ given. listed_plain listing
+plainly (Showing thing) = λ given shown. shown_plain thing
+plainly (Filtering source) = λ given. filter_plain source
+plainly Fsck = λ given x. told_plain (report_text given.report)
+plainly (Exporting remote name) = λ given shown. made_plain given.commit
+plainly _ = tt
+
+by_plain : (way : How) → IsPlainly way → (given : Given) (shown : Result World Elements) → IsPlain (answer_by way given shown)
+by_plain (by_changes changes) plain given shown = over_plain (changing changes given.held) shown (changing_plain changes given.held)
+by_plain by_batch plain given shown = input_plain (λ bytes. of_batch (batch_of bytes) given.held shown) given.input (batch_plain (batch_of given.input) given.held shown)
+by_plain (by_exercise apps) plain given shown = over_plain (exercising apps given.held) shown (exercising_plain apps given.held)
+by_plain (by_world f) plain given shown = over_plain (f given) shown (plain given)
+by_plain (by_input f) plain given shown = input_plain (f given shown) given.input (plain given shown given.input)
+
 pub command_plain : (command : Command) (given : Given) (shown : Result World Elements) → IsPlain (answer_over command given shown)
-command_plain (Changing change) given shown = over_plain (changing (change ∷ []) given.held) shown (changing_plain (change ∷ []) given.held)
-command_plain (Listed listing) given shown = over_plain (listing_answer listing) shown (listed_plain listing)
-command_plain (Showing thing) given shown = input_plain (shown_by thing) given.input (shown_plain thing given.input)
-command_plain (Filtering source) given shown = input_plain (filter_by source shown) given.input (filter_plain source shown given.input)
-command_plain Batch given shown = input_plain (λ bytes. of_batch (batch_of bytes) given.held shown) given.input (batch_plain (batch_of given.input) given.held shown)
-command_plain Fsck given shown = over_plain (checked given.report) shown (λ x. told_plain (report_text given.report))
-command_plain (Exercising apps) given shown = over_plain (exercising apps given.held) shown (exercising_plain apps given.held)
-command_plain (Exporting remote name) given shown = input_plain (commit_made given.commit) given.input (made_plain given.commit given.input)
+command_plain command given shown = by_plain (how command) (plainly command) given shown

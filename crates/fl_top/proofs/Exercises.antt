@@ -11,7 +11,7 @@ use Rattle.fp_host.proofs.Goes.{stays}
 use Rattle.fp_small.specs.declared.op.Op.{Op}
 use Rattle.fl_words.specs.Forms.{command_of}
 use Rattle.fl_words.specs.declared.command.Command.{Command}
-use Rattle.fl_words.specs.declared.command.Command.TheVariants.{Change as Changing, List as Listed, Show as Showing, Filter as Filtering, Batch, Fsck, Export as Exporting, Exercise as Exercising}
+use Rattle.fl_words.specs.declared.command.Command.TheVariants.{Exercise as Exercising}
 use Rattle.fl_gen.specs.Generator.{IsGenerated}
 use Rattle.fl_top.specs.Asked.{OpsBy, AsksFor, AreToldFor, AsksRemotes}
 use Rattle.fl_top.specs.Exercises.{is_exercise, IsRunOver, IsUnmade, IsRun, IsExercised}
@@ -33,25 +33,13 @@ pub no_exercise : (command : Command) → is_exercise command ≡ false → IsNo
 no_exercise command is apps same = absurd (let both : true ≡ false = subst (λ (k : Command). is_exercise k ≡ false) same is in cc both)
 
 given_is : (command : Command) (holds : Option Holdings) → IsNoExercise command → IsRunOver (Some command) holds holds
-given_is (Changing change) holds none = refl
-given_is (Listed listing) holds none = refl
-given_is (Showing thing) holds none = refl
-given_is (Filtering source) holds none = refl
-given_is Batch holds none = refl
-given_is Fsck holds none = refl
-given_is (Exporting remote name) holds none = refl
 given_is (Exercising apps) holds none = absurd (none apps refl)
+given_is _ holds none = refl
 
 -- it asks the remotes of the run for all that it does
 pub asks_all : (command : Command) (left : Option (List ℕ)) → IsNoExercise command → (op : Op) → OpsBy command left op → AsksFor (Some command) left op
-asks_all (Changing change) left none op may = may
-asks_all (Listed listing) left none op may = may
-asks_all (Showing thing) left none op may = may
-asks_all (Filtering source) left none op may = may
-asks_all Batch left none op may = may
-asks_all Fsck left none op may = may
-asks_all (Exporting remote name) left none op may = may
 asks_all (Exercising apps) left none op may = absurd (none apps refl)
+asks_all _ left none op may = may
 
 module _ (words : List (List ℕ)) (command : Command) (left : Option (List ℕ)) (holds : Option Holdings) (status : ℕ) (is : command_of words ≡ Some command) (none : IsNoExercise command) where
   pub given_runs : {a b : Option Moments} → IsTold a → Goes a b (RunsOn command (told_start left holds a)) (RanOn command (told_start left holds a) status) → IsRun words left holds status a b
@@ -153,10 +141,4 @@ unread_runs words left holds {a = a} known = by (command_of words) refl
     by : (o : Option Command) → command_of words ≡ o → IsRun words left holds 6 a a
     by None is = plain None is refl
     by (Some (Exercising apps)) is = unmade apps is
-    by (Some (Changing change)) is = plain (Some (Changing change)) is refl
-    by (Some (Listed listing)) is = plain (Some (Listed listing)) is refl
-    by (Some (Showing thing)) is = plain (Some (Showing thing)) is refl
-    by (Some (Filtering source)) is = plain (Some (Filtering source)) is refl
-    by (Some Batch) is = plain (Some Batch) is refl
-    by (Some Fsck) is = plain (Some Fsck) is refl
-    by (Some (Exporting remote name)) is = plain (Some (Exporting remote name)) is refl
+    by (Some command) is = plain (Some command) is refl

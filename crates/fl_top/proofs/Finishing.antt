@@ -43,7 +43,8 @@ use Rattle.fl_top.specs.Ends.{end_of_run, end_of_input, end_of_batch}
 use Rattle.fl_change.specs.Performs.{AsksBy}
 use Rattle.fl_change.proofs.Changing.{not_touched, keeps_files, still_not, still_on, still_untouched}
 use Rattle.fl_top.specs.Exports.{Alters, StaysAtRest}
-use Rattle.fl_top.specs.Kinds.{Work, work_of, is_altering, is_looking, altering, looking, checking, making}
+use Rattle.fl_words.specs.Words.{Work, work_of, altering, looking, checking, making}
+use Rattle.fl_top.specs.Kinds.{is_altering, is_looking}
 use Rattle.fl_top.specs.Remotes.{MakesFor, MadeBy, MadeAs, MadeFor}
 use Rattle.fl_top.proofs.Altering.{alter_on, alter_to, alter_not, alter_untouched}
 use Rattle.fl_change.proofs.Working.{asks_to}

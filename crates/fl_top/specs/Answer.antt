@@ -224,16 +224,36 @@ abbrev pub over_input : (List ℕ → Answer) → List ℕ → Answer
 over_input f input = if nat_le (length input) input_most then f input
     else refusal_answer (Limit Input (input_most + 1))
 
-abbrev pub answer_over : Command → Given → Result World Elements → Answer
-answer_over (Changing change) given shown = shown_answer (changing (change ∷ []) given.held) shown
-answer_over (Listed listing) given shown = shown_answer (listing_answer listing) shown
-answer_over (Showing thing) given shown = over_input (shown_by thing) given.input
-answer_over (Filtering source) given shown = over_input (filter_by source shown) given.input
-answer_over Batch given shown =
+-- How a command answers: by these changes, by those that the lines of the input ask for, by those of
+-- an exercise of this number of applications, by the image's world, or by the whole input and by what
+-- the image gives.
+pub data How : Type 0 where
+  by_changes : List Change → How
+  by_batch : How
+  by_exercise : ℕ → How
+  by_world : (Given → World → Answer) → How
+  by_input : (Given → Result World Elements → List ℕ → Answer) → How
+
+abbrev pub how : Command → How
+how (Changing change) = by_changes (change ∷ [])
+how (Listed listing) = by_world (λ given. listing_answer listing)
+how (Showing thing) = by_input (λ given shown. shown_by thing)
+how (Filtering source) = by_input (λ given shown. filter_by source shown)
+how Batch = by_batch
+how Fsck = by_world (λ given. checked given.report)
+how (Exporting remote name) = by_input (λ given shown. commit_made given.commit)
+how (Exercising apps) = by_exercise apps
+
+abbrev pub answer_by : How → Given → Result World Elements → Answer
+answer_by (by_changes changes) given shown = shown_answer (changing changes given.held) shown
+answer_by by_batch given shown =
     over_input (λ bytes. of_batch (batch_of bytes) given.held shown) given.input
-answer_over Fsck given shown = shown_answer (checked given.report) shown
-answer_over (Exporting remote name) given shown = over_input (commit_made given.commit) given.input
-answer_over (Exercising apps) given shown = shown_answer (exercising apps given.held) shown
+answer_by (by_exercise apps) given shown = shown_answer (exercising apps given.held) shown
+answer_by (by_world f) given shown = shown_answer (f given) shown
+answer_by (by_input f) given shown = over_input (f given shown) given.input
+
+abbrev pub answer_over : Command → Given → Result World Elements → Answer
+answer_over command given shown = answer_by (how command) given shown
 
 abbrev pub answer_to : List (List ℕ) → Option Command → Given → Result World Elements → Answer
 answer_to words None given shown = refusal_answer (BadWords (bad_index words))

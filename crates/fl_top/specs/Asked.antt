@@ -1,16 +1,17 @@
 -- The operations that a command may do, and what it asks of the remotes.
-use Rattle.std.specs.Prelude.{◌≡◌, ◌≤◌, ℕ, List, [], ◌∷◌, Option, Some, None, Ok}
+use Rattle.std.specs.Prelude.{◌≡◌, ◌≤◌, ℕ, List, Option, Some, None, Ok}
 use Rattle.fp_host.specs.Moments.{Rose}
 use Rattle.fp_host.specs.Remote.{Holdings}
 use Rattle.fp_small.specs.declared.op.Op.{Op}
 use Rattle.op_change.specs.Bringing.{AreTold}
 use Rattle.fl_words.specs.declared.command.Command.{Command}
-use Rattle.fl_words.specs.declared.command.Command.TheVariants.{Change as Changing, List as Listed, Show as Showing, Filter as Filtering, Batch, Fsck, Export as Exporting, Exercise as Exercising}
+use Rattle.fl_words.specs.declared.command.Command.TheVariants.{Exercise as Exercising}
 use Rattle.fl_words.specs.declared.command.Change.{Change}
 use Rattle.fl_words.specs.Batch.{batch_of}
 use Rattle.fl_gen.specs.Exercise.{exercise_changes}
 use Rattle.fl_change.specs.Performs.{AsksBy}
 use Rattle.fl_change.specs.Turns.{MayDo}
+use Rattle.fl_top.specs.Answer.{How, how, by_changes, by_batch, by_exercise, by_world, by_input}
 use Rattle.fl_top.specs.Input.{IsWhole}
 
 -- a batch whose lines ask for these changes; where its input is told, that is all that was left
@@ -20,15 +21,15 @@ pub record IsBatch (left : Option (List ℕ)) (changes : List Change) : Type 0 w
   pub read : batch_of bytes ≡ Ok changes
 
 -- the operations that a command may do, by what is left of the input
+abbrev pub OpsAs : How → Option (List ℕ) → Op → Type 0
+OpsAs (by_changes changes) left op = MayDo changes op
+OpsAs by_batch left op = (changes : List Change) × IsBatch left changes × MayDo changes op
+OpsAs (by_exercise apps) left op = MayDo (exercise_changes apps) op
+OpsAs (by_world f) left op = ⊥
+OpsAs (by_input f) left op = ⊥
+
 abbrev pub OpsBy : Command → Option (List ℕ) → Op → Type 0
-OpsBy (Changing change) left op = MayDo (change ∷ []) op
-OpsBy (Listed listing) left op = ⊥
-OpsBy (Showing thing) left op = ⊥
-OpsBy (Filtering source) left op = ⊥
-OpsBy Batch left op = (changes : List Change) × IsBatch left changes × MayDo changes op
-OpsBy Fsck left op = ⊥
-OpsBy (Exporting remote name) left op = ⊥
-OpsBy (Exercising apps) left op = MayDo (exercise_changes apps) op
+OpsBy command left op = OpsAs (how command) left op
 
 -- words that are no command do none
 abbrev pub OpsFor : Option Command → Option (List ℕ) → Op → Type 0

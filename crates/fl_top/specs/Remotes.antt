@@ -12,7 +12,7 @@ use Rattle.ost_export.specs.Exports.{AreFit, IsOffered}
 use Rattle.fl_lines.specs.Lines.{made_text}
 use Rattle.fl_words.specs.declared.command.Command.{Command}
 use Rattle.fl_make.specs.Making.{remote_store, MayMake, CanMake}
-use Rattle.fl_top.specs.Kinds.{Work, work_of, making}
+use Rattle.fl_words.specs.Words.{Work, work_of, making}
 
 -- what names may come to hold where a remote is made
 abbrev pub MakesAs : Work → Elements → Slot → Type 0

@@ -20,7 +20,7 @@ use Rattle.fl_change.specs.World.{World, world_at}
 use Rattle.fl_change.specs.Answer.{Answer, Piece, lines_of, pieces_text, ops_in, ops_of, set_config, IsUnpulled, IsIdle}
 use Rattle.fl_top.specs.Answer.{Given, answer, IsOver, IsAtOnce}
 use Rattle.fl_top.specs.Input.{IsDrained}
-use Rattle.fl_top.specs.Kinds.{Work, work_of, making}
+use Rattle.fl_words.specs.Words.{Work, work_of, making}
 use Rattle.fl_change.specs.Changes.{IsUntouched, HasText}
 use Rattle.fl_change.specs.Created.{CreatesInTurn}
 use Rattle.fl_top.specs.Fsck.{Finds, IsListable}

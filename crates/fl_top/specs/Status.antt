@@ -4,7 +4,8 @@ use Rattle.fp_small.specs.declared.refusal.Refusal.{Refusal}
 use Rattle.fp_small.specs.declared.refusal.Refusal.TheVariants.{BadWords}
 use Rattle.fl_words.specs.declared.command.Command.{Command}
 use Rattle.fl_change.specs.Answer.{Answer}
-use Rattle.fl_top.specs.Kinds.{kind_of, work_of, is_altering, is_looking, is_checking, is_making}
+use Rattle.fl_words.specs.Words.{row_of, work_of}
+use Rattle.fl_top.specs.Kinds.{is_altering, is_looking, is_checking, is_making}
 
 -- 0 done, 1 refused, 2 no command, 3 a fault of the host, 4 a fault of the remotes, 5 a fault of
 -- the input, 6 out of memory
@@ -28,7 +29,7 @@ abbrev pub makes_remote : Command → Bool
 makes_remote command = is_making (work_of command)
 
 abbrev pub reads_input : Command → Bool
-reads_input command = (kind_of command).reads_input
+reads_input command = (row_of command).reads_input
 
 -- it looks at each object of the store
 abbrev pub checks_store : Command → Bool
