@@ -24,6 +24,7 @@ mod left;
 mod links;
 #[cfg(test)]
 mod names;
+mod noted;
 #[cfg(test)]
 mod order;
 #[cfg(test)]
