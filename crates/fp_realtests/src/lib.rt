@@ -24,6 +24,7 @@ mod left;
 mod links;
 #[cfg(test)]
 mod names;
+#[cfg(test)]
 mod noted;
 #[cfg(test)]
 mod order;
