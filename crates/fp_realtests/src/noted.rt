@@ -3,15 +3,21 @@ use fp_host::Host;
 use fp_progress::{Progress, Task, Watched};
 use fp_realhost::HostDir;
 use fp_realplay::{Kind, Log, clear, path};
-use fp_realroot::Access;
+use fp_realroot::{Access, System};
 use std::fs;
 use std::panic::Expect;
+use std::thread::Threads;
 
 /// Whether it is noted when this folder of a host is listed.
-fn is_noted(rt: &HostRuntime, log: &Log<'_>, folder: &str) -> bool {
+fn is_noted<T: System + Threads>(
+    rt: &HostRuntime,
+    maker: &T,
+    log: &Log<'_>,
+    folder: &str,
+) -> bool {
     let progress = Progress::new(rt, log.alloc, Task::Other, false);
     let system = Watched::host(rt, &progress);
-    match HostDir::new(&system, rt, rt, log.alloc, "noted", Access::Look) {
+    match HostDir::with_maker(&system, maker, rt, log.alloc, "noted", Access::Look) {
         Ok(mut host) => {
             let listed = host.list(log.alloc, &path(log, folder));
             host.finish();
@@ -26,8 +32,8 @@ fn a_list_of_the_objects_is_noted(rt: HostRuntime) {
     let log = Log::new(rt.alloc(), Kind::Plain);
     clear(&rt, "noted");
     fs::create_dir_all(&rt, "noted/repo/objects").expect(&rt, "folders");
-    let of_objects = is_noted(&rt, &log, "repo/objects");
-    let of_repo = is_noted(&rt, &log, "repo");
+    let of_objects = is_noted(&rt, &rt, &log, "repo/objects");
+    let of_repo = is_noted(&rt, &rt, &log, "repo");
     clear(&rt, "noted");
     assert!(rt; of_objects && !of_repo);
 }
