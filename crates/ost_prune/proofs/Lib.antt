@@ -1,5 +1,7 @@
 mod Used
+mod Before
 mod Found
+mod Picked
 mod Removed
 mod Parted
 mod Pruned
