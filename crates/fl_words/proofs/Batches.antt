@@ -7,7 +7,7 @@ use Rattle.fp_keyfile.specs.Lines.{lines_of}
 use Rattle.fp_keyfile.proofs.FirstPlace.{position-cons}
 use Rattle.std.specs.Prelude.{option_and_then}
 use Rattle.fl_words.specs.declared.command.Command.{Command}
-use Rattle.fl_words.specs.declared.command.Command.TheVariants.{Change as Changing, List as Listed, Show as Showing, Filter, Batch, Fsck, Export, Exercise}
+use Rattle.fl_words.specs.declared.command.Command.TheVariants.{Change as Changing}
 use Rattle.fl_words.specs.declared.command.Change.{Change}
 use Rattle.fl_words.specs.Forms.{command_of}
 use Rattle.fl_words.specs.Words.{is_change}
@@ -16,16 +16,13 @@ use Rattle.fl_words.proofs.ReadBack.{read_back}
 
 -- ---- what stands in it
 
+one_change : (command : Command) (c : Change) → change_of command ≡ Some c → Some command ≡ Some (Changing c)
+one_change (Changing change) c h = let same : change ≡ c = cc h in ap (λ (x : Change). Some (Changing x)) same
+one_change _ c h = absurd (cc h)
+
 change_is : (o : Option Command) (c : Change) → option_and_then change_of o ≡ Some c → o ≡ Some (Changing c)
 change_is None c h = absurd (cc h)
-change_is (Some (Changing change)) c h = let same : change ≡ c = cc h in ap (λ (x : Change). Some (Changing x)) same
-change_is (Some (Listed listing)) c h = absurd (cc h)
-change_is (Some (Showing thing)) c h = absurd (cc h)
-change_is (Some (Filter source)) c h = absurd (cc h)
-change_is (Some Batch) c h = absurd (cc h)
-change_is (Some Fsck) c h = absurd (cc h)
-change_is (Some (Export remote name)) c h = absurd (cc h)
-change_is (Some (Exercise apps)) c h = absurd (cc h)
+change_is (Some command) c h = one_change command c h
 
 pub line_good : (line : List ℕ) (c : Change) → batch_change line ≡ Some c → is_change c ≡ true
 unfolding batch_change
