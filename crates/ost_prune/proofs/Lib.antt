@@ -1,5 +1,6 @@
 mod Used
 mod Before
+mod Prefixes
 mod Found
 mod Picked
 mod Removed

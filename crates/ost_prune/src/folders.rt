@@ -1,5 +1,6 @@
 //! The folders of a store's objects, and the names in them.
 ghost use Rattle.std.specs.Prelude.{◌≡◌, IfOk, IsErrOf, is_some};
+ghost use Rattle.std.specs.List.{list_all};
 ghost use Rattle.fp_host.specs.OverHost.{AtReturn, ChangesNothing, FailsAlone};
 ghost use Rattle.fp_host.specs.Reads.{AreNames};
 ghost use Rattle.fp_name.specs.Hex.{digit_value};
