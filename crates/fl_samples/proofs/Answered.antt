@@ -1,13 +1,14 @@
 -- What an update of the application answers.
-use Rattle.std.proofs.Common.{◌≡◌, inl, List, [], ◌∷◌, Option, Some, None, Result, Ok, refl, ◌∙◌, ap}
+use Rattle.std.proofs.Common.{◌≡◌, inl, true, List, [], ◌∷◌, Option, Some, None, Result, Ok, refl, ◌∙◌, ap}
 use Rattle.std.specs.Str.{is_utf8, chars}
+use Rattle.std.proofs.lemmas.Bool.{and_from}
 use lib.Utf8.{encode}
 use Rattle.fp_host.specs.Remote.{Holdings}
 use Rattle.fp_keyfile.specs.KeyFile.{file_of, value_at, with_group, with_pair}
 use Rattle.fp_keyfile.specs.Lines.{line_says}
 use Rattle.fp_name.specs.Grammar.{is_id, is_arch, is_branch}
 use Rattle.fp_name.specs.Hex.{hex, unhex, bytes_of}
-use Rattle.fp_name.specs.Refs.{ref_of}
+use Rattle.fp_name.specs.Refs.{is_ref, ref_of}
 use Rattle.fp_small.specs.declared.op.Op.{Op}
 use Rattle.fp_small.specs.declared.refusal.Refusal.{Refusal}
 use Rattle.fl_meta.specs.Metadata.{meta_of, runtime_in, command_in, extensions_of}
@@ -68,7 +69,7 @@ unfolding after_change
 changing_is = ap after_change update_is
 
 command_is : command_of update_words ≡ Some (Changing (UpdateOne app))
-command_is = written (Changing (UpdateOne app)) app_good
+command_is = written (Changing (UpdateOne app)) (and_from (is_ref app) true app_good refl)
 
 pub answered : (given : Given) → given.held ≡ holdings → answer update_words given (Ok whole_world) ≡ done_answer moved_on
 answered given held =

@@ -1,5 +1,5 @@
 -- A sound installation is fit for each command.
-use Rattle.std.proofs.Common.{◌≡◌, ◌⊎◌, ◌≤◌, inl, inr, ℕ, List, length, true, Option, Some, None, refl, sym, ◌∙◌, ap, subst}
+use Rattle.std.proofs.Common.{◌≡◌, ◌⊎◌, ◌≤◌, inl, inr, ℕ, List, length, true, ◌&&◌, Option, Some, None, refl, sym, ◌∙◌, ap, subst}
 use Rattle.std.proofs.lemmas.Bool.{and_parts}
 use Rattle.fp_host.specs.Paths.{Elements, Slot, absent, dir, file, link}
 use Rattle.fp_host.specs.View.{View, Inode, IsTree}
@@ -17,7 +17,7 @@ use Rattle.dep_states.proofs.Single.{some_is}
 use Rattle.fl_words.specs.Forms.{command_of}
 use Rattle.fl_words.specs.Words.{is_command}
 use Rattle.fl_words.specs.declared.command.Command.{Command}
-use Rattle.fl_words.specs.declared.command.Command.TheVariants.{Change as Changing, List as Listed, Show as Showing, Filter as Filtering, Batch, Fsck, Export as Exporting, Exercise as Exercising}
+use Rattle.fl_words.specs.declared.command.Command.TheVariants.{Export as Exporting}
 use Rattle.fl_words.proofs.ReadBack.{read_back}
 use Rattle.fl_make.specs.Making.{CanMake}
 use Rattle.fl_top.specs.Kinds.{work_of}
@@ -50,14 +50,10 @@ module _ (takes : TakesRemotes) (v : View) (tree : IsTree v) (sound : IsSound v)
   can_list = record { short = λ q above. short q }
 
   free_as : (c : Command) → is_command c ≡ true → IsFreeAs (work_of c) v
-  free_as (Changing change) good = tt
-  free_as (Listed listing) good = tt
-  free_as (Showing thing) good = tt
-  free_as (Filtering source) good = tt
-  free_as Batch good = tt
-  free_as Fsck good = tt
-  free_as (Exporting remote name) good = takes v remote name tree sound (and_parts (is_remote_name remote) (is_ref name) good).1
-  free_as (Exercising apps) good = tt
+  free_as (Exporting remote name) good =
+      let parts = and_parts (is_remote_name remote) (is_ref name && true) good in
+      takes v remote name tree sound (and_parts (is_ref name) true parts.1).0
+  free_as _ good = tt
 
   free_for : (command : Option Command) → ((c : Command) → command ≡ Some c → is_command c ≡ true) → IsFreeFor command v
   free_for None good = tt
