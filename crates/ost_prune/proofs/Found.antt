@@ -131,18 +131,18 @@ next_picked root keep paths i path v found found' low is before None pushed none
 next_picked root keep paths i path v found found' low is before (Some o) pushed unused = picked_one root keep paths i path v found found' low is before o unused pushed
 
 -- one name more in a folder
-pub next_name : (root : Elements) (keep : List (List ℕ)) (folder : Elements) (names : List (List ℕ)) (i : ℕ) (x : List ℕ) (v : View) (found found' : List Object) → i < length names → x ≡ get_or names i x
-    → PicksSoFar root keep (map (λ y. y ∷ folder) names) i v found found' → (o : Option Object) {found'' : List Object} → found'' ≡ with_found found' o → IsUnusedAt root keep (x ∷ folder) v o
-    → PicksSoFar root keep (map (λ y. y ∷ folder) names) (i + 1) v found found''
-next_name root keep folder names i x v found found' low is before o pushed unused =
-    next_picked root keep (map (λ y. y ∷ folder) names) i (x ∷ folder) v found found' (omega (arith, low, length-map names (λ (y : List ℕ). y ∷ folder)))
-    (ap (λ (y : List ℕ). y ∷ folder) is ∙ sym (get_or-map (λ (y : List ℕ). y ∷ folder) names i x (x ∷ folder) low)) before o pushed unused
+pub next_name : (root : Elements) (keep : List (List ℕ)) (up : Elements) (names : List (List ℕ)) (i : ℕ) (x : List ℕ) (v : View) (found found' : List Object) → i < length names → x ≡ get_or names i x
+    → PicksSoFar root keep (map (λ y. y ∷ up) names) i v found found' → (o : Option Object) {found'' : List Object} → found'' ≡ with_found found' o → IsUnusedAt root keep (x ∷ up) v o
+    → PicksSoFar root keep (map (λ y. y ∷ up) names) (i + 1) v found found''
+next_name root keep up names i x v found found' low is before o pushed unused =
+    next_picked root keep (map (λ y. y ∷ up) names) i (x ∷ up) v found found' (omega (arith, low, length-map names (λ (y : List ℕ). y ∷ up)))
+    (ap (λ (y : List ℕ). y ∷ up) is ∙ sym (get_or-map (λ (y : List ℕ). y ∷ up) names i x (x ∷ up) low)) before o pushed unused
 
-pub all_picked : (root : Elements) (keep : List (List ℕ)) (folder : Elements) (names : List (List ℕ)) (i : ℕ) (v : View) (found found' : List Object) → length names ≡ i
-    → PicksSoFar root keep (map (λ y. y ∷ folder) names) i v found found' → PicksNames root keep (map (λ y. y ∷ folder) names) v found found'
-all_picked root keep folder names i v found found' is so_far =
-    let paths = map (λ (y : List ℕ). y ∷ folder) names in
-    let long : length paths ≡ i = length-map names (λ (y : List ℕ). y ∷ folder) ∙ is in
+pub all_picked : (root : Elements) (keep : List (List ℕ)) (up : Elements) (names : List (List ℕ)) (i : ℕ) (v : View) (found found' : List Object) → length names ≡ i
+    → PicksSoFar root keep (map (λ y. y ∷ up) names) i v found found' → PicksNames root keep (map (λ y. y ∷ up) names) v found found'
+all_picked root keep up names i v found found' is so_far =
+    let paths = map (λ (y : List ℕ). y ∷ up) names in
+    let long : length paths ≡ i = length-map names (λ (y : List ℕ). y ∷ up) ∙ is in
     record {
       each = λ o. subst (λ (l : List Elements). Contains found' o ↔ (Contains found o ⊎ (IsUnused root keep v o × Contains l (name_in root o)))) (ap (λ (k : ℕ). take k paths) (sym long) ∙ take-length paths) (so_far.each o);
       ascending = λ h. subst (λ (l : List (List ℕ)). is_ascending l ≡ true) (ap (λ (l : List Elements). map (name_text root) found' ++ map path_text l) (drop_all i paths (omega (arith, long))) ∙ append-nil (map (name_text root) found')) (so_far.ascending h);

@@ -6,7 +6,7 @@ use Rattle.fp_name.specs.Hex.{digit_value}
 use Rattle.ost_model.specs.Stores.{is_prefix}
 
 -- two bytes that are digits
-pub two_digits : (name digits : List ℕ) (all : Bool) → digits ≡ name → length digits ≡ 2 → all ≡ list_all (λ c. is_some (digit_value c)) digits → all ≡ is_prefix name
-two_digits name digits all same long is =
-    let two : eqb (length name) 2 ≡ true = subst (λ (n : ℕ). eqb n 2 ≡ true) (sym long ∙ ap (λ (l : List ℕ). length l) same) refl in
-    is ∙ ap (list_all (λ c. is_some (digit_value c))) same ∙ sym (ap (λ (b : Bool). b && list_all (λ c. is_some (digit_value c)) name) two)
+pub two_digits : (digits : List ℕ) (all : Bool) → length digits ≡ 2 → all ≡ list_all (λ c. is_some (digit_value c)) digits → all ≡ is_prefix digits
+two_digits digits all long is =
+    let two : eqb (length digits) 2 ≡ true = subst (λ (n : ℕ). eqb n 2 ≡ true) (sym long) refl in
+    is ∙ sym (ap (λ (b : Bool). b && list_all (λ c. is_some (digit_value c)) digits) two)

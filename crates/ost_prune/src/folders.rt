@@ -18,12 +18,25 @@ fn is_digit(c: u8) -> bool
     matches!(c, b'0'..=b'9' | b'a'..=b'f')
 }
 
-/// Whether the name is two such digits, as that of each folder of objects.
+/// Whether all of them are such digits.
+fn are_digits(digits: &[u8]) -> bool
+    ensures { result ≡ list_all (λ c. is_some (digit_value c)) digits.now }
+{
+    digits.iter().all(|c| is_digit(*c))
+}
+
+/// Whether they are two such digits.
+fn are_two_digits(digits: &[u8]) -> bool
+    ensures { result ≡ is_prefix digits.now }
+{
+    digits.len() == 2 && are_digits(digits)
+}
+
+/// Whether the name is two such digits, as that of each folder of objects is.
 pub(crate) fn is_prefix(name: &str) -> bool
     ensures { result ≡ is_prefix name.now }
 {
-    let digits = name.as_bytes();
-    digits.len() == 2 && digits.iter().all(|c| is_digit(*c))
+    are_two_digits(name.as_bytes())
 }
 
 /// The names directly in the folder, ascending by their bytes; none where it is no folder.
