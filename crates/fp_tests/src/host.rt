@@ -1,5 +1,6 @@
 //! Paths, their elements, and the texts and bytes that a host is given.
 
+use crate::many;
 use crate::parsed::path;
 use crate::rows::{agree, agree_at, is_text};
 use fp_base::{Blob, Text};
@@ -121,7 +122,7 @@ fn are_bytes(rt: &impl Abort, copy: Result<Blob, AllocError>, bytes: &[u8]) -> b
 
 /// Whether this many bytes are copied.
 fn blob_is_copied(rt: &impl Abort, alloc: Global, count: usize) -> bool {
-    let blob = Blob::from_vec(vec![in alloc; 7u8; count].expect(rt, "memory"));
+    let blob = Blob::from_vec(many::bytes(rt, alloc, count));
     are_bytes(rt, blob.copy(), blob.as_slice())
 }
 

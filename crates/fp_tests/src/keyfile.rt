@@ -1,5 +1,6 @@
 //! Key files with what they read as, worked out from the rules by hand.
 
+use crate::many;
 use crate::rows::{agree, is_text};
 use fp_base::KeyRule;
 use fp_keyfile::{
@@ -306,16 +307,11 @@ fn grow(rt: &impl Abort, file: &mut KeyFile, name: &str) {
     change(rt, file, name, "k", Some("v"));
 }
 
-/// The name of this number.
-fn numbered_name(rt: &impl Abort, alloc: Global, number: usize) -> String {
-    format!(in alloc; "n{number:04}").expect(rt, "memory")
-}
-
 /// A file in which this many pairs of one group, and this many groups, were set.
 fn grown_file(rt: &impl Abort, alloc: Global, count: usize) -> KeyFile {
     let mut file = KeyFile::new(alloc);
     for number in 0..count {
-        grow(rt, &mut file, &numbered_name(rt, alloc, number));
+        grow(rt, &mut file, &many::name(rt, alloc, number));
     }
     file
 }

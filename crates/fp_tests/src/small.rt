@@ -1,5 +1,6 @@
 //! The small files of an installation, in the layout of today and the one before.
 
+use crate::many;
 use crate::parsed::{path, pattern_of};
 use crate::rows::{agree, is_text};
 use fp_base::Items;
@@ -390,23 +391,9 @@ fn much_is_replaced(rt: HostRuntime) {
     let alloc = rt.alloc();
     let mut host = MemHost::new(alloc).expect(&rt, "memory");
     let path = path(&rt, alloc, "etc/config");
-    let bytes = vec![in alloc; 7u8; 1 << 20].expect(&rt, "memory");
+    let bytes = many::bytes(&rt, alloc, 1 << 20);
     assert!(rt; are_put(&rt, alloc, &mut host, &path, &bytes));
     drop(host);
-}
-
-/// Where the file of this number is in a folder.
-fn numbered_path(rt: &impl Abort, alloc: Global, folder: &Path, number: u32) -> Path {
-    let name = format!(in alloc; "f{number:04}").expect(rt, "memory");
-    folder.join(&name).expect(rt, "an element")
-}
-
-/// Makes this many empty files in the folder.
-fn fill(rt: &impl Abort, alloc: Global, host: &mut MemHost, folder: &Path, count: u32) {
-    for number in 0..count {
-        let path = numbered_path(rt, alloc, folder, number);
-        host.create(&path, 0o644).expect(rt, "a new file");
-    }
 }
 
 /// A path of this many elements.
@@ -418,26 +405,21 @@ fn path_of(rt: &impl Abort, alloc: Global, elements: usize) -> Path {
     path
 }
 
-/// How many names a folder has.
-fn count_names(rt: &impl Abort, alloc: Global, host: &mut MemHost, folder: &Path) -> usize {
-    host.list(alloc, folder).expect(rt, "names").len()
-}
-
 /// A host with 1,100 files in the folder, and with the folders above it.
 fn filled_host(rt: &impl Abort, alloc: Global, folder: &Path) -> MemHost {
     let mut host = MemHost::new(alloc).expect(rt, "memory");
     make_above(alloc, &mut host, folder).expect(rt, "folders");
     host.make_dir(folder).expect(rt, "a folder");
-    fill(rt, alloc, &mut host, folder, 1_100);
+    many::fill(rt, alloc, &mut host, folder);
     host
 }
 
 /// Whether 1,100 files lose one, and are cleared.
 fn are_cleared(rt: &impl Abort, alloc: Global, host: &mut MemHost, folder: &Path) -> bool {
-    take_away(host, &numbered_path(rt, alloc, folder, 0)).expect(rt, "taken");
-    let left = count_names(rt, alloc, host, folder);
+    take_away(host, &many::path(rt, alloc, folder, 0)).expect(rt, "taken");
+    let left = many::count(rt, alloc, host, folder);
     clear_below(alloc, host, folder).expect(rt, "cleared");
-    left == 1_099 && count_names(rt, alloc, host, folder) == 0
+    left == 1_099 && many::count(rt, alloc, host, folder) == 0
 }
 
 /// Whether the folder is filled once more, and goes with all that is above it.
@@ -448,7 +430,7 @@ fn goes_with_all(
     folder: &Path,
     top: &Path,
 ) -> bool {
-    fill(rt, alloc, host, folder, 1_100);
+    many::fill(rt, alloc, host, folder);
     clear(alloc, host, top).expect(rt, "cleared");
     host.stat(top) == Ok(Stat::Absent)
 }
