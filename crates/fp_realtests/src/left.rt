@@ -72,6 +72,14 @@ const LOCK: &str = "left/root/.lock";
 
 const STOPS: Act<'static> = Act::Logged(Access::Change, "left/root", &[Part::Ask(&UNSYNCED)]);
 
+const IDLES: Act<'static> = Act::Logged(Access::Change, "left/root", &[Part::Ask(&IDLE)]);
+
+const CATCHES_UP: Act<'static> = Act::Logged(Access::Change, "left/root", &[Part::Ask(&CAUGHT_UP)]);
+
+const FILLS_UP: Act<'static> = Act::Logged(Access::Change, "left/root", &[Part::Ask(&FILLED_UP)]);
+
+const CUTS_OFF: Act<'static> = Act::Logged(Access::Change, "left/root", &[Part::Ask(&CUT_OFF)]);
+
 /// What the next run does.
 #[derive(Clone, Copy)]
 enum Next {
@@ -84,10 +92,10 @@ enum Next {
 impl Next {
     fn run(self) -> Act<'static> {
         match self {
-            Next::Idles => Act::Logged(Access::Change, "left/root", &[Part::Ask(&IDLE)]),
-            Next::CatchesUp => Act::Logged(Access::Change, "left/root", &[Part::Ask(&CAUGHT_UP)]),
-            Next::FillsUp => Act::Logged(Access::Change, "left/root", &[Part::Ask(&FILLED_UP)]),
-            Next::CutsOff => Act::Logged(Access::Change, "left/root", &[Part::Ask(&CUT_OFF)]),
+            Next::Idles => IDLES,
+            Next::CatchesUp => CATCHES_UP,
+            Next::FillsUp => FILLS_UP,
+            Next::CutsOff => CUTS_OFF,
         }
     }
 }
