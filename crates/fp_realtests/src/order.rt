@@ -1,5 +1,5 @@
 //! What the system is asked, in order, and what a failure of it does.
-use fp_realplay::{Act, Kind, Made, Part, Step, tell};
+use fp_realplay::{Act, Kind, Part, Step, tell};
 use fp_realroot::{Access, System};
 use std::thread::Threads;
 
