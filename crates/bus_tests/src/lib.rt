@@ -1,10 +1,13 @@
-//! Tests of the bus: messages, streams of them, rules, and what a filter lets through.
+//! Tests of the bus: messages, streams of them, rules, what a filter lets through, and its time and
+//! room: its time doesn't grow with what it keeps, and it keeps nothing of what teaches nothing.
 #![tactic(auto)]
 
 #[cfg(test)]
 mod captured;
 #[cfg(test)]
 mod frame;
+#[cfg(test)]
+mod growth;
 #[cfg(test)]
 mod policy;
 #[cfg(test)]
@@ -15,5 +18,7 @@ mod rows;
 mod rules;
 #[cfg(test)]
 mod stream;
+#[cfg(test)]
+mod tables;
 #[cfg(test)]
 mod told;

@@ -30,19 +30,24 @@ pub fn applications_name_runtimes()
     ensures { ApplicationsName }
 {}
 
-/// In a small installation: what its commits say, and who uses a runtime.
+/// In a small installation: what its commits say.
 pub fn small_installation()
     ensures first { metadata_file sample.have sample.first_commit ≡ Some sample.first_metadata }
     ensures second { metadata_file sample.have sample.second_commit ≡ Some sample.second_metadata }
     // A commit whose root can't be read has no file, nor has one that isn't there.
     ensures without_tree { metadata_file sample.without_tree sample.first_commit ≡ None }
     ensures absent { metadata_file sample.have [] ≡ None }
+    // A runtime's commit names none, whatever it says.
+    ensures runtime { runtime_at sample.have sample.other sample.second_commit ≡ None }
+{}
+
+/// In the same installation: who uses a runtime, which runtimes its applications name, and which
+/// extension points its refs have.
+pub fn small_installation_is_used()
     ensures base { first_user sample.have sample.base sample.rows ≡ Some sample.first }
     // Two applications name it. The first is told.
     ensures platform { first_user sample.have sample.platform sample.rows ≡ Some sample.second }
     ensures none { first_user sample.have sample.other sample.rows ≡ None }
-    // A runtime's commit names none, whatever it says.
-    ensures runtime { runtime_at sample.have sample.other sample.second_commit ≡ None }
     ensures metas { map sample.runtime_of (installed_metas sample.have sample.rows)
         ≡ sample.runtimes }
     ensures points { map sample.names_of (installed_points sample.have sample.rows)

@@ -7,8 +7,11 @@ use fl_lines::{
 };
 use fp_base::{FrameRule, KeyRule, MetaRule, Rule};
 
-/// Lines of refusals, and words that stand in what is said of them.
-const ADVICE: [(&str, &str); 12] = [
+/// What isn't said of any line.
+const NO_ADVICE: &str = "no advice";
+
+/// Lines of refusals, and words that stand in what is said of them; and other lines.
+const ADVICE: [(&str, &str); 17] = [
     ("error: no remote lux\n", "`fpk list --remotes`"),
     ("error: remote exists hub\n", "`fpk remote-modify NAME URL`"),
     (
@@ -33,88 +36,80 @@ const ADVICE: [(&str, &str); 12] = [
     ("error: limit remotes 257\n", "at most 256 remotes"),
     ("error: limit refs 4097\n", "at most 4,096 refs"),
     ("error: record 4\n", "counted from 1"),
+    ("", NO_ADVICE),
+    ("error: ", NO_ADVICE),
+    ("error: limit\n", NO_ADVICE),
+    ("pinned app/*/*/*\n", NO_ADVICE),
+    (" error: no pin x\n", NO_ADVICE),
 ];
 
 #[test]
 fn advice(rt: HostRuntime) {
     for (line, said) in &ADVICE {
-        agree(
-            &rt,
-            line,
-            advice_on(line).is_some_and(|text| text.contains(*said)),
-        );
+        let advice = advice_on(line).unwrap_or(NO_ADVICE);
+        agree(&rt, line, advice.contains(*said));
     }
 }
 
-/// Other lines aren't told.
-#[test]
-fn other_lines(rt: HostRuntime) {
-    for line in [
-        "",
-        "error: ",
-        "error: limit\n",
-        "pinned app/*/*/*\n",
-        " error: no pin x\n",
-    ] {
-        agree(&rt, line, advice_on(line).is_none());
+/// A rule of which a refusal tells.
+enum AnyRule {
+    Object(Rule),
+    Key(KeyRule),
+    Meta(MetaRule),
+    Frame(FrameRule),
+}
+
+/// Each of them.
+const RULES: [AnyRule; 33] = [
+    AnyRule::Object(Rule::Value),
+    AnyRule::Object(Rule::Parent),
+    AnyRule::Object(Rule::Tree),
+    AnyRule::Object(Rule::Meta),
+    AnyRule::Object(Rule::Digest),
+    AnyRule::Object(Rule::Name),
+    AnyRule::Object(Rule::Order),
+    AnyRule::Object(Rule::Both),
+    AnyRule::Object(Rule::Owner),
+    AnyRule::Object(Rule::Xattrs),
+    AnyRule::Object(Rule::Kind),
+    AnyRule::Key(KeyRule::Text),
+    AnyRule::Key(KeyRule::Group),
+    AnyRule::Key(KeyRule::Line),
+    AnyRule::Key(KeyRule::Key),
+    AnyRule::Key(KeyRule::NoGroup),
+    AnyRule::Meta(MetaRule::Absent),
+    AnyRule::Meta(MetaRule::Group),
+    AnyRule::Meta(MetaRule::Runtime),
+    AnyRule::Frame(FrameRule::Order),
+    AnyRule::Frame(FrameRule::ZeroType),
+    AnyRule::Frame(FrameRule::Version),
+    AnyRule::Frame(FrameRule::Serial),
+    AnyRule::Frame(FrameRule::Length),
+    AnyRule::Frame(FrameRule::Fields),
+    AnyRule::Frame(FrameRule::Code),
+    AnyRule::Frame(FrameRule::Double),
+    AnyRule::Frame(FrameRule::Kind),
+    AnyRule::Frame(FrameRule::Value),
+    AnyRule::Frame(FrameRule::Padding),
+    AnyRule::Frame(FrameRule::Required),
+    AnyRule::Frame(FrameRule::Body),
+    AnyRule::Frame(FrameRule::Cut),
+];
+
+/// Whether the word of a rule stands for it.
+fn has_word(rule: &AnyRule) -> bool {
+    match rule {
+        AnyRule::Object(rule) => object_rule(rule_word(*rule)) == Some(*rule),
+        AnyRule::Key(rule) => key_rule(key_rule_word(*rule)) == Some(*rule),
+        AnyRule::Meta(rule) => meta_rule(meta_rule_word(*rule)) == Some(*rule),
+        AnyRule::Frame(rule) => frame_rule(frame_rule_word(*rule)) == Some(*rule),
     }
 }
 
-const OBJECT_RULES: [Rule; 11] = [
-    Rule::Value,
-    Rule::Parent,
-    Rule::Tree,
-    Rule::Meta,
-    Rule::Digest,
-    Rule::Name,
-    Rule::Order,
-    Rule::Both,
-    Rule::Owner,
-    Rule::Xattrs,
-    Rule::Kind,
-];
-
-const KEY_RULES: [KeyRule; 5] = [
-    KeyRule::Text,
-    KeyRule::Group,
-    KeyRule::Line,
-    KeyRule::Key,
-    KeyRule::NoGroup,
-];
-
-const META_RULES: [MetaRule; 3] = [MetaRule::Absent, MetaRule::Group, MetaRule::Runtime];
-
-const FRAME_RULES: [FrameRule; 14] = [
-    FrameRule::Order,
-    FrameRule::ZeroType,
-    FrameRule::Version,
-    FrameRule::Serial,
-    FrameRule::Length,
-    FrameRule::Fields,
-    FrameRule::Code,
-    FrameRule::Double,
-    FrameRule::Kind,
-    FrameRule::Value,
-    FrameRule::Padding,
-    FrameRule::Required,
-    FrameRule::Body,
-    FrameRule::Cut,
-];
-
-/// The word of each rule stands for it.
 #[test]
 fn words_stand_for_rules(rt: HostRuntime) {
-    for rule in OBJECT_RULES {
-        assert!(rt; object_rule(rule_word(rule)) == Some(rule));
-    }
-    for rule in KEY_RULES {
-        assert!(rt; key_rule(key_rule_word(rule)) == Some(rule));
-    }
-    for rule in META_RULES {
-        assert!(rt; meta_rule(meta_rule_word(rule)) == Some(rule));
-    }
-    for rule in FRAME_RULES {
-        assert!(rt; frame_rule(frame_rule_word(rule)) == Some(rule));
+    for rule in &RULES {
+        assert!(rt; has_word(rule));
     }
     assert!(rt; object_rule("").is_none() && frame_rule("values").is_none());
 }

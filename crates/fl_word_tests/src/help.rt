@@ -2,14 +2,8 @@
 
 use crate::rows::agree;
 use fl_words::help;
-use fp_base::Text;
-use std::alloc::Global;
 use std::panic::Expect;
-use std::process::Abort;
-
-fn helped(rt: &impl Abort, alloc: Global) -> Text {
-    help(alloc).expect(rt, "memory")
-}
+use std::slice::Iter;
 
 /// The commands, in the order in which they are shown.
 const COMMANDS: [&str; 36] = [
@@ -51,28 +45,26 @@ const COMMANDS: [&str; 36] = [
     "  fpk --version ",
 ];
 
-/// Each command stands at the beginning of one line, in this order, and no other does.
-#[test]
-fn help_has_each_command(rt: HostRuntime) {
-    let text = helped(&rt, rt.alloc());
-    let mut wanted = COMMANDS.iter();
-    for line in text.as_str().lines() {
-        if line.starts_with("  fpk ") {
-            match wanted.next() {
-                Some(command) => agree(&rt, line, line.starts_with(*command)),
-                None => agree(&rt, line, false),
-            }
-        }
+/// Whether a line begins with the next command, or shows none.
+fn is_in_order(wanted: &mut Iter<'_, &str>, line: &str) -> bool {
+    if !line.starts_with("  fpk ") {
+        return true;
     }
-    assert!(rt; wanted.next().is_none());
+    match wanted.next() {
+        Some(command) => line.starts_with(*command),
+        None => false,
+    }
 }
 
-/// A line has at most 80 columns.
+/// Each command stands at the beginning of one line, in this order, and no other does. A line has at
+/// most 80 columns.
 #[test]
-fn help_fits_a_terminal(rt: HostRuntime) {
-    let text = helped(&rt, rt.alloc());
-    assert!(rt; text.as_str().is_ascii());
+fn help_has_each_command(rt: HostRuntime) {
+    let text = help(rt.alloc()).expect(&rt, "memory");
+    let mut wanted = COMMANDS.iter();
     for line in text.as_str().lines() {
-        agree(&rt, line, line.len() <= 80);
+        let is_short = line.is_ascii() && line.len() <= 80;
+        agree(&rt, line, is_short && is_in_order(&mut wanted, line));
     }
+    assert!(rt; wanted.next().is_none());
 }

@@ -5,6 +5,8 @@
 #[cfg(test)]
 mod advice;
 #[cfg(test)]
+mod asked;
+#[cfg(test)]
 mod batches;
 #[cfg(test)]
 mod help;
@@ -16,7 +18,5 @@ mod notes;
 mod reasons;
 #[cfg(test)]
 mod rows;
-#[cfg(test)]
-mod texts;
 #[cfg(test)]
 mod words;

@@ -1,5 +1,11 @@
-//! How a test ends at a row of a table that is otherwise than it should be.
+//! Tables that are texts. A row is a line: what is given, `=>`, and what is answered.
+//!
+//! `|` ends a word that is given, or a line. `<ab*3>` stands for `ababab`.
 
+use crate::asked::{Asked, answer};
+use crate::{batches, lines, notes, reasons, words};
+use std::alloc::Global;
+use std::panic::Expect;
 use std::process::Abort;
 
 /// Ends the test where this isn't so, and prints the row.
@@ -7,12 +13,81 @@ pub fn agree(rt: &impl Abort, row: &str, is_so: bool) {
     assert!(rt; is_so, "{row}");
 }
 
-/// The same for a row that is a number.
-pub fn agree_at(rt: &impl Abort, row: usize, is_so: bool) {
-    assert!(rt; is_so, "row {row}");
+/// Adds what follows a `<`: a text as often as it says, and all after the `>`.
+fn push_part(rt: &impl Abort, alloc: Global, text: &mut String, part: &str) {
+    let (often, rest) = part.split_once('>').unwrap_or(("", part));
+    let (once, count) = often.rsplit_once('*').unwrap_or(("", "0"));
+    let often = once.repeat(alloc, count.parse::<usize>().unwrap_or(0));
+    text.push_str(&often.expect(rt, "memory"))
+        .expect(rt, "memory");
+    text.push_str(rest).expect(rt, "memory");
 }
 
-/// The same for words.
-pub fn agree_on_words(rt: &impl Abort, words: &[&str], is_so: bool) {
-    assert!(rt; is_so, "{words:?}");
+/// The text that this one stands for.
+fn whole(rt: &impl Abort, alloc: Global, text: &str) -> String {
+    let mut whole = String::new(alloc);
+    for part in text.split('<') {
+        push_part(rt, alloc, &mut whole, part);
+    }
+    whole
+}
+
+/// The text with a newline in the place of each `|`.
+pub fn lined(rt: &impl Abort, alloc: Global, text: &str) -> String {
+    text.replace(alloc, "|", "\n").expect(rt, "memory")
+}
+
+/// Whether what a row gives is answered as the row says.
+fn is_so(rt: &impl Abort, alloc: Global, asked: Asked, row: &str) -> bool {
+    let (given, want) = row.split_once("=>").unwrap_or((row, ""));
+    let answer = answer(rt, alloc, asked, &whole(rt, alloc, given));
+    let want = whole(rt, alloc, want.trim_start());
+    answer.as_str() == lined(rt, alloc, &want).as_str()
+}
+
+/// Ends the test at a row that isn't so.
+fn agree_on_rows(rt: &impl Abort, alloc: Global, asked: Asked, rows: &str) {
+    for row in rows.lines() {
+        agree(rt, row, is_so(rt, alloc, asked, row));
+    }
+}
+
+/// What is asked, and rows of it.
+const TABLES: [(Asked, &str); 20] = [
+    (Asked::Command, words::WORDS),
+    (Asked::Command, words::REF_WORDS),
+    (Asked::Command, words::OPTION_WORDS),
+    (Asked::Command, words::LONG_WORDS),
+    (Asked::Reason, reasons::REASONS),
+    (Asked::Reason, reasons::FIRST_WORDS),
+    (Asked::Reason, reasons::LONG_WORDS),
+    (Asked::LineReason, reasons::LINES),
+    (Asked::LineReason, reasons::LONG_LINES),
+    (Asked::Notes, notes::NOTES),
+    (Asked::Batch, batches::BATCHES),
+    (Asked::Batch, batches::BAD_LINES),
+    (Asked::Batch, batches::LONG_BATCHES),
+    (Asked::Damage, lines::DAMAGED),
+    (Asked::Escaped, lines::ESCAPED),
+    (Asked::Pins, lines::PINS),
+    (Asked::Remotes, lines::REMOTES),
+    (Asked::Refs, lines::REFS),
+    (Asked::Info, lines::INFO),
+    (Asked::WholeInfo, lines::WHOLE_INFO),
+];
+
+#[test]
+fn rows(rt: HostRuntime) {
+    for (asked, rows) in &TABLES {
+        agree_on_rows(&rt, rt.alloc(), *asked, rows);
+    }
+}
+
+/// A row whose word has a newline, and so isn't a line.
+const ESCAPED_WORD: &str =
+    "batch|a\nb\\c|=> fpk: 'a\\0ab\\5cc' is one word too many|usage: fpk batch|";
+
+#[test]
+fn a_word_with_a_newline(rt: HostRuntime) {
+    assert!(rt; is_so(&rt, rt.alloc(), Asked::Reason, ESCAPED_WORD));
 }

@@ -20,6 +20,15 @@ const PART: usize = 1000;
 /// Where the objects of a store are.
 const OBJECTS: &str = "/objects";
 
+/// Whether the folder has the objects of a store. Its path may end with a slash, as that of a folder
+/// does which is opened.
+fn has_objects(folder: &str) -> bool {
+    match folder.strip_suffix("/") {
+        Some(path) => path.ends_with(OBJECTS),
+        None => folder.ends_with(OBJECTS),
+    }
+}
+
 /// A system, and how far the command is that it is used for. The line of the command is taken away
 /// before anything is printed.
 pub struct Watched<'a, R> {
@@ -75,7 +84,7 @@ impl<'a, R: Files + Clock + Eprint> Files for Watched<'a, R> {
     }
 
     fn open_dir(&self, path: &str) -> io::Result<R::Dir> {
-        if !self.is_remote && path.ends_with(OBJECTS) {
+        if !self.is_remote && has_objects(path) {
             self.progress.note_listed();
         }
         self.rt.open_dir(path)

@@ -53,6 +53,8 @@ const COPYING: [Act<'static>; 2] = [
 
 #[test]
 fn bits_are_told_as_they_were_asked_for(rt: HostRuntime) {
-    assert!(rt; tell(&rt, &rt, "bits", Kind::Plain, &KEPT));
-    assert!(rt; tell(&rt, &rt, "dark", Kind::Crowded(""), &COPYING));
+    assert!(rt;
+        tell(&rt, &rt, "bits", Kind::Plain, &KEPT)
+            && tell(&rt, &rt, "dark", Kind::Crowded(""), &COPYING)
+    );
 }

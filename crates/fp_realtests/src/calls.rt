@@ -204,10 +204,12 @@ const READING: [Act<'static>; 2] = [
 
 #[test]
 fn folders_do_what_they_are_asked(rt: HostRuntime) {
-    assert!(rt; tell(&rt, &rt, "asked", Kind::Plain, &ASKING));
-    assert!(rt; tell(&rt, &rt, "refused", Kind::Plain, &REFUSING));
-    assert!(rt; tell(&rt, &rt, "unlinked", Kind::Plain, &UNLINKING));
-    assert!(rt; tell(&rt, &rt, "above", Kind::Plain, &IN_THE_WAY));
-    assert!(rt; tell(&rt, &rt, "ids", Kind::Plain, &LINKING));
-    assert!(rt; tell(&rt, &rt, "pieces", Kind::Plain, &READING));
+    assert!(rt;
+        tell(&rt, &rt, "asked", Kind::Plain, &ASKING)
+            && tell(&rt, &rt, "refused", Kind::Plain, &REFUSING)
+            && tell(&rt, &rt, "unlinked", Kind::Plain, &UNLINKING)
+            && tell(&rt, &rt, "above", Kind::Plain, &IN_THE_WAY)
+            && tell(&rt, &rt, "ids", Kind::Plain, &LINKING)
+            && tell(&rt, &rt, "pieces", Kind::Plain, &READING)
+    );
 }

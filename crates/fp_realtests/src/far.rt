@@ -47,13 +47,19 @@ const FILE_B: &str =
 const FILE_C: &str =
     "far/hub/objects/6e/56590e2bb5709ac248a8207966749ea44c0fa06551d263704596ba4fd93dd4.file";
 
+/// A ref with a long ID.
+const LONG_REF: &str =
+    "far/hub/refs/heads/app/org.example.a.b.c.d.e.f.g.h.i.j.k.l.m.n.o.p.q.r.s.t.u.v.w.x\
+    .y.z.Long.Name/x86_64/1";
+
+/// What both refs name.
+const NAMED: &[u8] = b"7f2461fb4eec56b10606e193425ebfd413e516485530fe77cf1637c1836c0360\n";
+
 /// What `ostree commit` wrote of a tree with the files `a` and `b`, and in a folder `d` the file
-/// `c`: the ref's file and the dirtrees. Of the other objects the names count alone.
-const WRITTEN: [(&str, &[u8]); 8] = [
-    (
-        REF,
-        b"7f2461fb4eec56b10606e193425ebfd413e516485530fe77cf1637c1836c0360\n",
-    ),
+/// `c`: the files of the refs and the dirtrees. Of the other objects the names count alone.
+const WRITTEN: [(&str, &[u8]); 9] = [
+    (REF, NAMED),
+    (LONG_REF, NAMED),
     (
         TOP,
         b"a\x00\x23\x01\xb5\x92\x37\x20\xc3\xed\xc1\xf0\x46\x7a\xdd\xb5\xc2\x87\xfd\x55\x59\xe3\xe0\
@@ -160,19 +166,37 @@ const CHECK: [(Ask<'static>, &str); 3] = [
     (Ask::Read(FILE_A), "checking 3 objects, 0 KiB"),
 ];
 
+/// What an uninstall asks of an application with a long ID. Its end alone is shown, so that a line has
+/// 79 columns.
+const UNINSTALL: [(Ask<'static>, &str); 3] = [
+    (Ask::Fetch(LONG_REF), "uninstalling .."),
+    (
+        Ask::Fetch(COMMIT),
+        "uninstalling ..a.b.c.d.e.f.g.h.i.j.k.l.m.n.o.p.q.r.s.t.u.v.w.x.y.z.Long.Name ..",
+    ),
+    (
+        Ask::Sync,
+        "uninstalling ..g.h.i.j.k.l.m.n.o.p.q.r.s.t.u.v.w.x.y.z.Long.Name 2 files synced",
+    ),
+];
+
+/// Whether the folder stands then.
+fn is_folder(rt: &HostRuntime, at: &str) -> bool {
+    fs::create_dir_all(rt, at).is_ok()
+}
+
+fn is_written(rt: &HostRuntime, at: &str, bytes: &[u8]) -> bool {
+    match at.rsplit_once('/') {
+        Some((folder, _)) => is_folder(rt, folder) && fs::write(rt, at, bytes).is_ok(),
+        None => false,
+    }
+}
+
 fn write_all(rt: &HostRuntime, log: &Log<'_>) {
     for (i, (at, bytes)) in (&WRITTEN).iter().enumerate() {
-        let is_made = match at.rsplit_once('/') {
-            Some((folder, _)) => fs::create_dir_all(rt, folder).is_ok(),
-            None => false,
-        };
-        log.demand(is_made && fs::write(rt, at, *bytes).is_ok(), i, at);
+        log.demand(is_written(rt, at, bytes), i, at);
     }
-    log.demand(
-        fs::create_dir_all(rt, "far/repo/objects/23").is_ok(),
-        0,
-        "the store",
-    );
+    log.demand(is_folder(rt, "far/repo/objects/23"), 0, "the store");
 }
 
 /// Whether the call was done.
@@ -200,6 +224,14 @@ fn last_line(alloc: Global, log: &Log<'_>) -> Option<String> {
     line.trim_end().to_string(alloc).ok()
 }
 
+/// Whether this is the line on a terminal. Elsewhere there is none.
+fn is_right(said: Option<&String>, is_terminal: bool, want: &str) -> bool {
+    match said {
+        Some(line) => is_terminal && line.as_str() == want,
+        None => !is_terminal,
+    }
+}
+
 /// Asks all of it, of a command for this whose line is on a terminal or not, and demands what each
 /// makes its line say. Nothing is said elsewhere.
 fn ask_all<'a, T: Threads + Sync>(
@@ -217,12 +249,22 @@ fn ask_all<'a, T: Threads + Sync>(
     for (i, (ask, want)) in asks.iter().enumerate() {
         log.demand(is_done(threads, &host, &remotes, *ask), i, "the call");
         let said = last_line(log.alloc, log);
-        let is_right = match &said {
-            Some(line) => is_terminal && line.as_str() == *want,
-            None => !is_terminal,
-        };
-        log.demand(is_right, i, want);
+        log.demand(is_right(said.as_ref(), is_terminal, want), i, want);
     }
+}
+
+/// The same of a folder that is made before, and cleared.
+fn ask_there<T: Threads + Sync>(
+    rt: &HostRuntime,
+    threads: &T,
+    log: &Log<'_>,
+    told: (Task, bool),
+    asks: &[(Ask<'_>, &str)],
+) {
+    clear(rt, "far");
+    write_all(rt, log);
+    ask_all(rt, threads, log, told, asks);
+    clear(rt, "far");
 }
 
 /// Whether a command for this says these lines on a terminal, and none elsewhere.
@@ -233,43 +275,17 @@ fn says<T: Threads + Sync>(
     asks: &[(Ask<'_>, &str)],
 ) -> bool {
     let log = Log::new(rt.alloc(), Kind::Slow);
-    for is_terminal in [true, false] {
-        clear(rt, "far");
-        write_all(rt, &log);
-        ask_all(rt, threads, &log, (task, is_terminal), asks);
-        clear(rt, "far");
-    }
-    log.all_held(rt)
-}
-
-/// Whether of a long ID the end alone is shown, so that a line has 79 columns.
-fn fits<T: Threads + Sync>(rt: &HostRuntime, threads: &T) -> bool {
-    let log = Log::new(rt.alloc(), Kind::Slow);
-    let at = "far/hub/refs/heads/app/org.example.a.b.c.d.e.f.g.h.i.j.k.l.m.n.o.p.q.r.s.t.u.v.w.x\
-              .y.z.Long.Name/x86_64/1";
-    let line = "uninstalling ..g.h.i.j.k.l.m.n.o.p.q.r.s.t.u.v.w.x.y.z.Long.Name 2 files synced";
-    clear(rt, "far");
-    write_all(rt, &log);
-    let folder = at.strip_suffix("/1").unwrap_or("far");
-    log.demand(fs::create_dir_all(rt, folder).is_ok(), 0, folder);
-    log.demand(fs::copy(rt, REF, at).is_ok(), 0, at);
-    let asks = [
-        (Ask::Fetch(at), "uninstalling .."),
-        (
-            Ask::Fetch(COMMIT),
-            "uninstalling ..a.b.c.d.e.f.g.h.i.j.k.l.m.n.o.p.q.r.s.t.u.v.w.x.y.z.Long.Name ..",
-        ),
-        (Ask::Sync, line),
-    ];
-    ask_all(rt, threads, &log, (Task::Uninstall, true), &asks);
-    clear(rt, "far");
+    ask_there(rt, threads, &log, (task, true), asks);
+    ask_there(rt, threads, &log, (task, false), asks);
     log.all_held(rt)
 }
 
 #[test]
 fn a_line_says_how_far_a_command_is(rt: HostRuntime) {
-    let install = says(&rt, &rt, Task::Install, &INSTALL);
-    let update = says(&rt, &rt, Task::Update, &UPDATE);
-    let check = says(&rt, &rt, Task::Check, &CHECK);
-    assert!(rt; install && update && check && fits(&rt, &rt));
+    assert!(rt;
+        says(&rt, &rt, Task::Install, &INSTALL)
+            && says(&rt, &rt, Task::Update, &UPDATE)
+            && says(&rt, &rt, Task::Check, &CHECK)
+            && says(&rt, &rt, Task::Uninstall, &UNINSTALL)
+    );
 }

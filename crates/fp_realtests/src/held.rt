@@ -273,29 +273,35 @@ fn a_folder_that_was_absent_stays_so_to_a_look(rt: HostRuntime) {
 fn the_lock_that_is_held_is_of_the_file_that_stands_there(rt: HostRuntime) {
     let replaced = Kind::Losing(1, true);
     let taken = Kind::Losing(1, false);
-    assert!(rt; tell(&rt, &rt, "lost", replaced, &REPLACED_TO_LOOK));
-    assert!(rt; tell(&rt, &rt, "lost", replaced, &REPLACED_TO_CHANGE));
-    assert!(rt; tell(&rt, &rt, "lost", taken, &TAKEN_TO_LOOK));
-    assert!(rt; tell(&rt, &rt, "lost", taken, &TAKEN_TO_CHANGE));
+    assert!(rt;
+        tell(&rt, &rt, "lost", replaced, &REPLACED_TO_LOOK)
+            && tell(&rt, &rt, "lost", replaced, &REPLACED_TO_CHANGE)
+            && tell(&rt, &rt, "lost", taken, &TAKEN_TO_LOOK)
+            && tell(&rt, &rt, "lost", taken, &TAKEN_TO_CHANGE)
+    );
 }
 
 /// A lock file that is replaced a hundred times is given up.
 #[test]
 fn a_lock_is_not_waited_for_without_end(rt: HostRuntime) {
     let (often, always) = (Kind::Losing(99, true), Kind::Losing(u32::MAX, true));
-    assert!(rt; tell(&rt, &rt, "lost", often, &GOT));
-    assert!(rt; tell(&rt, &rt, "lost", often, &GOT_TO_LOOK));
-    assert!(rt; tell(&rt, &rt, "lost", always, &MISSED));
-    assert!(rt; tell(&rt, &rt, "lost", always, &MISSED_TO_LOOK));
+    assert!(rt;
+        tell(&rt, &rt, "lost", often, &GOT)
+            && tell(&rt, &rt, "lost", often, &GOT_TO_LOOK)
+            && tell(&rt, &rt, "lost", always, &MISSED)
+            && tell(&rt, &rt, "lost", always, &MISSED_TO_LOOK)
+    );
 }
 
 #[test]
 fn the_lock_keeps_others_out(rt: HostRuntime) {
-    assert!(rt; tell(&rt, &rt, "held", Kind::Plain, &FREE));
-    assert!(rt; tell(&rt, &rt, "prints", Kind::Plain, &PRINTING));
-    assert!(rt; tell(&rt, &rt, "read", Kind::Plain, &READABLE));
-    assert!(rt; tell(&rt, &rt, "looked", Kind::Plain, &LOOKED));
-    assert!(rt; tell(&rt, &rt, "busy", Kind::Busy, &NOTED));
+    assert!(rt;
+        tell(&rt, &rt, "held", Kind::Plain, &FREE)
+            && tell(&rt, &rt, "prints", Kind::Plain, &PRINTING)
+            && tell(&rt, &rt, "read", Kind::Plain, &READABLE)
+            && tell(&rt, &rt, "looked", Kind::Plain, &LOOKED)
+            && tell(&rt, &rt, "busy", Kind::Busy, &NOTED)
+    );
 }
 
 /// What a change does before a look may see any of it: it adds names, and does what it likes at its
@@ -399,8 +405,10 @@ const UNHAD: [Act<'static>; 1] = [Act::Logged(
 
 #[test]
 fn a_change_waits_for_those_who_look(rt: HostRuntime) {
-    assert!(rt; tell(&rt, &rt, "busy", Kind::Busy, &WAITING));
-    assert!(rt; tell(&rt, &rt, "unhad", Kind::Failing("lock unhad"), &UNHAD));
+    assert!(rt;
+        tell(&rt, &rt, "busy", Kind::Busy, &WAITING)
+            && tell(&rt, &rt, "unhad", Kind::Failing("lock unhad"), &UNHAD)
+    );
 }
 
 /// Who waits for long says so once more.

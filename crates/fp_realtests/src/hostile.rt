@@ -69,8 +69,10 @@ const FEW: [Act<'static>; 1] = [Act::Logged(
 
 #[test]
 fn what_is_in_the_way_is_left_alone(rt: HostRuntime) {
-    assert!(rt; tell(&rt, &rt, "none", Kind::Plain, &DEVICE));
-    assert!(rt; tell(&rt, &rt, "leading", Kind::Crowded(""), &LEADING));
+    assert!(rt;
+        tell(&rt, &rt, "none", Kind::Plain, &DEVICE)
+            && tell(&rt, &rt, "leading", Kind::Crowded(""), &LEADING)
+    );
 }
 
 #[test]
@@ -141,7 +143,9 @@ const LIMITLESS: [Act<'static>; 3] = [
 #[test]
 fn a_file_that_may_not_be_so_large_is_an_error(rt: HostRuntime) {
     let limited = Kind::Limited("large/limits");
-    assert!(rt; tell(&rt, &rt, "large", limited, &LARGE_ACTS));
-    assert!(rt; tell(&rt, &rt, "large", limited, &MARKLESS));
-    assert!(rt; tell(&rt, &rt, "large", limited, &LIMITLESS));
+    assert!(rt;
+        tell(&rt, &rt, "large", limited, &LARGE_ACTS)
+            && tell(&rt, &rt, "large", limited, &MARKLESS)
+            && tell(&rt, &rt, "large", limited, &LIMITLESS)
+    );
 }

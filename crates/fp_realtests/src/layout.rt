@@ -10,9 +10,13 @@ fn are_same(some: &[&str], others: &[&str]) -> bool {
 
 #[test]
 fn paths_are_those_of_the_definitions(rt: HostRuntime) {
-    assert!(rt; are_same(LAYOUT.names, &TOP_NAMES));
-    assert!(rt; are_same(LAYOUT.signs, &SIGN_FILES));
-    assert!(rt; LAYOUT.exports == EXPORTS_NAME && LAYOUT.work == WORK_FOLDER);
-    assert!(rt; LAYOUT.new_file == NEW_FILE && LAYOUT.objects == OBJECTS_FOLDER);
-    assert!(rt; LAYOUT.waiting == WAITING_FOLDER);
+    assert!(rt;
+        are_same(LAYOUT.names, &TOP_NAMES)
+            && are_same(LAYOUT.signs, &SIGN_FILES)
+            && LAYOUT.exports == EXPORTS_NAME
+            && LAYOUT.work == WORK_FOLDER
+            && LAYOUT.new_file == NEW_FILE
+            && LAYOUT.objects == OBJECTS_FOLDER
+            && LAYOUT.waiting == WAITING_FOLDER
+    );
 }

@@ -25,6 +25,8 @@ mod links;
 #[cfg(test)]
 mod names;
 #[cfg(test)]
+mod noted;
+#[cfg(test)]
 mod order;
 #[cfg(test)]
 mod others;

@@ -127,8 +127,10 @@ const UNMADE: [Act<'static>; 2] = [
 
 #[test]
 fn no_symlink_is_followed(rt: HostRuntime) {
-    assert!(rt; tell(&rt, &rt, "links", Kind::Plain, &FOLLOWING));
-    assert!(rt; tell(&rt, &rt, "links_there", Kind::Plain, &LINKED));
-    assert!(rt; tell(&rt, &rt, "unmade", Kind::Plain, &UNMADE));
-    assert!(rt; tell(&rt, &rt, "links_lock", Kind::Plain, &LOCK_LINKED));
+    assert!(rt;
+        tell(&rt, &rt, "links", Kind::Plain, &FOLLOWING)
+            && tell(&rt, &rt, "links_there", Kind::Plain, &LINKED)
+            && tell(&rt, &rt, "unmade", Kind::Plain, &UNMADE)
+            && tell(&rt, &rt, "links_lock", Kind::Plain, &LOCK_LINKED)
+    );
 }

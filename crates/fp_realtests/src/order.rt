@@ -1,5 +1,5 @@
 //! What the system is asked, in order, and what a failure of it does.
-use fp_realplay::{Act, Kind, Made, Part, Step, tell};
+use fp_realplay::{Act, Kind, Part, Step, tell};
 use fp_realroot::{Access, System};
 use std::thread::Threads;
 
@@ -297,15 +297,19 @@ const LOOKING: [Act<'static>; 2] = [
 
 #[test]
 fn the_system_is_asked_in_order(rt: HostRuntime) {
-    assert!(rt; tell_both(&rt, &rt, ("order", "order/root"), Kind::Plain, &ASKING));
-    assert!(rt; tell(&rt, &rt, "date", Kind::Plain, &DATING));
-    assert!(rt; tell(&rt, &rt, "looks", Kind::TellingLooks, &LOOKING));
+    assert!(rt;
+        tell_both(&rt, &rt, ("order", "order/root"), Kind::Plain, &ASKING)
+            && tell(&rt, &rt, "date", Kind::Plain, &DATING)
+            && tell(&rt, &rt, "looks", Kind::TellingLooks, &LOOKING)
+    );
 }
 
 #[test]
 fn what_stands_there_is_synced(rt: HostRuntime) {
-    assert!(rt; tell(&rt, &rt, "moved", Kind::Failing(UNMOVED), &MOVING));
-    assert!(rt; tell(&rt, &rt, "bare", Kind::Plain, &BARE));
+    assert!(rt;
+        tell(&rt, &rt, "moved", Kind::Failing(UNMOVED), &MOVING)
+            && tell(&rt, &rt, "bare", Kind::Plain, &BARE)
+    );
 }
 
 /// What takes a name away or gives a second one makes its folder last, and a file that waits for a

@@ -102,8 +102,10 @@ const DRAFTS: [Act<'static>; 3] = [
 
 #[test]
 fn what_is_of_others_is_named_and_kept(rt: HostRuntime) {
-    assert!(rt; tell(&rt, &rt, "others", Kind::Plain, &KEPT));
-    assert!(rt; tell(&rt, &rt, "others", Kind::Plain, &DRAFTS));
+    assert!(rt;
+        tell(&rt, &rt, "others", Kind::Plain, &KEPT)
+            && tell(&rt, &rt, "others", Kind::Plain, &DRAFTS)
+    );
 }
 
 /// A change is done.
@@ -192,14 +194,14 @@ const ABOVE_FAILS: [Act<'static>; 1] = [Act::Logged(
 
 #[test]
 fn folders_above_may_take_no_sync(rt: HostRuntime) {
-    assert!(rt; tell(&rt, &rt, "others", Kind::Plain, &BELOW_PROC));
     assert!(rt;
-        tell(
-            &rt,
-            &rt,
-            "others",
-            Kind::Failing("sync others"),
-            &ABOVE_FAILS
-        )
+        tell(&rt, &rt, "others", Kind::Plain, &BELOW_PROC)
+            && tell(
+                &rt,
+                &rt,
+                "others",
+                Kind::Failing("sync others"),
+                &ABOVE_FAILS
+            )
     );
 }

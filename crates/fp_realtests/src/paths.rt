@@ -53,8 +53,10 @@ fn loses_second(alloc: Global) -> Result<bool, AllocError> {
 
 #[test]
 fn two_paths_of_one_number_are_told_apart(rt: HostRuntime) {
-    assert!(rt; number_of(FIRST) == number_of(SECOND));
-    assert!(rt; keeps_both(rt.alloc()) == Ok(true));
-    assert!(rt; loses_first(rt.alloc()) == Ok(true));
-    assert!(rt; loses_second(rt.alloc()) == Ok(true));
+    assert!(rt;
+        number_of(FIRST) == number_of(SECOND)
+            && keeps_both(rt.alloc()) == Ok(true)
+            && loses_first(rt.alloc()) == Ok(true)
+            && loses_second(rt.alloc()) == Ok(true)
+    );
 }

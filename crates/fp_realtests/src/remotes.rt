@@ -52,8 +52,10 @@ const OTHERS: [Act<'static>; 1] = [Act::Remote(Remote {
 
 #[test]
 fn folders_are_remotes_and_other_urls_are_faults(rt: HostRuntime) {
-    assert!(rt; tell(&rt, &rt, "remote", Kind::Plain, &REMOTE));
-    assert!(rt; tell(&rt, &rt, "others", Kind::Plain, &OTHERS));
+    assert!(rt;
+        tell(&rt, &rt, "remote", Kind::Plain, &REMOTE)
+            && tell(&rt, &rt, "others", Kind::Plain, &OTHERS)
+    );
 }
 
 /// Whether a path is looked at once when its node is asked for, and not again when it is read.
@@ -89,7 +91,6 @@ fn a_found_file_is_looked_at_once(rt: HostRuntime) {
     let log = Log::new(rt.alloc(), Kind::TellingLooks);
     clear(&rt, "remote");
     make_all(&rt, &log, &MADE);
-    assert!(rt; is_found(&rt, &log));
-    assert!(rt; log.all_held(&rt));
+    assert!(rt; is_found(&rt, &log) && log.all_held(&rt));
     clear(&rt, "remote");
 }

@@ -1,5 +1,6 @@
 //! Paths, their elements, and the texts and bytes that a host is given.
 
+use crate::many;
 use crate::parsed::path;
 use crate::rows::{agree, agree_at, is_text};
 use fp_base::{Blob, Text};
@@ -8,31 +9,24 @@ use std::alloc::{AllocError, Global};
 use std::panic::Expect;
 use std::process::Abort;
 
-/// Texts, and whether each is an element of a path.
-const ELEMENTS: [(&str, bool); 12] = [
-    ("config", true),
-    ("...", true),
-    (".x", true),
-    ("a b", true),
-    ("\u{e9}", true),
-    ("\n", true),
-    ("", false),
-    (".", false),
-    ("..", false),
-    ("a/b", false),
-    ("/", false),
-    ("a\0", false),
-];
-
-/// Texts, and whether each is the text of a link.
-const LINK_TEXTS: [(&str, bool); 7] = [
-    ("a", true),
-    ("..", true),
-    ("/", true),
-    ("\u{e4} b", true),
-    ("", false),
-    ("a\0b", false),
-    ("\0", false),
+/// Texts, and whether each is an element of a path, and the text of a link.
+const TEXTS: [(&str, bool, bool); 16] = [
+    ("config", true, true),
+    ("...", true, true),
+    (".x", true, true),
+    ("a b", true, true),
+    ("\u{e9}", true, true),
+    ("\n", true, true),
+    ("a", true, true),
+    ("\u{e4} b", true, true),
+    (".", false, true),
+    ("..", false, true),
+    ("a/b", false, true),
+    ("/", false, true),
+    ("", false, false),
+    ("a\0", false, false),
+    ("a\0b", false, false),
+    ("\0", false, false),
 ];
 
 /// Texts that are no paths.
@@ -45,16 +39,6 @@ const LENGTHS: [(usize, bool, bool); 4] = [
     (4_095, false, true),
     (4_096, false, false),
 ];
-
-#[test]
-fn elements_and_link_texts(rt: HostRuntime) {
-    for (text, good) in &ELEMENTS {
-        agree(&rt, text, is_element(text) == *good);
-    }
-    for (text, good) in &LINK_TEXTS {
-        agree(&rt, text, is_link_text(text) == *good);
-    }
-}
 
 /// Whether the text is no path.
 fn is_no_path(alloc: Global, text: &str) -> bool {
@@ -73,32 +57,23 @@ fn are(text: &str, element: bool, link: bool) -> bool {
     is_element(text) == element && is_link_text(text) == link
 }
 
+/// The same of this many letters.
+fn letters_are(rt: &impl Abort, alloc: Global, count: usize, element: bool, link: bool) -> bool {
+    are(
+        &"x".repeat(alloc, count).expect(rt, "memory"),
+        element,
+        link,
+    )
+}
+
 #[test]
-fn lengths(rt: HostRuntime) {
-    for (count, element, link) in &LENGTHS {
-        let text = "x".repeat(rt.alloc(), *count).expect(&rt, "memory");
-        agree_at(&rt, *count, are(&text, *element, *link));
+fn elements_and_link_texts(rt: HostRuntime) {
+    for (text, element, link) in &TEXTS {
+        agree(&rt, text, are(text, *element, *link));
     }
-}
-
-/// Paths, and how many elements each has.
-const PATHS: [(&str, usize); 2] = [("config", 1), ("repo/refs/heads", 3)];
-
-/// Whether a copy of the path is the same path.
-fn is_copied(rt: &impl Abort, path: &Path) -> bool {
-    path.is(&path.copy().expect(rt, "memory"))
-}
-
-/// Whether the path has this text and this many elements, and its copy is the same path.
-fn is_read_back(rt: &impl Abort, path: &Path, text: &str, elements: usize) -> bool {
-    is_copied(rt, path) && path.text() == text && path.len() == elements && !path.is_root()
-}
-
-#[test]
-fn paths(rt: HostRuntime) {
-    for (text, elements) in &PATHS {
-        let path = path(&rt, rt.alloc(), text);
-        agree(&rt, text, is_read_back(&rt, &path, text, *elements));
+    for (count, element, link) in &LENGTHS {
+        let is_so = letters_are(&rt, rt.alloc(), *count, *element, *link);
+        agree_at(&rt, *count, is_so);
     }
 }
 
@@ -123,54 +98,15 @@ fn paths_above_others(rt: HostRuntime) {
     }
 }
 
-/// Whether the root is above the file, and has no elements.
-fn is_root_above(root: &Path, file: &Path) -> bool {
-    root.is_above(file)
-        && root.len() == 0
-        && root.is_root()
-        && root.text().is_empty()
-        && root.name().is_none()
-}
-
-/// Whether the folder two elements above the file is `repo`.
-fn is_below_repo(rt: &impl Abort, file: &Path) -> bool {
-    if file.len() < 2 {
-        return false;
-    }
-    let repo = file.folder(2).expect(rt, "memory");
-    repo.text() == "repo" && repo.is_above(file) && !file.is_above(&repo)
-}
-
-/// Whether `tmp` is joined to `repo`.
-fn is_joined(rt: &impl Abort, repo: &Path) -> bool {
-    let tmp = repo.join("tmp").expect(rt, "an element");
-    tmp.text() == "repo/tmp" && repo.is_above(&tmp)
-}
-
-/// Whether elements are joined to the root, and `..` isn't.
-fn are_joined(rt: &impl Abort, root: &Path) -> bool {
-    let repo = root.join("repo").expect(rt, "an element");
-    is_joined(rt, &repo) && repo.join("..").err() == Some(PathError::Bad)
-}
-
-/// Whether the last element is added once more.
-fn is_doubled(rt: &impl Abort, tmp: &Path) -> bool {
-    match tmp.name() {
-        Some(name) => tmp.child(name).expect(rt, "memory").text() == "repo/tmp/tmp",
-        None => false,
-    }
-}
-
-/// Whether the root and a file below it are as they have to.
-fn are_folders(rt: &impl Abort, root: &Path, file: &Path) -> bool {
-    is_root_above(root, file) && is_below_repo(rt, file) && are_joined(rt, root)
+/// Whether the root is above the folder, and `..` isn't joined to it.
+fn is_folder(root: &Path, folder: &Path) -> bool {
+    root.is_above(folder) && folder.join("..").err() == Some(PathError::Bad)
 }
 
 #[test]
 fn folders(rt: HostRuntime) {
-    let file = path(&rt, rt.alloc(), "repo/objects/ab");
-    assert!(rt; are_folders(&rt, &Path::root(rt.alloc()), &file));
-    assert!(rt; is_doubled(&rt, &path(&rt, rt.alloc(), "repo/tmp")));
+    let folder = path(&rt, rt.alloc(), "repo");
+    assert!(rt; is_folder(&Path::root(rt.alloc()), &folder));
 }
 
 /// Whether a text of this many letters is copied.
@@ -184,22 +120,18 @@ fn are_bytes(rt: &impl Abort, copy: Result<Blob, AllocError>, bytes: &[u8]) -> b
     copy.expect(rt, "memory").as_slice() == bytes
 }
 
-/// Whether the bytes are copied.
-fn blob_is_copied(rt: &impl Abort, alloc: Global, bytes: &[u8]) -> bool {
-    let blob = Blob::from_vec(bytes.to_vec(alloc).expect(rt, "memory"));
-    are_bytes(rt, blob.copy(), bytes)
+/// Whether this many bytes are copied.
+fn blob_is_copied(rt: &impl Abort, alloc: Global, count: usize) -> bool {
+    let blob = Blob::from_vec(many::bytes(rt, alloc, count));
+    are_bytes(rt, blob.copy(), blob.as_slice())
 }
 
-/// A text and bytes that are short, and of a mebibyte.
+/// A text and bytes of a mebibyte.
 #[test]
 fn copies(rt: HostRuntime) {
     assert!(rt;
-        text_is_copied(&rt, rt.alloc(), 1)
-            && text_is_copied(&rt, rt.alloc(), 1 << 20)
-            && blob_is_copied(&rt, rt.alloc(), &[1, 2, 3])
+        text_is_copied(&rt, rt.alloc(), 1 << 20) && blob_is_copied(&rt, rt.alloc(), 1 << 20)
     );
-    let long = vec![in rt.alloc(); 7u8; 1 << 20].expect(&rt, "memory");
-    assert!(rt; blob_is_copied(&rt, rt.alloc(), &long));
 }
 
 /// A text of 1,100 elements, each of 250 letters.
@@ -227,18 +159,11 @@ fn goes_deep(rt: &impl Abort, path: &Path) -> bool {
     has_middle(rt, &below) && is_parent(rt, path, &below)
 }
 
-/// Whether an element of 255 letters is joined to the folder.
-fn joins_longest(rt: &impl Abort, alloc: Global, folder: &Path) -> bool {
-    let element = "e".repeat(alloc, 255).expect(rt, "memory");
-    let below = folder.join(&element).expect(rt, "an element");
-    folder.is_above(&below) && below.name() == Some(element.as_str())
-}
-
 #[test]
 fn deep_paths(rt: HostRuntime) {
     let text = deep(&rt, rt.alloc());
     let folder = path(&rt, rt.alloc(), &text);
-    assert!(rt; goes_deep(&rt, &folder) && joins_longest(&rt, rt.alloc(), &folder));
+    assert!(rt; goes_deep(&rt, &folder));
 }
 
 /// Whether there is nothing.

@@ -1,9 +1,10 @@
 //! Key files with what they read as, worked out from the rules by hand.
 
+use crate::many;
 use crate::rows::{agree, is_text};
-use fp_base::{Items, KeyRule, Text};
+use fp_base::KeyRule;
 use fp_keyfile::{
-    Group, KeyError, KeyFault, KeyFile, Pair, is_group_name, is_pair_key, is_pair_value, trim_front,
+    KeyError, KeyFault, KeyFile, is_group_name, is_pair_key, is_pair_value, trim_front,
 };
 use std::alloc::{AllocError, Global};
 use std::panic::Expect;
@@ -232,94 +233,6 @@ fn changes(rt: HostRuntime) {
     }
 }
 
-/// Whether what is taken from the file is this, and nothing where the wanted text is empty.
-fn takes(file: &mut KeyFile, group: &str, key: &str, want: &str) -> bool {
-    match file.remove(group, key) {
-        Some(value) => value.as_str() == want,
-        None => want.is_empty(),
-    }
-}
-
-/// Whether what is taken from the file of the text is this.
-fn is_taken(
-    rt: &impl Abort,
-    alloc: Global,
-    text: &str,
-    group: &str,
-    key: &str,
-    want: &str,
-) -> bool {
-    let mut file = file_of(rt, alloc, text);
-    takes(&mut file, group, key, want)
-}
-
-/// Whether the text has this many groups, and is written again of them.
-fn has_groups(rt: &impl Abort, alloc: Global, text: &str, count: usize) -> bool {
-    let groups = file_of(rt, alloc, text).into_groups();
-    let is_count = groups.len() == count;
-    is_text(rt, KeyFile::from_groups(groups).write(), text) && is_count
-}
-
-/// How many pairs the groups have, and copies of them.
-fn pair_counts(rt: &impl Abort, groups: &[Group]) -> (usize, usize) {
-    let mut pairs = 0usize;
-    let mut copied = 0usize;
-    for group in groups {
-        pairs = pairs.wrapping_add(group.pairs.len());
-        copied = copied.wrapping_add(group.copy().expect(rt, "memory").pairs.len());
-    }
-    (pairs, copied)
-}
-
-/// Whether the groups of the text, and copies of them, have this many pairs.
-fn has_pairs(rt: &impl Abort, alloc: Global, text: &str, count: usize) -> bool {
-    let file = file_of(rt, alloc, text);
-    pair_counts(rt, file.groups().as_slice()) == (count, count)
-}
-
-/// Whether a copied text is this string.
-fn is_string(rt: &impl Abort, copy: Result<Text, AllocError>, want: &str) -> bool {
-    copy.expect(rt, "memory").into_string().as_str() == want
-}
-
-/// Whether a copy of the pair has this key.
-fn has_key(rt: &impl Abort, pair: &Pair, key: &str) -> bool {
-    let copy = pair.copy().expect(rt, "memory");
-    let again = copy.key.copy();
-    drop(copy);
-    is_string(rt, again, key)
-}
-
-/// A list of one pair with this key.
-fn pairs_of(rt: &impl Abort, alloc: Global, key: &str) -> Items<Pair> {
-    let mut pairs = Items::new(alloc);
-    let pair = Pair::new(alloc, key, "v").expect(rt, "memory");
-    pairs.push(pair).expect(rt, "memory");
-    pairs
-}
-
-/// Whether a list of one pair keeps its key.
-fn keeps_key(rt: &impl Abort, alloc: Global, key: &str) -> bool {
-    let pairs = Items::from_vec(pairs_of(rt, alloc, key).into_vec());
-    match pairs.as_slice() {
-        [pair] => has_key(rt, pair, key),
-        _ => false,
-    }
-}
-
-#[test]
-fn plain_groups(rt: HostRuntime) {
-    let alloc = rt.alloc();
-    let text = "[a]\nx=1\ny=2\n[b]\n";
-    assert!(rt;
-        is_taken(&rt, alloc, text, "b", "x", "")
-            && is_taken(&rt, alloc, text, "a", "y", "2")
-            && has_groups(&rt, alloc, text, 2)
-            && has_pairs(&rt, alloc, text, 2)
-            && keeps_key(&rt, alloc, "key")
-    );
-}
-
 /// Texts, and whether each is a group's name, a key and a value.
 const PARTS: [(&str, bool, bool, bool); 17] = [
     ("a b", true, true, true),
@@ -373,32 +286,19 @@ fn value_of(rt: &impl Abort, alloc: Global, length: usize) -> String {
     "v".repeat(alloc, length).expect(rt, "memory")
 }
 
-/// Whether a file of one group with this value is read, written and copied.
-fn keeps_value(rt: &impl Abort, alloc: Global, text: &str, value: &str) -> bool {
-    has_groups(rt, alloc, text, 1)
-        && is_taken(rt, alloc, text, "g0", "k", value)
-        && keeps_key(rt, alloc, value)
+/// Whether a file of this many groups, each with a pair whose value has this many bytes, is read,
+/// copied and written as it was.
+fn keeps_groups(rt: &impl Abort, alloc: Global, count: usize, length: usize) -> bool {
+    let text = many_groups(rt, alloc, count, &value_of(rt, alloc, length));
+    is_now(rt, &file_of(rt, alloc, &text), &text)
 }
 
-/// A value of a mebibyte.
+/// A value of a mebibyte, and a file of a mebibyte in 1,100 groups.
 #[test]
-fn long_value(rt: HostRuntime) {
-    let value = value_of(&rt, rt.alloc(), 1 << 20);
-    let text = many_groups(&rt, rt.alloc(), 1, &value);
-    assert!(rt; keeps_value(&rt, rt.alloc(), &text, &value));
-}
-
-/// Whether this many groups with a pair each are read, written and copied.
-fn keeps_groups(rt: &impl Abort, alloc: Global, text: &str, count: usize) -> bool {
-    has_groups(rt, alloc, text, count) && has_pairs(rt, alloc, text, count)
-}
-
-/// A file of a mebibyte in 1,100 groups.
-#[test]
-fn many_groups_are_kept(rt: HostRuntime) {
-    let value = value_of(&rt, rt.alloc(), 1_000);
-    let text = many_groups(&rt, rt.alloc(), 1_100, &value);
-    assert!(rt; keeps_groups(&rt, rt.alloc(), &text, 1_100));
+fn much_is_kept(rt: HostRuntime) {
+    assert!(rt;
+        keeps_groups(&rt, rt.alloc(), 1, 1 << 20) && keeps_groups(&rt, rt.alloc(), 1_100, 1_000)
+    );
 }
 
 /// Sets a pair of the first group, and a group of its own.
@@ -407,16 +307,11 @@ fn grow(rt: &impl Abort, file: &mut KeyFile, name: &str) {
     change(rt, file, name, "k", Some("v"));
 }
 
-/// The name of this number.
-fn numbered_name(rt: &impl Abort, alloc: Global, number: usize) -> String {
-    format!(in alloc; "n{number:04}").expect(rt, "memory")
-}
-
 /// A file in which this many pairs of one group, and this many groups, were set.
 fn grown_file(rt: &impl Abort, alloc: Global, count: usize) -> KeyFile {
     let mut file = KeyFile::new(alloc);
     for number in 0..count {
-        grow(rt, &mut file, &numbered_name(rt, alloc, number));
+        grow(rt, &mut file, &many::name(rt, alloc, number));
     }
     file
 }

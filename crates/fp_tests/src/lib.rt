@@ -7,6 +7,8 @@ mod host;
 #[cfg(test)]
 mod keyfile;
 #[cfg(test)]
+mod many;
+#[cfg(test)]
 mod memhost;
 #[cfg(test)]
 mod name;

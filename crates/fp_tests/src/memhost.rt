@@ -1,5 +1,6 @@
 //! The host, remotes and source in memory: what is found after a stop, and calls that fail.
 
+use crate::many;
 use crate::parsed::path;
 use crate::rows::agree_at;
 use fp_base::{Blob, Items};
@@ -320,29 +321,22 @@ fn gives_steps(source: &mut MemSource) -> bool {
         && source.take(&mut into) == Taken::End
 }
 
+/// Whether a source of a mebibyte gives it at once.
+fn gives_much(rt: &impl Abort, alloc: Global) -> bool {
+    let bytes = Blob::from_vec(many::bytes(rt, alloc, 1 << 20));
+    let mut into = many::bytes(rt, alloc, 1 << 20);
+    MemSource::new(bytes, 1 << 20, None).take(&mut into) == Taken::Took(1 << 20)
+}
+
 #[test]
 fn a_source_gives_its_steps(rt: HostRuntime) {
     let bytes = blob(&rt, rt.alloc(), b"abc");
-    assert!(rt; gives_steps(&mut MemSource::new(bytes, 2, Some(1))));
+    assert!(rt; gives_steps(&mut MemSource::new(bytes, 2, Some(1))) && gives_much(&rt, rt.alloc()));
 }
 
 /// Where a file of this number is.
 fn numbered_path(rt: &impl Abort, alloc: Global, number: usize) -> Path {
-    let name = format!(in alloc; "f{number:04}").expect(rt, "memory");
-    path(rt, alloc, &name)
-}
-
-/// A mebibyte.
-fn mebibyte(rt: &impl Abort, alloc: Global) -> Vec<u8> {
-    vec![in alloc; 7u8; 1 << 20].expect(rt, "memory")
-}
-
-/// Makes 1,100 files.
-fn make_files(rt: &impl Abort, alloc: Global, host: &mut MemHost) {
-    for number in 0..1_100 {
-        let at = numbered_path(rt, alloc, number);
-        host.create(&at, 0o644).expect(rt, "a new file");
-    }
+    many::path(rt, alloc, &Path::root(alloc), number)
 }
 
 /// Adds these bytes to a file, and says them.
@@ -354,21 +348,15 @@ fn add_much(rt: &impl Abort, host: &mut MemHost, at: &Path, bytes: &[u8]) {
 /// A host of 1,100 files, the last of a mebibyte, that said a mebibyte.
 fn filled_host(rt: &impl Abort, alloc: Global, last: &Path) -> MemHost {
     let mut host = new_host(rt, alloc);
-    make_files(rt, alloc, &mut host);
-    add_much(rt, &mut host, last, &mebibyte(rt, alloc));
+    many::fill(rt, alloc, &mut host, &Path::root(alloc));
+    add_much(rt, &mut host, last, &many::bytes(rt, alloc, 1 << 20));
     host
-}
-
-/// How many names stand at the top.
-fn count_names(rt: &impl Abort, alloc: Global, host: &mut MemHost) -> usize {
-    host.list(alloc, &Path::root(alloc))
-        .expect(rt, "names")
-        .len()
 }
 
 /// Whether a stop leaves a host of 1,100 files and one of a mebibyte as it is.
 fn is_kept(rt: &impl Abort, alloc: Global, host: &mut MemHost, last: &Path) -> bool {
-    let are_all = count_names(rt, alloc, host) == 1_100 && count_choices(rt, host) == 1_100;
+    let count = many::count(rt, alloc, host, &Path::root(alloc));
+    let are_all = count == 1_100 && count_choices(rt, host) == 1_100;
     host.sync().expect(rt, "a sync");
     are_all && host.printed().len() == 1 << 20 && is_left(rt, alloc, host, last)
 }
@@ -442,7 +430,7 @@ fn many_calls_fail(rt: HostRuntime) {
 /// The bytes of the file of this number: one byte, and of the last a mebibyte.
 fn bytes_of(rt: &impl Abort, alloc: Global, number: usize) -> Blob {
     let length = if number == 1_099 { 1 << 20 } else { 1 };
-    Blob::from_vec(vec![in alloc; 7u8; length].expect(rt, "memory"))
+    Blob::from_vec(many::bytes(rt, alloc, length))
 }
 
 /// Puts 1,100 files, the last of a mebibyte.
@@ -456,7 +444,7 @@ fn put_many(rt: &impl Abort, alloc: Global, remotes: &mut MemRemotes) {
 
 /// Whether a mebibyte is read of the file.
 fn is_read(rt: &impl Abort, alloc: Global, remotes: &mut MemRemotes, at: &Path) -> bool {
-    let mut into = mebibyte(rt, alloc);
+    let mut into = many::bytes(rt, alloc, 1 << 20);
     remotes.read_at("lab", at, 0, &mut into) == Ok(1 << 20)
 }
 
@@ -467,13 +455,4 @@ fn remotes_hold_much(rt: HostRuntime) {
     let last = numbered_path(&rt, rt.alloc(), 1_099);
     assert!(rt; is_read(&rt, rt.alloc(), &mut remotes, &last));
     drop(remotes);
-}
-
-/// A source of a mebibyte gives it at once.
-#[test]
-fn a_source_gives_much(rt: HostRuntime) {
-    let bytes = Blob::from_vec(mebibyte(&rt, rt.alloc()));
-    let mut source = MemSource::new(bytes, 1 << 20, None);
-    let mut into = mebibyte(&rt, rt.alloc());
-    assert!(rt; source.take(&mut into) == Taken::Took(1 << 20));
 }

@@ -1,87 +1,54 @@
 //! Names of applications, runtimes and remotes, and digests.
 
 use crate::parsed::pattern_of;
-use crate::rows::{agree, is_text};
-use fp_base::Text;
+use crate::rows::{agree, agree_at};
 use fp_name::{
     AppId, Digest, NameError, PinPattern, RefKind, RefName, RemoteName, RemoteUrl, is_arch,
-    is_branch, is_id, is_pin, is_ref,
+    is_branch, is_id, is_pin, is_ref, is_remote_name, is_url,
 };
 use std::alloc::Global;
-use std::cmp::Ordering;
 use std::panic::Expect;
 use std::process::Abort;
 
-/// The fault of a text that is good, or that has one.
-fn fault(good: bool) -> Option<NameError> {
-    if good { None } else { Some(NameError::Bad) }
-}
-
-/// Kinds of texts: by what reads them, by what tests them, and what stands after `app/` in a ref.
+/// Kinds of texts.
 #[derive(Clone, Copy)]
 enum Kind {
     Id,
+    Arch,
+    Branch,
     Remote,
     Url,
     Ref,
     Pattern,
     Digest,
-    TestedId,
-    Arch,
-    Branch,
-    TestedRef,
-    TestedPattern,
-    RefOfApp,
 }
 
-/// The fault of a text as one of this kind.
-fn fault_of(alloc: Global, kind: Kind, text: &str) -> Option<NameError> {
+/// Whether the text is of this kind.
+fn is_of(kind: Kind, text: &str) -> bool {
     match kind {
-        Kind::Id => AppId::parse(alloc, text.as_bytes()).err(),
-        Kind::Remote => RemoteName::parse(alloc, text.as_bytes()).err(),
-        Kind::Url => RemoteUrl::parse(alloc, text.as_bytes()).err(),
-        Kind::Ref => RefName::parse(alloc, text.as_bytes()).err(),
-        Kind::Pattern => PinPattern::parse(alloc, text.as_bytes()).err(),
-        Kind::Digest => Digest::parse(text.as_bytes()).err(),
-        Kind::TestedId => fault(is_id(text)),
-        Kind::Arch => fault(is_arch(text)),
-        Kind::Branch => fault(is_branch(text)),
-        Kind::TestedRef => fault(is_ref(text)),
-        Kind::TestedPattern => fault(is_pin(text)),
-        Kind::RefOfApp => RefName::of_kind(alloc, RefKind::App, text).err(),
+        Kind::Id => is_id(text),
+        Kind::Arch => is_arch(text),
+        Kind::Branch => is_branch(text),
+        Kind::Remote => is_remote_name(text),
+        Kind::Url => is_url(text),
+        Kind::Ref => is_ref(text),
+        Kind::Pattern => is_pin(text),
+        Kind::Digest => Digest::parse(text.as_bytes()).is_ok(),
     }
 }
 
-/// Whether a text is of this kind, or has a fault.
-fn is_as_due(alloc: Global, kind: Kind, text: &str, good: bool) -> bool {
-    fault_of(alloc, kind, text) == fault(good)
-}
-
 /// Ends the test at a text that is otherwise.
-fn agree_on(rt: &impl Abort, alloc: Global, kind: Kind, rows: &[(&str, bool)]) {
+fn agree_on(rt: &impl Abort, kind: Kind, rows: &[(&str, bool)]) {
     for (text, good) in rows {
-        agree(rt, text, is_as_due(alloc, kind, text, *good));
+        agree(rt, text, is_of(kind, text) == *good);
     }
 }
 
 /// The same of two kinds.
-fn agree_on_two(
-    rt: &impl Abort,
-    alloc: Global,
-    first: Kind,
-    second: Kind,
-    rows: &[(&str, bool, bool)],
-) {
+fn agree_on_two(rt: &impl Abort, first: Kind, second: Kind, rows: &[(&str, bool, bool)]) {
     for (text, one, other) in rows {
-        agree(rt, text, is_as_due(alloc, first, text, *one));
-        agree(rt, text, is_as_due(alloc, second, text, *other));
-    }
-}
-
-/// The same of texts that are none.
-fn agree_on_none(rt: &impl Abort, alloc: Global, kind: Kind, rows: &[&str]) {
-    for text in rows {
-        agree(rt, text, is_as_due(alloc, kind, text, false));
+        let is_so = is_of(first, text) == *one && is_of(second, text) == *other;
+        agree(rt, text, is_so);
     }
 }
 
@@ -131,7 +98,7 @@ const IDS: [(&str, bool); 34] = [
 ];
 
 /// Texts, whether each is an ARCH, and whether it is a BRANCH.
-const ARCHS_AND_BRANCHES: [(&str, bool, bool); 26] = [
+const ARCHS_AND_BRANCHES: [(&str, bool, bool); 27] = [
     ("x86_64", true, true),
     ("aarch64", true, true),
     ("_", true, true),
@@ -149,6 +116,7 @@ const ARCHS_AND_BRANCHES: [(&str, bool, bool); 26] = [
     ("..", false, false),
     (".stable", false, false),
     ("a/b", false, false),
+    ("1/2", false, false),
     ("a b", false, false),
     ("a+b", false, false),
     ("a\t", false, false),
@@ -202,7 +170,7 @@ const URLS: [(&str, bool); 18] = [
 ];
 
 /// Texts, whether each is a ref, and whether it is a pattern.
-const REFS_AND_PATTERNS: [(&str, bool, bool); 30] = [
+const REFS_AND_PATTERNS: [(&str, bool, bool); 34] = [
     ("app/org.x.App/x86_64/stable", true, true),
     ("runtime/org.x.Y-z/x86_64/22.08", true, true),
     ("app/a.b.c/_/-", true, true),
@@ -225,6 +193,10 @@ const REFS_AND_PATTERNS: [(&str, bool, bool); 30] = [
     ("app/org.x.App/x86-64/stable", false, false),
     ("app/org.x.App/x86_64/.stable", false, false),
     ("app/org.x.App/x86_64/stable\n", false, false),
+    ("app/org.x.Y/x86_64", false, false),
+    ("app/org.x.Y/x86_64/1/2", false, false),
+    ("app/org.x/x86_64/1", false, false),
+    ("app/a.b.c/a/.1", false, false),
     ("app/*/*/*", false, true),
     ("app/org.x.App/*/stable", false, true),
     ("runtime/*/x86_64/22.08", false, true),
@@ -235,49 +207,61 @@ const REFS_AND_PATTERNS: [(&str, bool, bool); 30] = [
     ("app/*/*/*/*", false, false),
 ];
 
-/// Texts after a kind that make no ref.
-const NO_REFS: [&str; 5] = [
-    "org.x.Y/x86_64",
-    "org.x.Y/x86_64/1/2",
-    "org.x/x86_64/1",
-    "a.b.c/a/.1",
-    "",
-];
-
-/// Texts that are no digests.
-const NO_DIGESTS: [&str; 12] = [
-    "",
-    "e3",
-    "e3b0c44298fc1c149afbf4c8996fb92427ae41e4649b934ca495991b7852b85",
-    "e3b0c44298fc1c149afbf4c8996fb92427ae41e4649b934ca495991b7852b8555",
-    "E3b0c44298fc1c149afbf4c8996fb92427ae41e4649b934ca495991b7852b855",
-    "e3b0c44298fc1c149afbf4c8996fb92427ae41e4649b934ca495991b7852b85F",
-    "g3b0c44298fc1c149afbf4c8996fb92427ae41e4649b934ca495991b7852b855",
-    "e3b0c44298fc1c149afbf4c8996fb92427ae41e4649b934ca495991b7852b85\n",
-    "e3b0c44298fc1c149afbf4c8996fb92427ae41e4649b934ca495991b7852b8\u{e9}",
-    "e3b0c44298fc1c149afbf4c8996fb92427ae41e4649b934ca495991b7852b85/",
-    "e3b0c44298fc1c149afbf4c8996fb92427ae41e4649b934ca495991b7852b85:",
-    "e3b0c44298fc1c149afbf4c8996fb92427ae41e4649b934ca495991b7852b85`",
+/// Texts, and whether each is a digest.
+const DIGESTS: [(&str, bool); 13] = [
+    (EMPTY, true),
+    ("", false),
+    ("e3", false),
+    (
+        "e3b0c44298fc1c149afbf4c8996fb92427ae41e4649b934ca495991b7852b85",
+        false,
+    ),
+    (
+        "e3b0c44298fc1c149afbf4c8996fb92427ae41e4649b934ca495991b7852b8555",
+        false,
+    ),
+    (
+        "E3b0c44298fc1c149afbf4c8996fb92427ae41e4649b934ca495991b7852b855",
+        false,
+    ),
+    (
+        "e3b0c44298fc1c149afbf4c8996fb92427ae41e4649b934ca495991b7852b85F",
+        false,
+    ),
+    (
+        "g3b0c44298fc1c149afbf4c8996fb92427ae41e4649b934ca495991b7852b855",
+        false,
+    ),
+    (
+        "e3b0c44298fc1c149afbf4c8996fb92427ae41e4649b934ca495991b7852b85\n",
+        false,
+    ),
+    (
+        "e3b0c44298fc1c149afbf4c8996fb92427ae41e4649b934ca495991b7852b8\u{e9}",
+        false,
+    ),
+    (
+        "e3b0c44298fc1c149afbf4c8996fb92427ae41e4649b934ca495991b7852b85/",
+        false,
+    ),
+    (
+        "e3b0c44298fc1c149afbf4c8996fb92427ae41e4649b934ca495991b7852b85:",
+        false,
+    ),
+    (
+        "e3b0c44298fc1c149afbf4c8996fb92427ae41e4649b934ca495991b7852b85`",
+        false,
+    ),
 ];
 
 #[test]
 fn texts_of_each_kind(rt: HostRuntime) {
-    let alloc = rt.alloc();
-    agree_on(&rt, alloc, Kind::Id, &IDS);
-    agree_on(&rt, alloc, Kind::TestedId, &IDS);
-    agree_on(&rt, alloc, Kind::Remote, &REMOTES);
-    agree_on(&rt, alloc, Kind::Url, &URLS);
-    agree_on_two(&rt, alloc, Kind::Arch, Kind::Branch, &ARCHS_AND_BRANCHES);
-    agree_on_two(&rt, alloc, Kind::Ref, Kind::Pattern, &REFS_AND_PATTERNS);
-    agree_on_two(
-        &rt,
-        alloc,
-        Kind::TestedRef,
-        Kind::TestedPattern,
-        &REFS_AND_PATTERNS,
-    );
-    agree_on_none(&rt, alloc, Kind::RefOfApp, &NO_REFS);
-    agree_on_none(&rt, alloc, Kind::Digest, &NO_DIGESTS);
+    agree_on(&rt, Kind::Id, &IDS);
+    agree_on(&rt, Kind::Remote, &REMOTES);
+    agree_on(&rt, Kind::Url, &URLS);
+    agree_on(&rt, Kind::Digest, &DIGESTS);
+    agree_on_two(&rt, Kind::Arch, Kind::Branch, &ARCHS_AND_BRANCHES);
+    agree_on_two(&rt, Kind::Ref, Kind::Pattern, &REFS_AND_PATTERNS);
 }
 
 #[test]
@@ -285,11 +269,11 @@ fn bytes_that_are_no_text(rt: HostRuntime) {
     let alloc = rt.alloc();
     let no_ref = b"app/org.x.App/x86_64/\xfe";
     assert!(rt;
-        AppId::parse(alloc, b"org.x.\xff").err() == fault(false)
-            && RemoteName::parse(alloc, b"a\x80").err() == fault(false)
-            && RemoteUrl::parse(alloc, b"file:///\xc3").err() == fault(false)
-            && RefName::parse(alloc, no_ref).err() == fault(false)
-            && PinPattern::parse(alloc, no_ref).err() == fault(false)
+        AppId::parse(alloc, b"org.x.\xff").err() == Some(NameError::Bad)
+            && RemoteName::parse(alloc, b"a\x80").err() == Some(NameError::Bad)
+            && RemoteUrl::parse(alloc, b"file:///\xc3").err() == Some(NameError::Bad)
+            && RefName::parse(alloc, no_ref).err() == Some(NameError::Bad)
+            && PinPattern::parse(alloc, no_ref).err() == Some(NameError::Bad)
     );
 }
 
@@ -309,11 +293,16 @@ const LENGTHS: [(Kind, &str, usize, bool); 12] = [
     (Kind::Url, "file:///", 1025, false),
 ];
 
+/// Whether a text that begins so and has this many bytes is of the kind.
+fn is_long(rt: &impl Abort, alloc: Global, kind: Kind, front: &str, length: usize) -> bool {
+    is_of(kind, &filled_text(rt, alloc, front, length))
+}
+
 #[test]
 fn lengths(rt: HostRuntime) {
-    for (kind, front, length, good) in &LENGTHS {
-        let text = filled_text(&rt, rt.alloc(), front, *length);
-        agree(&rt, &text, is_as_due(rt.alloc(), *kind, &text, *good));
+    for (row, (kind, front, length, good)) in LENGTHS.iter().enumerate() {
+        let is_so = is_long(&rt, rt.alloc(), *kind, front, *length) == *good;
+        agree_at(&rt, row, is_so);
     }
 }
 
@@ -326,96 +315,15 @@ fn has_parts(name: &RefName, kind: RefKind, id: &str, arch: &str, branch: &str) 
     name.kind() == kind && name.id() == id && name.arch() == arch && name.branch() == branch
 }
 
-fn is_written(rt: &impl Abort, name: &RefName, text: &str) -> bool {
-    name.as_str() == text && is_text(rt, name.write(), text) && is_text(rt, name.path(), text)
-}
-
-fn has_id(rt: &impl Abort, name: &RefName) -> bool {
-    name.app_id().expect(rt, "memory").as_str() == name.id()
-}
-
-fn is_copied(rt: &impl Abort, name: &RefName) -> bool {
-    name.copy().expect(rt, "memory") == *name
-}
-
-/// Whether a runtime's ref is made of these parts.
-fn is_made(
-    rt: &impl Abort,
-    alloc: Global,
-    name: &RefName,
-    id: &str,
-    arch: &str,
-    branch: &str,
-) -> bool {
-    RefName::new(alloc, RefKind::Runtime, id, arch, branch).expect(rt, "a ref") == *name
-}
-
-/// Whether a runtime's ref is made of the text after its kind.
-fn is_made_of(rt: &impl Abort, alloc: Global, name: &RefName, rest: &str) -> bool {
-    RefName::of_kind(alloc, RefKind::Runtime, rest).expect(rt, "a ref") == *name
-}
-
-/// Whether the ref is written, copied, and made of its parts.
-fn is_whole(rt: &impl Abort, alloc: Global, name: &RefName, text: &str) -> bool {
-    is_written(rt, name, text)
-        && is_copied(rt, name)
-        && has_id(rt, name)
-        && is_made(rt, alloc, name, name.id(), name.arch(), name.branch())
-}
-
-/// Whether a ref has these parts, and is made of the text after its kind.
-fn is_read(rt: &impl Abort, alloc: Global, name: &RefName, text: &str) -> bool {
-    has_parts(name, RefKind::Runtime, "org.x.Y-z", "x86_64", "22.08")
-        && is_whole(rt, alloc, name, text)
-        && is_made_of(rt, alloc, name, "org.x.Y-z/x86_64/22.08")
-}
-
 #[test]
 fn refs_of_parts(rt: HostRuntime) {
-    let text = "runtime/org.x.Y-z/x86_64/22.08";
-    assert!(rt; is_read(&rt, rt.alloc(), &ref_of(&rt, rt.alloc(), text), text));
+    let name = ref_of(&rt, rt.alloc(), "runtime/org.x.Y-z/x86_64/22.08");
+    assert!(rt; has_parts(&name, RefKind::Runtime, "org.x.Y-z", "x86_64", "22.08"));
 }
 
-/// An ID, an ARCH and a BRANCH that make no ref.
-const NO_PARTS: [(&str, &str, &str); 3] = [
-    ("org.x", "a", "1"),
-    ("a.b.c", "", "1"),
-    ("a.b.c", "a", "1/2"),
-];
-
-#[test]
-fn parts_that_make_no_ref(rt: HostRuntime) {
-    for (id, arch, branch) in &NO_PARTS {
-        let made = RefName::new(rt.alloc(), RefKind::App, id, arch, branch);
-        agree(&rt, id, made.err() == fault(false));
-    }
-}
-
-/// How the refs of the texts are ordered.
-fn order_of_refs(rt: &impl Abort, alloc: Global, left: &str, right: &str) -> Ordering {
-    ref_of(rt, alloc, left).cmp(&ref_of(rt, alloc, right))
-}
-
-/// How the patterns of the texts are ordered.
-fn order_of_patterns(rt: &impl Abort, alloc: Global, left: &str, right: &str) -> Ordering {
-    pattern_of(rt, alloc, left).cmp(&pattern_of(rt, alloc, right))
-}
-
-/// How the texts are ordered as refs and as patterns, or nothing where that differs.
-fn order_of(rt: &impl Abort, alloc: Global, left: &str, right: &str) -> Option<Ordering> {
-    let order = order_of_refs(rt, alloc, left, right);
-    if order_of_patterns(rt, alloc, left, right) == order {
-        Some(order)
-    } else {
-        None
-    }
-}
-
-/// Whether the left text comes before the right one, and is the same as itself.
+/// Whether the ref of the left text comes before that of the right one.
 fn ascend(rt: &impl Abort, alloc: Global, left: &str, right: &str) -> bool {
-    order_of(rt, alloc, left, left) == Some(Ordering::Equal)
-        && order_of(rt, alloc, left, right) == Some(Ordering::Less)
-        && order_of(rt, alloc, right, left) == Some(Ordering::Greater)
+    ref_of(rt, alloc, left) < ref_of(rt, alloc, right)
 }
 
 /// By the bytes of the texts the left ref comes first. The first two have the other order by their
@@ -490,73 +398,39 @@ const EMPTY_BYTES: [u8; 32] = [
 fn digest(rt: HostRuntime) {
     let digest = Digest::from_bytes(EMPTY_BYTES);
     assert!(rt;
-        is_text(&rt, digest.write(rt.alloc()), EMPTY)
-            && digest.digits().as_slice() == EMPTY.as_bytes()
+        digest.digits().as_slice() == EMPTY.as_bytes()
+            && digest.write(rt.alloc()).is_ok()
             && Digest::parse(EMPTY.as_bytes()) == Ok(digest)
-            && *digest.as_bytes() == EMPTY_BYTES
-            && Digest::from_slice(&EMPTY_BYTES) == Some(digest)
-            && Digest::from_slice(&EMPTY_BYTES[1..]) == None
-            && Digest::from_bytes([0; 32]) < digest
     );
 }
 
-fn id_is_written(rt: &impl Abort, id: &AppId, text: &str) -> bool {
-    is_text(rt, id.write(), text) && id.copy().expect(rt, "memory") == *id
-}
-
-fn remote_is_written(rt: &impl Abort, name: &RemoteName, text: &str) -> bool {
-    is_text(rt, name.write(), text) && name.copy().expect(rt, "memory") == *name
-}
-
-fn url_is_written(rt: &impl Abort, url: &RemoteUrl, text: &str) -> bool {
-    is_text(rt, url.write(), text) && url.copy().expect(rt, "memory") == *url
-}
-
-fn pattern_is_written(rt: &impl Abort, pattern: &PinPattern, text: &str) -> bool {
-    is_text(rt, pattern.write(), text) && pattern.copy().expect(rt, "memory") == *pattern
-}
-
-/// Whether the ID of the text is written and copied.
-fn writes_id(rt: &impl Abort, alloc: Global, text: &str) -> bool {
+/// Whether the text is an ID, which is written and copied.
+fn keeps_id(rt: &impl Abort, alloc: Global, text: &str) -> bool {
     let id = AppId::parse(alloc, text.as_bytes()).expect(rt, "an ID");
-    id_is_written(rt, &id, text)
+    id.write().is_ok() && id.copy().is_ok()
 }
 
-/// Whether the name of a remote is.
-fn writes_remote(rt: &impl Abort, alloc: Global, text: &str) -> bool {
+/// The same of the name of a remote.
+fn keeps_remote(rt: &impl Abort, alloc: Global, text: &str) -> bool {
     let name = RemoteName::parse(alloc, text.as_bytes()).expect(rt, "a name");
-    remote_is_written(rt, &name, text)
+    name.write().is_ok() && name.copy().is_ok()
 }
 
-/// Whether the url of a remote is.
-fn writes_url(rt: &impl Abort, alloc: Global, text: &str) -> bool {
+/// The same of the url of a remote.
+fn keeps_url(rt: &impl Abort, alloc: Global, text: &str) -> bool {
     let url = RemoteUrl::parse(alloc, text.as_bytes()).expect(rt, "a url");
-    url_is_written(rt, &url, text)
-}
-
-/// Whether the pattern is.
-fn writes_pattern(rt: &impl Abort, alloc: Global, text: &str) -> bool {
-    pattern_is_written(rt, &pattern_of(rt, alloc, text), text)
-}
-
-#[test]
-fn texts_of_names(rt: HostRuntime) {
-    let alloc = rt.alloc();
-    assert!(rt;
-        writes_id(&rt, alloc, "org.x.App")
-            && writes_remote(&rt, alloc, "flathub")
-            && writes_url(&rt, alloc, "file:///srv")
-            && writes_pattern(&rt, alloc, "app/*/*/stable")
-    );
+    url.write().is_ok() && url.copy().is_ok()
 }
 
 /// The longest names are written and copied.
 #[test]
-fn texts_of_long_names(rt: HostRuntime) {
+fn longest_names(rt: HostRuntime) {
     let alloc = rt.alloc();
-    assert!(rt; writes_id(&rt, alloc, &filled_text(&rt, alloc, "org.x.", 255)));
-    assert!(rt; writes_remote(&rt, alloc, &filled_text(&rt, alloc, "", 64)));
-    assert!(rt; writes_url(&rt, alloc, &filled_text(&rt, alloc, "file:///", 1024)));
+    assert!(rt;
+        keeps_id(&rt, alloc, &filled_text(&rt, alloc, "org.x.", 255))
+            && keeps_remote(&rt, alloc, &filled_text(&rt, alloc, "", 64))
+            && keeps_url(&rt, alloc, &filled_text(&rt, alloc, "file:///", 1024))
+    );
 }
 
 /// The longest ref: an ID, an ARCH and a BRANCH of 255 bytes each.
@@ -568,47 +442,40 @@ fn longest_text(rt: &impl Abort, alloc: Global) -> String {
         .expect(rt, "memory")
 }
 
-/// Whether a ref of a runtime is written, copied and made again of its parts, and is a pattern that
-/// matches it.
-fn is_kept(rt: &impl Abort, alloc: Global, name: &RefName, text: &str) -> bool {
-    name.kind() == RefKind::Runtime
-        && is_whole(rt, alloc, name, text)
-        && writes_pattern(rt, alloc, text)
-        && is_match(rt, alloc, text, name)
+/// Whether the ref is written and copied.
+fn is_copied(name: &RefName) -> bool {
+    name.write().is_ok() && name.path().is_ok() && name.copy().is_ok() && name.app_id().is_ok()
+}
+
+/// Whether it is made again of its parts.
+fn is_made(alloc: Global, name: &RefName) -> bool {
+    RefName::new(alloc, name.kind(), name.id(), name.arch(), name.branch()).is_ok()
+}
+
+/// Whether it is made of the text after its kind.
+fn is_made_of(alloc: Global, name: &RefName) -> bool {
+    match name.as_str().split_once('/') {
+        Some((_, rest)) => RefName::of_kind(alloc, name.kind(), rest).is_ok(),
+        None => false,
+    }
+}
+
+/// Whether the pattern is written and copied, and matches the ref.
+fn is_its_pattern(pattern: &PinPattern, name: &RefName) -> bool {
+    pattern.write().is_ok() && pattern.copy().is_ok() && pattern.matches(name)
+}
+
+/// Whether the text is a ref, which is copied and made again, and a pattern that matches it.
+fn is_kept(rt: &impl Abort, alloc: Global, text: &str) -> bool {
+    let name = ref_of(rt, alloc, text);
+    is_copied(&name)
+        && is_made(alloc, &name)
+        && is_made_of(alloc, &name)
+        && is_its_pattern(&pattern_of(rt, alloc, text), &name)
 }
 
 /// The longest ref.
 #[test]
 fn longest_ref(rt: HostRuntime) {
-    let text = longest_text(&rt, rt.alloc());
-    assert!(rt; is_kept(&rt, rt.alloc(), &ref_of(&rt, rt.alloc(), &text), &text));
-}
-
-/// Whether the text is copied.
-fn text_is_copied(rt: &impl Abort, text: &Text) -> bool {
-    is_text(rt, text.copy(), text.as_str())
-}
-
-/// A text of its own.
-fn text_of(rt: &impl Abort, alloc: Global, text: &str) -> Text {
-    Text::from_str(alloc, text).expect(rt, "memory")
-}
-
-/// Whether a text is copied, and comes after a lesser one.
-fn is_after(rt: &impl Abort, text: &Text, less: &Text) -> bool {
-    text_is_copied(rt, text) && less < text
-}
-
-/// Whether a text of this many letters is copied.
-fn is_long_text(rt: &impl Abort, alloc: Global, length: usize) -> bool {
-    let long = Text::from_string(filled_text(rt, alloc, "", length));
-    text_is_copied(rt, &long) && long.as_str().len() == length
-}
-
-/// A short text is copied and comes after a lesser one, and a text of a mebibyte is copied.
-#[test]
-fn texts(rt: HostRuntime) {
-    let alloc = rt.alloc();
-    assert!(rt; is_after(&rt, &text_of(&rt, alloc, "b"), &text_of(&rt, alloc, "a")));
-    assert!(rt; is_long_text(&rt, alloc, 1 << 20));
+    assert!(rt; is_kept(&rt, rt.alloc(), &longest_text(&rt, rt.alloc())));
 }

@@ -1,13 +1,14 @@
 //! The small files of an installation, in the layout of today and the one before.
 
+use crate::many;
 use crate::parsed::{path, pattern_of};
 use crate::rows::{agree, is_text};
 use fp_base::Items;
 use fp_host::{Host, Path, Stat};
 use fp_memhost::MemHost;
-use fp_name::{PinPattern, RemoteName, RemoteUrl};
+use fp_name::PinPattern;
 use fp_small::{
-    ConfigError, Loaded, RemoteRow, Settings, clear, clear_below, has_pin, has_remote, insert_pin,
+    ConfigError, Loaded, RemoteRow, clear, clear_below, has_pin, has_remote, insert_pin,
     insert_remote, load, make_above, read_config, read_pins, read_remotes, remove_pin,
     remove_remote, replace, take_away, write_config,
 };
@@ -44,11 +45,6 @@ fn add_pins(rt: &impl Abort, text: &mut String, pins: &[PinPattern]) {
     }
 }
 
-/// The settings of a `config`.
-fn settings_of(rt: &impl Abort, alloc: Global, text: &str) -> Settings {
-    read_config(alloc, text.as_bytes()).expect(rt, "a config")
-}
-
 /// The remotes of a `remotes.conf`.
 fn remotes_of(rt: &impl Abort, alloc: Global, text: &str) -> Items<RemoteRow> {
     read_remotes(alloc, text.as_bytes()).expect(rt, "a remotes.conf")
@@ -59,56 +55,19 @@ fn pins_of(rt: &impl Abort, alloc: Global, text: &str) -> Items<PinPattern> {
     read_pins(alloc, text.as_bytes()).expect(rt, "a pins")
 }
 
-fn add_settings(rt: &impl Abort, said: &mut String, settings: Settings) {
-    add_remotes(rt, said, settings.remotes.as_slice());
-    add_pins(rt, said, settings.pins.as_slice());
-    drop(settings);
-}
-
-/// Adds what a file says, in order.
-fn add_said(rt: &impl Abort, alloc: Global, said: &mut String, file: File, text: &str) {
-    match file {
-        File::Config => add_settings(rt, said, settings_of(rt, alloc, text)),
-        File::Remotes => add_remotes(rt, said, remotes_of(rt, alloc, text).as_slice()),
-        File::Pins => add_pins(rt, said, pins_of(rt, alloc, text).as_slice()),
-    }
-}
-
-/// Whether a file says this.
-fn says(rt: &impl Abort, alloc: Global, file: File, text: &str, want: &str) -> bool {
+/// Whether a `remotes.conf` says this.
+fn remotes_say(rt: &impl Abort, alloc: Global, text: &str, want: &str) -> bool {
     let mut said = String::new(alloc);
-    add_said(rt, alloc, &mut said, file, text);
+    add_remotes(rt, &mut said, remotes_of(rt, alloc, text).as_slice());
     said.as_str() == want
 }
 
-/// Ends the test at a text that says something else.
-fn agree_on_said(rt: &impl Abort, alloc: Global, file: File, rows: &[(&str, &str)]) {
-    for (text, want) in rows {
-        agree(rt, text, says(rt, alloc, file, text, want));
-    }
+/// Whether a `pins` says this.
+fn pins_say(rt: &impl Abort, alloc: Global, text: &str, want: &str) -> bool {
+    let mut said = String::new(alloc);
+    add_pins(rt, &mut said, pins_of(rt, alloc, text).as_slice());
+    said.as_str() == want
 }
-
-/// A `config`, and what it says.
-const GOOD: [(&str, &str); 6] = [
-    ("[installation]\nlayout=2\n", ""),
-    ("[installation]\nlayout=2\n[pins]\n", ""),
-    (
-        "[installation]\nlayout=2\n[pins]\nruntime/org.x.Platform/*/*=true\n",
-        "runtime/org.x.Platform/*/* ",
-    ),
-    (
-        "[pins]\nruntime/org.x.B/*/*=true\nruntime/org.x.A/*/*=true\n[installation]\nlayout=2\n",
-        "runtime/org.x.A/*/* runtime/org.x.B/*/* ",
-    ),
-    (
-        "[remote \"lab\"]\nurl=file:///lab\n[installation]\nlayout=2\n",
-        "lab=file:///lab ",
-    ),
-    (
-        "# ours\n[installation]\nlayout=2\n[remote \"b\"]\nurl=file:///b\n[remote \"a\"]\nurl=file:///a\n",
-        "a=file:///a b=file:///b ",
-    ),
-];
 
 /// A `remotes.conf`, and what it says.
 const OLD_REMOTES: [(&str, &str); 4] = [
@@ -132,10 +91,13 @@ const OLD_PINS: [(&str, &str); 3] = [
 ];
 
 #[test]
-fn said_by_files(rt: HostRuntime) {
-    agree_on_said(&rt, rt.alloc(), File::Config, &GOOD);
-    agree_on_said(&rt, rt.alloc(), File::Remotes, &OLD_REMOTES);
-    agree_on_said(&rt, rt.alloc(), File::Pins, &OLD_PINS);
+fn said_by_old_files(rt: HostRuntime) {
+    for (text, want) in &OLD_REMOTES {
+        agree(&rt, text, remotes_say(&rt, rt.alloc(), text, want));
+    }
+    for (text, want) in &OLD_PINS {
+        agree(&rt, text, pins_say(&rt, rt.alloc(), text, want));
+    }
 }
 
 /// The fault of a text as such a file.
@@ -210,18 +172,27 @@ fn texts_that_are_no_files(rt: HostRuntime) {
 }
 
 /// A `config`, and how its settings are written.
-const WRITTEN: [(&str, &str); 3] = [
+const WRITTEN: [(&str, &str); 6] = [
+    ("[installation]\nlayout=2\n", "[installation]\nlayout=2\n"),
+    (
+        "[installation]\nlayout=2\n[pins]\n",
+        "[installation]\nlayout=2\n",
+    ),
+    (
+        "[installation]\nlayout=2\n[pins]\nruntime/org.x.Platform/*/*=true\n",
+        "[installation]\nlayout=2\n[pins]\nruntime/org.x.Platform/*/*=true\n",
+    ),
     (
         "[pins]\nruntime/org.x.B/*/*=true\nruntime/org.x.A/*/*=true\n[installation]\nlayout=2\n",
         "[installation]\nlayout=2\n[pins]\nruntime/org.x.A/*/*=true\nruntime/org.x.B/*/*=true\n",
     ),
     (
-        "# ours\n[installation]\nlayout=2\n[remote \"b\"]\nurl=file:///b\n[remote \"a\"]\nurl=file:///a\n",
-        "[installation]\nlayout=2\n[remote \"a\"]\nurl=file:///a\n[remote \"b\"]\nurl=file:///b\n",
+        "[remote \"lab\"]\nurl=file:///lab\n[installation]\nlayout=2\n",
+        "[installation]\nlayout=2\n[remote \"lab\"]\nurl=file:///lab\n",
     ),
     (
-        "[installation]\nlayout=2\n[pins]\n",
-        "[installation]\nlayout=2\n",
+        "# ours\n[installation]\nlayout=2\n[remote \"b\"]\nurl=file:///b\n[remote \"a\"]\nurl=file:///a\n",
+        "[installation]\nlayout=2\n[remote \"a\"]\nurl=file:///a\n[remote \"b\"]\nurl=file:///b\n",
     ),
 ];
 
@@ -244,21 +215,6 @@ fn written_configs(rt: HostRuntime) {
 fn insert(rt: &impl Abort, pins: &mut Vec<PinPattern>, pin: &PinPattern) {
     let copy = pin.copy().expect(rt, "memory");
     insert_pin(pins, copy).expect(rt, "memory");
-}
-
-/// Whether a pin is there from when it is put in until it is taken away.
-fn comes_and_goes(rt: &impl Abort, pins: &mut Vec<PinPattern>, pin: &PinPattern) -> bool {
-    let was_there = has_pin(pins, pin);
-    insert(rt, pins, pin);
-    let is_there = has_pin(pins, pin);
-    remove_pin(pins, pin);
-    !was_there && is_there && pins.is_empty()
-}
-
-#[test]
-fn a_pin_comes_and_goes(rt: HostRuntime) {
-    let pin = pattern_of(&rt, rt.alloc(), "runtime/org.x.Platform/*/*");
-    assert!(rt; comes_and_goes(&rt, &mut Vec::new(rt.alloc()), &pin));
 }
 
 /// Adds a remote of this number.
@@ -288,13 +244,13 @@ fn count_remotes(rt: &impl Abort, alloc: Global, count: u32) -> usize {
 /// A `remotes.conf` has at most 256 remotes.
 #[test]
 fn many_old_remotes(rt: HostRuntime) {
-    assert!(rt; count_remotes(&rt, rt.alloc(), 256) == 256);
     assert!(rt;
-        is_bad(
-            rt.alloc(),
-            File::Remotes,
-            &many_remotes(&rt, rt.alloc(), 257)
-        )
+        count_remotes(&rt, rt.alloc(), 256) == 256
+            && is_bad(
+                rt.alloc(),
+                File::Remotes,
+                &many_remotes(&rt, rt.alloc(), 257)
+            )
     );
 }
 
@@ -325,48 +281,46 @@ fn count_pins(rt: &impl Abort, alloc: Global, count: u32) -> usize {
 /// A `pins` has at most 1,024 patterns.
 #[test]
 fn many_old_pins(rt: HostRuntime) {
-    assert!(rt; count_pins(&rt, rt.alloc(), 1_024) == 1_024);
-    assert!(rt; is_bad(rt.alloc(), File::Pins, &many_pins(&rt, rt.alloc(), 1_025)));
+    assert!(rt;
+        count_pins(&rt, rt.alloc(), 1_024) == 1_024
+            && is_bad(rt.alloc(), File::Pins, &many_pins(&rt, rt.alloc(), 1_025))
+    );
 }
 
-/// The name of this number.
-fn numbered_name(rt: &impl Abort, alloc: Global, number: u32) -> RemoteName {
-    let name = format!(in alloc; "r{number:04}").expect(rt, "memory");
-    RemoteName::parse(alloc, name.as_bytes()).expect(rt, "a name")
+/// Puts in a copy of the remote.
+fn insert_row(rt: &impl Abort, remotes: &mut Vec<RemoteRow>, row: &RemoteRow) {
+    let copy = row.copy().expect(rt, "memory");
+    insert_remote(remotes, copy).expect(rt, "memory");
 }
 
-/// A remote of this number.
-fn numbered_remote(rt: &impl Abort, alloc: Global, number: u32) -> RemoteRow {
-    RemoteRow {
-        name: numbered_name(rt, alloc, number),
-        url: RemoteUrl::parse(alloc, b"file:///r").expect(rt, "a url"),
-    }
-}
-
-/// 256 remotes, the last first.
-fn inserted_remotes(rt: &impl Abort, alloc: Global) -> Vec<RemoteRow> {
+/// The remotes of a `remotes.conf`, put in one after another.
+fn inserted_remotes(rt: &impl Abort, alloc: Global, rows: &[RemoteRow]) -> Vec<RemoteRow> {
     let mut remotes = Vec::new(alloc);
-    for number in 0..256 {
-        let row = numbered_remote(rt, alloc, 255 - number);
-        insert_remote(&mut remotes, row).expect(rt, "memory");
+    for row in rows {
+        insert_row(rt, &mut remotes, row);
     }
     remotes
 }
 
 /// Whether one of 256 remotes goes.
-fn remote_goes(remotes: &mut Vec<RemoteRow>, name: &RemoteName) -> bool {
-    let was_there = has_remote(remotes, name) && remotes.len() == 256;
-    remove_remote(remotes, name);
-    was_there && !has_remote(remotes, name) && remotes.len() == 255
+fn remote_goes(remotes: &mut Vec<RemoteRow>, row: &RemoteRow) -> bool {
+    let was_there = has_remote(remotes, &row.name) && remotes.len() == 256;
+    remove_remote(remotes, &row.name);
+    was_there && !has_remote(remotes, &row.name) && remotes.len() == 255
+}
+
+/// Whether the first of 256 remotes goes once all are put in.
+fn first_goes(rt: &impl Abort, alloc: Global, rows: &[RemoteRow]) -> bool {
+    match rows.first() {
+        Some(row) => remote_goes(&mut inserted_remotes(rt, alloc, rows), row),
+        None => false,
+    }
 }
 
 #[test]
 fn many_remotes_come_and_go(rt: HostRuntime) {
-    let row = numbered_remote(&rt, rt.alloc(), 255);
-    let last = row.copy().expect(&rt, "memory");
-    drop(row);
-    assert!(rt; remote_goes(&mut inserted_remotes(&rt, rt.alloc()), &last.name));
-    drop(last);
+    let rows = remotes_of(&rt, rt.alloc(), &many_remotes(&rt, rt.alloc(), 256));
+    assert!(rt; first_goes(&rt, rt.alloc(), rows.as_slice()));
 }
 
 /// The pins of a `pins`, put in one after another.
@@ -437,23 +391,9 @@ fn much_is_replaced(rt: HostRuntime) {
     let alloc = rt.alloc();
     let mut host = MemHost::new(alloc).expect(&rt, "memory");
     let path = path(&rt, alloc, "etc/config");
-    let bytes = vec![in alloc; 7u8; 1 << 20].expect(&rt, "memory");
+    let bytes = many::bytes(&rt, alloc, 1 << 20);
     assert!(rt; are_put(&rt, alloc, &mut host, &path, &bytes));
     drop(host);
-}
-
-/// Where the file of this number is in a folder.
-fn numbered_path(rt: &impl Abort, alloc: Global, folder: &Path, number: u32) -> Path {
-    let name = format!(in alloc; "f{number:04}").expect(rt, "memory");
-    folder.join(&name).expect(rt, "an element")
-}
-
-/// Makes this many empty files in the folder.
-fn fill(rt: &impl Abort, alloc: Global, host: &mut MemHost, folder: &Path, count: u32) {
-    for number in 0..count {
-        let path = numbered_path(rt, alloc, folder, number);
-        host.create(&path, 0o644).expect(rt, "a new file");
-    }
 }
 
 /// A path of this many elements.
@@ -465,47 +405,46 @@ fn path_of(rt: &impl Abort, alloc: Global, elements: usize) -> Path {
     path
 }
 
-/// How many names a folder has.
-fn count_names(rt: &impl Abort, alloc: Global, host: &mut MemHost, folder: &Path) -> usize {
-    host.list(alloc, folder).expect(rt, "names").len()
-}
-
 /// A host with 1,100 files in the folder, and with the folders above it.
 fn filled_host(rt: &impl Abort, alloc: Global, folder: &Path) -> MemHost {
     let mut host = MemHost::new(alloc).expect(rt, "memory");
     make_above(alloc, &mut host, folder).expect(rt, "folders");
     host.make_dir(folder).expect(rt, "a folder");
-    fill(rt, alloc, &mut host, folder, 1_100);
+    many::fill(rt, alloc, &mut host, folder);
     host
 }
 
 /// Whether 1,100 files lose one, and are cleared.
 fn are_cleared(rt: &impl Abort, alloc: Global, host: &mut MemHost, folder: &Path) -> bool {
-    take_away(host, &numbered_path(rt, alloc, folder, 0)).expect(rt, "taken");
-    let left = count_names(rt, alloc, host, folder);
+    take_away(host, &many::path(rt, alloc, folder, 0)).expect(rt, "taken");
+    let left = many::count(rt, alloc, host, folder);
     clear_below(alloc, host, folder).expect(rt, "cleared");
-    left == 1_099 && count_names(rt, alloc, host, folder) == 0
+    left == 1_099 && many::count(rt, alloc, host, folder) == 0
 }
 
-/// A folder below 125 others is filled with 1,100 files, loses one, and is emptied.
-#[test]
-fn many_files_are_cleared(rt: HostRuntime) {
-    let folder = path_of(&rt, rt.alloc(), 126);
-    let mut host = filled_host(&rt, rt.alloc(), &folder);
-    assert!(rt; are_cleared(&rt, rt.alloc(), &mut host, &folder));
-    drop(host);
-}
-
-/// Whether a folder is cleared.
-fn is_cleared(rt: &impl Abort, alloc: Global, host: &mut MemHost, top: &Path) -> bool {
+/// Whether the folder is filled once more, and goes with all that is above it.
+fn goes_with_all(
+    rt: &impl Abort,
+    alloc: Global,
+    host: &mut MemHost,
+    folder: &Path,
+    top: &Path,
+) -> bool {
+    many::fill(rt, alloc, host, folder);
     clear(alloc, host, top).expect(rt, "cleared");
     host.stat(top) == Ok(Stat::Absent)
 }
 
-/// The folders above 1,100 files are taken away with them.
+/// A folder below 125 others is filled with 1,100 files, loses one, and is emptied. It is filled
+/// again, and the folders above are taken away with all that they hold.
 #[test]
-fn many_folders_are_cleared(rt: HostRuntime) {
-    let mut host = filled_host(&rt, rt.alloc(), &path_of(&rt, rt.alloc(), 126));
-    assert!(rt; is_cleared(&rt, rt.alloc(), &mut host, &path_of(&rt, rt.alloc(), 1)));
+fn many_files_are_cleared(rt: HostRuntime) {
+    let folder = path_of(&rt, rt.alloc(), 126);
+    let top = path_of(&rt, rt.alloc(), 1);
+    let mut host = filled_host(&rt, rt.alloc(), &folder);
+    assert!(rt;
+        are_cleared(&rt, rt.alloc(), &mut host, &folder)
+            && goes_with_all(&rt, rt.alloc(), &mut host, &folder, &top)
+    );
     drop(host);
 }

@@ -6,20 +6,6 @@ ghost use Rattle.fl_words.specs.Forms.{command_of};
 ghost use Rattle.fl_words.specs.Words.{may_change};
 ghost use Rattle.fl_top.specs.Status.{IsStatus, IsOfWords};
 
-mod damage;
-mod hints;
-mod refusals;
-mod saying;
-mod showing;
-mod telling;
-
-use crate::damage::tell_damage;
-use crate::hints::tell_hints;
-use crate::refusals::Refusals;
-use crate::saying::{
-    is_unread, say, say_failed, say_no_memory, say_reason, say_refused, say_unprinted,
-};
-use crate::telling::{Asked, tell_absence, tell_done, tell_refused};
 use fl_top::run;
 use fl_words::{Command, WordsError, help, read_words};
 use fp_progress::{Progress, Task, Watched};
@@ -27,6 +13,10 @@ use fp_realhost::{HostDir, Screen};
 use fp_realinput::{DirRemotes, StdinSource};
 use fp_realroot::System;
 use fp_realsync::Access;
+use fpk_messages::{
+    Asked, Refusals, is_unread, say, say_failed, say_no_memory, say_reason, say_refused,
+    say_unprinted, tell_absence, tell_damage, tell_done, tell_hints, tell_refused,
+};
 use std::alloc::{AllocError, Global};
 use std::env::{self, VarError};
 use std::fs;

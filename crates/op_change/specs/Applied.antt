@@ -20,7 +20,7 @@ use Rattle.fp_small.specs.Places.{repo}
 use Rattle.ost_model.specs.Objects.{Have}
 use Rattle.ost_pull.specs.Pulls.{IsLacked}
 use Rattle.ost_store.specs.Created.{Creates}
-use Rattle.dep_states.specs.After.{Done, state_after, plain, IsOnConfig}
+use Rattle.dep_states.specs.After.{Done, state_after, plain, May, IsOnConfig, IsGood}
 use Rattle.dep_states.specs.Effects.{Effect, Write, effect_of, BringsCommit, brings, writes, moves, leaves, sets, migrates, layers, bares}
 use Rattle.dep_states.specs.Lasting.{IsLasting}
 use Rattle.dep_states.specs.Links.{Links}
@@ -45,6 +45,12 @@ FitsFile _ = Unit {0}
 
 abbrev pub IsShort : Op → Type 0
 IsShort op = FitsFile (effect_of op)
+
+-- an operation on the settings that the state allows, over a state that can be written
+pub record MaySet (s : State) (op : Op) : Type 0 where
+  pub may : May s op
+  pub here : IsOnConfig op
+  pub good : IsGood s
 
 -- ---- what an operation brings
 

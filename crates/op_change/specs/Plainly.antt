@@ -7,11 +7,18 @@ use Rattle.fp_small.specs.Shares.{Shares}
 use Rattle.ost_store.specs.Created.{Creates, NoObject}
 use Rattle.fp_small.specs.declared.state.State.{State}
 use Rattle.fp_small.specs.declared.op.Op.{Op}
-use Rattle.dep_states.specs.After.{state_after, plain, IsOnConfig}
+use Rattle.dep_states.specs.After.{state_after, plain, May, IsOnConfig, IsGood}
 use Rattle.dep_states.specs.Lasting.{IsLasting}
 use Rattle.dep_states.specs.Sound.{Opens}
 use Rattle.op_change.specs.Deploys.{Does, SameObjects}
-use Rattle.op_change.specs.Applied.{MayChange, HasSettings}
+use Rattle.op_change.specs.Applied.{Brings, IsShort, MayChange, HasSettings}
+
+-- an operation that brings no commit and that the state allows, over a state that can be written
+pub record MayPlainly (s : State) (op : Op) : Type 0 where
+  pub may : May s op
+  pub good : IsGood s
+  pub short : IsShort op
+  pub brings_none : Brings op → ⊥
 
 abbrev pub DoesPlainly : State → Op → View → View → Type 0
 DoesPlainly s op = Does s (state_after s (plain op)) (MayChange s op)

@@ -2,9 +2,8 @@
 ghost use Rattle.std.specs.Prelude.{◌≡◌, IfOk, OnOk, IsErrOf};
 ghost use Rattle.fp_host.specs.OverHost.{AtEachMoment, AtReturn, FailsOnly};
 ghost use Rattle.dep_states.specs.Sound.{Opens};
-ghost use Rattle.dep_states.specs.After.{state_after, plain, May, IsGood};
-ghost use Rattle.op_change.specs.Applied.{Brings, IsShort};
-ghost use Rattle.op_change.specs.Plainly.{DoesPlainly, WasDonePlainly, IsStarvedPlainly};
+ghost use Rattle.dep_states.specs.After.{state_after, plain, IsGood};
+ghost use Rattle.op_change.specs.Plainly.{MayPlainly, DoesPlainly, WasDonePlainly, IsStarvedPlainly};
 
 use crate::overriding::{drop_override, set_override};
 use crate::settings::change_settings;
@@ -22,10 +21,7 @@ pub(crate) fn apply_plainly<H: Host>(
     opened: Opened,
     op: &Op,
 ) -> Result<Opened, HostEnd>
-    requires may { May opened op.now }
-    requires good { IsGood opened }
-    requires short { IsShort op.now }
-    requires brings_none { Brings op.now → ⊥ }
+    requires { MayPlainly opened op.now }
     ensures state { IfOk result (λ o. o ≡ state_after opened (plain op.now)) }
     ensures good { IfOk result IsGood }
     // A stop at any moment leaves the one state or the other.

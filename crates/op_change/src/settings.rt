@@ -6,9 +6,9 @@ ghost use Rattle.fp_small.specs.Replace.{Replaces, ReplacesName, WasReplaced, Ca
 ghost use Rattle.dep_states.specs.Names.{config};
 ghost use Rattle.dep_states.specs.Shown.{settings_of};
 ghost use Rattle.dep_states.specs.Sound.{Opens};
-ghost use Rattle.dep_states.specs.After.{state_after, plain, May, IsOnConfig, IsGood};
+ghost use Rattle.dep_states.specs.After.{state_after, plain, IsOnConfig, IsGood};
 ghost use Rattle.op_change.specs.Deploys.{Does};
-ghost use Rattle.op_change.specs.Applied.{SettingsDone};
+ghost use Rattle.op_change.specs.Applied.{MaySet, SettingsDone};
 
 use dep_states::Opened;
 use fp_base::Items;
@@ -28,9 +28,7 @@ pub(crate) fn change_settings<H: Host>(
     opened: Opened,
     op: &Op,
 ) -> Result<Opened, HostEnd>
-    requires may { May opened op.now }
-    requires here { IsOnConfig op.now }
-    requires good { IsGood opened }
+    requires { MaySet opened op.now }
     ensures state { IfOk result (λ o. o ≡ state_after opened (plain op.now)) }
     ensures good { IfOk result IsGood }
     // A stop at any moment leaves the one state or the other.

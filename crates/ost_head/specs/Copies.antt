@@ -1,11 +1,11 @@
 -- Files of a remote that are copied piece by piece.
-use Rattle.std.specs.Prelude.{◌≡◌, ◌≤◌, ℕ, List, ◌++◌, length, Option, Some, None}
+use Rattle.std.specs.Prelude.{◌≡◌, ◌≤◌, ℕ, List, ◌++◌, length, take, Option, Some, None}
 use Rattle.sha2.specs.declared.Sha256.{Sha256}
 use Rattle.fp_host.specs.Paths.{Elements}
 use Rattle.fp_host.specs.View.{View}
 use Rattle.fp_host.specs.Moments.{Moments, Always}
 use Rattle.fp_host.specs.Frame.{AtEnd}
-use Rattle.fp_host.specs.Remote.{Holdings, bytes_of}
+use Rattle.fp_host.specs.Remote.{Holdings, CameFrom, bytes_of}
 use Rattle.ost_model.specs.Contents.{file_digest}
 use Rattle.ost_model.specs.declared.object.Object.TheVariants as objects
 use Rattle.ost_store.specs.Stage.{IsOpen, Stages, WasStaged}
@@ -27,6 +27,16 @@ pub record IsNewFile (t : Elements) (v : View) : Type 0 where
 abbrev pub IsWhole : Elements → List ℕ → Option Holdings → ℕ → List ℕ → Type 0
 IsWhole p url holds size bytes = (held : Holdings) → holds ≡ Some held
     → length (bytes_of (held url p)) ≡ size → bytes ≡ bytes_of (held url p)
+
+-- The bytes of the remote's file at p from this place on came into the room, to the end of the file
+-- at t and into the hasher: n of them, for which the room had place.
+pub record CopiesPiece (t p : Elements) (url : List ℕ) (holds : Option Holdings) (at : ℕ)
+    (room room' : List ℕ) (before after : Sha256) (a b : Option Moments) (n : ℕ) : Type 0 where
+  pub bound : n ≤ length room
+  pub tells : (held : Holdings) → holds ≡ Some held → CameFrom (bytes_of (held url p)) at room' n
+  pub appends : AtEnd (Appends t (take n room')) a b
+  pub hashes : TakesIn (take n room') before after
+  pub long : length (take n room') ≡ n
 
 -- the remote's file at p, of this size, came to the end of the file at t, and was taken in by the
 -- hasher

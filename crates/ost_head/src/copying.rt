@@ -1,14 +1,12 @@
 //! A file of the remote that is copied piece by piece while its digest is taken.
-ghost use Rattle.std.specs.Prelude.{◌≡◌, ◌<◌, ◌≤◌, length, take, true, IfOk, OnOk, IsErrOf, Some};
-ghost use Rattle.fp_host.specs.OverHost.{AtReturn, FailsOnly};
+ghost use Rattle.std.specs.Prelude.{◌≡◌, ◌<◌, length, true, IfOk, OnOk, IsErrOf};
+ghost use Rattle.fp_host.specs.OverHost.{FailsOnly};
 ghost use Rattle.fp_host.specs.Frame.{Frame, Only, NoName};
 ghost use Rattle.fp_host.specs.Outcome.{Nothing};
-ghost use Rattle.fp_host.specs.Remote.{Holdings, CameFrom, bytes_of};
 ghost use Rattle.ost_model.specs.Contents.{is_permission};
 ghost use Rattle.ost_walk.specs.Ends.{IsRemotes};
 ghost use Rattle.ost_walk.specs.declared.ends.WalkFault.{WalkFault};
-ghost use Rattle.ost_head.specs.Pieces.{TakesIn};
-ghost use Rattle.ost_head.specs.Copies.{Appends, CopiesFile, IsCopied, IsNewFile};
+ghost use Rattle.ost_head.specs.Copies.{CopiesFile, CopiesPiece, IsCopied, IsNewFile};
 
 use fp_host::{Host, Path, Remotes};
 use fp_name::Digest;
@@ -30,13 +28,8 @@ fn copy_piece<H: Host, R: Remotes>(
 ) -> Result<usize, WalkEnd>
     ensures frame { Frame Nothing NoName (Only to.now) (H.moments host.old) (H.moments host.new) }
     ensures same { R.holds remotes.new ≡ R.holds remotes.old }
-    ensures bound { IfOk result (λ n. n ≤ length room.old) }
-    ensures tells { (held : Holdings) → R.holds remotes.old ≡ Some held
-        → IfOk result (CameFrom (bytes_of (held url.now from.now)) at room.new) }
-    ensures appends { IfOk result
-        (λ n. AtReturn H.Host host.old host.new (Appends to.now (take n room.new))) }
-    ensures hashes { IfOk result (λ n. TakesIn (take n room.new) hasher.old hasher.new) }
-    ensures long { IfOk result (λ n. length (take n room.new) ≡ n) }
+    ensures on_success { IfOk result (CopiesPiece to.now from.now url.now (R.holds remotes.old) at
+        room.old room.new hasher.old hasher.new (H.moments host.old) (H.moments host.new)) }
     ensures refuses { (w : WalkFault) → IsErrOf result (WalkEnd.Refused w) → ⊥ }
     ensures fault_has_cause { FailsOnly H.Host host.old host.new
         (IsNewFile to.now) (IsErrOf result WalkEnd.HostFault) }

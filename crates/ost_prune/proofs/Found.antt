@@ -1,10 +1,9 @@
 -- Objects that are found unused.
-use Rattle.std.proofs.Common.{◌≡◌, inl, inr, ◌<◌, ◌+◌, ℕ, suc, Bool, true, false, List, [], ◌∷◌, ◌++◌, map, take, drop, get_or, length, Option, Some, None, Result, refl, sym, ◌∙◌, ap, subst, Contains, arith, append_assoc, append-nil}
-use Rattle.std.specs.Prelude.{◌↔◌, is_some, IfOk}
-use Rattle.fp_host.specs.declared.host.HostEnd.{HostEnd}
-use Rattle.std.proofs.Math.Seq.{take-suc, take-length, drop-cons}
+use Rattle.std.proofs.Common.{◌≡◌, ◌⊎◌, inl, inr, ◌<◌, ◌+◌, ℕ, Bool, true, false, List, [], ◌∷◌, ◌++◌, map, take, drop, get_or, length, Option, Some, None, refl, sym, ◌∙◌, ap, subst, Contains, arith, append_assoc, append-nil}
+use Rattle.std.specs.Prelude.{◌↔◌, is_some}
+use Rattle.std.proofs.Math.Seq.{take-length}
 use Rattle.std.proofs.lemmas.Bool.{both_ways}
-use Rattle.std.proofs.lemmas.List.{map-append, drop_all}
+use Rattle.std.proofs.lemmas.List.{map-append, drop_all, get_or-map, length-map}
 use Rattle.std.proofs.lemmas.List.Elements.{Contains-append_left, Contains-push, Contains-push_cases}
 use Rattle.fp_host.specs.Paths.{Elements, Slot, absent, dir, file, link, elements_of, path_text}
 use Rattle.fp_host.specs.View.{View, IsTree}
@@ -12,24 +11,19 @@ use Rattle.fp_host.specs.Calls.{IsLeaf}
 use Rattle.fp_host.specs.Outcome.{gone, folder, spot_of, shows}
 use Rattle.fp_host.proofs.Settled.{at_tree}
 use Rattle.fp_host.specs.Reads.{is_ascending}
-use Rattle.fp_host.specs.Frame.{AtEnd, Unchanged}
-use Rattle.fp_host.specs.Moments.{Moments}
-use Rattle.fp_host.proofs.Framed.{IsTold}
-use Rattle.fp_host.proofs.Ending.{ends_on, ends_both, ends_looks}
 use Rattle.fp_small.proofs.Ordered.{less_one}
 use Rattle.fp_base.specs.declared.object.ObjKind.{ObjKind}
 use Rattle.fp_base.specs.declared.object.ObjKind.TheVariants as kinds
-use Rattle.fp_base.proofs.Options.{if_ok_to}
-use Rattle.fp_base.proofs.Lists.{in_none}
+use Rattle.fp_base.proofs.Lists.{in_none, take_read, drop_read}
 use Rattle.ost_model.specs.Objects.{object_path, object_at, store}
 use Rattle.ost_model.proofs.Stores.{one_name}
-use Rattle.ost_store.specs.Names.{ListsNames, IsNamed, with_found, name_in, name_text}
+use Rattle.ost_store.specs.Names.{IsNamed, with_found, name_in, name_text}
 use Rattle.ost_store.specs.Reads.{IsThere}
-use Rattle.ost_prune.specs.Prune.{IsUnused, ListsUnused}
+use Rattle.ost_prune.specs.Prune.{IsUnused}
 use Rattle.ost_prune.specs.Texts.{AreUsedTexts, UnlessFaulty}
-use Rattle.ost_prune.specs.Finding.{IsUnusedAt, PicksUnused}
+use Rattle.ost_prune.specs.Finding.{IsUnusedAt, PicksNames}
 
-abbrev Object : Type 0
+abbrev pub Object : Type 0
 Object = List ℕ × ObjKind
 
 -- ---- one name
@@ -61,82 +55,100 @@ module _ (root : Elements) (keep : List (List ℕ)) (path : Elements) (v : View)
 
 -- ---- name after name
 
--- what was found among the first i names
-pub record PicksSoFar (root : Elements) (keep : List (List ℕ)) (paths : List Elements) (i : ℕ) (v : View) (found : List Object) : Type 0 where
-  pub each : (o : Object) → Contains found o ↔ (IsUnused root keep v o × Contains (take i paths) (name_in root o))
-  pub ascending : is_ascending (map path_text paths) ≡ true → is_ascending (map (name_text root) found ++ map path_text (drop i paths)) ≡ true
+-- what the list has after the first i names
+pub record PicksSoFar (root : Elements) (keep : List (List ℕ)) (paths : List Elements) (i : ℕ) (v : View) (found found' : List Object) : Type 0 where
+  pub each : (o : Object) → Contains found' o ↔ (Contains found o ⊎ (IsUnused root keep v o × Contains (take i paths) (name_in root o)))
+  pub ascending : is_ascending (map (name_text root) found ++ map path_text paths) ≡ true → is_ascending (map (name_text root) found' ++ map path_text (drop i paths)) ≡ true
 
-pub none_picked : (root : Elements) (keep : List (List ℕ)) (paths : List Elements) (v : View) (found : List Object) → found ≡ [] → PicksSoFar root keep paths 0 v found
-none_picked root keep paths v found none = subst (PicksSoFar root keep paths 0 v) (sym none) (record {
-  each = λ o. (λ has. absurd (in_none o has), λ both. absurd (in_none (name_in root o) both.1));
+pub none_picked : (root : Elements) (keep : List (List ℕ)) (paths : List Elements) (v : View) (found : List Object) → PicksSoFar root keep paths 0 v found found
+none_picked root keep paths v found = record {
+  each = λ o. (λ has. inl has, λ either. elim either [ inl has ↦ has | inr both ↦ absurd (in_none (name_in root o) both.1) ]);
   ascending = λ h. h;
-})
+}
 
-module _ (root : Elements) (keep : List (List ℕ)) (paths : List Elements) (i : ℕ) (path : Elements) (v : View) (found : List Object) (low : i < length paths) (is : path ≡ get_or paths i path) (before : PicksSoFar root keep paths i v found) where
+module _ (root : Elements) (keep : List (List ℕ)) (paths : List Elements) (i : ℕ) (path : Elements) (v : View) (found found' : List Object) (low : i < length paths) (is : path ≡ get_or paths i path) (before : PicksSoFar root keep paths i v found found') where
   taken : take (i + 1) paths ≡ take i paths ++ path ∷ []
-  taken =
-      let more : i + 1 ≡ suc i = omega arith in
-      ap (λ (k : ℕ). take k paths) more ∙ take-suc paths i path low ∙ ap (λ (x : Elements). take i paths ++ x ∷ []) (sym is)
+  taken = take_read paths i path low is
 
   dropped : drop i paths ≡ path ∷ drop (i + 1) paths
-  dropped =
-      let more : suc i ≡ i + 1 = omega arith in
-      drop-cons paths i path low ∙ ap (λ (x : Elements). x ∷ drop (suc i) paths) (sym is) ∙ ap (λ (k : ℕ). path ∷ drop k paths) more
+  dropped = drop_read paths i path low is
 
-  pub not_picked : IsUnusedAt root keep path v None → PicksSoFar root keep paths (i + 1) v found
+  -- what was known of the names before
+  more_known : (o : Object) → Contains found o ⊎ (IsUnused root keep v o × Contains (take i paths) (name_in root o)) → Contains found o ⊎ (IsUnused root keep v o × Contains (take (i + 1) paths) (name_in root o))
+  more_known o (inl has) = inl has
+  more_known o (inr both) = inr (both.0, subst (λ (l : List Elements). Contains l (name_in root o)) (sym taken) (Contains-append_left (take i paths) (path ∷ []) (name_in root o) both.1))
+
+  -- and of this one
+  less_known : (o : Object) → Contains found o ⊎ (IsUnused root keep v o × Contains (take (i + 1) paths) (name_in root o)) → Contains found' o ⊎ (IsUnused root keep v o × (path ≡ name_in root o))
+  less_known o (inl has) = inl ((before.each o).1 (inl has))
+  less_known o (inr both) = elim (Contains-push_cases (take i paths) path (name_in root o) (subst (λ (l : List Elements). Contains l (name_in root o)) taken both.1)) [
+    | inl earlier ↦ inl ((before.each o).1 (inr (both.0, earlier)))
+    | inr same ↦ inr (both.0, same)
+  ]
+
+  pub not_picked : IsUnusedAt root keep path v None → PicksSoFar root keep paths (i + 1) v found found'
   not_picked none = record {
     each = λ o. (
-      λ has. let b = (before.each o).0 has in (b.0, subst (λ (l : List Elements). Contains l (name_in root o)) (sym taken) (Contains-append_left (take i paths) (path ∷ []) (name_in root o) b.1)),
-      λ both. elim (Contains-push_cases (take i paths) path (name_in root o) (subst (λ (l : List Elements). Contains l (name_in root o)) taken both.1)) [
-        | inl earlier ↦ (before.each o).1 (both.0, earlier)
-        | inr same ↦ absurd (none o same both.0)
-      ],
+      λ has. more_known o ((before.each o).0 has),
+      λ either. elim (less_known o either) [ inl has ↦ has | inr here ↦ absurd (none o here.1 here.0) ],
     );
-    ascending = λ h. less_one (map (name_text root) found) (path_text path) (map path_text (drop (i + 1) paths)) (subst (λ (l : List Elements). is_ascending (map (name_text root) found ++ map path_text l) ≡ true) dropped (before.ascending h));
+    ascending = λ h. less_one (map (name_text root) found') (path_text path) (map path_text (drop (i + 1) paths)) (subst (λ (l : List Elements). is_ascending (map (name_text root) found' ++ map path_text l) ≡ true) dropped (before.ascending h));
   }
 
-  module _ (o : Object) (unused : IsUnusedAt root keep path v (Some o)) {found' : List Object} (pushed : found' ≡ found ++ o ∷ []) where
-    picked_list : PicksSoFar root keep paths (i + 1) v (found ++ o ∷ [])
+  module _ (o : Object) (unused : IsUnusedAt root keep path v (Some o)) {found'' : List Object} (pushed : found'' ≡ found' ++ o ∷ []) where
+    picked_list : PicksSoFar root keep paths (i + 1) v found (found' ++ o ∷ [])
     picked_list = record {
       each = λ p. (
-        λ has. elim (Contains-push_cases found o p has) [
-          | inl earlier ↦ let b = (before.each p).0 earlier in (b.0, subst (λ (l : List Elements). Contains l (name_in root p)) (sym taken) (Contains-append_left (take i paths) (path ∷ []) (name_in root p) b.1))
-          | inr same ↦ subst (λ (x : Object). IsUnused root keep v x × Contains (take (i + 1) paths) (name_in root x)) same
-              (unused.0, subst (λ (l : List Elements). Contains l (name_in root o)) (sym taken) (subst (Contains (take i paths ++ path ∷ [])) unused.1 (Contains-push (take i paths) path)))
+        λ has. elim (Contains-push_cases found' o p has) [
+          | inl earlier ↦ more_known p ((before.each p).0 earlier)
+          | inr same ↦ inr (subst (λ (x : Object). IsUnused root keep v x × Contains (take (i + 1) paths) (name_in root x)) same
+              (unused.0, subst (λ (l : List Elements). Contains l (name_in root o)) (sym taken) (subst (Contains (take i paths ++ path ∷ [])) unused.1 (Contains-push (take i paths) path))))
         ],
-        λ both. elim (Contains-push_cases (take i paths) path (name_in root p) (subst (λ (l : List Elements). Contains l (name_in root p)) taken both.1)) [
-          | inl earlier ↦ Contains-append_left found (o ∷ []) p ((before.each p).1 (both.0, earlier))
-          | inr same ↦
-              let one = one_name root o.0 p.0 o.1 p.1 unused.0.digits both.0.digits (sym unused.1 ∙ same) in
+        λ either. elim (less_known p either) [
+          | inl earlier ↦ Contains-append_left found' (o ∷ []) p earlier
+          | inr here ↦
+              let one = one_name root o.0 p.0 o.1 p.1 unused.0.digits here.0.digits (sym unused.1 ∙ here.1) in
               let object : o ≡ p = (λ j. (one.0 j, one.1 j)) in
-              subst (Contains (found ++ o ∷ [])) object (Contains-push found o)
+              subst (Contains (found' ++ o ∷ [])) object (Contains-push found' o)
         ],
       );
       ascending = λ h.
           let text : path_text path ≡ name_text root o = ap path_text unused.1 in
-          let all : map (name_text root) found ++ map path_text (drop i paths) ≡ map (name_text root) (found ++ o ∷ []) ++ map path_text (drop (i + 1) paths) =
-          ap (λ (l : List Elements). map (name_text root) found ++ map path_text l) dropped
-          ∙ ap (λ (t : List ℕ). map (name_text root) found ++ (t ∷ map path_text (drop (i + 1) paths))) text
-          ∙ sym (append_assoc (map (name_text root) found) (name_text root o ∷ []) (map path_text (drop (i + 1) paths)))
-          ∙ ap (λ (l : List (List ℕ)). l ++ map path_text (drop (i + 1) paths)) (sym (map-append (name_text root) found (o ∷ []))) in
+          let all : map (name_text root) found' ++ map path_text (drop i paths) ≡ map (name_text root) (found' ++ o ∷ []) ++ map path_text (drop (i + 1) paths) =
+          ap (λ (l : List Elements). map (name_text root) found' ++ map path_text l) dropped
+          ∙ ap (λ (t : List ℕ). map (name_text root) found' ++ (t ∷ map path_text (drop (i + 1) paths))) text
+          ∙ sym (append_assoc (map (name_text root) found') (name_text root o ∷ []) (map path_text (drop (i + 1) paths)))
+          ∙ ap (λ (l : List (List ℕ)). l ++ map path_text (drop (i + 1) paths)) (sym (map-append (name_text root) found' (o ∷ []))) in
           subst (λ (l : List (List ℕ)). is_ascending l ≡ true) all (before.ascending h);
     }
 
-    pub picked_one : PicksSoFar root keep paths (i + 1) v found'
-    picked_one = subst (PicksSoFar root keep paths (i + 1) v) (sym pushed) picked_list
+    pub picked_one : PicksSoFar root keep paths (i + 1) v found found''
+    picked_one = subst (PicksSoFar root keep paths (i + 1) v found) (sym pushed) picked_list
 
-pub next_picked : (root : Elements) (keep : List (List ℕ)) (paths : List Elements) (i : ℕ) (path : Elements) (v : View) (found : List Object) → i < length paths → path ≡ get_or paths i path → PicksSoFar root keep paths i v found
-    → (o : Option Object) {found' : List Object} → found' ≡ with_found found o → IsUnusedAt root keep path v o → PicksSoFar root keep paths (i + 1) v found'
-next_picked root keep paths i path v found low is before None pushed none = subst (PicksSoFar root keep paths (i + 1) v) (sym pushed) (not_picked root keep paths i path v found low is before none)
-next_picked root keep paths i path v found low is before (Some o) pushed unused = picked_one root keep paths i path v found low is before o unused pushed
+next_picked : (root : Elements) (keep : List (List ℕ)) (paths : List Elements) (i : ℕ) (path : Elements) (v : View) (found found' : List Object) → i < length paths → path ≡ get_or paths i path → PicksSoFar root keep paths i v found found'
+    → (o : Option Object) {found'' : List Object} → found'' ≡ with_found found' o → IsUnusedAt root keep path v o → PicksSoFar root keep paths (i + 1) v found found''
+next_picked root keep paths i path v found found' low is before None pushed none = subst (PicksSoFar root keep paths (i + 1) v found) (sym pushed) (not_picked root keep paths i path v found found' low is before none)
+next_picked root keep paths i path v found found' low is before (Some o) pushed unused = picked_one root keep paths i path v found found' low is before o unused pushed
 
-pub all_picked : (root : Elements) (keep : List (List ℕ)) (paths : List Elements) (i : ℕ) (v : View) (found : List Object) → length paths ≡ i → PicksSoFar root keep paths i v found → PicksUnused root keep paths v found
-all_picked root keep paths i v found is so_far = record {
-  each = λ o. subst (λ (l : List Elements). Contains found o ↔ (IsUnused root keep v o × Contains l (name_in root o))) (ap (λ (k : ℕ). take k paths) (sym is) ∙ take-length paths) (so_far.each o);
-  ascending = λ h. subst (λ (l : List (List ℕ)). is_ascending l ≡ true) (ap (λ (l : List Elements). map (name_text root) found ++ map path_text l) (drop_all i paths (omega (arith, is))) ∙ append-nil (map (name_text root) found)) (so_far.ascending h);
-}
+-- one name more in a folder
+pub next_name : (root : Elements) (keep : List (List ℕ)) (up : Elements) (names : List (List ℕ)) (i : ℕ) (x : List ℕ) (v : View) (found found' : List Object) → i < length names → x ≡ get_or names i x
+    → PicksSoFar root keep (map (λ y. y ∷ up) names) i v found found' → (o : Option Object) {found'' : List Object} → found'' ≡ with_found found' o → IsUnusedAt root keep (x ∷ up) v o
+    → PicksSoFar root keep (map (λ y. y ∷ up) names) (i + 1) v found found''
+next_name root keep up names i x v found found' low is before o pushed unused =
+    next_picked root keep (map (λ y. y ∷ up) names) i (x ∷ up) v found found' (omega (arith, low, length-map names (λ (y : List ℕ). y ∷ up)))
+    (ap (λ (y : List ℕ). y ∷ up) is ∙ sym (get_or-map (λ (y : List ℕ). y ∷ up) names i x (x ∷ up) low)) before o pushed unused
 
--- ---- all names
+pub all_picked : (root : Elements) (keep : List (List ℕ)) (up : Elements) (names : List (List ℕ)) (i : ℕ) (v : View) (found found' : List Object) → length names ≡ i
+    → PicksSoFar root keep (map (λ y. y ∷ up) names) i v found found' → PicksNames root keep (map (λ y. y ∷ up) names) v found found'
+all_picked root keep up names i v found found' is so_far =
+    let paths = map (λ (y : List ℕ). y ∷ up) names in
+    let long : length paths ≡ i = length-map names (λ (y : List ℕ). y ∷ up) ∙ is in
+    record {
+      each = λ o. subst (λ (l : List Elements). Contains found' o ↔ (Contains found o ⊎ (IsUnused root keep v o × Contains l (name_in root o)))) (ap (λ (k : ℕ). take k paths) (sym long) ∙ take-length paths) (so_far.each o);
+      ascending = λ h. subst (λ (l : List (List ℕ)). is_ascending l ≡ true) (ap (λ (l : List Elements). map (name_text root) found' ++ map path_text l) (drop_all i paths (omega (arith, long))) ∙ append-nil (map (name_text root) found')) (so_far.ascending h);
+    }
+
+-- ---- what is there
 
 pub none_gone : (kind : ObjKind) → is_some (object_at kind gone) ≡ false
 none_gone kinds.Commit = refl
@@ -157,30 +169,11 @@ leaf_of v kind (file id) there = tt
 leaf_of v kind (link text) there = tt
 
 -- where an object is there, a file or link has its name
-object_leaf : (root : Elements) (d : List ℕ) (kind : ObjKind) (v : View) → IsTree v → is_some (store root (shows v) d kind) ≡ true → IsLeaf (v.names (object_path root d kind))
+pub object_leaf : (root : Elements) (d : List ℕ) (kind : ObjKind) (v : View) → IsTree v → is_some (store root (shows v) d kind) ≡ true → IsLeaf (v.names (object_path root d kind))
 object_leaf root d kind v tree there = leaf_of v kind (v.names (object_path root d kind)) (ap (λ (e : Slot). is_some (object_at kind (spot_of v.files e))) (sym (at_tree v tree (object_path root d kind))) ∙ there)
-
-pub all_unused : (root : Elements) (keep : List (List ℕ)) (paths : List Elements) (v : View) (found : List Object) → IsTree v → ListsNames root v paths → PicksUnused root keep paths v found → ListsUnused root keep v found
-all_unused root keep paths v found tree names picks = record {
-  each = λ o. (
-    λ has. ((picks.each o).0 has).0,
-    λ is. (picks.each o).1 (is, (names.leaves.each (name_in root o)).1 (inr (inl refl), object_leaf root o.0 o.1 v tree is.there)),
-  );
-  ascending = picks.ascending names.ascending;
-}
 
 -- ---- over the moments
 
 -- what was found, where something was
 pub of_found : {A : Type 0} {found : Option A} {a : A} → found ≡ Some a → (root : Elements) (keep : List (List ℕ)) (v : View) (Is : A → Type 0) → UnlessFaulty root keep v Is found → Is a
 of_found {A = A} same root keep v Is told = subst (λ (o : Option A). UnlessFaulty root keep v Is o) same told
-
-pub found_all : {T : Type 0} {a b c : Option Moments} (d : Option Moments) {root : Elements} {keep : List (List ℕ)} {has : List ℕ → Bool} {paths l : List Elements} (items : T → List Object) (r : Result T HostEnd) → l ≡ paths
-    → IsTold a → IsTold b → IsTold c → Unchanged a b → AtEnd (λ u w. AreUsedTexts root keep u has) a b → Unchanged b c → AtEnd (λ u w. ListsNames root u paths) b c
-    → IfOk r (λ t. AtEnd (λ u w. AreUsedTexts root keep u has → PicksUnused root keep l u (items t)) c d) → IfOk r (λ t. AtEnd (λ u w. ListsUnused root keep u (items t)) a d)
-found_all {a = a} {c = c} d {root = root} {keep = keep} {has = has} {paths = paths} {l = l} items r same_paths told between before still used again names picks =
-    let known : AtEnd (λ u w. (w ≡ u) × (AreUsedTexts root keep u has × ListsNames root u paths)) a c =
-    ends_on (ends_both (ends_looks between again) names) (ends_both (ends_looks told still) used) between
-    (λ u v w tree q s. (s.0.0 ∙ q.0.0, (q.1, subst (λ (x : View). ListsNames root x paths) q.0.0 s.1))) in
-    if_ok_to r (λ t picked. ends_on picked known before
-    (λ u v w tree q p. all_unused root keep l u (items t) (subst IsTree q.0 tree) (subst (λ (x : List Elements). ListsNames root u x) (sym same_paths) q.1.1) (subst (λ (x : View). AreUsedTexts root keep x has → PicksUnused root keep l x (items t)) q.0 p q.1.0))) picks

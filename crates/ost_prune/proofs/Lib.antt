@@ -1,5 +1,8 @@
 mod Used
+mod Before
+mod Prefixes
 mod Found
+mod Picked
 mod Removed
 mod Parted
 mod Pruned

@@ -1,8 +1,10 @@
--- What is found among the names of a store.
-use Rattle.std.specs.Prelude.{◌≡◌, ◌↔◌, ℕ, List, map, true, Option, Some, None, Contains}
+-- What is found in the folders of a store.
+use Rattle.std.specs.Prelude.{◌≡◌, ◌⊎◌, ◌↔◌, ◌++◌, ℕ, List, map, take, true, Option, Some, None, Contains}
 use Rattle.fp_host.specs.Paths.{Elements, path_text}
 use Rattle.fp_host.specs.Reads.{is_ascending}
 use Rattle.fp_host.specs.View.{View}
+use Rattle.fp_name.specs.Hex.{hex, is_digest}
+use Rattle.fp_small.specs.Order.{comes_before}
 use Rattle.fp_base.specs.declared.object.ObjKind.{ObjKind}
 use Rattle.ost_prune.specs.Prune.{IsUnused}
 use Rattle.ost_store.specs.Names.{name_in, name_text}
@@ -15,10 +17,38 @@ IsUnusedAt root keep path v (Some object) =
 IsUnusedAt root keep path v None =
     (object : List ℕ × ObjKind) → path ≡ name_in root object → IsUnused root keep v object → ⊥
 
--- These are the objects among the names that no commit uses. Where the names ascend, they do too.
-pub record PicksUnused (root : Elements) (keep : List (List ℕ)) (paths : List Elements) (v : View)
+-- The objects among the names that no commit uses came to the list. Where the texts of the list and
+-- of the names ascend in a row, those of the new list do.
+pub record PicksNames (root : Elements) (keep : List (List ℕ)) (paths : List Elements) (v : View)
+    (found found' : List (List ℕ × ObjKind)) : Type 0 where
+  pub each : (object : List ℕ × ObjKind) → Contains found' object ↔ (Contains found object
+      ⊎ (IsUnused root keep v object × Contains paths (name_in root object)))
+  pub ascending : is_ascending (map (name_text root) found ++ map path_text paths) ≡ true
+      → is_ascending (map (name_text root) found') ≡ true
+
+-- the name of the object's folder: the first two digits
+abbrev pub folder_of : List ℕ × ObjKind → List ℕ
+folder_of object = take 2 (hex object.0)
+
+-- the objects are of folders before that of this name
+abbrev pub AreBefore : List ℕ → List (List ℕ × ObjKind) → Type 0
+AreBefore name found = (object : List ℕ × ObjKind) → Contains found object
+    → (is_digest object.0 ≡ true) × (comes_before (folder_of object) name ≡ true)
+
+-- So came the objects of the folder of this name. Where those in the list ascend and are of folders
+-- before it, they all ascend.
+pub record PicksFolder (root : Elements) (keep : List (List ℕ)) (name : List ℕ) (v : View)
+    (found found' : List (List ℕ × ObjKind)) : Type 0 where
+  pub each : (object : List ℕ × ObjKind) → Contains found' object ↔ (Contains found object
+      ⊎ (IsUnused root keep v object × (folder_of object ≡ name)))
+  pub ascending : is_ascending (map (name_text root) found) ≡ true → AreBefore name found
+      → is_ascending (map (name_text root) found') ≡ true
+
+-- These are the objects of the folders of these names that no commit uses. Where the names ascend,
+-- they do too.
+pub record PicksUnused (root : Elements) (keep : List (List ℕ)) (names : List (List ℕ)) (v : View)
     (found : List (List ℕ × ObjKind)) : Type 0 where
   pub each : (object : List ℕ × ObjKind) → Contains found object
-      ↔ (IsUnused root keep v object × Contains paths (name_in root object))
-  pub ascending : is_ascending (map path_text paths) ≡ true
+      ↔ (IsUnused root keep v object × Contains names (folder_of object))
+  pub ascending : is_ascending names ≡ true
       → is_ascending (map (name_text root) found) ≡ true

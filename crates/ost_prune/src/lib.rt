@@ -2,6 +2,7 @@
 #![tactic(auto)]
 
 mod finding;
+mod folders;
 pub mod laws;
 mod parting;
 mod pruning;

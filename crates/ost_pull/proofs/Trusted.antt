@@ -20,11 +20,13 @@ use Rattle.ost_model.specs.Objects.{Fault, unless, too_long, refused_mode, diges
 use Rattle.ost_store.specs.Reads.{got_of, Gets}
 use Rattle.ost_store.specs.declared.reading.Got.{Got}
 use Rattle.ost_store.specs.declared.reading.Got.TheVariants as got
+use Rattle.ost_walk.specs.Ends.{Outside}
 use Rattle.ost_walk.specs.declared.ends.WalkEnd.{WalkEnd}
+use Rattle.ost_walk.specs.declared.pull_end.PullEnd.{PullEnd}
 use Rattle.ost_head.specs.Contents.{ChecksIfThere, IsGoodThere}
 use Rattle.ost_pull.specs.declared.trusting.Trust.{Trust}
 use Rattle.ost_pull.specs.declared.trusting.Trust.TheVariants as trusts
-use Rattle.ost_pull.specs.Pulls.{IsApart, HasTrueFiles, HasTrueFilesNow}
+use Rattle.ost_pull.specs.Pulls.{IsApart, HasTrueFiles, HasTrueFilesNow, PullsCommit}
 use Rattle.ost_pull.specs.Trusts.{IsGoodIfTrue, MayTrust}
 use Rattle.ost_pull.specs.Work.{Works}
 use Rattle.ost_pull.proofs.Apart.{works_object}
@@ -105,6 +107,19 @@ none_trusted = record { names = λ is. absurd (cc is) }
 
 pub names_trusted : {root : Elements} {told : Option Moments} → HasTrueFilesNow root told → MayTrust trusts.Names root told
 names_trusted true_files = record { names = λ is. true_files }
+
+-- what a pull promises where one thing holds, it promises where what implies that holds
+pub pulls_where : {root t : Elements} {url commit : List ℕ} {S T : Type 0} {result : Result (Unit {0}) PullEnd} {u w : Outside} → (S → T) → PullsCommit root t url commit T result u w → PullsCommit root t url commit S result u w
+pulls_where rests pulls = record {
+  same = pulls.same;
+  any_moment = pulls.any_moment;
+  on_success = λ have s so. pulls.on_success have s (rests so);
+  refuses = λ have s so. pulls.refuses have s (rests so);
+  refused_unchanged = pulls.refused_unchanged;
+  remote_fault_unchanged = pulls.remote_fault_unchanged;
+  fault_has_cause = pulls.fault_has_cause;
+  remote_fault_has_cause = pulls.remote_fault_has_cause;
+}
 
 -- the store's files stay true while there is work beside it
 pub trust_later : {root t : Elements} → IsApart root t → (trust : Trust) → {a b : Option Moments} → IsTold a → IsTold b → Always (Works t) a b → MayTrust trust root a → MayTrust trust root b

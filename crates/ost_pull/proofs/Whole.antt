@@ -264,6 +264,10 @@ pub none_refused : (have : Have) (commit : List ℕ) → first_fault have commit
 none_refused have commit none = ap (option_map (λ f. refusal_of f.0.digest f.0.kind f.1)) none
 
 -- how it ends
+pub host_refuses : (P : Refusal → Type 0) (e : HostEnd) → RefusesBy P (of_host e)
+host_refuses P host_ends.Fault = tt
+host_refuses P host_ends.NoMemory = tt
+
 pub host_no_refusal : {A : Type 0} (e : HostEnd) (r : Refusal) → IsErrOf {T = A} (Err (of_host e)) (pull_ends.Refused r) → ⊥
 host_no_refusal host_ends.Fault r is = absurd (cc is)
 host_no_refusal host_ends.NoMemory r is = absurd (cc is)

@@ -4,3 +4,4 @@ pub mod Pulls
 pub mod Placing
 pub mod Batches
 pub mod Trusts
+pub mod Turns

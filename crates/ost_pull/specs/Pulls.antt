@@ -1,10 +1,11 @@
 -- What a pull does to a host, and what it promises.
-use Rattle.std.specs.Prelude.{◌≡◌, ◌≢◌, ◌⊎◌, ℕ, List, ◌≤◌, ◌+◌, length, map, true, Option, Some, None, Result, Ok, Err, option_map}
+use Rattle.std.specs.Prelude.{◌≡◌, ◌≢◌, ◌⊎◌, ℕ, List, ◌≤◌, ◌+◌, length, map, true, Option, Some, None, Result, Ok, Err, IsErrOf, OnOk, option_map}
+use Rattle.fp_host.specs.Causes.{IsCaused}
 use Rattle.fp_host.specs.Paths.{Elements, Slot, absent, dir, IsAbove}
 use Rattle.fp_host.specs.View.{View}
-use Rattle.fp_host.specs.Moments.{Moments}
+use Rattle.fp_host.specs.Moments.{Moments, Always}
 use Rattle.fp_host.specs.Outcome.{Spot, folder, Disk, Leaves, IsSettled, shows}
-use Rattle.fp_host.specs.Frame.{Keeps}
+use Rattle.fp_host.specs.Frame.{Keeps, AtEnd}
 use Rattle.fp_name.specs.Hex.{is_digest}
 use Rattle.fp_base.specs.declared.object.ObjKind.{ObjKind}
 use Rattle.fp_base.specs.declared.object.ObjKind.TheVariants as kinds
@@ -15,14 +16,17 @@ use Rattle.fp_small.specs.declared.limits.TheConstants.{MOST_ELEMENTS}
 use Rattle.fp_small.specs.declared.refusal.Refusal.{Refusal}
 use Rattle.ost_model.specs.declared.object.Object.{Object}
 use Rattle.ost_model.specs.Objects.{Have, Named, digest_fault, object_path, store}
+use Rattle.ost_model.specs.Remotes.{Supplies}
 use Rattle.ost_model.specs.Order.{Agree, In, order, first_fault}
 use Rattle.ost_model.specs.Stores.{objects_folder}
 use Rattle.ost_store.specs.Created.{Creates}
 use Rattle.ost_store.specs.Place.{LeavesStore}
+use Rattle.ost_walk.specs.Ends.{IsRemotes, Outside}
 use Rattle.ost_walk.specs.Steps.{place_name}
 use Rattle.ost_walk.specs.PullEnds.{RefusesBy}
 use Rattle.ost_walk.specs.Refusals.{refusal_of}
 use Rattle.ost_walk.specs.declared.pull_end.PullEnd.{PullEnd}
+use Rattle.ost_walk.specs.declared.pull_end.PullEnd.TheVariants as ends
 use Rattle.ost_store.specs.ObjectNames.{IsAboveObject, AreOpen}
 use Rattle.ost_pull.specs.Work.{WorksAt, WorksName}
 
@@ -143,3 +147,28 @@ pub record CanPull (root t : Elements) (v : View) : Type 0 where
   pub clears : CanClear t v
   pub work_open : (q : Elements) → IsAbove q t → (v.names q ≡ absent) ⊎ (v.names q ≡ dir)
   pub store_open : AreOpen root v
+
+-- ---- the contract
+
+-- A pull of the commit from the remote at the url into the store at root, by way of the work folder
+-- t. Where the names of the store are true at every stop before, a stop at any moment leaves a store
+-- whose names are true, with each object that was there. On Ok all was pulled, and exactly the first
+-- fault is refused, of what store and remote supply, where Trusted holds at the entry. Where it is
+-- refused, and where a remote is at fault, nothing is left of it. A fault of the host or the remotes
+-- has a cause, and the remotes stay as they are.
+pub record PullsCommit (root t : Elements) (url commit : List ℕ) (Trusted : Type 0)
+    (result : Result (Unit {0}) PullEnd) (u w : Outside) : Type 0 where
+  pub same : w.holdings ≡ u.holdings
+  pub any_moment : Always (PullsSoundly root t) u.told w.told
+  pub on_success : (have : Have) → Supplies root (Some url) u.told u.holdings have → Trusted
+      → OnOk result (AtEnd (WasPulled root t have commit) u.told w.told)
+  pub refuses : (have : Have) → Supplies root (Some url) u.told u.holdings have → Trusted
+      → Refuses (first_refusal have commit) result
+  pub refused_unchanged : (r : Refusal) → IsErrOf result (ends.Refused r)
+      → AtEnd (WasRefused t) u.told w.told
+  pub remote_fault_unchanged : IsErrOf result ends.RemoteFault
+      → AtEnd (WasRefused t) u.told w.told
+  pub fault_has_cause : IsCaused (IsErrOf result ends.HostFault) u.told (CanPull root t)
+      u.host_faults w.host_faults
+  pub remote_fault_has_cause : IsRemotes (IsErrOf result ends.RemoteFault)
+      u.remote_faults w.remote_faults

@@ -5,13 +5,14 @@ ghost use Rattle.fp_host.specs.OverHost.{AtEachMoment, AtReturn, FailsOnly};
 ghost use Rattle.ost_model.specs.Objects.{Have};
 ghost use Rattle.ost_model.specs.Order.{first_fault};
 ghost use Rattle.ost_model.specs.Remotes.{Supplies};
-ghost use Rattle.ost_walk.specs.Ends.{EndsBy, IsRemotes};
+ghost use Rattle.ost_walk.specs.Ends.{EndsBy, IsRemotes, outside};
 ghost use Rattle.ost_walk.specs.Surveys.{first_bad, first_named, told_fault};
-ghost use Rattle.ost_pull.specs.Pulls.{IsApart, CanPull};
+ghost use Rattle.ost_pull.specs.Pulls.{IsApart};
 ghost use Rattle.ost_pull.specs.Takes.{AddsAmong, AreTaken, AreTakenNow, CoversOrder, StaysTaken, TakesAll};
 ghost use Rattle.ost_pull.specs.Trusts.{MayTrust};
 ghost use Rattle.ost_store.specs.ObjectNames.{AreOpen};
-ghost use Rattle.ost_pull.specs.Work.{Works, GathersAnew};
+ghost use Rattle.ost_pull.specs.Work.{Works};
+ghost use Rattle.ost_pull.specs.Turns.{GathersCommit};
 
 use crate::taking::walk_end;
 use crate::trusting::Trust;
@@ -154,23 +155,11 @@ pub(crate) fn gather<H: Host, R: Remotes, G: Gate + Sync>(
 ) -> Result<(), WalkEnd>
     requires apart { IsApart root.now work.now }
     requires empty { kept.old.items ≡ [] }
-    ensures any_moment { AtEachMoment H.Host host.old host.new (Works work.now) }
-    ensures same { R.holds remotes.new ≡ R.holds remotes.old }
-    ensures on_success { OnOk result (AtReturn H.Host host.old host.new
-        (λ u w. AreTaken root.now work.now url.now (R.holds remotes.old) kept.new.items w)) }
-    ensures gathers { OnOk result (AtReturn H.Host host.old host.new (GathersAnew work.now)) }
-    ensures covers { (have : Have) → Supplies root.now (Some url.now) (H.moments host.old)
-        (R.holds remotes.old) have → OnOk result (AtReturn H.Host host.old host.new
-        (λ u w. CoversOrder root.now have commit.now kept.new.items w)) }
-    ensures refuses { (have : Have) → Supplies root.now (Some url.now) (H.moments host.old)
-        (R.holds remotes.old) have
-        → MayTrust trust root.now (H.moments host.old)
-        → EndsBy (λ _. first_fault have commit.now ≡ None)
-        (λ w. first_named have commit.now ≡ Some (told_fault w)) result }
-    ensures fault_has_cause { FailsOnly H.Host host.old host.new
-        (CanPull root.now work.now) (IsErrOf result WalkEnd.HostFault) }
-    ensures remote_fault_has_cause { IsRemotes (IsErrOf result WalkEnd.RemoteFault)
-        (R.faults remotes.old) (R.faults remotes.new) }
+    ensures { GathersCommit root.now work.now url.now trust commit.now kept.new.items result
+        (outside (H.moments host.old) (H.faults host.old) (R.holds remotes.old)
+        (R.faults remotes.old))
+        (outside (H.moments host.new) (H.faults host.new) (R.holds remotes.new)
+        (R.faults remotes.new)) }
 {
     match clear(alloc, host, work) {
         Ok(()) => take_order(

@@ -1,11 +1,7 @@
 //! A commit that is pulled.
-ghost use Rattle.std.specs.Prelude.{◌≡◌, Some, [], OnOk, IsErrOf};
-ghost use Rattle.fp_host.specs.OverHost.{AtEachMoment, AtReturn, FailsOnly};
-ghost use Rattle.fp_small.specs.declared.refusal.Refusal.{Refusal};
-ghost use Rattle.ost_model.specs.Objects.{Have};
-ghost use Rattle.ost_model.specs.Remotes.{Supplies};
-ghost use Rattle.ost_walk.specs.Ends.{IsRemotes};
-ghost use Rattle.ost_pull.specs.Pulls.{IsApart, PullsSoundly, WasPulled, WasRefused, Refuses, CanPull, HasTrueFilesNow, first_refusal};
+ghost use Rattle.std.specs.Prelude.{⊤};
+ghost use Rattle.ost_walk.specs.Ends.{outside};
+ghost use Rattle.ost_pull.specs.Pulls.{IsApart, PullsCommit, HasTrueFilesNow};
 ghost use Rattle.ost_pull.specs.Trusts.{MayTrust};
 
 use crate::gathering::gather;
@@ -36,24 +32,11 @@ pub fn pull<H: Host, R: Remotes>(
     work: &Path,
 ) -> Result<(), PullEnd>
     requires { IsApart root.now work.now }
-    ensures same { R.holds remotes.new ≡ R.holds remotes.old }
-    // Where the names of the store are true at every stop before, a stop at any moment leaves a
-    // store whose names are true, with each object that was there.
-    ensures any_moment { AtEachMoment H.Host host.old host.new (PullsSoundly root.now work.now) }
-    ensures on_success { (have : Have) → Supplies root.now (Some url.now) (H.moments host.old)
-        (R.holds remotes.old) have
-        → OnOk result (AtReturn H.Host host.old host.new
-        (WasPulled root.now work.now have commit.now)) }
-    ensures refuses { (have : Have) → Supplies root.now (Some url.now) (H.moments host.old)
-        (R.holds remotes.old) have → Refuses (first_refusal have commit.now) result }
-    ensures refused_unchanged { (r : Refusal) → IsErrOf result (PullEnd.Refused r)
-        → AtReturn H.Host host.old host.new (WasRefused work.now) }
-    ensures remote_fault_unchanged { IsErrOf result PullEnd.RemoteFault
-        → AtReturn H.Host host.old host.new (WasRefused work.now) }
-    ensures fault_has_cause { FailsOnly H.Host host.old host.new
-        (CanPull root.now work.now) (IsErrOf result PullEnd.HostFault) }
-    ensures remote_fault_has_cause { IsRemotes (IsErrOf result PullEnd.RemoteFault)
-        (R.faults remotes.old) (R.faults remotes.new) }
+    ensures { PullsCommit root.now work.now url.now commit.now ⊤ result
+        (outside (H.moments host.old) (H.faults host.old) (R.holds remotes.old)
+        (R.faults remotes.old))
+        (outside (H.moments host.new) (H.faults host.new) (R.holds remotes.new)
+        (R.faults remotes.new)) }
 {
     pull_gated(rt, alloc, host, remotes, root, url, commit, work, &NoGate)
 }
@@ -75,24 +58,11 @@ pub fn pull_gated<H: Host, R: Remotes, G: Gate + Sync>(
     gate: &G,
 ) -> Result<(), PullEnd>
     requires { IsApart root.now work.now }
-    ensures same { R.holds remotes.new ≡ R.holds remotes.old }
-    // Where the names of the store are true at every stop before, a stop at any moment leaves a
-    // store whose names are true, with each object that was there.
-    ensures any_moment { AtEachMoment H.Host host.old host.new (PullsSoundly root.now work.now) }
-    ensures on_success { (have : Have) → Supplies root.now (Some url.now) (H.moments host.old)
-        (R.holds remotes.old) have
-        → OnOk result (AtReturn H.Host host.old host.new
-        (WasPulled root.now work.now have commit.now)) }
-    ensures refuses { (have : Have) → Supplies root.now (Some url.now) (H.moments host.old)
-        (R.holds remotes.old) have → Refuses (first_refusal have commit.now) result }
-    ensures refused_unchanged { (r : Refusal) → IsErrOf result (PullEnd.Refused r)
-        → AtReturn H.Host host.old host.new (WasRefused work.now) }
-    ensures remote_fault_unchanged { IsErrOf result PullEnd.RemoteFault
-        → AtReturn H.Host host.old host.new (WasRefused work.now) }
-    ensures fault_has_cause { FailsOnly H.Host host.old host.new
-        (CanPull root.now work.now) (IsErrOf result PullEnd.HostFault) }
-    ensures remote_fault_has_cause { IsRemotes (IsErrOf result PullEnd.RemoteFault)
-        (R.faults remotes.old) (R.faults remotes.new) }
+    ensures { PullsCommit root.now work.now url.now commit.now ⊤ result
+        (outside (H.moments host.old) (H.faults host.old) (R.holds remotes.old)
+        (R.faults remotes.old))
+        (outside (H.moments host.new) (H.faults host.new) (R.holds remotes.new)
+        (R.faults remotes.new)) }
 {
     pull_by(
         rt,
@@ -123,25 +93,12 @@ pub fn pull_trusting<H: Host, R: Remotes>(
     work: &Path,
 ) -> Result<(), PullEnd>
     requires { IsApart root.now work.now }
-    ensures same { R.holds remotes.new ≡ R.holds remotes.old }
-    // Where the names of the store are true at every stop before, a stop at any moment leaves a
-    // store whose names are true, with each object that was there.
-    ensures any_moment { AtEachMoment H.Host host.old host.new (PullsSoundly root.now work.now) }
-    ensures on_success { (have : Have) → Supplies root.now (Some url.now) (H.moments host.old)
-        (R.holds remotes.old) have → HasTrueFilesNow root.now (H.moments host.old)
-        → OnOk result (AtReturn H.Host host.old host.new
-        (WasPulled root.now work.now have commit.now)) }
-    ensures refuses { (have : Have) → Supplies root.now (Some url.now) (H.moments host.old)
-        (R.holds remotes.old) have → HasTrueFilesNow root.now (H.moments host.old)
-        → Refuses (first_refusal have commit.now) result }
-    ensures refused_unchanged { (r : Refusal) → IsErrOf result (PullEnd.Refused r)
-        → AtReturn H.Host host.old host.new (WasRefused work.now) }
-    ensures remote_fault_unchanged { IsErrOf result PullEnd.RemoteFault
-        → AtReturn H.Host host.old host.new (WasRefused work.now) }
-    ensures fault_has_cause { FailsOnly H.Host host.old host.new
-        (CanPull root.now work.now) (IsErrOf result PullEnd.HostFault) }
-    ensures remote_fault_has_cause { IsRemotes (IsErrOf result PullEnd.RemoteFault)
-        (R.faults remotes.old) (R.faults remotes.new) }
+    ensures { PullsCommit root.now work.now url.now commit.now
+        (HasTrueFilesNow root.now (H.moments host.old)) result
+        (outside (H.moments host.old) (H.faults host.old) (R.holds remotes.old)
+        (R.faults remotes.old))
+        (outside (H.moments host.new) (H.faults host.new) (R.holds remotes.new)
+        (R.faults remotes.new)) }
 {
     pull_by(
         rt,
@@ -172,25 +129,12 @@ fn pull_by<H: Host, R: Remotes, G: Gate + Sync>(
     gate: &G,
 ) -> Result<(), PullEnd>
     requires { IsApart root.now work.now }
-    ensures same { R.holds remotes.new ≡ R.holds remotes.old }
-    // Where the names of the store are true at every stop before, a stop at any moment leaves a
-    // store whose names are true, with each object that was there.
-    ensures any_moment { AtEachMoment H.Host host.old host.new (PullsSoundly root.now work.now) }
-    ensures on_success { (have : Have) → Supplies root.now (Some url.now) (H.moments host.old)
-        (R.holds remotes.old) have → MayTrust trust root.now (H.moments host.old)
-        → OnOk result (AtReturn H.Host host.old host.new
-        (WasPulled root.now work.now have commit.now)) }
-    ensures refuses { (have : Have) → Supplies root.now (Some url.now) (H.moments host.old)
-        (R.holds remotes.old) have → MayTrust trust root.now (H.moments host.old)
-        → Refuses (first_refusal have commit.now) result }
-    ensures refused_unchanged { (r : Refusal) → IsErrOf result (PullEnd.Refused r)
-        → AtReturn H.Host host.old host.new (WasRefused work.now) }
-    ensures remote_fault_unchanged { IsErrOf result PullEnd.RemoteFault
-        → AtReturn H.Host host.old host.new (WasRefused work.now) }
-    ensures fault_has_cause { FailsOnly H.Host host.old host.new
-        (CanPull root.now work.now) (IsErrOf result PullEnd.HostFault) }
-    ensures remote_fault_has_cause { IsRemotes (IsErrOf result PullEnd.RemoteFault)
-        (R.faults remotes.old) (R.faults remotes.new) }
+    ensures { PullsCommit root.now work.now url.now commit.now
+        (MayTrust trust root.now (H.moments host.old)) result
+        (outside (H.moments host.old) (H.faults host.old) (R.holds remotes.old)
+        (R.faults remotes.old))
+        (outside (H.moments host.new) (H.faults host.new) (R.holds remotes.new)
+        (R.faults remotes.new)) }
 {
     let mut kept = Vec::new(alloc);
     match gather(

@@ -5,15 +5,15 @@ ghost use Rattle.fp_host.specs.OverHost.{AtEachMoment, AtReturn, FailsOnly};
 ghost use Rattle.par_digest.specs.Digests.{item_digest, item_digests};
 ghost use Rattle.ost_model.specs.Objects.{Have};
 ghost use Rattle.ost_model.specs.Remotes.{Supplies};
-ghost use Rattle.ost_walk.specs.Ends.{EndsBy, IsFaultOf, IsRemotes};
-ghost use Rattle.ost_walk.specs.Steps.{IsGood, own_fault};
+ghost use Rattle.ost_walk.specs.Ends.{EndsBy, IsRemotes, outside};
 ghost use Rattle.ost_walk.specs.Surveys.{first_bad, told_fault};
 ghost use Rattle.ost_pull.specs.Batches.{AreReady, IsBatched, IsReady};
 ghost use Rattle.ost_pull.specs.Pulls.{IsApart};
-ghost use Rattle.ost_pull.specs.Takes.{AddsAmong, AreTakenNow, StaysNoted, TakesAll, TakesOne};
+ghost use Rattle.ost_pull.specs.Takes.{AddsAmong, AreTakenNow, TakesAll};
 ghost use Rattle.ost_pull.specs.Trusts.{MayTrust};
 ghost use Rattle.ost_store.specs.ObjectNames.{AreOpen};
-ghost use Rattle.ost_pull.specs.Work.{Adds, Works};
+ghost use Rattle.ost_pull.specs.Work.{Works};
+ghost use Rattle.ost_pull.specs.Turns.{TakesObject, TakesObjects};
 
 use crate::batches::{Turn, read_batch};
 use crate::forms::{Form, is_good, whole};
@@ -49,23 +49,12 @@ fn take_read<H: Host, R: Remotes>(
     requires read { IsBatched root.now url.now (H.moments host.old) (R.holds remotes.old)
         (digest.now, kind) form.now item.now }
     requires got { got.now ≡ item_digest item.now }
-    ensures any_moment { AtEachMoment H.Host host.old host.new (Works work.now) }
-    ensures same { R.holds remotes.new ≡ R.holds remotes.old }
-    ensures adds { OnOk result (Adds (digest.now, kind) kept.old.items kept.new.items) }
-    ensures on_success { OnOk result (AtReturn H.Host host.old host.new
-        (TakesOne root.now work.now url.now (R.holds remotes.old)
-        (digest.now, kind) kept.old.items kept.new.items)) }
-    ensures tells { (have : Have) → Supplies root.now (Some url.now) (H.moments host.old)
-        (R.holds remotes.old) have
-        → AreTakenNow root.now work.now url.now (R.holds remotes.old) kept.old.items
-        (H.moments host.old)
-        → MayTrust trust root.now (H.moments host.old)
-        → EndsBy (λ _. IsGood have digest.now kind)
-        (IsFaultOf digest.now kind (own_fault have digest.now kind)) result }
-    ensures fault_has_cause { FailsOnly H.Host host.old host.new
-        (AreOpen work.now) (IsErrOf result WalkEnd.HostFault) }
-    ensures remote_fault_has_cause { IsRemotes (IsErrOf result WalkEnd.RemoteFault)
-        (R.faults remotes.old) (R.faults remotes.new) }
+    ensures { TakesObject root.now work.now url.now trust (digest.now, kind)
+        kept.old.items kept.new.items result
+        (outside (H.moments host.old) (H.faults host.old) (R.holds remotes.old)
+        (R.faults remotes.old))
+        (outside (H.moments host.new) (H.faults host.new) (R.holds remotes.new)
+        (R.faults remotes.new)) }
 {
     let _bytes = digest.as_bytes();
     let object = whole(alloc, form, item)?;
@@ -101,23 +90,12 @@ fn take_turn<H: Host, R: Remotes>(
     requires ready { IsReady root.now url.now (H.moments host.old) (R.holds remotes.old)
         (digest.now, kind) items.now turn.now }
     requires digests { digests.now ≡ item_digests items.now }
-    ensures any_moment { AtEachMoment H.Host host.old host.new (Works work.now) }
-    ensures same { R.holds remotes.new ≡ R.holds remotes.old }
-    ensures adds { OnOk result (Adds (digest.now, kind) kept.old.items kept.new.items) }
-    ensures on_success { OnOk result (AtReturn H.Host host.old host.new
-        (TakesOne root.now work.now url.now (R.holds remotes.old)
-        (digest.now, kind) kept.old.items kept.new.items)) }
-    ensures tells { (have : Have) → Supplies root.now (Some url.now) (H.moments host.old)
-        (R.holds remotes.old) have
-        → AreTakenNow root.now work.now url.now (R.holds remotes.old) kept.old.items
-        (H.moments host.old)
-        → MayTrust trust root.now (H.moments host.old)
-        → EndsBy (λ _. IsGood have digest.now kind)
-        (IsFaultOf digest.now kind (own_fault have digest.now kind)) result }
-    ensures fault_has_cause { FailsOnly H.Host host.old host.new
-        (AreOpen work.now) (IsErrOf result WalkEnd.HostFault) }
-    ensures remote_fault_has_cause { IsRemotes (IsErrOf result WalkEnd.RemoteFault)
-        (R.faults remotes.old) (R.faults remotes.new) }
+    ensures { TakesObject root.now work.now url.now trust (digest.now, kind)
+        kept.old.items kept.new.items result
+        (outside (H.moments host.old) (H.faults host.old) (R.holds remotes.old)
+        (R.faults remotes.old))
+        (outside (H.moments host.new) (H.faults host.new) (R.holds remotes.new)
+        (R.faults remotes.new)) }
 {
     match turn {
         Turn::Alone => take(
@@ -161,24 +139,12 @@ fn take_turns<H: Host, R: Remotes>(
     requires ready { AreReady root.now url.now (H.moments host.old) (R.holds remotes.old)
         (length objects.now) objects.now turns.now items.now }
     requires digests { digests.now ≡ item_digests items.now }
-    ensures any_moment { AtEachMoment H.Host host.old host.new (Works work.now) }
-    ensures same { R.holds remotes.new ≡ R.holds remotes.old }
-    ensures only { OnOk result (AddsAmong objects.now kept.old.items kept.new.items) }
-    ensures noted { OnOk result (StaysNoted kept.old.items kept.new.items) }
-    ensures on_success { OnOk result (AtReturn H.Host host.old host.new
-        (TakesAll root.now work.now url.now (R.holds remotes.old) objects.now kept.old.items
-        kept.new.items)) }
-    ensures tells { (have : Have) → Supplies root.now (Some url.now) (H.moments host.old)
-        (R.holds remotes.old) have
-        → AreTakenNow root.now work.now url.now (R.holds remotes.old) kept.old.items
-        (H.moments host.old)
-        → MayTrust trust root.now (H.moments host.old)
-        → EndsBy (λ _. first_bad have objects.now ≡ None)
-        (λ w. first_bad have objects.now ≡ Some (told_fault w)) result }
-    ensures fault_has_cause { FailsOnly H.Host host.old host.new
-        (AreOpen work.now) (IsErrOf result WalkEnd.HostFault) }
-    ensures remote_fault_has_cause { IsRemotes (IsErrOf result WalkEnd.RemoteFault)
-        (R.faults remotes.old) (R.faults remotes.new) }
+    ensures { TakesObjects root.now work.now url.now trust objects.now
+        kept.old.items kept.new.items result
+        (outside (H.moments host.old) (H.faults host.old) (R.holds remotes.old)
+        (R.faults remotes.old))
+        (outside (H.moments host.new) (H.faults host.new) (R.holds remotes.new)
+        (R.faults remotes.new)) }
 {
     for (at, object) in objects.iter().enumerate() {
         match take_turn(
@@ -210,24 +176,12 @@ fn take_batch<H: Host, R: Remotes, G: Gate + Sync>(
 ) -> Result<(), WalkEnd>
     requires apart { IsApart root.now work.now }
     requires few { length objects.now ≤ MOST_IN_BATCH }
-    ensures any_moment { AtEachMoment H.Host host.old host.new (Works work.now) }
-    ensures same { R.holds remotes.new ≡ R.holds remotes.old }
-    ensures only { OnOk result (AddsAmong objects.now kept.old.items kept.new.items) }
-    ensures noted { OnOk result (StaysNoted kept.old.items kept.new.items) }
-    ensures on_success { OnOk result (AtReturn H.Host host.old host.new
-        (TakesAll root.now work.now url.now (R.holds remotes.old) objects.now kept.old.items
-        kept.new.items)) }
-    ensures tells { (have : Have) → Supplies root.now (Some url.now) (H.moments host.old)
-        (R.holds remotes.old) have
-        → AreTakenNow root.now work.now url.now (R.holds remotes.old) kept.old.items
-        (H.moments host.old)
-        → MayTrust trust root.now (H.moments host.old)
-        → EndsBy (λ _. first_bad have objects.now ≡ None)
-        (λ w. first_bad have objects.now ≡ Some (told_fault w)) result }
-    ensures fault_has_cause { FailsOnly H.Host host.old host.new
-        (AreOpen work.now) (IsErrOf result WalkEnd.HostFault) }
-    ensures remote_fault_has_cause { IsRemotes (IsErrOf result WalkEnd.RemoteFault)
-        (R.faults remotes.old) (R.faults remotes.new) }
+    ensures { TakesObjects root.now work.now url.now trust objects.now
+        kept.old.items kept.new.items result
+        (outside (H.moments host.old) (H.faults host.old) (R.holds remotes.old)
+        (R.faults remotes.old))
+        (outside (H.moments host.new) (H.faults host.new) (R.holds remotes.new)
+        (R.faults remotes.new)) }
 {
     match read_batch(alloc, host, remotes, root, url, work, objects) {
         Ok(batch) => {

@@ -27,12 +27,13 @@ loop-at-preserved g c =
     let t = g.met.H.Host.is_tree in
     let before = c.loop-at.invariant in
     let step = c.in_ok-count.ensures in
+    let piece = step.on_success in
     record {
-      low = search rules;
+      low = search (rules, piece.bound);
       room = search rules;
       frame = frame_within step.frame before.frame (t c.loop-at.host) (λ q spot h. h) (λ q e h. h) (λ q h. h) (λ q id h is. h);
       same = step.same ∙ before.same;
-      copied = copied_on before.copied c.in_ok-count.count c.copy_piece.new.room (t c.loop-at.host) step.long (λ held is. step.tells held (before.same ∙ is)) step.appends step.hashes;
+      copied = copied_on before.copied c.in_ok-count.count c.copy_piece.new.room (t c.loop-at.host) piece.long (λ held is. piece.tells held (before.same ∙ is)) piece.appends piece.hashes;
       later = omega (arith, before.later, step.fault_has_cause.later);
       remote_later = omega (arith, before.remote_later, step.remote_fault_has_cause.later);
     }
@@ -52,14 +53,14 @@ returns-then-count-eq0-clause-frame g c = frame_within c.copy_piece.ensures.fram
 pub returns-then-count-eq0-clause-copies : goal.returns-then-count-eq0-clause-copies
 returns-then-count-eq0-clause-copies g c =
     let before = c.loop-at.invariant in
-    let step = c.in_ok-count.ensures in
-    let more = copied_on before.copied c.in_ok-count.count c.copy_piece.new.room (g.met.H.Host.is_tree c.loop-at.host) step.long (λ held is. step.tells held (before.same ∙ is)) step.appends step.hashes in
+    let piece = c.in_ok-count.ensures.on_success in
+    let more = copied_on before.copied c.in_ok-count.count c.copy_piece.new.room (g.met.H.Host.is_tree c.loop-at.host) piece.long (λ held is. piece.tells held (before.same ∙ is)) piece.appends piece.hashes in
     let none : c.in_ok-count.count ≡ 0 = search rules in
     let some : 0 < length c.copy_piece.new.room = search rules in
     let low = before.low in
     all_copied more c.args.size (omega (arith, none, low)) (λ held is long.
     let all = bytes_of (held c.args.url.now c.args.from.now) in
-    let left = none_left all c.copy_piece.new.room c.loop-at.at c.in_ok-count.count (step.tells held (before.same ∙ is)) none some in
+    let left = none_left all c.copy_piece.new.room c.loop-at.at c.in_ok-count.count (piece.tells held (before.same ∙ is)) none some in
     omega (arith, left, none, low, long))
 
 pub returns-clause-copies : goal.returns-clause-copies

@@ -25,7 +25,7 @@ returns-in_err-unused-clause-unsynced g c = ends_to (ends_looks (g.met.H.Host.is
 pub returns-in_err-unused-clause-fault_has_cause : goal.returns-in_err-unused-clause-fault_has_cause
 returns-in_err-unused-clause-fault_has_cause g c = record {
   later = c.find_unused.ensures.fault_has_cause.later;
-  fault = λ is m at can. c.find_unused.ensures.fault_has_cause.fault (same_fault _ _ _ c.in_err-unused.was c.from_residual.ensures.1 is) m at can;
+  fault = λ is m at can. c.find_unused.ensures.fault_has_cause.fault (same_fault _ _ _ c.in_err-unused.was c.from_residual.ensures.1 is) m at tt;
 }
 
 pub returns-in_default-clause-any_moment : goal.returns-in_default-clause-any_moment

@@ -19,62 +19,48 @@ use Rattle.ost_pull.proofs.Taken.{passed, host_refuses, host_fault, host_remote,
 use Rattle.ost_pull.proofs.Trusted.{trust_later}
 use Rattle.ost_pull.proofs.gathering.gather.Goals as goal
 
-pub returns-in-Ok-clause-any_moment : goal.returns-in-Ok-clause-any_moment
-returns-in-Ok-clause-any_moment g c =
-    let t = g.met.H.Host.is_tree in
-    works_within (t c.clear.new.host) c.take_order.ensures.any_moment (works_clear (t c.args.host.now) c.clear.ensures.frame)
-
-pub returns-in-Ok-clause-on_success : goal.returns-in-Ok-clause-on_success
-returns-in-Ok-clause-on_success g c =
+pub returns-in-Ok : goal.returns-in-Ok
+returns-in-Ok g c =
     let t = g.met.H.Host.is_tree in
     let root = c.args.root.now in
     let work = c.args.work.now in
     let holds = g.R.Remotes.holds c.args.remotes.now in
-    on_ok_weaker c.take_order.result
-    (λ stays. ends_on stays c.in-Ok.ensures.on_success (t c.clear.new.host) (λ u v w tree q s. s.on (subst (λ (l : List (List ℕ × ObjKind)). AreTaken root work c.args.url.now holds l v) (sym c.requires.empty) (nothing_taken q))))
-    c.take_order.ensures.on_success
+    record {
+      any_moment = works_within (t c.clear.new.host) c.take_order.ensures.any_moment (works_clear (t c.args.host.now) c.clear.ensures.frame);
+      same = c.take_order.ensures.same;
+      on_success =
+          on_ok_weaker c.take_order.result
+          (λ stays. ends_on stays c.in-Ok.ensures.on_success (t c.clear.new.host) (λ u v w tree q s. s.on (subst (λ (l : List (List ℕ × ObjKind)). AreTaken root work c.args.url.now holds l v) (sym c.requires.empty) (nothing_taken q))))
+          c.take_order.ensures.on_success;
+      gathers =
+          on_ok_weaker c.take_order.result
+          (λ stays. ends_on (ends_both (ends_goes (t c.clear.new.host) c.take_order.ensures.any_moment) stays) (ends_both (ends_frame (t c.args.host.now) c.clear.ensures.frame) c.in-Ok.ensures.on_success) (t c.clear.new.host) (λ u v w tree first s. gathered_anew first.0 first.1 s.0 s.1.gathers))
+          c.take_order.ensures.on_success;
+      covers = λ have s.
+          let from = works_supplies c.args.root.now c.args.work.now c.requires.apart (t c.args.host.now) (t c.clear.new.host) (works_clear (t c.args.host.now) c.clear.ensures.frame) refl s in
+          on_ok_weaker c.take_order.result (λ covers. ends_on covers c.in-Ok.ensures.on_success (t c.clear.new.host) (λ u v w tree q s. s (nothing_taken q))) (c.take_order.ensures.covers have from c.requires.empty);
+      refuses = λ have s trusted.
+          c.take_order.ensures.refuses have (works_supplies root work c.requires.apart (t c.args.host.now) (t c.clear.new.host) (works_clear (t c.args.host.now) c.clear.ensures.frame) refl s)
+          (taken_from c.in-Ok.ensures.on_success s.moments s.told_is (λ w q. subst (λ (l : List (List ℕ × ObjKind)). AreTaken root work c.args.url.now holds l w) (sym c.requires.empty) (nothing_taken q)))
+          (trust_later c.requires.apart c.args.trust (t c.args.host.now) (t c.clear.new.host) (works_clear (t c.args.host.now) c.clear.ensures.frame) trusted);
+      fault_has_cause =
+          passed (CanPull c.args.root.now c.args.work.now) (AreOpen c.args.work.now) (t c.args.host.now) c.clear.ensures.fault_has_cause.later (ends_both (ends_frame (t c.args.host.now) c.clear.ensures.frame) c.in-Ok.ensures.on_success)
+          c.take_order.ensures.fault_has_cause (λ is. is) (λ u v tree q can. cleared_open q.0 q.1 can);
+      remote_fault_has_cause = c.take_order.ensures.remote_fault_has_cause;
+    }
 
-pub returns-in-Ok-clause-gathers : goal.returns-in-Ok-clause-gathers
-returns-in-Ok-clause-gathers g c =
+pub returns-in-Err : goal.returns-in-Err
+returns-in-Err g c =
     let t = g.met.H.Host.is_tree in
-    on_ok_weaker c.take_order.result
-    (λ stays. ends_on (ends_both (ends_goes (t c.clear.new.host) c.take_order.ensures.any_moment) stays) (ends_both (ends_frame (t c.args.host.now) c.clear.ensures.frame) c.in-Ok.ensures.on_success) (t c.clear.new.host) (λ u v w tree first s. gathered_anew first.0 first.1 s.0 s.1.gathers))
-    c.take_order.ensures.on_success
-
-pub returns-in-Ok-clause-covers : goal.returns-in-Ok-clause-covers
-returns-in-Ok-clause-covers g c have s =
-    let t = g.met.H.Host.is_tree in
-    let from = works_supplies c.args.root.now c.args.work.now c.requires.apart (t c.args.host.now) (t c.clear.new.host) (works_clear (t c.args.host.now) c.clear.ensures.frame) refl s in
-    on_ok_weaker c.take_order.result (λ covers. ends_on covers c.in-Ok.ensures.on_success (t c.clear.new.host) (λ u v w tree q s. s (nothing_taken q))) (c.take_order.ensures.covers have from c.requires.empty)
-
-pub returns-in-Ok-clause-refuses : goal.returns-in-Ok-clause-refuses
-returns-in-Ok-clause-refuses g c have s trusted =
-    let t = g.met.H.Host.is_tree in
-    let root = c.args.root.now in
-    let work = c.args.work.now in
-    let holds = g.R.Remotes.holds c.args.remotes.now in
-    c.take_order.ensures.refuses have (works_supplies root work c.requires.apart (t c.args.host.now) (t c.clear.new.host) (works_clear (t c.args.host.now) c.clear.ensures.frame) refl s)
-    (taken_from c.in-Ok.ensures.on_success s.moments s.told_is (λ w q. subst (λ (l : List (List ℕ × ObjKind)). AreTaken root work c.args.url.now holds l w) (sym c.requires.empty) (nothing_taken q)))
-    (trust_later c.requires.apart c.args.trust (t c.args.host.now) (t c.clear.new.host) (works_clear (t c.args.host.now) c.clear.ensures.frame) trusted)
-
-pub returns-in-Ok-clause-fault_has_cause : goal.returns-in-Ok-clause-fault_has_cause
-returns-in-Ok-clause-fault_has_cause g c =
-    let t = g.met.H.Host.is_tree in
-    passed (CanPull c.args.root.now c.args.work.now) (AreOpen c.args.work.now) (t c.args.host.now) c.clear.ensures.fault_has_cause.later (ends_both (ends_frame (t c.args.host.now) c.clear.ensures.frame) c.in-Ok.ensures.on_success)
-    c.take_order.ensures.fault_has_cause (λ is. is) (λ u v tree q can. cleared_open q.0 q.1 can)
-
-pub returns-in-Err-clause-any_moment : goal.returns-in-Err-clause-any_moment
-returns-in-Err-clause-any_moment g c = works_clear (g.met.H.Host.is_tree c.args.host.now) c.clear.ensures.frame
-
-pub returns-in-Err-clause-refuses : goal.returns-in-Err-clause-refuses
-returns-in-Err-clause-refuses g c have s trusted = let refused = λ (w : WalkFault). first_named have c.args.commit.now ≡ Some (told_fault w) in subst (λ (e : WalkEnd). RefusesBy refused e) (sym c.walk_end.ensures) (host_refuses refused c.in-Err.end)
-
-pub returns-in-Err-clause-fault_has_cause : goal.returns-in-Err-clause-fault_has_cause
-returns-in-Err-clause-fault_has_cause g c =
-    let t = g.met.H.Host.is_tree in
-    passed (CanPull c.args.root.now c.args.work.now) (CanClear c.args.work.now) (t c.args.host.now) (omega arith) (ends_start (t c.args.host.now)) c.in-Err.ensures.fault_has_cause
-    (λ is. host_fault c.in-Err.end (subst (λ (e : WalkEnd). IsErrOf {T = Unit {0}} (Err e) ends.HostFault) c.walk_end.ensures is)) (λ u v tree q can. subst (CanClear c.args.work.now) (sym q) can.clears)
-
-pub returns-in-Err-clause-remote_fault_has_cause :
-    goal.returns-in-Err-clause-remote_fault_has_cause
-returns-in-Err-clause-remote_fault_has_cause g c = no_remotes (λ is. host_remote c.in-Err.end (subst (λ (e : WalkEnd). IsErrOf {T = Unit {0}} (Err e) ends.RemoteFault) c.walk_end.ensures is)) (omega arith)
+    record {
+      any_moment = works_clear (g.met.H.Host.is_tree c.args.host.now) c.clear.ensures.frame;
+      same = refl {a = g.R.Remotes.holds c.args.remotes.now};
+      on_success = tt;
+      gathers = tt;
+      covers = λ have s. tt;
+      refuses = λ have s trusted. let refused = λ (w : WalkFault). first_named have c.args.commit.now ≡ Some (told_fault w) in subst (λ (e : WalkEnd). RefusesBy refused e) (sym c.walk_end.ensures) (host_refuses refused c.in-Err.end);
+      fault_has_cause =
+          passed (CanPull c.args.root.now c.args.work.now) (CanClear c.args.work.now) (t c.args.host.now) (omega arith) (ends_start (t c.args.host.now)) c.in-Err.ensures.fault_has_cause
+          (λ is. host_fault c.in-Err.end (subst (λ (e : WalkEnd). IsErrOf {T = Unit {0}} (Err e) ends.HostFault) c.walk_end.ensures is)) (λ u v tree q can. subst (CanClear c.args.work.now) (sym q) can.clears);
+      remote_fault_has_cause = no_remotes (λ is. host_remote c.in-Err.end (subst (λ (e : WalkEnd). IsErrOf {T = Unit {0}} (Err e) ends.RemoteFault) c.walk_end.ensures is)) (omega arith);
+    }

@@ -10,7 +10,7 @@ use Rattle.ost_pull.specs.Takes.{AreTakenNow, TakesOne, TakesAll, AddsAmong}
 use Rattle.ost_store.specs.ObjectNames.{AreOpen}
 use Rattle.ost_pull.proofs.Apart.{works_supplies, works_open}
 use Rattle.ost_pull.proofs.Kept.{works_start, works_within}
-use Rattle.ost_pull.proofs.Taken.{none_taken, next_taken, next_added, next_good, next_bad, all_is, passed, taken_from}
+use Rattle.ost_pull.proofs.Taken.{none_taken, next_taken, next_added, next_good, next_bad, all_is, passed, no_fault, no_remotes, taken_from}
 use Rattle.ost_pull.proofs.Batched.{ready_later}
 use Rattle.ost_pull.proofs.Joined.{noted_next}
 use Rattle.ost_pull.proofs.Trusted.{trust_later}
@@ -70,45 +70,38 @@ take_turn-requires-clause-ready g c =
     (ready_later c.requires.apart c.args.url.now (g.R.Remotes.holds c.args.remotes.now) (o.0, o.1) c.args.items.now turn (t c.args.host.now) (t c.loop-at.host) before.works
     (c.requires.ready.each c.loop-at.at (o.0, o.1) turn c.loop-at-test.true c.index-objects-at.is c.index-turns-at.is))
 
-pub returns-in-Err-clause-any_moment : goal.returns-in-Err-clause-any_moment
-returns-in-Err-clause-any_moment g c = works_within (g.met.H.Host.is_tree c.loop-at.host) c.take_turn.ensures.any_moment c.loop-at.invariant.works
-
-pub returns-in-Err-clause-same : goal.returns-in-Err-clause-same
-returns-in-Err-clause-same g c = c.take_turn.ensures.same ∙ c.loop-at.invariant.same
-
-pub returns-in-Err-clause-tells : goal.returns-in-Err-clause-tells
-returns-in-Err-clause-tells g c have s now trusted =
+pub returns-in-Err : goal.returns-in-Err
+returns-in-Err g c =
     let t = g.met.H.Host.is_tree in
     let before = c.loop-at.invariant in
-    next_bad have c.args.objects.now c.loop-at.at c.index-objects-at.result c.loop-at-test.true c.index-objects-at.is (before.good have s now trusted) c.in-Err.end
-    (c.in-Err.ensures.tells have (works_supplies c.args.root.now c.args.work.now c.requires.apart (t c.args.host.now) (t c.loop-at.host) before.works before.same s)
-    (subst (λ (holds : Option Holdings). AreTakenNow c.args.root.now c.args.work.now c.args.url.now holds c.loop-at.kept.items (g.H.Host.moments c.loop-at.host)) (sym before.same)
-    (taken_from before.taken s.moments s.told_is (λ w q. q.taken (now.are s.moments s.told_is))))
-    (trust_later c.requires.apart c.args.trust (t c.args.host.now) (t c.loop-at.host) before.works trusted))
+    record {
+      any_moment = works_within (g.met.H.Host.is_tree c.loop-at.host) c.take_turn.ensures.any_moment c.loop-at.invariant.works;
+      same = c.take_turn.ensures.same ∙ c.loop-at.invariant.same;
+      only = tt;
+      noted = tt;
+      on_success = tt;
+      tells = λ have s now trusted.
+          next_bad have c.args.objects.now c.loop-at.at c.index-objects-at.result c.loop-at-test.true c.index-objects-at.is (before.good have s now trusted) c.in-Err.end
+          (c.in-Err.ensures.tells have (works_supplies c.args.root.now c.args.work.now c.requires.apart (t c.args.host.now) (t c.loop-at.host) before.works before.same s)
+          (subst (λ (holds : Option Holdings). AreTakenNow c.args.root.now c.args.work.now c.args.url.now holds c.loop-at.kept.items (g.H.Host.moments c.loop-at.host)) (sym before.same)
+          (taken_from before.taken s.moments s.told_is (λ w q. q.taken (now.are s.moments s.told_is))))
+          (trust_later c.requires.apart c.args.trust (t c.args.host.now) (t c.loop-at.host) before.works trusted));
+      fault_has_cause = passed (AreOpen c.args.work.now) (AreOpen c.args.work.now) (t c.args.host.now) before.later (ends_goes (t c.args.host.now) before.works) c.in-Err.ensures.fault_has_cause (λ is. cc is) (λ u v tree works can. works_open works can);
+      remote_fault_has_cause =
+          let cause = c.in-Err.ensures.remote_fault_has_cause in
+          record { later = omega (arith, before.remote_later, cause.later); rose = λ is. Rose-later _ _ _ before.remote_later (cause.rose (cc is)) };
+    }
 
-pub returns-in-Err-clause-fault_has_cause : goal.returns-in-Err-clause-fault_has_cause
-returns-in-Err-clause-fault_has_cause g c =
-    let t = g.met.H.Host.is_tree in
-    let before = c.loop-at.invariant in
-    passed (AreOpen c.args.work.now) (AreOpen c.args.work.now) (t c.args.host.now) before.later (ends_goes (t c.args.host.now) before.works) c.in-Err.ensures.fault_has_cause (λ is. cc is) (λ u v tree works can. works_open works can)
-
-pub returns-in-Err-clause-remote_fault_has_cause : goal.returns-in-Err-clause-remote_fault_has_cause
-returns-in-Err-clause-remote_fault_has_cause g c =
-    let cause = c.in-Err.ensures.remote_fault_has_cause in
-    let before = c.loop-at.invariant.remote_later in
-    record { later = omega (arith, before, cause.later); rose = λ is. Rose-later _ _ _ before (cause.rose (cc is)) }
-
-pub returns-clause-only : goal.returns-clause-only
-returns-clause-only g c =
+pub returns : goal.returns
+returns g c =
     let all = all_is c.args.objects.now c.loop-at.at (omega (arith, c.loop-at-test.false, c.loop-at.auto.at-end)) in
-    subst (λ (l : List (List ℕ × ObjKind)). AddsAmong l c.args.kept.now.items c.loop-at.kept.items) all c.loop-at.invariant.only
-
-pub returns-clause-on_success : goal.returns-clause-on_success
-returns-clause-on_success g c =
-    let all = all_is c.args.objects.now c.loop-at.at (omega (arith, c.loop-at-test.false, c.loop-at.auto.at-end)) in
-    subst (λ (l : List (List ℕ × ObjKind)). AtEnd (TakesAll c.args.root.now c.args.work.now c.args.url.now (g.R.Remotes.holds c.args.remotes.now) l c.args.kept.now.items c.loop-at.kept.items) (g.H.Host.moments c.args.host.now) (g.H.Host.moments c.loop-at.host)) all c.loop-at.invariant.taken
-
-pub returns-clause-tells : goal.returns-clause-tells
-returns-clause-tells g c have s now trusted =
-    let all = all_is c.args.objects.now c.loop-at.at (omega (arith, c.loop-at-test.false, c.loop-at.auto.at-end)) in
-    ap (first_bad have) (sym all) ∙ c.loop-at.invariant.good have s now trusted
+    record {
+      any_moment = c.loop-at.invariant.works;
+      same = c.loop-at.invariant.same;
+      only = subst (λ (l : List (List ℕ × ObjKind)). AddsAmong l c.args.kept.now.items c.loop-at.kept.items) all c.loop-at.invariant.only;
+      noted = c.loop-at.invariant.noted;
+      on_success = subst (λ (l : List (List ℕ × ObjKind)). AtEnd (TakesAll c.args.root.now c.args.work.now c.args.url.now (g.R.Remotes.holds c.args.remotes.now) l c.args.kept.now.items c.loop-at.kept.items) (g.H.Host.moments c.args.host.now) (g.H.Host.moments c.loop-at.host)) all c.loop-at.invariant.taken;
+      tells = λ have s now trusted. ap (first_bad have) (sym all) ∙ c.loop-at.invariant.good have s now trusted;
+      fault_has_cause = no_fault (λ is. absurd (cc is)) c.loop-at.invariant.later;
+      remote_fault_has_cause = no_remotes (λ is. absurd (cc is)) c.loop-at.invariant.remote_later;
+    }

@@ -1,0 +1,77 @@
+-- What each step of a pull promises: what holds at each moment, on success, where it is refused,
+-- and the cause of a fault. The remotes stay as they are.
+use Rattle.std.specs.Prelude.{◌≡◌, ℕ, List, Some, None, Result, IsErrOf, OnOk}
+use Rattle.fp_base.specs.declared.object.ObjKind.{ObjKind}
+use Rattle.fp_host.specs.Causes.{IsCaused}
+use Rattle.fp_host.specs.Frame.{AtEnd}
+use Rattle.fp_host.specs.Moments.{Always}
+use Rattle.fp_host.specs.Paths.{Elements}
+use Rattle.ost_model.specs.Objects.{Have}
+use Rattle.ost_model.specs.Order.{first_fault}
+use Rattle.ost_model.specs.Remotes.{Supplies}
+use Rattle.ost_store.specs.ObjectNames.{AreOpen}
+use Rattle.ost_walk.specs.Ends.{EndsBy, IsFaultOf, IsRemotes, Outside}
+use Rattle.ost_walk.specs.Steps.{IsGood, own_fault}
+use Rattle.ost_walk.specs.Surveys.{first_bad, first_named, told_fault}
+use Rattle.ost_walk.specs.declared.ends.WalkEnd.{WalkEnd}
+use Rattle.ost_walk.specs.declared.ends.WalkEnd.TheVariants as ends
+use Rattle.ost_pull.specs.declared.trusting.Trust.{Trust}
+use Rattle.ost_pull.specs.Pulls.{CanPull}
+use Rattle.ost_pull.specs.Takes.{AddsAmong, AreTaken, AreTakenNow, CoversOrder, StaysNoted, TakesAll, TakesOne}
+use Rattle.ost_pull.specs.Trusts.{MayTrust}
+use Rattle.ost_pull.specs.Work.{Adds, GathersAnew, Works}
+
+-- One object is taken into the work folder t, or is the store's. It is refused for its own fault.
+pub record TakesObject (root t : Elements) (url : List ℕ) (trust : Trust) (o : List ℕ × ObjKind)
+    (before after : List (List ℕ × ObjKind)) (result : Result (Unit {0}) WalkEnd)
+    (u w : Outside) : Type 0 where
+  pub any_moment : Always (Works t) u.told w.told
+  pub same : w.holdings ≡ u.holdings
+  pub adds : OnOk result (Adds o before after)
+  pub on_success : OnOk result (AtEnd (TakesOne root t url u.holdings o before after) u.told w.told)
+  pub tells : (have : Have) → Supplies root (Some url) u.told u.holdings have
+      → AreTakenNow root t url u.holdings before u.told → MayTrust trust root u.told
+      → EndsBy (λ _. IsGood have o.0 o.1) (IsFaultOf o.0 o.1 (own_fault have o.0 o.1)) result
+  pub fault_has_cause : IsCaused (IsErrOf result ends.HostFault) u.told (AreOpen t)
+      u.host_faults w.host_faults
+  pub remote_fault_has_cause : IsRemotes (IsErrOf result ends.RemoteFault)
+      u.remote_faults w.remote_faults
+
+-- So are these objects, one after another. The first bad one of them is refused.
+pub record TakesObjects (root t : Elements) (url : List ℕ) (trust : Trust)
+    (objects before after : List (List ℕ × ObjKind)) (result : Result (Unit {0}) WalkEnd)
+    (u w : Outside) : Type 0 where
+  pub any_moment : Always (Works t) u.told w.told
+  pub same : w.holdings ≡ u.holdings
+  pub only : OnOk result (AddsAmong objects before after)
+  pub noted : OnOk result (StaysNoted before after)
+  pub on_success : OnOk result
+      (AtEnd (TakesAll root t url u.holdings objects before after) u.told w.told)
+  pub tells : (have : Have) → Supplies root (Some url) u.told u.holdings have
+      → AreTakenNow root t url u.holdings before u.told → MayTrust trust root u.told
+      → EndsBy (λ _. first_bad have objects ≡ None)
+      (λ f. first_bad have objects ≡ Some (told_fault f)) result
+  pub fault_has_cause : IsCaused (IsErrOf result ends.HostFault) u.told (AreOpen t)
+      u.host_faults w.host_faults
+  pub remote_fault_has_cause : IsRemotes (IsErrOf result ends.RemoteFault)
+      u.remote_faults w.remote_faults
+
+-- All that the store lacks of the commit is gathered in the work folder t, which is cleared first,
+-- and is noted. The commit's first fault is refused.
+pub record GathersCommit (root t : Elements) (url : List ℕ) (trust : Trust) (commit : List ℕ)
+    (kept : List (List ℕ × ObjKind)) (result : Result (Unit {0}) WalkEnd)
+    (u w : Outside) : Type 0 where
+  pub any_moment : Always (Works t) u.told w.told
+  pub same : w.holdings ≡ u.holdings
+  pub on_success : OnOk result
+      (AtEnd (λ x y. AreTaken root t url u.holdings kept y) u.told w.told)
+  pub gathers : OnOk result (AtEnd (GathersAnew t) u.told w.told)
+  pub covers : (have : Have) → Supplies root (Some url) u.told u.holdings have
+      → OnOk result (AtEnd (λ x y. CoversOrder root have commit kept y) u.told w.told)
+  pub refuses : (have : Have) → Supplies root (Some url) u.told u.holdings have
+      → MayTrust trust root u.told → EndsBy (λ _. first_fault have commit ≡ None)
+      (λ f. first_named have commit ≡ Some (told_fault f)) result
+  pub fault_has_cause : IsCaused (IsErrOf result ends.HostFault) u.told (CanPull root t)
+      u.host_faults w.host_faults
+  pub remote_fault_has_cause : IsRemotes (IsErrOf result ends.RemoteFault)
+      u.remote_faults w.remote_faults
