@@ -301,10 +301,8 @@ pub fn sample_runtime_is_updated()
 
 /// An install or an update lacks the objects of its commit's order that the world hasn't, and no
 /// other operation lacks one. The runtime's install lacks the object of its commit, but where the
-/// runtime is installed. Operations make objects in turn: each just those that it lacks over the
-/// world that those before it leave. Where there is no operation, no file comes to a name below the
-/// store's objects.
-pub fn operations_create_what_is_lacked()
+/// runtime is installed.
+pub fn operations_lack_what_is_not_there()
     ensures lacked { (held : Holdings) (x : World) (name : Ref) (origin commit : List ℕ)
         (o : List ℕ × ObjKind) → is_digest o.0 ≡ true
         → In (map place_name (order (supplied held x (ops.Install name origin commit)) commit)) o
@@ -322,6 +320,11 @@ pub fn operations_create_what_is_lacked()
     ensures again { LacksFor sample.holdings sample.installed sample.install.op
         (commit, kinds.Commit)
         → ⊥ }
+{}
+
+/// Operations make objects in turn: each just those that it lacks over the world that those before
+/// it leave. Where there is no operation, no file comes to a name below the store's objects.
+pub fn operations_create_what_is_lacked()
     ensures none { (held : Holdings) (x : World) (v : View) → CreatesInTurn held x [] v v }
     ensures alone { (held : Holdings) (x : World) (d : Done) (u w : View) → KeepsFiles u w
         → Creates repo (LacksFor held x d.op) u w → CreatesInTurn held x (d ∷ []) u w }
