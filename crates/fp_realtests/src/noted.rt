@@ -9,12 +9,7 @@ use std::panic::Expect;
 use std::thread::Threads;
 
 /// Whether it is noted when this folder of a host is listed.
-fn is_noted<T: System + Threads>(
-    rt: &HostRuntime,
-    maker: &T,
-    log: &Log<'_>,
-    folder: &str,
-) -> bool {
+fn is_noted<T: System + Threads>(rt: &HostRuntime, maker: &T, log: &Log<'_>, folder: &str) -> bool {
     let progress = Progress::new(rt, log.alloc, Task::Other, false);
     let system = Watched::host(rt, &progress);
     match HostDir::with_maker(&system, maker, rt, log.alloc, "noted", Access::Look) {
