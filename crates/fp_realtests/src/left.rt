@@ -80,84 +80,103 @@ const FILLS_UP: Act<'static> = Act::Logged(Access::Change, "left/root", &[Part::
 
 const CUTS_OFF: Act<'static> = Act::Logged(Access::Change, "left/root", &[Part::Ask(&CUT_OFF)]);
 
-/// What the next run does.
-#[derive(Clone, Copy)]
-enum Next {
-    Idles,
-    CatchesUp,
-    FillsUp,
-    CutsOff,
-}
-
-impl Next {
-    fn run(self) -> Act<'static> {
-        match self {
-            Next::Idles => IDLES,
-            Next::CatchesUp => CATCHES_UP,
-            Next::FillsUp => FILLS_UP,
-            Next::CutsOff => CUTS_OFF,
-        }
-    }
-}
-
-/// What stands in the lock file after a run that is stopped, what the next run does, and what stands
+/// A run that is stopped, what stands in the lock file then, what the next run does, and what stands
 /// there after it. No mark is a cleared one, and the text of another start of the machine. Anything
 /// else was written over one, also by halves, and an empty file took the place of another.
-const TEXTS: [(&str, Next, &str); 14] = [
-    ("", Next::FillsUp, CLEARED),
-    (CLEARED, Next::Idles, CLEARED),
-    (OLD, Next::Idles, OLD),
-    (
-        "fedcba98-7654-3210-fedc-ba9876543210\n",
-        Next::Idles,
-        "fedcba98-7654-3210-fedc-ba9876543210\n",
-    ),
-    (UNKNOWN, Next::CatchesUp, CLEARED),
-    ("unknown\n", Next::FillsUp, CLEARED),
-    ("pinned app/*/*/*\n", Next::FillsUp, CLEARED),
-    (
-        "00000000-0000-0000-0000-000000000000",
-        Next::FillsUp,
-        CLEARED,
-    ),
-    (
-        "00000000-0000-0000-0000-0000000000000",
-        Next::CatchesUp,
-        CLEARED,
-    ),
-    (
-        "00000000-0000-0000-0000-00000000000g\n",
-        Next::CatchesUp,
-        CLEARED,
-    ),
-    (
-        "00000000-000000000-0000-000000000000\n",
-        Next::CatchesUp,
-        CLEARED,
-    ),
-    (
-        "00000000-0000-0000------------------\n",
-        Next::CatchesUp,
-        CLEARED,
-    ),
-    (
-        "00000000-0000-0000-0000-000000000000\n\n",
-        Next::CutsOff,
-        CLEARED,
-    ),
-    (
-        "------------------------------------\npinned app/*/*/*\n",
-        Next::CutsOff,
-        CLEARED,
-    ),
+const TEXTS: [[Act<'static>; 4]; 14] = [
+    [
+        STOPS,
+        Act::Make(&[Made::File(LOCK, "")]),
+        FILLS_UP,
+        Act::Text(LOCK, CLEARED),
+    ],
+    [
+        STOPS,
+        Act::Make(&[Made::File(LOCK, CLEARED)]),
+        IDLES,
+        Act::Text(LOCK, CLEARED),
+    ],
+    [
+        STOPS,
+        Act::Make(&[Made::File(LOCK, OLD)]),
+        IDLES,
+        Act::Text(LOCK, OLD),
+    ],
+    [
+        STOPS,
+        Act::Make(&[Made::File(LOCK, "fedcba98-7654-3210-fedc-ba9876543210\n")]),
+        IDLES,
+        Act::Text(LOCK, "fedcba98-7654-3210-fedc-ba9876543210\n"),
+    ],
+    [
+        STOPS,
+        Act::Make(&[Made::File(LOCK, UNKNOWN)]),
+        CATCHES_UP,
+        Act::Text(LOCK, CLEARED),
+    ],
+    [
+        STOPS,
+        Act::Make(&[Made::File(LOCK, "unknown\n")]),
+        FILLS_UP,
+        Act::Text(LOCK, CLEARED),
+    ],
+    [
+        STOPS,
+        Act::Make(&[Made::File(LOCK, "pinned app/*/*/*\n")]),
+        FILLS_UP,
+        Act::Text(LOCK, CLEARED),
+    ],
+    [
+        STOPS,
+        Act::Make(&[Made::File(LOCK, "00000000-0000-0000-0000-000000000000")]),
+        FILLS_UP,
+        Act::Text(LOCK, CLEARED),
+    ],
+    [
+        STOPS,
+        Act::Make(&[Made::File(LOCK, "00000000-0000-0000-0000-0000000000000")]),
+        CATCHES_UP,
+        Act::Text(LOCK, CLEARED),
+    ],
+    [
+        STOPS,
+        Act::Make(&[Made::File(LOCK, "00000000-0000-0000-0000-00000000000g\n")]),
+        CATCHES_UP,
+        Act::Text(LOCK, CLEARED),
+    ],
+    [
+        STOPS,
+        Act::Make(&[Made::File(LOCK, "00000000-000000000-0000-000000000000\n")]),
+        CATCHES_UP,
+        Act::Text(LOCK, CLEARED),
+    ],
+    [
+        STOPS,
+        Act::Make(&[Made::File(LOCK, "00000000-0000-0000------------------\n")]),
+        CATCHES_UP,
+        Act::Text(LOCK, CLEARED),
+    ],
+    [
+        STOPS,
+        Act::Make(&[Made::File(LOCK, "00000000-0000-0000-0000-000000000000\n\n")]),
+        CUTS_OFF,
+        Act::Text(LOCK, CLEARED),
+    ],
+    [
+        STOPS,
+        Act::Make(&[Made::File(
+            LOCK,
+            "------------------------------------\npinned app/*/*/*\n",
+        )]),
+        CUTS_OFF,
+        Act::Text(LOCK, CLEARED),
+    ],
 ];
 
 #[test]
 fn what_stands_in_the_lock_file_tells_of_a_stop(rt: HostRuntime) {
-    for (text, next, after) in &TEXTS {
-        let made = [Made::File(LOCK, text)];
-        let acts = [STOPS, Act::Make(&made), next.run(), Act::Text(LOCK, after)];
-        assert!(rt; tell(&rt, &rt, "left", Kind::Plain, &acts));
+    for acts in &TEXTS {
+        assert!(rt; tell(&rt, &rt, "left", Kind::Plain, acts));
     }
 }
 
@@ -205,11 +224,9 @@ const LEAVING: [Act<'static>; 2] = [
 #[test]
 fn what_was_left_is_made_to_last(rt: HostRuntime) {
     let unnamed = Kind::Denying("/proc/sys/kernel/random/boot_id");
-    assert!(rt;
-        tell(&rt, &rt, "left", Kind::Plain, &LEFT)
-            && tell(&rt, &rt, "left", unnamed, &UNTOLD)
-            && tell(&rt, &rt, "left", Kind::Failing(LOST), &LEAVING)
-    );
+    assert!(rt; tell(&rt, &rt, "left", Kind::Plain, &LEFT));
+    assert!(rt; tell(&rt, &rt, "left", unnamed, &UNTOLD));
+    assert!(rt; tell(&rt, &rt, "left", Kind::Failing(LOST), &LEAVING));
 }
 
 /// What stands in a root without a lock file: each name of ours, and names that are others'.
@@ -276,9 +293,8 @@ const LED: [Act<'static>; 2] = [
 
 #[test]
 fn what_is_ours_is_made_to_last(rt: HostRuntime) {
-    assert!(rt;
-        tell(&rt, &rt, "old", Kind::Plain, &UNLOCKING) && tell(&rt, &rt, "old", Kind::Plain, &LED)
-    );
+    assert!(rt; tell(&rt, &rt, "old", Kind::Plain, &UNLOCKING));
+    assert!(rt; tell(&rt, &rt, "old", Kind::Plain, &LED));
 }
 
 /// What stands in a root without a lock file.
@@ -327,7 +343,6 @@ const SPARED_BELOW: [Act<'static>; 2] = [
 fn what_may_not_be_opened_is_left_alone(rt: HostRuntime) {
     let above = Kind::Denying("old");
     let below = Kind::Denying("old/root/repo");
-    assert!(rt;
-        tell(&rt, &rt, "old", above, &SPARED_ABOVE) && tell(&rt, &rt, "old", below, &SPARED_BELOW)
-    );
+    assert!(rt; tell(&rt, &rt, "old", above, &SPARED_ABOVE));
+    assert!(rt; tell(&rt, &rt, "old", below, &SPARED_BELOW));
 }
