@@ -30,3 +30,4 @@ pub mod Rows
 pub mod Steps
 pub mod IdleTargets
 pub mod Updates
+pub mod Refusing

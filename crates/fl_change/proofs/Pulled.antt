@@ -26,7 +26,6 @@ use Rattle.ost_model.specs.Order.{Place, commit_at, tree_at, first_fault}
 use Rattle.ost_head.specs.declared.head.Head.{Head}
 use Rattle.ost_head.specs.Heads.{lists, binding_refused, age_refused, commit_refused, is_nothing, root_refused, no_metadata, meta_refused, lines_refused, metadata_refused, unless_refused, content_in, with_content, metadata_at, head_in, with_tree, with_commit, head_of}
 use Rattle.ost_walk.specs.Refusals.{refusal_of, object_refused}
-use Rattle.ost_pull.specs.Pulls.{first_refusal}
 use Rattle.op_change.specs.Brought.{refusal_in, brought_refusal}
 use Rattle.op_change.specs.Applied.{op_refusal, refusal_by}
 use Rattle.fl_change.specs.Answer.{IsUnpulled}
@@ -146,7 +145,7 @@ module _ (P : Refusal → Type 0) where
   of_first each (Some f) = one_of (refusal_of f.0.digest f.0.kind f.1) (each f.0.digest f.0.kind f.1)
 
   pub of_brought : OfHead P None → (have : Have) (name : Ref) (commit : List ℕ) → AllOf P (brought_refusal have name commit)
-  of_brought h have name commit = of_either (refusal_in (head_of have name commit None)) (first_refusal have commit) (of_result (head_of have name commit None) (of_head None h have name commit)) (of_first h.object (first_fault have commit))
+  of_brought h have name commit = of_either (refusal_in (head_of have name commit None)) _ (of_result (head_of have name commit None) (of_head None h have name commit)) (of_first h.object (first_fault have commit))
 
   of_effect : OfHead P None → (have : Have) (e : Effect) → AllOf P (refusal_by have e)
   of_effect h have (brings name origin commit) = of_brought h have name commit

@@ -125,6 +125,10 @@ pub record PerformedOver (Ready : View → Type 0) (holds : Option Holdings)
 abbrev pub AsksBy : (Op → Type 0) → Type 0
 AsksBy May = (op : Op) × May op × Brings op
 
+-- where one of these operations brings a commit, the remotes tell what they hold
+abbrev pub AreToldFor : (Op → Type 0) → Option Holdings → Type 0
+AreToldFor May holds = AsksBy May → AreTold holds
+
 -- where it was done, every stop leaves the state that was answered; where it was refused, some state
 abbrev pub OpensBy : State → Result State RunEnd → View → View → Type 0
 OpensBy s (Ok t) v w = Opens s v → Opens t w
@@ -145,10 +149,10 @@ ChangesFrom May s v w = (AsksBy May → Opens s v) → Changes May v w
 pub record Works (May : Op → Type 0) (s : State) (R Q : View → View → Type 0)
     (result : Result State RunEnd) (u w : Outside) : Type 0 where
   pub goes : Goes u.told w.told R Q
-  pub opens : (AsksBy May → AreTold u.holdings) → AtEnd (OpensBy s result) u.told w.told
-  pub changes : (AsksBy May → AreTold u.holdings) → Always (ChangesFrom May s) u.told w.told
+  pub opens : AreToldFor May u.holdings → AtEnd (OpensBy s result) u.told w.told
+  pub changes : AreToldFor May u.holdings → Always (ChangesFrom May s) u.told w.told
   pub same : w.holdings ≡ u.holdings
-  pub host : IsCaused ((AsksBy May → AreTold u.holdings) × IsErrOf result Fault) u.told
+  pub host : IsCaused (AreToldFor May u.holdings × IsErrOf result Fault) u.told
       (Opens s) u.host_faults w.host_faults
   pub remote : IsRemotes (IsErrOf result RemoteFault) u.remote_faults w.remote_faults
   pub unasked : (AsksBy May → ⊥) → (w.remote_faults ≡ u.remote_faults)

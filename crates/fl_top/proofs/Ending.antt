@@ -69,7 +69,8 @@ use Rattle.fl_change.proofs.Created.{none_created, created_on}
 use Rattle.fl_top.proofs.Altering.{rest_none, rest_on}
 use Rattle.fl_change.proofs.Turning.{joined-append}
 use Rattle.fl_top.specs.Exercising.{exercising}
-use Rattle.fl_top.proofs.Refusing.{changing_later, exercising_later, known_later, launch_later}
+use Rattle.fl_change.proofs.Refusing.{changing_later}
+use Rattle.fl_top.proofs.Refusing.{has_status_one, exercising_later, known_later, launch_later}
 
 -- ---- pieces
 
@@ -244,14 +245,14 @@ abbrev IsPlain : Answer → Type 0
 IsPlain a = (r : Refusal) → a.refusal ≡ Some r → 1 ≡ status_of r
 
 changing_plain : (changes : List Change) (held : Holdings) (x : World) → IsPlain (changing changes held x)
-changing_plain changes held x r is = (changing_later changes held x r is).one
+changing_plain changes held x r is = has_status_one r (changing_later changes held x r is)
 
 over_plain : (f : World → Answer) (shown : Result World Elements) → ((x : World) → IsPlain (f x)) → IsPlain (shown_answer f shown)
 over_plain f (Err path) plain r is = one_of_some (Damaged path) r is refl
 over_plain f (Ok x) plain r is = plain x r is
 
 exercising_plain : (apps : ℕ) (held : Holdings) (x : World) → IsPlain (exercising apps held x)
-exercising_plain apps held x r is = (exercising_later apps held x r is).one
+exercising_plain apps held x r is = has_status_one r (exercising_later apps held x r is)
 
 batch_plain : (read : Result (List Change) ℕ) (held : Holdings) (shown : Result World Elements) → IsPlain (of_batch read held shown)
 batch_plain (Err line) held shown r is = one_of_some (BadRecord line) r is refl
@@ -306,8 +307,8 @@ listed_plain listings.Refs x = told_plain (refs_text x.state.refs)
 listed_plain listings.Pins x = told_plain (pins_text x.state.pins)
 listed_plain listings.Remotes x = told_plain (remotes_text x.state.remotes)
 listed_plain listings.Exports x = told_plain (exports_text (exported x.have x.state))
-listed_plain (listings.Info name) x = λ r is. (known_later name x r is).one
-listed_plain (listings.Launch name options) x = λ r is. (launch_later name options x r is).one
+listed_plain (listings.Info name) x = λ r is. has_status_one r (known_later name x r is)
+listed_plain (listings.Launch name options) x = λ r is. has_status_one r (launch_later name options x r is)
 listed_plain (listings.OverrideShow name) x = told_plain (override_text x.state name)
 
 end_plain : (end : Option End) → IsPlain (record { pieces = []; refusal = option_map broken end })

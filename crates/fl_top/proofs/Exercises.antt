@@ -13,7 +13,8 @@ use Rattle.fl_words.specs.Forms.{command_of}
 use Rattle.fl_words.specs.declared.command.Command.{Command}
 use Rattle.fl_words.specs.declared.command.Command.TheVariants.{Exercise as Exercising}
 use Rattle.fl_gen.specs.Generator.{IsGenerated}
-use Rattle.fl_top.specs.Asked.{OpsBy, AsksFor, AreToldFor, AsksRemotes}
+use Rattle.fl_top.specs.Asked.{OpsBy, AsksFor, AsksRemotes}
+use Rattle.fl_change.specs.Performs.{AreToldFor}
 use Rattle.fl_top.specs.Exercises.{is_exercise, IsRunOver, IsUnmade, IsRun, IsExercised}
 use Rattle.fl_top.specs.Fsck.{HasReport}
 use Rattle.fl_top.specs.Runs.{RunsBy, RanBy, Checks, HasCauses, WasTaken, told_start}

@@ -28,7 +28,7 @@ use Rattle.fl_top.specs.Answer.{Given, answer, answer_to, answer_over, shown_ans
 use Rattle.fl_change.specs.Turns.{changing, MayDo}
 use Rattle.fl_top.specs.Asked.{OpsBy, OpsFor}
 use Rattle.fp_small.specs.declared.op.Op.{Op}
-use Rattle.fl_top.specs.Runs.{Runs, Ran, Told, RunsBy, RanBy, IsGiven, IsGivenTo, Looks, MakesNone, IsChange, IsReady, Serves, HasCauses, MayAnswer, WasTaken}
+use Rattle.fl_top.specs.Runs.{Runs, Ran, Told, RunsBy, RanBy, IsGiven, IsGivenTo, Looks, MakesNone, IsChange, IsKnown, IsReady, Serves, HasCauses, MayAnswer, WasTaken}
 use Rattle.fl_top.specs.RunsOver.{RunsOver, LooksOver, EndedOver, LookedOver, RunsOn, EndedOn, RanOn, Ended, Closed, IsGivenBy, IsClosedBy, MadeWhere, Takes, TakenBy}
 use Rattle.fl_change.specs.Says.{Says, Refuses}
 use Rattle.fl_top.specs.Status.{only_looks, changes_state, reads_input, IsAnswered, IsOfWords}
@@ -40,7 +40,6 @@ use Rattle.fl_top.specs.declared.input.InputEnd.{InputEnd}
 use Rattle.fl_top.specs.declared.input.InputEnd.TheVariants as input
 use Rattle.fl_top.specs.Input.{input_most, IsWhole, IsTaken, IsDrained, InputStops}
 use Rattle.fl_top.specs.Ends.{end_of_run, end_of_input, end_of_batch}
-use Rattle.fl_change.specs.Performs.{AsksBy}
 use Rattle.fl_change.proofs.Changing.{not_touched, keeps_files, still_not, still_on, still_untouched}
 use Rattle.fl_top.specs.Exports.{Alters, StaysAtRest}
 use Rattle.fl_words.specs.Words.{Work, work_of, altering, looking, checking, making}
@@ -150,7 +149,7 @@ runs_change command t May f u w known p = record {
       let is = known.is given gave in
       subst (λ (x : Answer). Runs x u w) (is shown)
       (p.runs (ready_for command (f given.held) given u shown known.changes (known.late given.held) (is shown) may) given.held (holds_told command t given known.changes gave) shown (counts_for command (f given.held) given u shown is counts));
-  changes = λ ready. alter_to known.may (p.changes (λ asks. ready (asks_to known.may asks)));
+  changes = λ ready. alter_to known.may (p.changes (λ asks. ready.0 (asks_to known.may asks), λ asks. ready.1 (asks_to known.may asks)));
   rests = λ change given gave shown counts may.
       let is = known.is given gave in
       subst (λ (x : Answer). StaysAtRest x u w) (is shown)
@@ -506,7 +505,7 @@ pub goes_command : {a b : Option Moments} (words : List (List ℕ)) (t : Told) (
 goes_command words t command status known is goes = begins known goes
     (λ u w tree r. record {
       runs = λ given gave shown counts may. subst (λ (a : Answer). Runs a u w) (answer_is words command given is shown) (r.runs given (given_to words command t given is gave) shown (counted u given shown counts) (may_answer words command u given shown is may));
-      changes = λ known. subst (λ (o : Option Command). Alters (OpsFor o t.left) (MakesFor o) u w) (sym is) (r.changes (λ asks. known (subst (λ (o : Option Command). AsksBy (OpsFor o t.left)) (sym is) asks)));
+      changes = λ known. subst (λ (o : Option Command). Alters (OpsFor o t.left) (MakesFor o) u w) (sym is) (r.changes (subst (λ (o : Option Command). IsKnown (OpsFor o t.left) t.holds u) is known));
       rests = λ change given gave shown counts may.
           subst (λ (a : Answer). StaysAtRest a u w) (answer_is words command given is shown)
           (r.rests (subst IsChange is change) given (given_to words command t given is gave) shown (counted u given shown counts) (may_answer words command u given shown is may));

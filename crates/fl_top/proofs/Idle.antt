@@ -111,5 +111,5 @@ module _ (words : List (List ℕ)) (is : command_of words ≡ Some (Changing Upd
         let idle : IsIdle (answer words (given_of held) shown) = subst IsIdle (sym there) left.idle in
         let change : IsChange (command_of words) = subst IsChange (sym is) refl in (
           runs.rests change (given_of held) (is_given second (given_of held) again) shown counts (inl (inr (inl left.sound))) (step.rests held told) idle,
-          (runs.changes (λ asks. ((held, again), inl left.sound))).files,
+          (runs.changes (λ asks. (held, again), λ asks. inl left.sound)).files,
         )

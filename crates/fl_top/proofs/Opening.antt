@@ -25,12 +25,11 @@ use Rattle.dep_open.specs.declared.open_end.OpenEnd.TheVariants as open_ends
 use Rattle.fl_change.specs.World.{World}
 use Rattle.fl_change.specs.Answer.{Answer, ops_of, has_acted}
 use Rattle.fl_change.specs.Ends.{end_of_open}
-use Rattle.fl_change.specs.Performs.{PerformsOver, PerformedOver, ChangesFrom, OpensBy, Acts}
+use Rattle.fl_change.specs.Performs.{PerformsOver, PerformedOver, ChangesFrom, OpensBy, Acts, AreToldFor}
 use Rattle.fl_change.specs.declared.end.RunEnd.{RunEnd}
 use Rattle.fl_change.specs.declared.end.RunEnd.TheVariants as run
 use Rattle.fl_change.proofs.Both.{goes_both}
 use Rattle.fl_change.proofs.Working.{is_err}
-use Rattle.fl_top.specs.Asked.{AreToldFor}
 use Rattle.fl_top.specs.Runs.{IsReady}
 use Rattle.fl_top.specs.RunsOver.{OverView, RunsOver, Completes, EndedOver}
 use Rattle.fl_top.proofs.Starting.{Keeping, kept, IsLate, IsNoRefusal, Begun, Working, begun_over, begun_world, ready_sound, runs_over, done_over, refused_over, failed_over, ended_open}

@@ -52,13 +52,12 @@ use Rattle.fl_change.specs.World.{World, world_at}
 use Rattle.fl_change.specs.Answer.{Answer, ops_of, has_acted, IsIdle}
 use Rattle.fl_change.specs.Changes.{IsStill}
 use Rattle.fl_change.specs.Ends.{end_of_host}
-use Rattle.fl_change.specs.Performs.{OpensBy, Acts}
+use Rattle.fl_change.specs.Performs.{OpensBy, Acts, AreToldFor}
 use Rattle.fl_change.specs.declared.end.RunEnd.{RunEnd}
 use Rattle.fl_change.specs.declared.end.RunEnd.TheVariants as run
 use Rattle.fl_change.proofs.Changing.{text_on, still_on}
 use Rattle.fl_change.proofs.Created.{created_on}
 use Rattle.fl_top.specs.Answer.{shown_answer, IsAtOnce}
-use Rattle.fl_top.specs.Asked.{AreToldFor}
 use Rattle.fl_top.specs.Exports.{HasExports, LeavesExports, IsInStep, RefreshesShown, RefreshedShown, StepsAfter, InStepAfter, StandsAfter, IsHostEnd, PassesOn}
 use Rattle.fl_top.specs.Runs.{IsJust, Runs, Stands, IsReady}
 use Rattle.fl_top.specs.RunsOver.{RunsOver, Completes, EndedOver, IsGivenBy}

@@ -29,9 +29,8 @@ use Rattle.fl_change.specs.World.{World, world, world_at}
 use Rattle.fl_change.specs.Answer.{Answer, pieces_text, ops_in, ops_of, has_acted, refusal_answer}
 use Rattle.fl_top.specs.Answer.{shown_answer, IsAtOnce}
 use Rattle.fl_change.specs.Ends.{end_of_open}
-use Rattle.fl_top.specs.Asked.{AreToldFor}
+use Rattle.fl_change.specs.Performs.{AreToldFor, Performs, IsDone, IsHalted, Performed, PerformsOver, PerformedOver, ChangesFrom}
 use Rattle.fl_top.specs.Runs.{ShowsAfter, IsPrefix, IsJust, Runs, Stands, IsReady}
-use Rattle.fl_change.specs.Performs.{Performs, IsDone, IsHalted, Performed, PerformsOver, PerformedOver, ChangesFrom}
 use Rattle.fl_top.specs.RunsOver.{OverView, RunsOver, Completes, Finishes, Ended, EndedOver, LookedOver}
 use Rattle.fl_change.specs.declared.end.RunEnd.{RunEnd}
 use Rattle.fl_change.specs.declared.end.RunEnd.TheVariants.{Refused, Fault, RemoteFault, NoMemory}
@@ -166,7 +165,7 @@ runs_over holds May f s {u = u} {v = v} {w = w} late begun tree work = record {
       let opens = begun.opened.opens (ready_sound begun.opened.shown ready) in
       subst (λ (a : Answer). Runs a u w) (ap (f held) (begun_world s begun tree) ∙ sym (over_is (f held) (shows u) shown s begun.opened.shown counts))
       (runs_opened (f held (world_at s v)) s (late held (world_at s v)) begun.opened begun.keeping (work.performs.performs held is opens));
-  changes = λ known. alter_changes (change_on u v w (change_none begun.keeping.names begun.keeping.files) (work.changes (λ asks. (known asks).0) (λ asks. begun.opened.opens (ready_sound begun.opened.shown (known asks).1))));
+  changes = λ known. alter_changes (change_on u v w (change_none begun.keeping.names begun.keeping.files) (work.changes known.0 (λ asks. begun.opened.opens (ready_sound begun.opened.shown (known.1 asks)))));
   rests = λ ready held is shown counts.
       let opens = begun.opened.opens (ready_sound begun.opened.shown ready) in
       subst (λ (a : Answer). StaysAtRest a u w) (ap (f held) (begun_world s begun tree) ∙ sym (over_is (f held) (shows u) shown s begun.opened.shown counts))

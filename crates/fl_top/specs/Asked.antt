@@ -3,7 +3,6 @@ use Rattle.std.specs.Prelude.{◌≡◌, ◌≤◌, ℕ, List, Option, Some, Non
 use Rattle.fp_host.specs.Moments.{Rose}
 use Rattle.fp_host.specs.Remote.{Holdings}
 use Rattle.fp_small.specs.declared.op.Op.{Op}
-use Rattle.op_change.specs.Bringing.{AreTold}
 use Rattle.fl_words.specs.declared.command.Command.{Command}
 use Rattle.fl_words.specs.declared.command.Command.TheVariants.{Exercise as Exercising}
 use Rattle.fl_words.specs.declared.command.Change.{Change}
@@ -41,10 +40,6 @@ OpsFor (Some command) left op = OpsBy command left op
 abbrev pub AsksFor : Option Command → Option (List ℕ) → Op → Type 0
 AsksFor (Some (Exercising apps)) left op = ⊥
 AsksFor command left op = OpsFor command left op
-
--- where one of these operations brings a commit, the remotes tell what they hold
-abbrev pub AreToldFor : (Op → Type 0) → Option Holdings → Type 0
-AreToldFor May holds = AsksBy May → AreTold holds
 
 -- What operations ask of the remotes. These stay as they are; they aren't asked where no commit is
 -- brought; and a run fails by them only where they did.

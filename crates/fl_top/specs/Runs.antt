@@ -1,9 +1,9 @@
 -- What a run leaves at every moment and at its return.
-use Rattle.std.specs.Prelude.{◌≡◌, ◌≢◌, ◌⊎◌, ℕ, true, false, List, [], ◌∷◌, ◌++◌, Option, Some, None, Result}
+use Rattle.std.specs.Prelude.{◌≡◌, ◌≢◌, ◌≤◌, ◌⊎◌, ℕ, true, false, List, [], ◌∷◌, ◌++◌, Option, Some, None, Result}
 use Rattle.fp_host.specs.Paths.{Elements}
 use Rattle.fp_host.specs.Remote.{Holdings}
 use Rattle.fp_host.specs.View.{View}
-use Rattle.fp_host.specs.Moments.{Moments}
+use Rattle.fp_host.specs.Moments.{Moments, Rose}
 use Rattle.fp_host.specs.Outcome.{Disk, Leaves, shows}
 use Rattle.fp_small.specs.Shares.{Shares}
 use Rattle.fp_small.specs.declared.state.State.{State}
@@ -26,9 +26,8 @@ use Rattle.fl_change.specs.Created.{CreatesInTurn}
 use Rattle.fl_top.specs.Fsck.{Finds, IsListable}
 use Rattle.fl_top.specs.Exports.{Alters, OnlyRests, StaysAtRest, LeavesExports}
 use Rattle.fl_top.specs.Status.{status_at, IsAnswered, only_looks, changes_state, makes_remote, reads_input, checks_store}
-use Rattle.fl_change.specs.Performs.{Printed, AsksBy}
+use Rattle.fl_change.specs.Performs.{Printed, AsksBy, AreToldFor}
 use Rattle.fp_small.specs.declared.op.Op.{Op}
-use Rattle.op_change.specs.Bringing.{AreTold}
 use Rattle.fl_top.specs.Asked.{OpsFor}
 use Rattle.fp_name.specs.Refs.{Ref}
 use Rattle.ost_commit.specs.declared.built.Built.{Built}
@@ -176,7 +175,7 @@ IsReady v = IsSound v ⊎ NotShown (shows v)
 -- where one of these operations brings a commit, the remotes tell what they hold, and the
 -- installation is ready
 abbrev pub IsKnown : (Op → Type 0) → Option Holdings → View → Type 0
-IsKnown May holds v = AsksBy May → AreTold holds × IsReady v
+IsKnown May holds v = AreToldFor May holds × (AsksBy May → IsReady v)
 
 -- A fault of a command that may change the state has a cause over an installation that is sound, or
 -- shows no state. Another needs neither.
@@ -245,3 +244,11 @@ abbrev pub WasTaken : Option Command → ℕ → Option (List ℕ) → Option (L
 WasTaken None status old new = new ≡ old
 WasTaken (Some command) status old new = (reads_input command ≡ true → IsAnswered status
     → IsDrained old new) × (reads_input command ≡ false → new ≡ old)
+
+-- What a run does of its input: it is read before anything is done, so where it failed its count of
+-- faults rose and the host is unchanged; so much of it was taken; and its count never falls.
+pub record ReadsInput (command : Option Command) (status : ℕ) (unchanged : Type 0)
+    (old new : Option (List ℕ)) (before now : ℕ) : Type 0 where
+  pub failed : status ≡ 5 → Rose before now × unchanged
+  pub taken : WasTaken command status old new
+  pub later : before ≤ now

@@ -8,7 +8,8 @@ ghost use Rattle.fl_words.specs.declared.command.Command.TheVariants.{Exercise a
 ghost use Rattle.fl_gen.specs.Exercise.{exercise_changes};
 ghost use Rattle.fl_change.specs.Turns.{MayDo};
 ghost use Rattle.fl_top.specs.Exercising.{exercising};
-ghost use Rattle.fl_top.specs.Asked.{AreToldFor, AsksRemotes};
+ghost use Rattle.fl_top.specs.Asked.{AsksRemotes};
+ghost use Rattle.fl_change.specs.Performs.{AreToldFor};
 ghost use Rattle.fl_top.specs.Exercises.{is_exercise, IsExercised};
 ghost use Rattle.fl_top.specs.Exports.{IsInStep};
 ghost use Rattle.fl_top.specs.Runs.{IsReady, HasCauses};

@@ -13,11 +13,12 @@ ghost use Rattle.fp_host.specs.Outcome.{shows};
 ghost use Rattle.dep_states.specs.Sound.{IsSound};
 ghost use Rattle.fl_top.specs.Fsck.{HasReport};
 ghost use Rattle.fl_top.specs.Exports.{IsInStep};
-ghost use Rattle.fl_top.specs.Asked.{OpsBy, AsksFor, AreToldFor, AsksRemotes};
+ghost use Rattle.fl_top.specs.Asked.{OpsBy, AsksFor, AsksRemotes};
+ghost use Rattle.fl_change.specs.Performs.{AreToldFor};
 ghost use Rattle.fl_top.specs.Exercises.{IsRun};
 ghost use Rattle.fl_top.specs.RunsOver.{RunsOver, EndedOver, RunsOn, EndedOn, RanOn, Takes, TakenBy, IsClosedBy};
-ghost use Rattle.fl_top.specs.Runs.{Checks, IsChange, told_start, WasTaken, IsReady, HasCauses};
-ghost use Rattle.fl_top.specs.Status.{IsStatus, IsAnswered, IsOfWords, IsOfCommand, changes_state, reads_input};
+ghost use Rattle.fl_top.specs.Runs.{Checks, IsChange, told_start, WasTaken, ReadsInput, IsReady, HasCauses};
+ghost use Rattle.fl_top.specs.Status.{IsStatus, IsAnswered, IsOfWords, IsOfCommand, reads_input};
 
 use crate::checking::check;
 use crate::command_end::CommandEnd;
@@ -121,11 +122,9 @@ pub fn run_gated<H: Host, R: Remotes, I: Source, G: Gate + Sync>(
         (AsksFor (command_of (map string_bytes words.now)) (I.left input.old))
         (result ≡ 4) (R.holds remotes.old) (R.holds remotes.new)
         (R.faults remotes.old) (R.faults remotes.new) }
-    ensures input { result ≡ 5
-        → Rose (I.faults input.old) (I.faults input.new) × ChangesNothing H.Host host.old host.new }
-    ensures taken { WasTaken (command_of (map string_bytes words.now)) result (I.left input.old)
-        (I.left input.new) }
-    ensures later { I.faults input.old ≤ I.faults input.new }
+    ensures input { ReadsInput (command_of (map string_bytes words.now)) result
+        (ChangesNothing H.Host host.old host.new) (I.left input.old) (I.left input.new)
+        (I.faults input.old) (I.faults input.new) }
 {
     match read_words(alloc, words) {
         Ok(command) => match exercise_in(command) {
@@ -162,10 +161,8 @@ pub(crate) fn run_command<T: Threads + Sync, H: Host, R: Remotes, I: Source, G: 
         (λ u w. IsSound u → IsInStep (R.holds remotes.old) w) }
     ensures remotes { AsksRemotes (OpsBy command (I.left input.old)) (result ≡ 4)
         (R.holds remotes.old) (R.holds remotes.new) (R.faults remotes.old) (R.faults remotes.new) }
-    ensures input { result ≡ 5
-        → Rose (I.faults input.old) (I.faults input.new) × ChangesNothing H.Host host.old host.new }
-    ensures taken { WasTaken (Some command) result (I.left input.old) (I.left input.new) }
-    ensures later { I.faults input.old ≤ I.faults input.new }
+    ensures input { ReadsInput (Some command) result (ChangesNothing H.Host host.old host.new)
+        (I.left input.old) (I.left input.new) (I.faults input.old) (I.faults input.new) }
 {
     match perform(rt, alloc, input, host, remotes, command, gate) {
         Ok(()) => 0,
@@ -202,7 +199,6 @@ fn perform<T: Threads + Sync, H: Host, R: Remotes, I: Source, G: Gate + Sync>(
     ensures remotes { AsksRemotes (OpsBy command (I.left input.old))
         (IsErrOf result CommandEnd.RemoteFault) (R.holds remotes.old) (R.holds remotes.new)
         (R.faults remotes.old) (R.faults remotes.new) }
-    ensures changes { IsErrOf result CommandEnd.RemoteFault → changes_state command ≡ true }
     ensures input { IsErrOf result CommandEnd.InputFault → (reads_input command ≡ true) × Rose
         (I.faults input.old) (I.faults input.new) × ChangesNothing H.Host host.old host.new }
     ensures taken { Takes command result (I.left input.old) (I.left input.new) }

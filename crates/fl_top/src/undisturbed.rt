@@ -2,7 +2,8 @@
 ghost use Rattle.std.specs.Prelude.{map, string_bytes};
 ghost use Rattle.fp_host.specs.Moments.{Rose};
 ghost use Rattle.fl_words.specs.Forms.{command_of};
-ghost use Rattle.fl_top.specs.Asked.{AsksFor, AreToldFor};
+ghost use Rattle.fl_top.specs.Asked.{AsksFor};
+ghost use Rattle.fl_change.specs.Performs.{AreToldFor};
 ghost use Rattle.fl_top.specs.Whole.{StartsFit, EndsWhole};
 
 use crate::running::run;

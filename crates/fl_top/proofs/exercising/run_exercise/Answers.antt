@@ -27,7 +27,10 @@ pub returns-in-Ok-clause-no_remote_fault : goal.returns-in-Ok-clause-no_remote_f
 returns-in-Ok-clause-no_remote_fault g c = λ four. let rose = c.run_command.ensures.remotes.rose four in omega (arith, rose)
 
 pub returns-in-Ok-clause-left : goal.returns-in-Ok-clause-left
-returns-in-Ok-clause-left g c = c.run_command.ensures.taken.1 refl
+returns-in-Ok-clause-left g c = c.run_command.ensures.input.taken.1 refl
+
+pub returns-in-Ok-clause-later : goal.returns-in-Ok-clause-later
+returns-in-Ok-clause-later g c = c.run_command.ensures.input.later
 
 -- ---- out of memory
 

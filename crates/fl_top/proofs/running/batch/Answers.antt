@@ -9,7 +9,8 @@ use Rattle.fl_words.specs.declared.command.Change.{Change}
 use Rattle.fl_words.specs.declared.command.Command.TheVariants.{Batch}
 use Rattle.fl_change.specs.Turns.{changing, MayDo}
 use Rattle.fl_change.specs.declared.end.RunEnd.TheVariants as run
-use Rattle.fl_top.specs.Asked.{OpsBy, AreToldFor, AsksRemotes}
+use Rattle.fl_top.specs.Asked.{OpsBy, AsksRemotes}
+use Rattle.fl_change.specs.Performs.{AreToldFor}
 use Rattle.fl_top.specs.Runs.{told_start, IsReady}
 use Rattle.fl_top.specs.Ends.{end_of_input, end_of_batch}
 use Rattle.fl_top.specs.RunsOver.{RunsOver, EndedOver}

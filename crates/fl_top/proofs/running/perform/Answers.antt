@@ -7,7 +7,8 @@ use Rattle.dep_states.specs.Sound.{IsSound}
 use Rattle.fl_top.specs.Exports.{IsInStep}
 use Rattle.fl_words.specs.declared.command.Command.{Command}
 use Rattle.fl_words.specs.declared.command.Command.TheVariants.{Change as Changing, List as Listed, Show as Showing, Filter as Filtering, Batch, Fsck, Export as Exporting, Exercise as Exercising}
-use Rattle.fl_top.specs.Asked.{OpsBy, AreToldFor, AsksRemotes}
+use Rattle.fl_top.specs.Asked.{OpsBy, AsksRemotes}
+use Rattle.fl_change.specs.Performs.{AreToldFor}
 use Rattle.fl_top.specs.Runs.{told_start, HasCauses, IsFreeFor}
 use Rattle.fl_gen.specs.Exercise.{exercise_changes}
 use Rattle.fl_change.specs.Turns.{changing, MayDo}

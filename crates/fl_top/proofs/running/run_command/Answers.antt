@@ -42,8 +42,12 @@ returns-in-Err-RemoteFault-clause-status g c =
 pub returns-in-Err-RemoteFault-clause-remotes : goal.returns-in-Err-RemoteFault-clause-remotes
 returns-in-Err-RemoteFault-clause-remotes g c = asks_more (λ op may. may) (λ four. c.in-Err-RemoteFault.is ∙ ap (λ (e : CommandEnd). Err e) c.in-Err-RemoteFault.field-0-is) c.perform.ensures.remotes
 
-pub returns-in-Err-RemoteFault-clause-taken : goal.returns-in-Err-RemoteFault-clause-taken
-returns-in-Err-RemoteFault-clause-taken g c = taken_at c.args.command c.perform.result 4 (g.I.Source.left c.args.input.now) (g.I.Source.left c.perform.new.input) c.perform.ensures.taken (λ taken answered. absurd (not_answered 4 (omega arith) answered))
+pub returns-in-Err-RemoteFault-clause-input : goal.returns-in-Err-RemoteFault-clause-input
+returns-in-Err-RemoteFault-clause-input g c = record {
+  failed = λ five. absurd (let is : 4 ≡ 5 = five in omega (arith, is));
+  taken = taken_at c.args.command c.perform.result 4 (g.I.Source.left c.args.input.now) (g.I.Source.left c.perform.new.input) c.perform.ensures.taken (λ taken answered. absurd (not_answered 4 (omega arith) answered));
+  later = c.perform.ensures.later;
+}
 
 pub returns-in-Err-Refused-clause-remotes : goal.returns-in-Err-Refused-clause-remotes
 returns-in-Err-Refused-clause-remotes g c = asks_more (λ op may. may) (λ four. absurd (elim c.refuse.ensures.status [
@@ -61,28 +65,51 @@ returns-in-Err-NoMemory-clause-any_moment g c =
     let t = told_start (g.I.Source.left c.args.input.now) (g.R.Remotes.holds c.args.remotes.now) (g.H.Host.moments c.args.host.now) in
     goes_memory c.args.command t (g.met.H.Host.is_tree c.args.host.now) (subst (λ (e : CommandEnd). Goes (g.H.Host.moments c.args.host.now) (g.H.Host.moments c.perform.new.host) (RunsOn c.args.command t) (EndedOn c.args.command t (Err e))) c.in-Err-NoMemory.field-0-is c.in-Err-NoMemory.ensures.any_moment)
 
-pub returns-in-Ok-clause-taken : goal.returns-in-Ok-clause-taken
-returns-in-Ok-clause-taken g c =
+pub returns-in-Ok-clause-input : goal.returns-in-Ok-clause-input
+returns-in-Ok-clause-input g c =
     let old = g.I.Source.left c.args.input.now in
     let new = g.I.Source.left c.perform.new.input in
     let is : c.perform.result ≡ Ok tt = c.in-Ok.is in
-    taken_at c.args.command (Ok tt) 0 old new (subst (λ (r : Result (Unit {0}) CommandEnd). Takes c.args.command r old new) is c.perform.ensures.taken) (λ taken answered. taken)
+    record {
+      failed = λ five. absurd (let is : 0 ≡ 5 = five in omega (arith, is));
+      taken = taken_at c.args.command (Ok tt) 0 old new (subst (λ (r : Result (Unit {0}) CommandEnd). Takes c.args.command r old new) is c.perform.ensures.taken) (λ taken answered. taken);
+      later = c.perform.ensures.later;
+    }
 
-pub returns-in-Err-Refused-clause-taken : goal.returns-in-Err-Refused-clause-taken
-returns-in-Err-Refused-clause-taken g c =
+pub returns-in-Err-Refused-clause-input : goal.returns-in-Err-Refused-clause-input
+returns-in-Err-Refused-clause-input g c =
     let old = g.I.Source.left c.args.input.now in
     let new = g.I.Source.left c.perform.new.input in
     let is = c.in-Err-Refused.is ∙ ap (λ (e : CommandEnd). Err e) c.in-Err-Refused.field-0-is in
-    taken_at c.args.command (Err (Refused c.in-Err-Refused.refusal)) c.refuse.result old new (subst (λ (r : Result (Unit {0}) CommandEnd). Takes c.args.command r old new) is c.perform.ensures.taken) (λ taken answered. taken)
+    record {
+      failed = λ five. absurd (elim c.refuse.ensures.status [
+        | inl is ↦ omega (arith, five, is)
+        | inr more ↦ elim more [ inl is ↦ omega (arith, five, is) | inr is ↦ omega (arith, five, is) ]
+      ]);
+      taken = taken_at c.args.command (Err (Refused c.in-Err-Refused.refusal)) c.refuse.result old new (subst (λ (r : Result (Unit {0}) CommandEnd). Takes c.args.command r old new) is c.perform.ensures.taken) (λ taken answered. taken);
+      later = c.perform.ensures.later;
+    }
 
-pub returns-in-Err-Fault-clause-taken : goal.returns-in-Err-Fault-clause-taken
-returns-in-Err-Fault-clause-taken g c = taken_at c.args.command c.perform.result 3 (g.I.Source.left c.args.input.now) (g.I.Source.left c.perform.new.input) c.perform.ensures.taken (λ taken answered. absurd (not_answered 3 (omega arith) answered))
+pub returns-in-Err-Fault-clause-input : goal.returns-in-Err-Fault-clause-input
+returns-in-Err-Fault-clause-input g c = record {
+  failed = λ five. absurd (let is : 3 ≡ 5 = five in omega (arith, is));
+  taken = taken_at c.args.command c.perform.result 3 (g.I.Source.left c.args.input.now) (g.I.Source.left c.perform.new.input) c.perform.ensures.taken (λ taken answered. absurd (not_answered 3 (omega arith) answered));
+  later = c.perform.ensures.later;
+}
 
-pub returns-in-Err-InputFault-clause-taken : goal.returns-in-Err-InputFault-clause-taken
-returns-in-Err-InputFault-clause-taken g c = taken_at c.args.command c.perform.result 5 (g.I.Source.left c.args.input.now) (g.I.Source.left c.perform.new.input) c.perform.ensures.taken (λ taken answered. absurd (not_answered 5 (omega arith) answered))
+pub returns-in-Err-InputFault-clause-input : goal.returns-in-Err-InputFault-clause-input
+returns-in-Err-InputFault-clause-input g c = record {
+  failed = λ five. (c.perform.ensures.input (c.in-Err-InputFault.is ∙ ap (λ (e : CommandEnd). Err e) c.in-Err-InputFault.field-0-is)).1;
+  taken = taken_at c.args.command c.perform.result 5 (g.I.Source.left c.args.input.now) (g.I.Source.left c.perform.new.input) c.perform.ensures.taken (λ taken answered. absurd (not_answered 5 (omega arith) answered));
+  later = c.perform.ensures.later;
+}
 
-pub returns-in-Err-NoMemory-clause-taken : goal.returns-in-Err-NoMemory-clause-taken
-returns-in-Err-NoMemory-clause-taken g c = taken_at c.args.command c.perform.result 6 (g.I.Source.left c.args.input.now) (g.I.Source.left c.perform.new.input) c.perform.ensures.taken (λ taken answered. absurd (not_answered 6 (omega arith) answered))
+pub returns-in-Err-NoMemory-clause-input : goal.returns-in-Err-NoMemory-clause-input
+returns-in-Err-NoMemory-clause-input g c = record {
+  failed = λ five. absurd (let is : 6 ≡ 5 = five in omega (arith, is));
+  taken = taken_at c.args.command c.perform.result 6 (g.I.Source.left c.args.input.now) (g.I.Source.left c.perform.new.input) c.perform.ensures.taken (λ taken answered. absurd (not_answered 6 (omega arith) answered));
+  later = c.perform.ensures.later;
+}
 
 pub returns-in-Err-Refused-clause-fault_has_cause : goal.returns-in-Err-Refused-clause-fault_has_cause
 returns-in-Err-Refused-clause-fault_has_cause g c = caused_after _ _ _ c.perform.ensures.fault_has_cause.later c.in-Err-Refused.ensures.any_moment (λ u w q at. tt) c.refuse.ensures.fault_has_cause (λ is. is.1)

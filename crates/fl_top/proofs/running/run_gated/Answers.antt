@@ -1,9 +1,9 @@
-use Rattle.std.proofs.Common.{◌≡◌, ◌∙◌, Option, Some, map, string_bytes, ap, sym, subst, inl, inr, arith}
+use Rattle.std.proofs.Common.{◌≡◌, ◌∙◌, Option, Some, map, string_bytes, ap, refl, sym, subst, inl, inr, arith}
 use Rattle.fl_words.specs.Forms.{command_of}
 use Rattle.fl_words.specs.Reading.{IsNoCommand}
 use Rattle.fl_words.specs.declared.command.Command.{Command}
-use Rattle.fl_top.specs.Runs.{WasTaken, Checks, IsChange, told_start}
-use Rattle.fp_host.specs.Frame.{AtEnd}
+use Rattle.fl_top.specs.Runs.{WasTaken, ReadsInput, Checks, IsChange, told_start}
+use Rattle.fp_host.specs.Frame.{AtEnd, Unchanged}
 use Rattle.fp_host.specs.Outcome.{shows}
 use Rattle.fl_top.specs.Fsck.{HasReport}
 use Rattle.fl_top.specs.Status.{IsAnswered}
@@ -37,12 +37,11 @@ pub returns-in-Ok-exercise_in-clause-remotes : goal.returns-in-Ok-exercise_in-cl
 returns-in-Ok-exercise_in-clause-remotes g c = not_asked (AsksFor (command_of (map string_bytes c.args.words.now)) (g.I.Source.left c.args.input.now)) (c.run_exercise.result ≡ 4) (g.R.Remotes.holds c.args.remotes.now) (g.R.Remotes.faults c.args.remotes.now) c.run_exercise.ensures.no_remote_fault
 
 pub returns-in-Ok-exercise_in-clause-input : goal.returns-in-Ok-exercise_in-clause-input
-returns-in-Ok-exercise_in-clause-input g c =
-    exercised_input (map string_bytes c.args.words.now) c.in-Ok-exercise_in.apps (g.I.Source.left c.args.input.now) (g.R.Remotes.holds c.args.remotes.now) c.run_exercise.result (c.in-Ok.ensures.ok ∙ ap (λ (k : Command). Some k) c.in-Ok-exercise_in.ensures.exercise) c.run_exercise.ensures.status
-
-pub returns-in-Ok-exercise_in-clause-taken : goal.returns-in-Ok-exercise_in-clause-taken
-returns-in-Ok-exercise_in-clause-taken g c =
-    exercised_taken (map string_bytes c.args.words.now) c.in-Ok-exercise_in.apps (g.I.Source.left c.args.input.now) (g.R.Remotes.holds c.args.remotes.now) c.run_exercise.result (c.in-Ok.ensures.ok ∙ ap (λ (k : Command). Some k) c.in-Ok-exercise_in.ensures.exercise) c.run_exercise.ensures.left
+returns-in-Ok-exercise_in-clause-input g c = record {
+  failed = exercised_input (map string_bytes c.args.words.now) c.in-Ok-exercise_in.apps (g.I.Source.left c.args.input.now) (g.R.Remotes.holds c.args.remotes.now) c.run_exercise.result (c.in-Ok.ensures.ok ∙ ap (λ (k : Command). Some k) c.in-Ok-exercise_in.ensures.exercise) c.run_exercise.ensures.status;
+  taken = exercised_taken (map string_bytes c.args.words.now) c.in-Ok-exercise_in.apps (g.I.Source.left c.args.input.now) (g.R.Remotes.holds c.args.remotes.now) c.run_exercise.result (c.in-Ok.ensures.ok ∙ ap (λ (k : Command). Some k) c.in-Ok-exercise_in.ensures.exercise) c.run_exercise.ensures.left;
+  later = c.run_exercise.ensures.later;
+}
 
 pub returns-in-Err-clause-runs : goal.returns-in-Err-clause-runs
 returns-in-Err-clause-runs g c =
@@ -74,17 +73,31 @@ returns-in-Err-BadWords-clause-runs g c =
 pub returns-in-Err-NoMemory-clause-runs : goal.returns-in-Err-NoMemory-clause-runs
 returns-in-Err-NoMemory-clause-runs g c = unread_runs (map string_bytes c.args.words.now) (g.I.Source.left c.args.input.now) (g.R.Remotes.holds c.args.remotes.now) (g.met.H.Host.is_tree c.args.host.now)
 
-pub returns-in-Err-clause-taken : goal.returns-in-Err-clause-taken
-returns-in-Err-clause-taken g c = subst (λ (o : Option Command). WasTaken o c.run_command.result (g.I.Source.left c.args.input.now) (g.I.Source.left c.run_command.new.input)) (sym (c.in-Ok.ensures.ok ∙ ap (λ (k : Command). Some k) (sym c.in-Err.ensures.other))) c.run_command.ensures.taken
+pub returns-in-Err-clause-input : goal.returns-in-Err-clause-input
+returns-in-Err-clause-input g c =
+    subst (λ (o : Option Command). ReadsInput o c.run_command.result (Unchanged (g.H.Host.moments c.args.host.now) (g.H.Host.moments c.run_command.new.host)) (g.I.Source.left c.args.input.now) (g.I.Source.left c.run_command.new.input) (g.I.Source.faults c.args.input.now) (g.I.Source.faults c.run_command.new.input)) (sym (c.in-Ok.ensures.ok ∙ ap (λ (k : Command). Some k) (sym c.in-Err.ensures.other)))
+    c.run_command.ensures.input
 
 pub returns-in-Err-BadWords-clause-input : goal.returns-in-Err-BadWords-clause-input
-returns-in-Err-BadWords-clause-input g c = λ five. absurd (elim c.refuse_words.ensures.status [
-  | inl is ↦ omega (arith, five, is)
-  | inr more ↦ elim more [ inl is ↦ omega (arith, five, is) | inr is ↦ omega (arith, five, is) ]
-])
+returns-in-Err-BadWords-clause-input g c =
+    let words = map string_bytes c.args.words.now in
+    let bad : IsNoCommand words c.in-Err-BadWords.field-0 = c.in-Err-BadWords.ensures.bad in
+    let is = subst (IsNoCommand words) c.in-Err-BadWords.field-0-is bad in
+    record {
+      failed = λ five. absurd (elim c.refuse_words.ensures.status [
+        | inl is ↦ omega (arith, five, is)
+        | inr more ↦ elim more [ inl is ↦ omega (arith, five, is) | inr is ↦ omega (arith, five, is) ]
+      ]);
+      taken = subst (λ (o : Option Command). WasTaken o c.refuse_words.result (g.I.Source.left c.args.input.now) (g.I.Source.left c.args.input.now)) (sym is.0) refl;
+      later = omega arith;
+    }
 
-pub returns-in-Err-NoMemory-clause-taken : goal.returns-in-Err-NoMemory-clause-taken
-returns-in-Err-NoMemory-clause-taken g c = took_nothing (command_of (map string_bytes c.args.words.now)) (g.I.Source.left c.args.input.now)
+pub returns-in-Err-NoMemory-clause-input : goal.returns-in-Err-NoMemory-clause-input
+returns-in-Err-NoMemory-clause-input g c = record {
+  failed = λ five. absurd (let is : 6 ≡ 5 = five in omega (arith, is));
+  taken = took_nothing (command_of (map string_bytes c.args.words.now)) (g.I.Source.left c.args.input.now);
+  later = omega arith;
+}
 
 pub returns-in-Err-BadWords-clause-remotes : goal.returns-in-Err-BadWords-clause-remotes
 returns-in-Err-BadWords-clause-remotes g c = not_asked (AsksFor (command_of (map string_bytes c.args.words.now)) (g.I.Source.left c.args.input.now)) (c.refuse_words.result ≡ 4) (g.R.Remotes.holds c.args.remotes.now) (g.R.Remotes.faults c.args.remotes.now) (λ four. elim c.refuse_words.ensures.status [

@@ -1,6 +1,7 @@
 use Rattle.std.proofs.Common.{map, string_bytes}
 use Rattle.fl_words.specs.Forms.{command_of}
-use Rattle.fl_top.specs.Asked.{AsksFor, AreToldFor}
+use Rattle.fl_top.specs.Asked.{AsksFor}
+use Rattle.fl_change.specs.Performs.{AreToldFor}
 use Rattle.fl_top.proofs.Whole.{undisturbed, whole_run}
 use Rattle.fl_top.proofs.undisturbed.run_undisturbed.Goals as goal
 
