@@ -18,41 +18,6 @@ returns-in_err-stat-clause-any_moment g c = seen_only (g.met.H.Host.is_tree c.ar
 pub returns-in_err-stat-clause-unsynced : goal.returns-in_err-stat-clause-unsynced
 returns-in_err-stat-clause-unsynced g c = ends_to (ends_call (g.met.H.Host.is_tree c.args.host.now) c.stat.ensures.step) (λ u w s. none_same s.same)
 
-pub returns-in_err-link-in-File-clause-any_moment : goal.returns-in_err-link-in-File-clause-any_moment
-returns-in_err-link-in-File-clause-any_moment g c =
-    let t = g.met.H.Host.is_tree in
-    linking (t c.args.host.now) (t c.stat.new.self) c.stat.ensures.step c.link.ensures.step
-
-pub returns-in_err-link-in-File-clause-unsynced : goal.returns-in_err-link-in-File-clause-unsynced
-returns-in_err-link-in-File-clause-unsynced g c =
-    let t = g.met.H.Host.is_tree in
-    ends_on (ends_call (t c.stat.new.self) c.link.ensures.step) (ends_call (t c.args.host.now) c.stat.ensures.step) (t c.stat.new.self) (λ u v w tree s step. none_on (none_same s.same) (step_none tt step))
-
-pub returns-in_err-link-in-File-clause-fault_has_cause : goal.returns-in_err-link-in-File-clause-fault_has_cause
-returns-in_err-link-in-File-clause-fault_has_cause g c =
-    let t = g.met.H.Host.is_tree in
-    let from = c.args.from.now in
-    let to = c.args.to.now in
-    let e = c.in_err-link-in-File.ensures in
-    call_caused {Q = StatOf from (Ok c.in_ok-stat.field-0)} (CanCopyObject from to) (Can (links from to)) _ _ _ _ _ (t c.args.host.now) c.stat.ensures.fault_has_cause.later (ends_call (t c.args.host.now) c.in_ok-stat.ensures.step) e.step e.fault_has_cause
-    c.from_residual-in_err-link-in-File.ensures.1 (λ v w step. clash_step step) (λ u v tree s can. can_link_file c.in-File.is s can)
-
-pub returns-in_ok-link-in-File-clause-any_moment : goal.returns-in_ok-link-in-File-clause-any_moment
-returns-in_ok-link-in-File-clause-any_moment g c =
-    let t = g.met.H.Host.is_tree in
-    linking (t c.args.host.now) (t c.stat.new.self) c.stat.ensures.step c.link.ensures.step
-
-pub returns-in_ok-link-in-File-clause-on_success : goal.returns-in_ok-link-in-File-clause-on_success
-returns-in_ok-link-in-File-clause-on_success g c =
-    let t = g.met.H.Host.is_tree in
-    ends_on (ends_call (t c.stat.new.self) c.in_ok-link-in-File.ensures.step) (ends_call (t c.args.host.now) c.stat.ensures.step) (t c.stat.new.self)
-    (λ u v w tree s step. subst (λ (x : View). WasCopied c.args.from.now c.args.to.now x w) s.same (was_linked step))
-
-pub returns-in_ok-link-in-File-clause-unsynced : goal.returns-in_ok-link-in-File-clause-unsynced
-returns-in_ok-link-in-File-clause-unsynced g c =
-    let t = g.met.H.Host.is_tree in
-    ends_on (ends_call (t c.stat.new.self) c.link.ensures.step) (ends_call (t c.args.host.now) c.stat.ensures.step) (t c.stat.new.self) (λ u v w tree s step. none_on (none_same s.same) (step_none tt step))
-
 pub returns-in-Link-clause-any_moment : goal.returns-in-Link-clause-any_moment
 returns-in-Link-clause-any_moment g c =
     let t = g.met.H.Host.is_tree in
@@ -88,3 +53,38 @@ returns-in-Absent-clause-fault_has_cause g c = record {
   later = c.stat.ensures.fault_has_cause.later;
   fault = λ is m at can. absurd (nothing_there (c.in_ok-stat.ensures.step.told m at).3 c.in-Absent.is can);
 }
+
+pub returns-in_err-link-in-File-clause-any_moment : goal.returns-in_err-link-in-File-clause-any_moment
+returns-in_err-link-in-File-clause-any_moment g c =
+    let t = g.met.H.Host.is_tree in
+    linking (t c.args.host.now) (t c.stat.new.self) c.stat.ensures.step c.link.ensures.step
+
+pub returns-in_err-link-in-File-clause-unsynced : goal.returns-in_err-link-in-File-clause-unsynced
+returns-in_err-link-in-File-clause-unsynced g c =
+    let t = g.met.H.Host.is_tree in
+    ends_on (ends_call (t c.stat.new.self) c.link.ensures.step) (ends_call (t c.args.host.now) c.stat.ensures.step) (t c.stat.new.self) (λ u v w tree s step. none_on (none_same s.same) (step_none tt step))
+
+pub returns-in_err-link-in-File-clause-fault_has_cause : goal.returns-in_err-link-in-File-clause-fault_has_cause
+returns-in_err-link-in-File-clause-fault_has_cause g c =
+    let t = g.met.H.Host.is_tree in
+    let from = c.args.from.now in
+    let to = c.args.to.now in
+    let e = c.in_err-link-in-File.ensures in
+    call_caused {Q = StatOf from (Ok c.in_ok-stat.field-0)} (CanCopyObject from to) (Can (links from to)) _ _ _ _ _ (t c.args.host.now) c.stat.ensures.fault_has_cause.later (ends_call (t c.args.host.now) c.in_ok-stat.ensures.step) e.step e.fault_has_cause
+    c.from_residual-in_err-link-in-File.ensures.1 (λ v w step. clash_step step) (λ u v tree s can. can_link_file c.in-File.is s can)
+
+pub returns-in_ok-link-in-File-clause-any_moment : goal.returns-in_ok-link-in-File-clause-any_moment
+returns-in_ok-link-in-File-clause-any_moment g c =
+    let t = g.met.H.Host.is_tree in
+    linking (t c.args.host.now) (t c.stat.new.self) c.stat.ensures.step c.link.ensures.step
+
+pub returns-in_ok-link-in-File-clause-unsynced : goal.returns-in_ok-link-in-File-clause-unsynced
+returns-in_ok-link-in-File-clause-unsynced g c =
+    let t = g.met.H.Host.is_tree in
+    ends_on (ends_call (t c.stat.new.self) c.link.ensures.step) (ends_call (t c.args.host.now) c.stat.ensures.step) (t c.stat.new.self) (λ u v w tree s step. none_on (none_same s.same) (step_none tt step))
+
+pub returns-in_ok-link-in-File-clause-on_success : goal.returns-in_ok-link-in-File-clause-on_success
+returns-in_ok-link-in-File-clause-on_success g c =
+    let t = g.met.H.Host.is_tree in
+    ends_on (ends_call (t c.stat.new.self) c.in_ok-link-in-File.ensures.step) (ends_call (t c.args.host.now) c.stat.ensures.step) (t c.stat.new.self)
+    (λ u v w tree s step. subst (λ (x : View). WasCopied c.args.from.now c.args.to.now x w) s.same (was_linked step))
