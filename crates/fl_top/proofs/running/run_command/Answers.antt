@@ -99,7 +99,7 @@ returns-in-Err-Fault-clause-input g c = record {
 
 pub returns-in-Err-InputFault-clause-input : goal.returns-in-Err-InputFault-clause-input
 returns-in-Err-InputFault-clause-input g c = record {
-  failed = λ five. (c.perform.ensures.input (c.in-Err-InputFault.is ∙ ap (λ (e : CommandEnd). Err e) c.in-Err-InputFault.field-0-is)).1;
+  failed = λ five. let failed = c.perform.ensures.input (c.in-Err-InputFault.is ∙ ap (λ (e : CommandEnd). Err e) c.in-Err-InputFault.field-0-is) in (failed.1, failed.2);
   taken = taken_at c.args.command c.perform.result 5 (g.I.Source.left c.args.input.now) (g.I.Source.left c.perform.new.input) c.perform.ensures.taken (λ taken answered. absurd (not_answered 5 (omega arith) answered));
   later = c.perform.ensures.later;
 }
