@@ -1,7 +1,9 @@
 //! Worked messages: the header that is read, the rule that is broken, and what is written.
 
-use crate::rows::{agree, agree_at};
-use crate::told::{body_line, bytes_of, front_line, spelled, with_byte, word_at};
+use crate::built::{spelled, with_byte};
+use crate::captured::CAPTURED;
+use crate::rows::agree;
+use crate::told::{is_body, is_front};
 use bus_frame::{
     error_frame, is_bus_name, is_interface_name, is_member_name, is_object_path, is_unique_name,
     is_well_known_name,
@@ -24,14 +26,19 @@ const ANSWER: &[u8] = b"l\x03\x01\x01\0\0\0\0\xff\xff\xff\xff\x5d\0\0\0\
 
 /// Messages in hexadecimal, and what is read at their front. They are the worked call; with a byte
 /// after it; with a body that lacks; with that body and no signature; a byte between the fields and
-/// the body; a reply serial of 0.
+/// the body; a reply serial of 0. Beginnings of the worked call lack what its fixed part says.
 const FRONTS: &str = "\
 6c01000100000000010000003000000001016f00020000002f6100000000000003017300010000004d0000000000000006017300070000006f72672e62617200 1 0 1 /a - M - - org.bar - - 0
 6c01000100000000010000003000000001016f00020000002f6100000000000003017300010000004d0000000000000006017300070000006f72672e62617200ff 1 0 1 /a - M - - org.bar - - 0 and 1 more
 6c01000101000000010000003000000001016f00020000002f6100000000000003017300010000004d0000000000000006017300070000006f72672e62617200 lacks 1
 6c01000101000000010000003000000001016f00020000002f6100000000000003017300010000004d0000000000000006017300070000006f72672e6261720000 breaks Body
 6c04000119000000010000003900000001016f00010000002f000000000000000201730003000000612e62000000000003017300010000004d000000000000000801670003737373000000000000000101000000610000000000000000000000040000003a312e3100 breaks Padding
-420200010000001900000002000000100501750000000000080167000261730000000015000000076f72672e62617200000000043a312e3100 breaks Value";
+420200010000001900000002000000100501750000000000080167000261730000000015000000076f72672e62617200000000043a312e3100 breaks Value
+ lacks 16
+6c0100010000000001000000300000 lacks 1
+6c010001000000000100000030000000 lacks 48
+6c01000100000000010000003000000001 lacks 47
+6c01000100000000010000003000000001016f00020000002f6100000000000003017300010000004d0000000000000006017300070000006f72672e626172 lacks 1";
 
 /// Messages in hexadecimal, and their bodies: none; three texts; one, where the second length says
 /// one byte more; two names in big endian; no names.
@@ -42,55 +49,44 @@ const BODIES: &str = "\
 420200010000001900000002000000100501750000000001080167000261730000000015000000076f72672e62617200000000043a312e3100 B 32 - - names:org.bar,:1.1,
 420200010000000400000002000000100501750000000001080167000261730000000000 B 32 - - names:";
 
-/// Whether this is read at the front of bytes.
-pub fn is_front(rt: &impl Abort, alloc: Global, bytes: &[u8], want: &str) -> bool {
-    front_line(rt, alloc, bytes).as_str() == want
-}
+/// A call whose path has 100 KiB and whose text a mebibyte: its front, and its body.
+const LONG: &str = "\
+6c01000105001000010000007790010001016f00019001002f+70*102400+000000000000000201730003000000612e6\
+2000000000003017300010000004d000000000000000401730009000000612e622e4572726f720000000000000006017\
+300070000006f72672e6261720007017300040000003a312e31000000000501750009000000080167000173000000001\
+000+74*1048576+00 1 0 1 #102401 a.b M a.b.Error 9 org.bar :1.1 s 1048581
+6c01000105001000010000007790010001016f00019001002f+70*102400+000000000000000201730003000000612e6\
+2000000000003017300010000004d000000000000000401730009000000612e622e4572726f720000000000000006017\
+300070000006f72672e6261720007017300040000003a312e31000000000501750009000000080167000173000000001\
+000+74*1048576+00 l 102536 #1048576 - -";
 
-/// Whether this is read of the body.
-fn is_body(rt: &impl Abort, alloc: Global, bytes: &[u8], want: &str) -> bool {
-    body_line(rt, alloc, bytes).as_str() == want
-}
+/// A return with 1,100 names.
+const MANY: &str = "\
+6c02000194330000010000007800000001016f00020000002f610000000000000201730003000000612e620000000000\
+03017300010000004d000000000000000401730009000000612e622e4572726f72000000000000000601730007000000\
+6f72672e6261720007017300040000003a312e31000000000501750009000000080167000261730090330000+0700000\
+06f72672e62617200*1100 l 136 - - names:#1100";
 
-/// Whether the message of a line is read as the line says: its front, or its body.
-fn is_read(rt: &impl Abort, alloc: Global, line: &str, body: bool) -> bool {
-    let (words, want) = line.split_once(' ').unwrap_or((line, ""));
+/// Whether the message of a row is read as the row says: its body, where that begins with the order
+/// of its bytes, or what stands at its front.
+fn is_read(rt: &impl Abort, alloc: Global, row: &str) -> bool {
+    let (words, want) = row.split_once(' ').unwrap_or((row, ""));
     let bytes = spelled(rt, alloc, words);
-    if body {
+    if want.starts_with("l ") || want.starts_with("B ") {
         is_body(rt, alloc, &bytes, want)
     } else {
         is_front(rt, alloc, &bytes, want)
     }
 }
 
-/// Ends the test at a line whose message is read otherwise.
-pub fn agree_on_lines(rt: &impl Abort, alloc: Global, lines: &str, body: bool) {
-    for line in lines.lines() {
-        agree(rt, line, is_read(rt, alloc, line, body));
-    }
-}
-
+/// Messages are read as listed. The captured ones are read as the libraries of GDBus and libdbus
+/// read them.
 #[test]
-fn worked_messages(rt: HostRuntime) {
-    agree_on_lines(&rt, rt.alloc(), FRONTS, false);
-    agree_on_lines(&rt, rt.alloc(), BODIES, true);
-}
-
-/// How long a beginning of the worked call is, and what is read: what its fixed part says, and what
-/// follows that isn't looked at.
-const LENGTHS: [(usize, &str); 5] = [
-    (0, "lacks 16"),
-    (15, "lacks 1"),
-    (16, "lacks 48"),
-    (17, "lacks 47"),
-    (63, "lacks 1"),
-];
-
-#[test]
-fn beginnings(rt: HostRuntime) {
-    for (count, want) in &LENGTHS {
-        let front = CALL.get(..*count).unwrap_or(&[]);
-        agree_at(&rt, *count, is_front(&rt, rt.alloc(), front, want));
+fn listed_messages(rt: HostRuntime) {
+    for rows in &[FRONTS, BODIES, LONG, MANY, CAPTURED] {
+        for row in rows.lines() {
+            agree(&rt, row, is_read(&rt, rt.alloc(), row));
+        }
     }
 }
 
@@ -129,55 +125,51 @@ const BROKEN: [(usize, u8, &str); 27] = [
 
 #[test]
 fn broken_messages(rt: HostRuntime) {
-    for (row, (at, byte, want)) in BROKEN.iter().enumerate() {
+    for (at, byte, want) in &BROKEN {
         let changed = with_byte(&rt, rt.alloc(), CALL, *at, *byte);
-        agree_at(&rt, row, is_front(&rt, rt.alloc(), &changed, want));
+        agree(&rt, want, is_front(&rt, rt.alloc(), &changed, want));
     }
 }
 
-/// Whether the answer to the worked call is this, byte for byte.
-fn is_answered(rt: &impl Abort, alloc: Global) -> bool {
-    let name = "org.freedesktop.DBus.Error.ServiceUnknown";
-    let answer = error_frame(alloc, true, name, 1, None).expect(rt, "memory");
-    answer.as_slice() == ANSWER
-}
-
-/// Whether bytes are an answer in big endian to a caller with a name.
-fn are_other(rt: &impl Abort, alloc: Global, answer: &[u8]) -> bool {
-    let want = "3 1 4294967295 - - - a.b 7 :1.1 org.freedesktop.DBus - 0";
-    answer.first() == Some(&b'B') && is_front(rt, alloc, answer, want)
-}
-
-/// Whether an answer in big endian to a caller with a name is read.
-fn other_is_answered(rt: &impl Abort, alloc: Global) -> bool {
-    let answer = error_frame(alloc, false, "a.b", 7, Some(":1.1")).expect(rt, "memory");
-    are_other(rt, alloc, answer.as_slice())
-}
-
-/// A name of 255 bytes.
-fn longest_name(rt: &impl Abort, alloc: Global) -> String {
-    let part = "b".repeat(alloc, 253).expect(rt, "memory");
-    ["a.", &part].concat(alloc).expect(rt, "memory")
-}
-
-/// Whether a line tells of an answer with this name to a caller of this name.
-fn is_told(line: &str, name: &str) -> bool {
-    word_at(line, 6) == name && word_at(line, 8) == name
-}
-
-/// Whether the answer with this name to a caller of this name is read.
-fn is_answered_to(rt: &impl Abort, alloc: Global, name: &str) -> bool {
-    if name.len() != 255 {
+/// Whether the answer with this name, to a call of this serial by a caller of this name, begins so
+/// and is read. A caller `-` has no name.
+fn is_answered(
+    rt: &impl Abort,
+    alloc: Global,
+    front: &[u8],
+    name: &str,
+    serial: u32,
+    to: &str,
+) -> bool {
+    if name.len() > 255 || to.len() > 255 {
         return false;
     }
-    let answer = error_frame(alloc, true, name, 1, Some(name)).expect(rt, "memory");
-    is_told(&front_line(rt, alloc, answer.as_slice()), name)
+    let is_little = front.starts_with(b"l");
+    let caller = if to == "-" { None } else { Some(to) };
+    let answer = error_frame(alloc, is_little, name, serial, caller).expect(rt, "memory");
+    let bus = "org.freedesktop.DBus";
+    let line = format!(in alloc; "3 1 4294967295 - - - {name} {serial} {to} {bus} - 0");
+    answer.as_slice().starts_with(front)
+        && is_front(rt, alloc, answer.as_slice(), &line.expect(rt, "memory"))
 }
 
+/// An answer is this byte for byte, one in big endian is read, and one whose names have 255 bytes.
 #[test]
 fn answers(rt: HostRuntime) {
-    assert!(rt; is_answered(&rt, rt.alloc()) && other_is_answered(&rt, rt.alloc()));
-    assert!(rt; is_answered_to(&rt, rt.alloc(), &longest_name(&rt, rt.alloc())));
+    let alloc = rt.alloc();
+    let part = "b".repeat(alloc, 253).expect(&rt, "memory");
+    let longest = ["a.", &part].concat(alloc).expect(&rt, "memory");
+    assert!(rt;
+        is_answered(
+            &rt,
+            alloc,
+            ANSWER,
+            "org.freedesktop.DBus.Error.ServiceUnknown",
+            1,
+            "-"
+        ) && is_answered(&rt, alloc, b"B", "a.b", 7, ":1.1")
+            && is_answered(&rt, alloc, b"l", &longest, 1, &longest)
+    );
 }
 
 /// Names, and what they are: interface, member, unique, well-known, bus name, path.
@@ -198,28 +190,20 @@ const KINDS: [(&str, &str); 14] = [
     ("/a-b", "......"),
 ];
 
-/// The letter, or `.`.
-fn mark(is_that: bool, letter: u8) -> u8 {
-    if is_that { letter } else { b'.' }
-}
-
-/// The letters of what a name is: `.` in the place of each that it isn't.
-fn kinds_of(name: &[u8]) -> [u8; 6] {
-    [
-        mark(is_interface_name(name), b'i'),
-        mark(is_member_name(name), b'm'),
-        mark(is_unique_name(name), b'u'),
-        mark(is_well_known_name(name), b'w'),
-        mark(is_bus_name(name), b'b'),
-        mark(is_object_path(name), b'p'),
-    ]
+/// Whether a name is of the kinds of these letters, and of no other kind.
+fn is_of_kinds(name: &[u8], kinds: &str) -> bool {
+    is_interface_name(name) == kinds.contains('i')
+        && is_member_name(name) == kinds.contains('m')
+        && is_unique_name(name) == kinds.contains('u')
+        && is_well_known_name(name) == kinds.contains('w')
+        && is_bus_name(name) == kinds.contains('b')
+        && is_object_path(name) == kinds.contains('p')
 }
 
 #[test]
 fn kinds_of_names(rt: HostRuntime) {
     for (name, kinds) in &KINDS {
-        let is_so = kinds_of(name.as_bytes()).as_slice() == kinds.as_bytes();
-        agree(&rt, name, is_so);
+        agree(&rt, name, is_of_kinds(name.as_bytes(), kinds));
     }
 }
 
@@ -232,78 +216,16 @@ const WHOLE: &str = "\
 /// What is read of it after its type.
 const AFTER_TYPE: &str = " 0 1 /a a.b M a.b.Error 9 org.bar :1.1 s 6";
 
-/// What is read of it where it is of this type.
-fn whole_front(rt: &impl Abort, alloc: Global, kind: u8) -> String {
-    format!(in alloc; "{kind}{AFTER_TYPE}").expect(rt, "memory")
-}
-
-/// Whether bytes are a message of this type with each of its fields.
-fn are_whole(rt: &impl Abort, alloc: Global, bytes: &[u8], kind: u8) -> bool {
-    is_front(rt, alloc, bytes, &whole_front(rt, alloc, kind))
-        && is_body(rt, alloc, bytes, "l 136 t - -")
-}
-
-/// Whether a message is read whole where it is of this type.
-fn is_read_as(rt: &impl Abort, alloc: Global, message: &[u8], kind: u8) -> bool {
-    are_whole(rt, alloc, &with_byte(rt, alloc, message, 1, kind), kind)
-}
-
-/// Ends the test at a type that isn't read whole.
-fn agree_on_types(rt: &impl Abort, alloc: Global, message: &[u8]) {
-    for kind in 1..=255u8 {
-        agree_at(rt, kind as usize, is_read_as(rt, alloc, message, kind));
-    }
-}
-
 /// A message of each type is read whole, with each of its fields.
 #[test]
 fn each_type(rt: HostRuntime) {
-    agree_on_types(&rt, rt.alloc(), &bytes_of(&rt, rt.alloc(), WHOLE));
-}
-
-/// A call whose path has 100 KiB and whose text a mebibyte.
-const LONG: &str = "\
-6c01000105001000010000007790010001016f00019001002f+70*102400+000000000000000201730003000000612e6\
-2000000000003017300010000004d000000000000000401730009000000612e622e4572726f720000000000000006017\
-300070000006f72672e6261720007017300040000003a312e31000000000501750009000000080167000173000000001\
-000+74*1048576+00";
-
-/// A return with 1,100 names.
-const MANY: &str = "\
-6c02000194330000010000007800000001016f00020000002f610000000000000201730003000000612e620000000000\
-03017300010000004d000000000000000401730009000000612e622e4572726f72000000000000000601730007000000\
-6f72672e6261720007017300040000003a312e31000000000501750009000000080167000261730090330000+0700000\
-06f72672e62617200*1100";
-
-/// The length of a word of what is read of the front.
-fn front_length(rt: &impl Abort, alloc: Global, bytes: &[u8], at: usize) -> usize {
-    word_at(&front_line(rt, alloc, bytes), at).len()
-}
-
-/// The length of a word of the body.
-fn body_length(rt: &impl Abort, alloc: Global, bytes: &[u8], at: usize) -> usize {
-    word_at(&body_line(rt, alloc, bytes), at).len()
-}
-
-/// Whether the path and the text of a message are so long.
-fn are_long(rt: &impl Abort, alloc: Global, bytes: &[u8]) -> bool {
-    front_length(rt, alloc, bytes, 3) == (100 << 10) + 1
-        && body_length(rt, alloc, bytes, 2) == 1 << 20
-}
-
-/// A message whose path and body have 100 KiB and a mebibyte is read.
-#[test]
-fn long_message(rt: HostRuntime) {
-    assert!(rt; are_long(&rt, rt.alloc(), &spelled(&rt, rt.alloc(), LONG)));
-}
-
-/// How many names a body has, and one more.
-fn count_names(rt: &impl Abort, alloc: Global, bytes: &[u8]) -> usize {
-    word_at(&body_line(rt, alloc, bytes), 4).split(',').count()
-}
-
-/// 1,100 names are read.
-#[test]
-fn many_names(rt: HostRuntime) {
-    assert!(rt; count_names(&rt, rt.alloc(), &spelled(&rt, rt.alloc(), MANY)) == 1_101);
+    let alloc = rt.alloc();
+    let message = spelled(&rt, alloc, WHOLE);
+    for kind in 1..=255u8 {
+        let changed = with_byte(&rt, alloc, &message, 1, kind);
+        let line = format!(in alloc; "{kind}{AFTER_TYPE}").expect(&rt, "memory");
+        let is_so = is_front(&rt, alloc, &changed, &line)
+            && is_body(&rt, alloc, &changed, "l 136 t - -");
+        agree(&rt, &line, is_so);
+    }
 }

@@ -3,11 +3,13 @@
 #![tactic(auto)]
 
 #[cfg(test)]
+mod built;
+#[cfg(test)]
 mod captured;
 #[cfg(test)]
 mod frame;
 #[cfg(test)]
-mod growth;
+mod many;
 #[cfg(test)]
 mod policy;
 #[cfg(test)]
@@ -18,7 +20,5 @@ mod rows;
 mod rules;
 #[cfg(test)]
 mod stream;
-#[cfg(test)]
-mod tables;
 #[cfg(test)]
 mod told;

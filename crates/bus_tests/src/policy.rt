@@ -1,67 +1,89 @@
 //! Worked policies: levels of names, and what becomes of messages one after another.
 
+use crate::built::{
+    add_row, header_of, level_of, numbered, owners_of, policy_of, side_of, spelled,
+};
 use crate::rows::agree;
-use crate::told::{bytes_of, word_at};
-use bus_frame::{Flags, Header, MessageType};
-use bus_policy::{Level, Policy, PolicyError, RuleKind, Verdict, Watch};
-use fp_base::{Items, Side, Text};
+use crate::told::word_at;
+use bus_policy::{PolicyError, Verdict, Watch};
 use std::alloc::Global;
 use std::panic::Expect;
 use std::process::Abort;
 
-/// A step is a message and what becomes of it, as words: its side, type, flags, serial, the serial
-/// that it replies to, sender, destination, interface, member, signature, body in hexadecimal, and
-/// the verdict. Where `-` stands there is none.
-///
-/// The word of a step at this place, or nothing for `-`.
-fn word<'a>(step: &'a str, at: usize) -> Option<&'a str> {
-    let word = word_at(step, at);
-    if word == "-" { None } else { Some(word) }
+/// Names that are open at a level, and rules for calls and broadcasts.
+const POLICY: &str = "\
+talk org.foo.*
+see org.bar
+own org.own
+see org.foo.less
+call org.ruled.* a.b.C@/x/*
+broadcast org.cast a.b.*";
+
+/// The one name that has an owner at the opening.
+const OWNERS: &str = "org.foo :1.7";
+
+/// A watch for the client `:1.1`, by the rows of a policy and of owners.
+fn watch_of(rt: &impl Abort, alloc: Global, policy: &str, owners: &str) -> Watch {
+    let policy = policy_of(rt, alloc, policy);
+    let owners = owners_of(rt, alloc, owners);
+    Watch::new(alloc, policy, Some(":1.1"), &owners).expect(rt, "memory")
 }
 
-fn text(rt: &impl Abort, alloc: Global, step: &str, at: usize) -> Option<Text> {
-    match word(step, at) {
-        Some(word) => Some(Text::from_str(alloc, word).expect(rt, "memory")),
-        None => None,
+/// Names and their levels at the opening.
+const NAMES: &str = "\
+org.foo talk
+org.foo.bar talk
+org.foo.less talk
+org.foobar none
+org none
+org.bar see
+org.bar.b none
+org.own own
+org.ruled see
+org.cast see
+org.freedesktop.DBus talk
+:1.1 talk
+:1.7 talk
+:1.8 none";
+
+#[test]
+fn levels(rt: HostRuntime) {
+    let watch = watch_of(&rt, rt.alloc(), POLICY, OWNERS);
+    for row in NAMES.lines() {
+        let level = watch.level(word_at(row, 0));
+        agree(&rt, row, level == level_of(word_at(row, 1)));
     }
+    drop(watch);
 }
 
-fn number(step: &str, at: usize) -> u32 {
-    word_at(step, at).parse::<u32>().unwrap_or(0)
-}
+/// Rows with patterns that are none, and with a rule that is none for names.
+const BAD: &str = "\
+own 
+call  *
+own org
+call org *
+own :1.2
+call :1.2 *
+own org.*.b
+call org.*.b *
+own *
+call * *
+own .*
+call .* *
+own org.**
+call org.** *
+own o-g..b
+call o-g..b *
+call org.* a.b";
 
-fn byte(step: &str, at: usize) -> u8 {
-    word_at(step, at).parse::<u8>().unwrap_or(0)
-}
-
-/// The header of a step with a body of this length.
-fn header(rt: &impl Abort, alloc: Global, step: &str, body_len: u64) -> Header {
-    Header {
-        little: true,
-        kind: MessageType::from_code(byte(step, 1)),
-        flags: Flags {
-            bits: byte(step, 2),
-        },
-        serial: number(step, 3),
-        path: Some(Text::from_str(alloc, "/x/y").expect(rt, "memory")),
-        interface: text(rt, alloc, step, 7),
-        member: text(rt, alloc, step, 8),
-        error_name: None,
-        reply_serial: word(step, 4).map(|_| number(step, 4)),
-        destination: text(rt, alloc, step, 6),
-        sender: text(rt, alloc, step, 5),
-        signature: text(rt, alloc, step, 9),
-        body_at: 0,
-        body_len,
+#[test]
+fn bad_patterns(rt: HostRuntime) {
+    let mut policy = policy_of(&rt, rt.alloc(), POLICY);
+    for row in BAD.lines() {
+        let added = add_row(&mut policy, rt.alloc(), row);
+        agree(&rt, row, added.err() == Some(PolicyError::Bad));
     }
-}
-
-fn side(step: &str) -> Side {
-    if step.starts_with("c") {
-        Side::Client
-    } else {
-        Side::Bus
-    }
+    drop(policy);
 }
 
 /// The last word of a step of this verdict.
@@ -75,157 +97,31 @@ fn verdict_word(verdict: Verdict) -> &'static str {
     }
 }
 
-/// Notes a message of a step, and whether it goes as it is to.
-fn goes_so(rt: &impl Abort, watch: &mut Watch, step: &str, header: &Header, body: &[u8]) -> bool {
-    let side = side(step);
-    let verdict = watch.verdict(side, header, body);
-    watch.note(side, header, body, verdict).expect(rt, "memory");
-    word_at(step, 11) == verdict_word(verdict)
-}
-
-/// Notes a step with this body, and whether it goes as it is to.
-fn goes_with(rt: &impl Abort, alloc: Global, watch: &mut Watch, step: &str, body: &[u8]) -> bool {
-    let header = header(rt, alloc, step, body.len() as u64);
-    let is_so = goes_so(rt, watch, step, &header, body);
-    drop(header);
-    is_so
-}
-
-/// Notes a step, and whether it goes as it is to.
+/// Notes the message of a step, and whether it goes as it is to.
+///
+/// A step is a message and what becomes of it, as words: its side, its header as `header_of` reads
+/// it, its body in hexadecimal, and the verdict.
 fn goes(rt: &impl Abort, alloc: Global, watch: &mut Watch, step: &str) -> bool {
-    let digits = word(step, 10).unwrap_or("");
-    goes_with(rt, alloc, watch, step, &bytes_of(rt, alloc, digits))
+    let (letter, line) = step.split_once(' ').unwrap_or((step, ""));
+    let digits = word_at(line, 9);
+    let body = spelled(rt, alloc, if digits == "-" { "" } else { digits });
+    let header = header_of(rt, alloc, "/x/y", line, body.len() as u64);
+    let side = side_of(letter);
+    let verdict = watch.verdict(side, &header, &body);
+    watch
+        .note(side, &header, &body, verdict)
+        .expect(rt, "memory");
+    drop(header);
+    word_at(line, 10) == verdict_word(verdict)
 }
 
-/// Names that are open at a level, and rules for calls and broadcasts.
-const LEVELS: [(&str, Level); 4] = [
-    ("org.foo.*", Level::Talk),
-    ("org.bar", Level::See),
-    ("org.own", Level::Own),
-    ("org.foo.less", Level::See),
-];
-
-/// Adds a rule for calls or for broadcasts.
-fn add_rule(
-    rt: &impl Abort,
-    alloc: Global,
-    policy: &mut Policy,
-    kind: RuleKind,
-    pattern: &str,
-    rule: &str,
-) {
-    policy
-        .add_rule(alloc, kind, pattern, rule)
-        .expect(rt, "a rule");
-}
-
-/// Adds a level.
-fn add(rt: &impl Abort, alloc: Global, policy: &mut Policy, pattern: &str, level: Level) {
-    policy.add(alloc, pattern, level).expect(rt, "a rule");
-}
-
-fn policy(rt: &impl Abort, alloc: Global) -> Policy {
-    let mut policy = Policy::new(alloc);
-    for (pattern, level) in &LEVELS {
-        add(rt, alloc, &mut policy, pattern, *level);
-    }
-    let (call, broadcast) = (RuleKind::Call, RuleKind::Broadcast);
-    add_rule(rt, alloc, &mut policy, call, "org.ruled.*", "a.b.C@/x/*");
-    add_rule(rt, alloc, &mut policy, broadcast, "org.cast", "a.b.*");
-    policy
-}
-
-fn push_owner(
-    rt: &impl Abort,
-    alloc: Global,
-    owners: &mut Items<(Text, Text)>,
-    name: &str,
-    owner: &str,
-) {
-    let name = Text::from_str(alloc, name).expect(rt, "memory");
-    let owner = Text::from_str(alloc, owner).expect(rt, "memory");
-    owners.push((name, owner)).expect(rt, "memory");
-}
-
-/// A watch of a policy for the client `:1.1`.
-fn watch_of(rt: &impl Abort, alloc: Global, policy: Policy, owners: &Items<(Text, Text)>) -> Watch {
-    Watch::new(alloc, policy, Some(":1.1"), owners).expect(rt, "memory")
-}
-
-/// A watch of this policy where `:1.7` owns `org.foo`.
-fn watch(rt: &impl Abort, alloc: Global) -> Watch {
-    let mut owners = Items::new(alloc);
-    push_owner(rt, alloc, &mut owners, "org.foo", ":1.7");
-    watch_of(rt, alloc, policy(rt, alloc), &owners)
-}
-
-/// Names and their levels at the opening.
-const NAMES: [(&str, Level); 14] = [
-    ("org.foo", Level::Talk),
-    ("org.foo.bar", Level::Talk),
-    ("org.foo.less", Level::Talk),
-    ("org.foobar", Level::None),
-    ("org", Level::None),
-    ("org.bar", Level::See),
-    ("org.bar.b", Level::None),
-    ("org.own", Level::Own),
-    ("org.ruled", Level::See),
-    ("org.cast", Level::See),
-    ("org.freedesktop.DBus", Level::Talk),
-    (":1.1", Level::Talk),
-    (":1.7", Level::Talk),
-    (":1.8", Level::None),
-];
-
-#[test]
-fn levels(rt: HostRuntime) {
-    let watch = watch(&rt, rt.alloc());
-    for (name, level) in &NAMES {
-        agree(&rt, name, watch.level(name) == *level);
+/// Ends the test at a step that goes otherwise than it is to, from the opening on.
+fn agree_on_steps(rt: &impl Abort, alloc: Global, policy: &str, owners: &str, steps: &str) {
+    let mut watch = watch_of(rt, alloc, policy, owners);
+    for step in steps.lines() {
+        agree(rt, step, goes(rt, alloc, &mut watch, step));
     }
     drop(watch);
-}
-
-/// Patterns that are none, and rules that are none for a name.
-const BAD_PATTERNS: [&str; 8] = ["", "org", ":1.2", "org.*.b", "*", ".*", "org.**", "o-g..b"];
-
-/// Whether nothing is added at this pattern with this rule.
-fn is_bad(policy: &mut Policy, alloc: Global, pattern: &str, rule: &str) -> bool {
-    let added = policy.add_rule(alloc, RuleKind::Call, pattern, rule);
-    added.err() == Some(PolicyError::Bad)
-}
-
-/// Whether nothing is added at this pattern.
-fn is_no_pattern(policy: &mut Policy, alloc: Global, pattern: &str) -> bool {
-    let added = policy.add(alloc, pattern, Level::Own);
-    added.err() == Some(PolicyError::Bad) && is_bad(policy, alloc, pattern, "*")
-}
-
-/// Ends the test at a pattern that is added.
-fn agree_on_bad(rt: &impl Abort, alloc: Global, policy: &mut Policy) {
-    for pattern in &BAD_PATTERNS {
-        agree(rt, pattern, is_no_pattern(policy, alloc, pattern));
-    }
-}
-
-#[test]
-fn bad_patterns(rt: HostRuntime) {
-    let mut policy = policy(&rt, rt.alloc());
-    agree_on_bad(&rt, rt.alloc(), &mut policy);
-    assert!(rt; policy.rules().len() == 6);
-}
-
-/// Whether nothing is added with a bad rule, and a level at a good pattern after that.
-fn is_one_added(rt: &impl Abort, alloc: Global, policy: &mut Policy) -> bool {
-    let is_so = is_bad(policy, alloc, "org.*", "a.b") && policy.rules().len() == 6;
-    add(rt, alloc, policy, "org.*", Level::See);
-    is_so && policy.rules().len() == 7
-}
-
-#[test]
-fn bad_rules(rt: HostRuntime) {
-    let mut policy = policy(&rt, rt.alloc());
-    assert!(rt; is_one_added(&rt, rt.alloc(), &mut policy));
 }
 
 /// Calls of the client: to a name at talk, see, none; without a reply; by a rule and past it; to
@@ -358,20 +254,6 @@ b 4 0 1 - :1.5 :1.1 c.d M - - Pass
 c 1 0 1 - - :1.5 - M - - Deny
 b 4 0 1 - - - c.d M - - Drop";
 
-/// Ends the test at a step that goes otherwise than it is to.
-fn agree_on_steps(rt: &impl Abort, alloc: Global, watch: &mut Watch, steps: &str) {
-    for step in steps.lines() {
-        agree(rt, step, goes(rt, alloc, watch, step));
-    }
-}
-
-/// The same from the opening on.
-fn agree_from_opening(rt: &impl Abort, alloc: Global, steps: &str) {
-    let mut watch = watch(rt, alloc);
-    agree_on_steps(rt, alloc, &mut watch, steps);
-    drop(watch);
-}
-
 #[test]
 fn verdicts(rt: HostRuntime) {
     for steps in &[
@@ -383,73 +265,25 @@ fn verdicts(rt: HostRuntime) {
         PEER_CALLS,
         SIGNALS,
     ] {
-        agree_from_opening(&rt, rt.alloc(), steps);
+        agree_on_steps(&rt, rt.alloc(), POLICY, OWNERS, steps);
     }
 }
 
-/// Adds the rule of this number, and one for calls.
-fn add_numbered(rt: &impl Abort, alloc: Global, policy: &mut Policy, number: usize) {
-    let pattern = format!(in alloc; "org.n{number}.*").expect(rt, "memory");
-    add(rt, alloc, policy, &pattern, Level::Talk);
-    add_rule(rt, alloc, policy, RuleKind::Call, &pattern, "a.b.C@/x/*");
-}
-
-/// A policy of this many rules, and as many for calls.
-fn long_policy(rt: &impl Abort, alloc: Global, count: usize) -> Policy {
-    let mut policy = Policy::new(alloc);
-    for number in 0..count {
-        add_numbered(rt, alloc, &mut policy, number);
-    }
-    policy
-}
-
-/// Adds a name of this number with an owner of its own.
-fn push_numbered(rt: &impl Abort, alloc: Global, owners: &mut Items<(Text, Text)>, number: usize) {
-    let name = format!(in alloc; "org.n{number}.a").expect(rt, "memory");
-    let owner = format!(in alloc; ":2.{number}").expect(rt, "memory");
-    push_owner(rt, alloc, owners, &name, &owner);
-}
-
-/// This many names, each with an owner of its own.
-fn many_owners(rt: &impl Abort, alloc: Global, count: usize) -> Items<(Text, Text)> {
-    let mut owners = Items::new(alloc);
-    for number in 0..count {
-        push_numbered(rt, alloc, &mut owners, number);
-    }
-    owners
-}
-
-/// The call of the client with this serial.
-fn call(rt: &impl Abort, alloc: Global, serial: u32) -> String {
-    format!(in alloc; "c 1 0 {serial} - - org.n1.a - M - - Pass").expect(rt, "memory")
-}
-
-/// The reply to the last of 1,100 calls.
-const REPLY: &str = "b 2 0 1 1100 :2.1 :1.1 - M - - Pass";
-
-/// Ends the test where a watch doesn't forward each of 1,100 calls, and the reply to the last.
-fn agree_on_calls(rt: &impl Abort, alloc: Global, watch: &mut Watch) {
-    for serial in 1..=1_100u32 {
-        let step = call(rt, alloc, serial);
-        agree(rt, &step, goes(rt, alloc, watch, &step));
-    }
-    agree(rt, REPLY, goes(rt, alloc, watch, REPLY));
-}
-
-/// The same of a watch of this many rules and owners.
+/// A watch of so many rules for names, and as many for calls, and of so many owners forwards each
+/// of 1,100 calls, and the reply to the last.
 fn agree_on_many(rt: &impl Abort, alloc: Global, rules: usize, owners: usize) {
-    let owners = many_owners(rt, alloc, owners);
-    let mut watch = watch_of(rt, alloc, long_policy(rt, alloc, rules), &owners);
-    agree_on_calls(rt, alloc, &mut watch);
-    drop(watch);
+    let row = "talk org.n#.*\ncall org.n#.* a.b.C@/x/*\n";
+    let rules = numbered(rt, alloc, row, rules);
+    let owners = numbered(rt, alloc, "org.n#.a :2.#\n", owners);
+    let mut steps = numbered(rt, alloc, "c 1 0 # - - org.n1.a - M - - Pass\n", 1_100);
+    steps
+        .push_str("b 2 0 1 1100 :2.1 :1.1 - M - - Pass")
+        .expect(rt, "memory");
+    agree_on_steps(rt, alloc, &rules, &owners, &steps);
 }
 
 #[test]
-fn many_rules(rt: HostRuntime) {
+fn many_rules_and_names(rt: HostRuntime) {
     agree_on_many(&rt, rt.alloc(), 550, 2);
-}
-
-#[test]
-fn many_names(rt: HostRuntime) {
     agree_on_many(&rt, rt.alloc(), 2, 1_100);
 }

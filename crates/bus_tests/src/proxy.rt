@@ -1,11 +1,9 @@
 //! Worked streams through the filter, however they are cut. The messages are spelled by hand after
 //! the D-Bus specification.
 
+use crate::built::{letter_of, numbered, owners_of, policy_of, side_of, spelled};
 use crate::rows::agree;
-use crate::told::spelled;
-use bus_policy::{Level, Policy};
-use bus_proxy::{Filter, Next, Out};
-use fp_base::{Blob, Items, Side, Text};
+use bus_proxy::{Filter, Next};
 use std::alloc::Global;
 use std::panic::Expect;
 use std::process::Abort;
@@ -13,7 +11,7 @@ use std::process::Abort;
 /// The level of `org.bar`, and messages that are sent and that go to a side: each with `c` for the
 /// client or `b` for the bus.
 struct Case {
-    level: Level,
+    policy: &'static str,
     sent: &'static str,
     wanted: &'static str,
 }
@@ -21,7 +19,7 @@ struct Case {
 /// A call of `M` at `/a` of `org.bar` with serial 1 goes to the bus, and one return of it from
 /// `:1.9` to the client.
 const TALK: Case = Case {
-    level: Level::Talk,
+    policy: "talk org.bar",
     sent: "\
 c:6c01000100000000010000003000000001016f00020000002f6100000000000003017300010000004d000000000000\
 0006017300070000006f72672e62617200 b:6c020001000000000900000025000000050175000100000006017300040\
@@ -35,7 +33,7 @@ b:6c01000100000000010000003000000001016f00020000002f6100000000000003017300010000
 
 /// Where the name is hidden, the client is told `ServiceUnknown`.
 const HIDDEN: Case = Case {
-    level: Level::None,
+    policy: "none org.bar",
     sent: "\
 c:6c01000100000000010000003000000001016f00020000002f6100000000000003017300010000004d000000000000\
 0006017300070000006f72672e62617200",
@@ -47,7 +45,7 @@ c:6c03010100000000ffffffff5d00000004017300290000006f72672e667265656465736b746f70
 
 /// Nothing is lost where nothing is sent.
 const NOTHING: Case = Case {
-    level: Level::Talk,
+    policy: "talk org.bar",
     sent: "",
     wanted: "",
 };
@@ -55,7 +53,7 @@ const NOTHING: Case = Case {
 /// A call of `ListNames`, and of the names `org.bar` and `:1.1` that come back, in big endian, the
 /// one that may be seen.
 const NAMES: Case = Case {
-    level: Level::See,
+    policy: "see org.bar",
     sent: "\
 c:6c01000100000000010000007500000001016f00150000002f6f72672f667265656465736b746f702f444275730000\
 0002017300140000006f72672e667265656465736b746f702e444275730000000003017300090000004c6973744e616d\
@@ -71,7 +69,7 @@ b:6c01000100000000010000007500000001016f00150000002f6f72672f667265656465736b746f
 
 /// The same of `org.bar` alone, which may not be seen.
 const NO_NAMES: Case = Case {
-    level: Level::None,
+    policy: "none org.bar",
     sent: "\
 c:6c01000100000000010000007500000001016f00150000002f6f72672f667265656465736b746f702f444275730000\
 0002017300140000006f72672e667265656465736b746f702e444275730000000003017300090000004c6973744e616d\
@@ -86,7 +84,7 @@ b:6c01000100000000010000007500000001016f00150000002f6f72672f667265656465736b746f
 
 /// The same of 1,100 names, of which the last may be seen.
 const MANY_NAMES: Case = Case {
-    level: Level::See,
+    policy: "see org.bar",
     sent: "\
 c:6c01000100000000010000007500000001016f00150000002f6f72672f667265656465736b746f702f444275730000\
 0002017300140000006f72672e667265656465736b746f702e444275730000000003017300090000004c6973744e616d\
@@ -102,7 +100,7 @@ b:6c01000100000000010000007500000001016f00150000002f6f72672f667265656465736b746f
 
 /// The same of 1,100 names that may all be seen.
 const ALL_NAMES: Case = Case {
-    level: Level::See,
+    policy: "see org.bar",
     sent: "\
 c:6c01000100000000010000007500000001016f00150000002f6f72672f667265656465736b746f702f444275730000\
 0002017300140000006f72672e667265656465736b746f702e444275730000000003017300090000004c6973744e616d\
@@ -117,7 +115,7 @@ b:6c01000100000000010000007500000001016f00150000002f6f72672f667265656465736b746f
 
 /// A broadcast of `:1.7`, which may talk as the owner of a name that may be talked to.
 const BROADCAST: Case = Case {
-    level: Level::Talk,
+    policy: "talk org.bar",
     sent: "\
 b:6c04000100000000050000003d00000001016f00020000002f6100000000000002017300070000006f72672e782e49\
 000301730001000000530000000000000007017300040000003a312e3700000000",
@@ -126,131 +124,60 @@ c:6c04000100000000050000003d00000001016f00020000002f6100000000000002017300070000
 000301730001000000530000000000000007017300040000003a312e3700000000",
 };
 
-/// The side of this letter.
-fn side(letter: &str) -> Side {
-    if letter == "c" {
-        Side::Client
-    } else {
-        Side::Bus
-    }
-}
-
-/// Adds bytes of a side in pieces of at most this many bytes.
-fn push_pieces(
-    rt: &impl Abort,
-    pieces: &mut Items<(Side, Blob)>,
-    alloc: Global,
-    from: Side,
-    bytes: &[u8],
-    most: usize,
-) {
-    for piece in bytes.chunks(most.max(1)) {
-        let piece = Blob::from_slice(alloc, piece).expect(rt, "memory");
-        pieces.push((from, piece)).expect(rt, "memory");
-    }
-}
-
-/// Adds a message in pieces of at most this many bytes.
-fn push_message(
-    rt: &impl Abort,
-    pieces: &mut Items<(Side, Blob)>,
-    alloc: Global,
-    message: &str,
-    most: usize,
-) {
-    let (letter, words) = message.split_once(':').unwrap_or((message, ""));
-    let bytes = spelled(rt, alloc, words);
-    push_pieces(rt, pieces, alloc, side(letter), &bytes, most);
-}
-
-/// What is sent, in pieces of at most this many bytes.
-fn pieces(rt: &impl Abort, alloc: Global, sent: &str, most: usize) -> Items<(Side, Blob)> {
-    let mut pieces = Items::new(alloc);
-    for message in sent.split_terminator(' ') {
-        push_message(rt, &mut pieces, alloc, message, most);
-    }
-    pieces
-}
-
-/// Whether a message that goes to a side is the one of this word.
-fn is_sent(rt: &impl Abort, alloc: Global, message: &Out, word: &str) -> bool {
-    let (letter, digits) = word.split_once(':').unwrap_or((word, ""));
-    let bytes = spelled(rt, alloc, digits);
-    message.to == side(letter) && message.bytes.as_slice() == bytes.as_slice()
-}
-
-/// Whether these are the messages of the words.
-fn are_sent(rt: &impl Abort, alloc: Global, messages: &[Out], words: &str) -> bool {
-    for (message, word) in messages.iter().zip(words.split_terminator(' ')) {
-        if !is_sent(rt, alloc, message, word) {
-            return false;
-        }
-    }
-    messages.len() == words.split_terminator(' ').count()
-}
-
-/// A policy in which `org.bar` has a level.
-fn policy(rt: &impl Abort, alloc: Global, level: Level) -> Policy {
-    let mut policy = Policy::new(alloc);
-    policy.add(alloc, "org.bar", level).expect(rt, "a rule");
-    policy
-}
-
-/// Adds what a filter gives for a piece that it was fed: of each byte one message at most.
-fn push_given(rt: &impl Abort, filter: &mut Filter, out: &mut Vec<Out>, piece: &[u8]) {
+/// Adds what a filter gives for a piece that it was fed, of each byte one message at most: the letter
+/// of the side that it goes to, and its bytes.
+fn push_given(rt: &impl Abort, filter: &mut Filter, out: &mut Vec<u8>, piece: &[u8]) {
     for _ in 0..piece.len() {
         match filter.next().expect(rt, "no bad message") {
-            Next::Out(message) => out.push(message).expect(rt, "memory"),
+            Next::Out(message) => {
+                let letter = letter_of(message.to).as_bytes();
+                out.extend_from_slice(letter).expect(rt, "memory");
+                out.extend_from_slice(message.bytes.as_slice())
+                    .expect(rt, "memory");
+            }
             Next::Quiet => {}
             Next::NotYet => return,
         }
     }
 }
 
-/// What goes to a side of pieces under a policy, where names have these owners.
-fn filtered(
-    rt: &impl Abort,
-    alloc: Global,
-    policy: Policy,
-    owners: &Items<(Text, Text)>,
-    pieces: &Items<(Side, Blob)>,
-) -> Vec<Out> {
-    let mut filter = Filter::new(alloc, policy, None, owners).expect(rt, "memory");
+/// What a filter gives for messages, each in pieces of at most this many bytes.
+fn given(rt: &impl Abort, alloc: Global, filter: &mut Filter, sent: &str, most: usize) -> Vec<u8> {
     let mut out = Vec::new(alloc);
-    for (side, piece) in pieces.as_slice() {
-        filter.feed(*side, piece.as_slice()).expect(rt, "memory");
-        push_given(rt, &mut filter, &mut out, piece.as_slice());
+    for message in sent.split_terminator(' ') {
+        let (letter, words) = message.split_once(':').unwrap_or((message, ""));
+        let bytes = spelled(rt, alloc, words);
+        for piece in bytes.chunks(most.max(1)) {
+            filter.feed(side_of(letter), piece).expect(rt, "memory");
+            push_given(rt, filter, &mut out, piece);
+        }
     }
-    filter.end().expect(rt, "a whole message");
-    drop(filter);
     out
 }
 
-/// Whether these messages go to a side, of these pieces.
-fn gives(
-    rt: &impl Abort,
-    alloc: Global,
-    policy: Policy,
-    owners: &Items<(Text, Text)>,
-    pieces: &Items<(Side, Blob)>,
-    wanted: &str,
-) -> bool {
-    let out = filtered(rt, alloc, policy, owners, pieces);
-    are_sent(rt, alloc, &out, wanted)
+/// The messages of words, each after the letter of its side.
+fn wanted(rt: &impl Abort, alloc: Global, words: &str) -> Vec<u8> {
+    let mut out = Vec::new(alloc);
+    for message in words.split_terminator(' ') {
+        let (letter, words) = message.split_once(':').unwrap_or((message, ""));
+        out.extend_from_slice(letter.as_bytes())
+            .expect(rt, "memory");
+        out.extend_from_slice(&spelled(rt, alloc, words))
+            .expect(rt, "memory");
+    }
+    out
 }
 
-/// Whether a case comes to what it has to, cut into pieces of at most this many bytes.
-fn is_filtered(rt: &impl Abort, alloc: Global, case: &Case, most: usize) -> bool {
-    let pieces = pieces(rt, alloc, case.sent, most);
-    let policy = policy(rt, alloc, case.level);
-    gives(rt, alloc, policy, &Items::new(alloc), &pieces, case.wanted)
-}
-
-/// Ends the test where a case, cut so, comes to something else.
-fn agree_on(rt: &impl Abort, alloc: Global, case: &Case) {
-    agree(rt, case.sent, is_filtered(rt, alloc, case, 1));
-    agree(rt, case.sent, is_filtered(rt, alloc, case, 7));
-    agree(rt, case.sent, is_filtered(rt, alloc, case, 100_000));
+/// Whether a case comes to what it has to, cut into pieces of at most this many bytes, where names
+/// have these owners.
+fn is_filtered(rt: &impl Abort, alloc: Global, case: &Case, owners: &str, most: usize) -> bool {
+    let policy = policy_of(rt, alloc, case.policy);
+    let owners = owners_of(rt, alloc, owners);
+    let mut filter = Filter::new(alloc, policy, None, &owners).expect(rt, "memory");
+    let out = given(rt, alloc, &mut filter, case.sent, most);
+    filter.end().expect(rt, "a whole message");
+    drop(filter);
+    out.as_slice() == wanted(rt, alloc, case.wanted).as_slice()
 }
 
 #[test]
@@ -258,45 +185,20 @@ fn worked_streams(rt: HostRuntime) {
     for case in &[
         TALK, HIDDEN, NOTHING, NAMES, NO_NAMES, MANY_NAMES, ALL_NAMES,
     ] {
-        agree_on(&rt, rt.alloc(), case);
+        for most in [1usize, 7, 100_000] {
+            agree(&rt, case.sent, is_filtered(&rt, rt.alloc(), case, "", most));
+        }
     }
 }
 
-/// Adds a name that this peer owns.
-fn push_owner(
-    rt: &impl Abort,
-    alloc: Global,
-    owners: &mut Items<(Text, Text)>,
-    name: String,
-    peer: &str,
-) {
-    let peer = Text::from_str(alloc, peer).expect(rt, "memory");
-    let owner = (Text::from_string(name), peer);
-    owners.push(owner).expect(rt, "memory");
-}
-
-/// This many names of one peer, and `org.bar` of another.
-fn owners(rt: &impl Abort, alloc: Global, count: u32) -> Items<(Text, Text)> {
-    let mut owners = Items::new(alloc);
-    for number in 0..count {
-        let name = format!(in alloc; "org.n{number}").expect(rt, "memory");
-        push_owner(rt, alloc, &mut owners, name, ":1.6");
-    }
-    let last = String::from_str(alloc, "org.bar").expect(rt, "memory");
-    push_owner(rt, alloc, &mut owners, last, ":1.7");
-    owners
-}
-
-/// Whether a case comes to what it has to, where so many names and `org.bar` have owners.
-fn is_owned(rt: &impl Abort, alloc: Global, case: &Case, count: u32) -> bool {
-    let pieces = pieces(rt, alloc, case.sent, 1000);
-    let policy = policy(rt, alloc, case.level);
-    let owners = owners(rt, alloc, count);
-    gives(rt, alloc, policy, &owners, &pieces, case.wanted)
-}
-
+/// One peer owns 1,100 names, and another one `org.bar`.
 #[test]
 fn many_owners(rt: HostRuntime) {
-    assert!(rt; !is_filtered(&rt, rt.alloc(), &BROADCAST, 1000));
-    assert!(rt; is_owned(&rt, rt.alloc(), &BROADCAST, 1_100));
+    let alloc = rt.alloc();
+    let mut owners = numbered(&rt, alloc, "org.n# :1.6\n", 1_100);
+    owners.push_str("org.bar :1.7").expect(&rt, "memory");
+    assert!(rt;
+        !is_filtered(&rt, alloc, &BROADCAST, "", 1000)
+            && is_filtered(&rt, alloc, &BROADCAST, &owners, 1000)
+    );
 }

@@ -1,236 +1,135 @@
-//! Messages spelled in words, and what is read of bytes as a line of words.
+//! Whether what is read of bytes is as a line of words says.
 
 use bus_frame::{
     FrameError, Header, ReadFrame, first_string, is_names, names_body, read_frame, three_strings,
 };
-use fp_base::{Items, Text};
-use std::alloc::{AllocError, Global};
+use fp_base::Text;
+use std::alloc::Global;
 use std::panic::Expect;
 use std::process::Abort;
-
-/// The bytes of hexadecimal digits.
-pub fn bytes_of(rt: &impl Abort, alloc: Global, digits: &str) -> Vec<u8> {
-    hex::decode(alloc, digits).expect(rt, "digits")
-}
-
-/// Adds bytes as often as this.
-fn push_times(rt: &impl Abort, bytes: &mut Vec<u8>, part: &[u8], count: u32) {
-    for _ in 0..count {
-        bytes.extend_from_slice(part).expect(rt, "memory");
-    }
-}
-
-/// Adds the bytes of a word: hexadecimal, or hexadecimal with `*` and how often it comes.
-fn push_word(rt: &impl Abort, bytes: &mut Vec<u8>, alloc: Global, word: &str) {
-    let (digits, count) = word.split_once('*').unwrap_or((word, "1"));
-    let part = bytes_of(rt, alloc, digits);
-    push_times(rt, bytes, &part, count.parse::<u32>().unwrap_or(0));
-}
-
-/// The bytes of words with `+` between them.
-pub fn spelled(rt: &impl Abort, alloc: Global, words: &str) -> Vec<u8> {
-    let mut bytes = Vec::new(alloc);
-    for word in words.split('+') {
-        push_word(rt, &mut bytes, alloc, word);
-    }
-    bytes
-}
-
-/// Bytes with one of them changed.
-pub fn with_byte(rt: &impl Abort, alloc: Global, bytes: &[u8], at: usize, byte: u8) -> Vec<u8> {
-    let mut changed = Vec::from_slice(alloc, bytes).expect(rt, "memory");
-    if let Some(place) = changed.get_mut(at) {
-        *place = byte;
-    }
-    changed
-}
-
-/// A text, or `-` where there is none.
-pub fn word(text: &Option<Text>) -> &str {
-    match text {
-        Some(text) => text.as_str(),
-        None => "-",
-    }
-}
 
 /// The word of a line at this place, counted from 0.
 pub fn word_at(line: &str, at: usize) -> &str {
     line.split(' ').nth(at).unwrap_or("")
 }
 
-/// The words with spaces between them.
-fn joined(rt: &impl Abort, alloc: Global, words: &[&str]) -> String {
-    words.join(alloc, " ").expect(rt, "memory")
+/// The number of a line at this place, if one stands there.
+fn number_at(line: &str, at: usize) -> Option<u64> {
+    word_at(line, at).parse::<u64>().ok()
 }
 
-/// The texts of a header: what is called, or which error it is, the serial that it replies to, and
-/// the others.
-fn texts_of(rt: &impl Abort, alloc: Global, header: &Header, reply: &str) -> String {
-    let path = word(&header.path);
-    let interface = word(&header.interface);
-    let member = word(&header.member);
-    let error = word(&header.error_name);
-    let destination = word(&header.destination);
-    let sender = word(&header.sender);
-    let signature = word(&header.signature);
-    joined(
-        rt,
-        alloc,
-        &[
-            path,
-            interface,
-            member,
-            error,
-            reply,
-            destination,
-            sender,
-            signature,
-        ],
-    )
-}
-
-/// A number, or `-` where there is none.
-fn number_word(rt: &impl Abort, alloc: Global, number: Option<u32>) -> String {
-    let word = match number {
-        Some(number) => format!(in alloc; "{number}"),
-        None => "-".to_string(alloc),
-    };
-    word.expect(rt, "memory")
-}
-
-/// The same of the serial that a header replies to.
-fn texts(rt: &impl Abort, alloc: Global, header: &Header) -> String {
-    texts_of(
-        rt,
-        alloc,
-        header,
-        &number_word(rt, alloc, header.reply_serial),
-    )
-}
-
-/// A header: its type, flags and serial, its texts, and how long the body is.
-fn header_line(rt: &impl Abort, alloc: Global, header: &Header) -> String {
-    let (kind, flags, serial) = (header.kind.code(), header.flags.bits, header.serial);
-    let texts = texts(rt, alloc, header);
-    format!(in alloc; "{kind} {flags} {serial} {texts} {}", header.body_len).expect(rt, "memory")
-}
-
-fn put_more(line: &mut String, count: u64) -> Result<(), AllocError> {
-    if count == 0 {
-        return Ok(());
+/// Whether a text is this word: the text, `-` where there is none, or `#` and its length.
+fn is_word(text: &Option<Text>, word: &str) -> bool {
+    match text {
+        None => word == "-",
+        Some(text) => fits(text.as_str(), word),
     }
-    write!(line, " and {count} more")
 }
 
-/// A header, and how many bytes follow.
-fn message_line(rt: &impl Abort, alloc: Global, header: &Header, more: u64) -> String {
-    let mut line = header_line(rt, alloc, header);
-    put_more(&mut line, more).expect(rt, "memory");
-    line
+/// Whether a text is this word, or has the length that stands in it after `#`.
+fn fits(text: &str, word: &str) -> bool {
+    match word.strip_prefix('#') {
+        Some(length) => number_at(length, 0) == Some(text.len() as u64),
+        None => text == word,
+    }
 }
 
-/// What is read of this many bytes.
-fn read_line(
-    rt: &impl Abort,
-    alloc: Global,
-    read: &Result<ReadFrame, FrameError>,
-    count: u64,
-) -> String {
-    match read {
-        Ok(ReadFrame::Need(count)) => format!(in alloc; "lacks {count}").expect(rt, "memory"),
+/// Whether the numbers of a header are those of a line.
+fn has_numbers(header: &Header, line: &str) -> bool {
+    let reply = match header.reply_serial {
+        Some(serial) => Some(serial as u64),
+        None => None,
+    };
+    number_at(line, 0) == Some(header.kind.code() as u64)
+        && number_at(line, 1) == Some(header.flags.bits as u64)
+        && number_at(line, 2) == Some(header.serial as u64)
+        && number_at(line, 7) == reply
+        && number_at(line, 11) == Some(header.body_len)
+}
+
+/// Whether a header is this line: its type, flags, serial, path, interface, member, the name of the
+/// error, the serial that it replies to, destination, sender, signature, and how long the body is.
+fn is_header(header: &Header, line: &str) -> bool {
+    has_numbers(header, line)
+        && is_word(&header.path, word_at(line, 3))
+        && is_word(&header.interface, word_at(line, 4))
+        && is_word(&header.member, word_at(line, 5))
+        && is_word(&header.error_name, word_at(line, 6))
+        && is_word(&header.destination, word_at(line, 8))
+        && is_word(&header.sender, word_at(line, 9))
+        && is_word(&header.signature, word_at(line, 10))
+}
+
+/// Whether this stands at the front of bytes: the header of a message, with `and N more` where
+/// bytes follow it; `lacks N`; or `breaks` and the rule.
+pub fn is_front(rt: &impl Abort, alloc: Global, bytes: &[u8], line: &str) -> bool {
+    match read_frame(alloc, bytes) {
+        Ok(ReadFrame::Need(count)) => word_at(line, 0) == "lacks"
+            && number_at(line, 1) == Some(count),
         Ok(ReadFrame::Frame(header, len)) => {
-            message_line(rt, alloc, header, count.saturating_sub(*len))
+            let is_so = is_header(&header, line);
+            drop(header);
+            is_so && number_at(line, 13).unwrap_or(0) == (bytes.len() as u64).saturating_sub(len)
         }
-        Err(error) => error_line(rt, alloc, error),
+        Err(FrameError::Bad(rule)) => {
+            let told = format!(in alloc; "breaks {rule:?}").expect(rt, "memory");
+            told.as_str() == line
+        }
+        Err(FrameError::NoMemory) => false,
     }
 }
 
-/// The rule that is broken.
-fn error_line(rt: &impl Abort, alloc: Global, error: &FrameError) -> String {
-    match error {
-        FrameError::Bad(rule) => format!(in alloc; "breaks {rule:?}").expect(rt, "memory"),
-        FrameError::NoMemory => rt.panic("memory"),
-    }
-}
-
-/// What stands at the front of some bytes: the header of a message, how many bytes lack, or the
-/// rule that is broken.
-pub fn front_line(rt: &impl Abort, alloc: Global, bytes: &[u8]) -> String {
-    let read = read_frame(alloc, bytes);
-    let line = read_line(rt, alloc, &read, bytes.len() as u64);
-    drop(read);
-    line
-}
-
-/// The three texts of a body with commas between them, or `-`.
-fn three_word(rt: &impl Abort, alloc: Global, header: &Header, message: &[u8]) -> String {
-    let three = match three_strings(header, message) {
-        Some((first, second, third)) => [first, second, third].join(alloc, ","),
-        None => "-".to_string(alloc),
-    };
-    three.expect(rt, "memory")
-}
-
-/// The order of the bytes of a body and where it begins, its first text, three texts, and whether
-/// it is a list of names.
-fn plain_line(rt: &impl Abort, alloc: Global, header: &Header, message: &[u8]) -> String {
+/// Whether the texts of a body are those of a line: the order of its bytes and where it begins, its
+/// first text, and its three texts with commas between them.
+fn has_texts(header: &Header, message: &[u8], line: &str) -> bool {
     let order = if header.little { "l" } else { "B" };
     let first = first_string(header, message).unwrap_or("-");
-    let three = three_word(rt, alloc, header, message);
-    let mark = if is_names(header, message) {
-        "names:"
-    } else {
-        "-"
+    let (front, end) = word_at(line, 3).rsplit_once(',').unwrap_or(("", ""));
+    let are_three = match three_strings(header, message) {
+        Some((one, two, three)) => front.split_once(',') == Some((one, two)) && end == three,
+        None => word_at(line, 3) == "-",
     };
-    format!(in alloc; "{order} {} {first} {three} {mark}", header.body_at).expect(rt, "memory")
+    word_at(line, 0) == order
+        && number_at(line, 1) == Some(header.body_at)
+        && fits(first, word_at(line, 2))
+        && are_three
 }
 
-fn put_name(line: &mut String, name: &Text) -> Result<(), AllocError> {
-    write!(line, "{},", name.as_str())
-}
-
-/// Adds names, each with a comma.
-fn put_names(rt: &impl Abort, line: &mut String, names: &[Text]) {
+/// Whether these are the names of a word: each with a comma after it, or `#` and how many they are.
+fn are_names(names: &[Text], word: &str) -> bool {
+    if word.starts_with('#') {
+        return number_at(word.trim_start_matches('#'), 0) == Some(names.len() as u64);
+    }
+    let mut words = word.split_terminator(',');
     for name in names {
-        put_name(line, name).expect(rt, "memory");
+        if words.next() != Some(name.as_str()) {
+            return false;
+        }
+    }
+    words.next().is_none()
+}
+
+/// Whether the names of a body are those of a word after `names:`, and there are none for `-`.
+fn has_names(rt: &impl Abort, alloc: Global, header: &Header, message: &[u8], word: &str) -> bool {
+    let are_there = is_names(header, message);
+    match names_body(alloc, header, message).expect(rt, "memory") {
+        Some(names) => {
+            let listed = word.strip_prefix("names:").unwrap_or("-");
+            are_there && are_names(names.as_slice(), listed)
+        }
+        None => !are_there && word == "-",
     }
 }
 
-/// The names in a body, or none.
-fn names_of(rt: &impl Abort, alloc: Global, header: &Header, message: &[u8]) -> Items<Text> {
-    let names = names_body(alloc, header, message).expect(rt, "memory");
-    names.unwrap_or(Items::new(alloc))
-}
-
-/// The same with the names.
-fn full_line(rt: &impl Abort, alloc: Global, header: &Header, message: &[u8]) -> String {
-    let mut line = plain_line(rt, alloc, header, message);
-    put_names(
-        rt,
-        &mut line,
-        names_of(rt, alloc, header, message).as_slice(),
-    );
-    line
-}
-
-/// The body of a message that was read.
-fn read_body(
-    rt: &impl Abort,
-    alloc: Global,
-    read: &Result<ReadFrame, FrameError>,
-    message: &[u8],
-) -> String {
-    match read {
-        Ok(ReadFrame::Frame(header, _)) => full_line(rt, alloc, header, message),
-        _ => "no message".to_string(alloc).expect(rt, "memory"),
+/// Whether bytes are a message whose body is this: its texts and its names.
+pub fn is_body(rt: &impl Abort, alloc: Global, bytes: &[u8], line: &str) -> bool {
+    match read_frame(alloc, bytes) {
+        Ok(ReadFrame::Frame(header, _)) => {
+            let is_so = has_texts(&header, bytes, line)
+                && has_names(rt, alloc, &header, bytes, word_at(line, 4));
+            drop(header);
+            is_so
+        }
+        Ok(ReadFrame::Need(_)) | Err(_) => false,
     }
-}
-
-/// The body of a message: the order of its bytes and where it begins, its first text, its three
-/// texts, its names.
-pub fn body_line(rt: &impl Abort, alloc: Global, bytes: &[u8]) -> String {
-    let read = read_frame(alloc, bytes);
-    let line = read_body(rt, alloc, &read, bytes);
-    drop(read);
-    line
 }
