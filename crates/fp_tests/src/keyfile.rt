@@ -1,12 +1,12 @@
 //! Key files with what they read as, worked out from the rules by hand.
 
 use crate::many;
-use crate::rows::{agree, is_text};
+use crate::rows::agree;
 use fp_base::KeyRule;
 use fp_keyfile::{
     KeyError, KeyFault, KeyFile, is_group_name, is_pair_key, is_pair_value, trim_front,
 };
-use std::alloc::{AllocError, Global};
+use std::alloc::Global;
 use std::panic::Expect;
 use std::process::Abort;
 
@@ -70,121 +70,97 @@ const FILES: [(&str, &str); 44] = [
     ("[b]\n[a]\nk=\n", "[b]\n[a]\nk=\n"),
 ];
 
-/// The key file of the text.
-fn file_of(rt: &impl Abort, alloc: Global, text: &str) -> KeyFile {
-    KeyFile::parse(alloc, text.as_bytes()).expect(rt, "a key file")
+/// Whether a copy of the file is written so.
+fn is_now(rt: &impl Abort, file: &KeyFile, text: &str) -> bool {
+    let copy = file.copy().expect(rt, "memory");
+    copy.write().expect(rt, "memory").as_str() == text
 }
 
 /// Whether the file of the text is written so.
 fn is_written(rt: &impl Abort, alloc: Global, text: &str, want: &str) -> bool {
-    is_text(rt, file_of(rt, alloc, text).write(), want)
+    let file = KeyFile::parse(alloc, text.as_bytes()).expect(rt, "a key file");
+    is_now(rt, &file, want)
 }
 
-/// What is written for a file is written again as it is.
+/// What is written for a file is written again as it is. So are a value of a mebibyte, and a file of
+/// a mebibyte in 1,100 groups.
 #[test]
 fn reads_and_writes(rt: HostRuntime) {
+    let alloc = rt.alloc();
     for (text, want) in &FILES {
-        agree(&rt, text, is_written(&rt, rt.alloc(), text, want));
-        agree(&rt, want, is_written(&rt, rt.alloc(), want, want));
+        agree(&rt, text, is_written(&rt, alloc, text, want));
+        agree(&rt, want, is_written(&rt, alloc, want, want));
+    }
+    for (count, length) in [(1, 1 << 20), (1_100, 1_000)] {
+        let value = "v".repeat(alloc, length).expect(&rt, "memory");
+        let group = ["[g#]\nk=", &value, "\n"]
+            .concat(alloc)
+            .expect(&rt, "memory");
+        let text = many::numbered(&rt, alloc, &group, count);
+        assert!(rt; is_written(&rt, alloc, &text, &text));
     }
 }
 
-/// Texts that are no key file, and the first bad line with its rule.
-const FAULTS: [(&str, u64, KeyRule); 36] = [
-    ("a=1", 1, KeyRule::NoGroup),
-    ("\n\n# c\na=1\n[g]", 4, KeyRule::NoGroup),
-    ("x", 1, KeyRule::Line),
-    ("[g]\nx\n", 2, KeyRule::Line),
-    ("[g]\nkey\r\n", 2, KeyRule::Line),
-    ("[g]\n  [h]\n", 2, KeyRule::Line),
-    (" # c", 1, KeyRule::Line),
-    ("\r \n", 1, KeyRule::Line),
-    ("\u{feff}[g]\n", 1, KeyRule::Line),
-    ("[]", 1, KeyRule::Group),
-    ("[a", 1, KeyRule::Group),
-    ("[", 1, KeyRule::Group),
-    ("[a[b]", 1, KeyRule::Group),
-    ("[a]b]", 1, KeyRule::Group),
-    ("[a]x", 1, KeyRule::Group),
-    ("[a]=1", 1, KeyRule::Group),
-    ("[a] #", 1, KeyRule::Group),
-    ("[a\tb]", 1, KeyRule::Group),
-    ("[a\u{7f}]", 1, KeyRule::Group),
-    ("[a]\r \n", 1, KeyRule::Group),
-    ("[g]\n=1", 2, KeyRule::Key),
-    ("[g]\n \t=1", 2, KeyRule::Key),
-    ("[g]\n a=1", 2, KeyRule::Key),
-    ("[g]\n\ta=1", 2, KeyRule::Key),
-    ("[g]\na\tb=1", 2, KeyRule::Key),
-    ("[g]\na\u{1}=1", 2, KeyRule::Key),
-    ("[g]\na\u{7f}=1", 2, KeyRule::Key),
+/// Bytes that are no key file, and the first bad line with its rule.
+const FAULTS: [(&[u8], u64, KeyRule); 42] = [
+    (b"a=1", 1, KeyRule::NoGroup),
+    (b"\n\n# c\na=1\n[g]", 4, KeyRule::NoGroup),
+    (b"x", 1, KeyRule::Line),
+    (b"[g]\nx\n", 2, KeyRule::Line),
+    (b"[g]\nkey\r\n", 2, KeyRule::Line),
+    (b"[g]\n  [h]\n", 2, KeyRule::Line),
+    (b" # c", 1, KeyRule::Line),
+    (b"\r \n", 1, KeyRule::Line),
+    (b"\xef\xbb\xbf[g]\n", 1, KeyRule::Line),
+    (b"[]", 1, KeyRule::Group),
+    (b"[a", 1, KeyRule::Group),
+    (b"[", 1, KeyRule::Group),
+    (b"[a[b]", 1, KeyRule::Group),
+    (b"[a]b]", 1, KeyRule::Group),
+    (b"[a]x", 1, KeyRule::Group),
+    (b"[a]=1", 1, KeyRule::Group),
+    (b"[a] #", 1, KeyRule::Group),
+    (b"[a\tb]", 1, KeyRule::Group),
+    (b"[a\x7f]", 1, KeyRule::Group),
+    (b"[a]\r \n", 1, KeyRule::Group),
+    (b"[g]\n=1", 2, KeyRule::Key),
+    (b"[g]\n \t=1", 2, KeyRule::Key),
+    (b"[g]\n a=1", 2, KeyRule::Key),
+    (b"[g]\n\ta=1", 2, KeyRule::Key),
+    (b"[g]\na\tb=1", 2, KeyRule::Key),
+    (b"[g]\na\x01=1", 2, KeyRule::Key),
+    (b"[g]\na\x7f=1", 2, KeyRule::Key),
     // the first rule of several, and the first line of several
-    ("=1", 1, KeyRule::Key),
-    (" #c=1", 1, KeyRule::Key),
-    ("x\n[", 1, KeyRule::Line),
-    ("[g]\na=1\n[\nx\n", 3, KeyRule::Group),
-    ("[g]\na=1\nb=2\nc\n[x", 4, KeyRule::Line),
-    ("[g]\n[\u{0}", 2, KeyRule::Text),
-    ("#\u{0}", 1, KeyRule::Text),
-    ("[g]\na=\u{0}", 2, KeyRule::Text),
-    ("\u{0}\n[", 1, KeyRule::Text),
+    (b"=1", 1, KeyRule::Key),
+    (b" #c=1", 1, KeyRule::Key),
+    (b"x\n[", 1, KeyRule::Line),
+    (b"[g]\na=1\n[\nx\n", 3, KeyRule::Group),
+    (b"[g]\na=1\nb=2\nc\n[x", 4, KeyRule::Line),
+    (b"[g]\n[\x00", 2, KeyRule::Text),
+    (b"#\x00", 1, KeyRule::Text),
+    (b"[g]\na=\x00", 2, KeyRule::Text),
+    (b"\x00\n[", 1, KeyRule::Text),
+    // `[g]`, and then a value with a byte that begins no character
+    (b"\x5b\x67\x5d\x0a\x61\x3d\xff", 2, KeyRule::Text),
+    // a comment that ends within a character
+    (b"\x23\x20\x20\x20\x20\x20\xc3", 1, KeyRule::Text),
+    // a character with a newline in its midst
+    (b"\x23\xc3\x0a\xa4\x0a\x0a\x0a", 1, KeyRule::Text),
+    // an overlong zero
+    (b"\x0a\x0a\x23\xc0\x80\x0a\x0a", 3, KeyRule::Text),
+    // a surrogate
+    (b"\x0a\x23\xed\xa0\x80\x0a\x0a", 2, KeyRule::Text),
+    // a number past the last character
+    (b"\x23\xf4\x90\x80\x80\x0a\x0a", 1, KeyRule::Text),
 ];
-
-/// Whether these bytes have this fault.
-fn has_fault(alloc: Global, bytes: &[u8], line: u64, rule: KeyRule) -> bool {
-    let fault = KeyError::Fault(KeyFault { line, rule });
-    KeyFile::parse(alloc, bytes).err() == Some(fault)
-}
 
 #[test]
 fn names_the_first_fault(rt: HostRuntime) {
-    for (text, line, rule) in &FAULTS {
-        agree(
-            &rt,
-            text,
-            has_fault(rt.alloc(), text.as_bytes(), *line, *rule),
-        );
-    }
-}
-
-/// What bytes have that aren't UTF-8, the bytes, and the line where that is.
-const NO_TEXTS: [(&str, [u8; 7], u64); 6] = [
-    (
-        "`[g]`, and then a value with a byte that begins no character",
-        [0x5b, 0x67, 0x5d, 0x0a, 0x61, 0x3d, 0xff],
-        2,
-    ),
-    (
-        "a comment that ends within a character",
-        [0x23, 0x20, 0x20, 0x20, 0x20, 0x20, 0xc3],
-        1,
-    ),
-    (
-        "a character with a newline in its midst",
-        [0x23, 0xc3, 0x0a, 0xa4, 0x0a, 0x0a, 0x0a],
-        1,
-    ),
-    (
-        "an overlong zero",
-        [0x0a, 0x0a, 0x23, 0xc0, 0x80, 0x0a, 0x0a],
-        3,
-    ),
-    ("a surrogate", [0x0a, 0x23, 0xed, 0xa0, 0x80, 0x0a, 0x0a], 2),
-    (
-        "a number past the last character",
-        [0x23, 0xf4, 0x90, 0x80, 0x80, 0x0a, 0x0a],
-        1,
-    ),
-];
-
-#[test]
-fn names_the_first_line_that_is_no_text(rt: HostRuntime) {
-    for (what, bytes, line) in &NO_TEXTS {
-        agree(
-            &rt,
-            what,
-            has_fault(rt.alloc(), bytes, *line, KeyRule::Text),
-        );
+    for (bytes, line, rule) in &FAULTS {
+        let (line, rule) = (*line, *rule);
+        let fault = KeyFile::parse(rt.alloc(), bytes).err();
+        let is_so = fault == Some(KeyError::Fault(KeyFault { line, rule }));
+        agree(&rt, str::from_utf8(bytes).unwrap_or("no text"), is_so);
     }
 }
 
@@ -218,11 +194,6 @@ fn change(rt: &impl Abort, file: &mut KeyFile, group: &str, key: &str, value: Op
     }
 }
 
-/// Whether a copy of the file is written so.
-fn is_now(rt: &impl Abort, file: &KeyFile, text: &str) -> bool {
-    is_text(rt, file.copy().expect(rt, "memory").write(), text)
-}
-
 #[test]
 fn changes(rt: HostRuntime) {
     let mut file = KeyFile::new(rt.alloc());
@@ -231,6 +202,24 @@ fn changes(rt: HostRuntime) {
         let is_so = is_now(&rt, &file, text) && file.get(group, key) == *value;
         agree(&rt, text, is_so);
     }
+}
+
+/// A file in which 1,100 pairs of one group, and 1,100 groups, were set.
+#[test]
+fn many_pairs_are_set(rt: HostRuntime) {
+    let alloc = rt.alloc();
+    let mut file = KeyFile::new(alloc);
+    for number in 0..1_100 {
+        let name = format!(in alloc; "n{number:04}").expect(&rt, "memory");
+        change(&rt, &mut file, "g", &name, Some("v"));
+        change(&rt, &mut file, &name, "k", Some("v"));
+    }
+    let pairs = many::numbered(&rt, alloc, "n#=v\n", 1_100);
+    let groups = many::numbered(&rt, alloc, "[n#]\nk=v\n", 1_100);
+    let text = ["[g]\n", &pairs, &groups]
+        .concat(alloc)
+        .expect(&rt, "memory");
+    assert!(rt; is_now(&rt, &file, &text));
 }
 
 /// Texts, and whether each is a group's name, a key and a value.
@@ -265,66 +254,4 @@ fn parts(rt: HostRuntime) {
         agree(&rt, text, are_parts(text, *name, *key, *value));
     }
     assert!(rt; trim_front(" \t a ") == "a ");
-}
-
-/// Adds the group of this number with a pair of this value.
-fn put_group(text: &mut String, number: usize, value: &str) -> Result<(), AllocError> {
-    write!(text, "[g{number}]\nk={value}\n")
-}
-
-/// A file of this many groups with a pair each, which has this value.
-fn many_groups(rt: &impl Abort, alloc: Global, count: usize, value: &str) -> String {
-    let mut text = String::new(alloc);
-    for number in 0..count {
-        put_group(&mut text, number, value).expect(rt, "memory");
-    }
-    text
-}
-
-/// A value of this many bytes.
-fn value_of(rt: &impl Abort, alloc: Global, length: usize) -> String {
-    "v".repeat(alloc, length).expect(rt, "memory")
-}
-
-/// Whether a file of this many groups, each with a pair whose value has this many bytes, is read,
-/// copied and written as it was.
-fn keeps_groups(rt: &impl Abort, alloc: Global, count: usize, length: usize) -> bool {
-    let text = many_groups(rt, alloc, count, &value_of(rt, alloc, length));
-    is_now(rt, &file_of(rt, alloc, &text), &text)
-}
-
-/// A value of a mebibyte, and a file of a mebibyte in 1,100 groups.
-#[test]
-fn much_is_kept(rt: HostRuntime) {
-    assert!(rt;
-        keeps_groups(&rt, rt.alloc(), 1, 1 << 20) && keeps_groups(&rt, rt.alloc(), 1_100, 1_000)
-    );
-}
-
-/// Sets a pair of the first group, and a group of its own.
-fn grow(rt: &impl Abort, file: &mut KeyFile, name: &str) {
-    change(rt, file, "g", name, Some("v"));
-    change(rt, file, name, "k", Some("v"));
-}
-
-/// A file in which this many pairs of one group, and this many groups, were set.
-fn grown_file(rt: &impl Abort, alloc: Global, count: usize) -> KeyFile {
-    let mut file = KeyFile::new(alloc);
-    for number in 0..count {
-        grow(rt, &mut file, &many::name(rt, alloc, number));
-    }
-    file
-}
-
-/// Whether the file has this many groups, and its text this many bytes.
-fn is_large(rt: &impl Abort, file: &KeyFile, groups: usize, length: usize) -> bool {
-    let text = file.write().expect(rt, "memory");
-    file.groups().len() == groups && text.as_str().len() == length
-}
-
-#[test]
-fn many_pairs_are_set(rt: HostRuntime) {
-    let file = grown_file(&rt, rt.alloc(), 1_100);
-    let copy = file.copy().expect(&rt, "memory");
-    assert!(rt; is_large(&rt, &copy, 1_101, 4 + 1_100 * 8 + 1_100 * 12));
 }

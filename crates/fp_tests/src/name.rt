@@ -1,7 +1,7 @@
 //! Names of applications, runtimes and remotes, and digests.
 
 use crate::parsed::pattern_of;
-use crate::rows::{agree, agree_at};
+use crate::rows::agree;
 use fp_name::{
     AppId, Digest, NameError, PinPattern, RefKind, RefName, RemoteName, RemoteUrl, is_arch,
     is_branch, is_id, is_pin, is_ref, is_remote_name, is_url,
@@ -10,53 +10,19 @@ use std::alloc::Global;
 use std::panic::Expect;
 use std::process::Abort;
 
-/// Kinds of texts.
-#[derive(Clone, Copy)]
-enum Kind {
-    Id,
-    Arch,
-    Branch,
-    Remote,
-    Url,
-    Ref,
-    Pattern,
-    Digest,
-}
-
-/// Whether the text is of this kind.
-fn is_of(kind: Kind, text: &str) -> bool {
+/// Whether the text is of the kind of this letter: an ID, an ARCH, a BRANCH, the name or the url of
+/// a remote, a ref, a pattern or a digest.
+fn is_of(kind: u8, text: &str) -> bool {
     match kind {
-        Kind::Id => is_id(text),
-        Kind::Arch => is_arch(text),
-        Kind::Branch => is_branch(text),
-        Kind::Remote => is_remote_name(text),
-        Kind::Url => is_url(text),
-        Kind::Ref => is_ref(text),
-        Kind::Pattern => is_pin(text),
-        Kind::Digest => Digest::parse(text.as_bytes()).is_ok(),
+        b'i' => is_id(text),
+        b'a' => is_arch(text),
+        b'b' => is_branch(text),
+        b'n' => is_remote_name(text),
+        b'u' => is_url(text),
+        b'r' => is_ref(text),
+        b'p' => is_pin(text),
+        _ => Digest::parse(text.as_bytes()).is_ok(),
     }
-}
-
-/// Ends the test at a text that is otherwise.
-fn agree_on(rt: &impl Abort, kind: Kind, rows: &[(&str, bool)]) {
-    for (text, good) in rows {
-        agree(rt, text, is_of(kind, text) == *good);
-    }
-}
-
-/// The same of two kinds.
-fn agree_on_two(rt: &impl Abort, first: Kind, second: Kind, rows: &[(&str, bool, bool)]) {
-    for (text, one, other) in rows {
-        let is_so = is_of(first, text) == *one && is_of(second, text) == *other;
-        agree(rt, text, is_so);
-    }
-}
-
-/// A text of `length` bytes or more: the front, and letters after it.
-fn filled_text(rt: &impl Abort, alloc: Global, front: &str, length: usize) -> String {
-    let count = length.saturating_sub(front.len());
-    let letters = "a".repeat(alloc, count).expect(rt, "memory");
-    [front, &letters].concat(alloc).expect(rt, "memory")
 }
 
 /// Texts, and whether each is an ID.
@@ -95,37 +61,6 @@ const IDS: [(&str, bool); 34] = [
     ("org.x.\u{e9}", false),
     ("org.x.Y@", false),
     ("org.x.Y[", false),
-];
-
-/// Texts, whether each is an ARCH, and whether it is a BRANCH.
-const ARCHS_AND_BRANCHES: [(&str, bool, bool); 27] = [
-    ("x86_64", true, true),
-    ("aarch64", true, true),
-    ("_", true, true),
-    ("0", true, true),
-    ("Z9", true, true),
-    ("stable", true, true),
-    ("22.08", false, true),
-    ("-", false, true),
-    ("1-", false, true),
-    ("a.", false, true),
-    ("a..b", false, true),
-    ("5.15-22.08", false, true),
-    ("", false, false),
-    (".", false, false),
-    ("..", false, false),
-    (".stable", false, false),
-    ("a/b", false, false),
-    ("1/2", false, false),
-    ("a b", false, false),
-    ("a+b", false, false),
-    ("a\t", false, false),
-    ("a\u{7f}", false, false),
-    ("a\0", false, false),
-    ("\u{e9}", false, false),
-    ("*", false, false),
-    ("a:b", false, false),
-    ("a,b", false, false),
 ];
 
 /// Texts, and whether each is the name of a remote.
@@ -167,44 +102,6 @@ const URLS: [(&str, bool); 18] = [
     ("file:///a\0", false),
     ("file:///\u{e9}", false),
     ("file//:/", false),
-];
-
-/// Texts, whether each is a ref, and whether it is a pattern.
-const REFS_AND_PATTERNS: [(&str, bool, bool); 34] = [
-    ("app/org.x.App/x86_64/stable", true, true),
-    ("runtime/org.x.Y-z/x86_64/22.08", true, true),
-    ("app/a.b.c/_/-", true, true),
-    ("app/org.x/x86_64/stable", false, false),
-    ("runtime/org.x-y.Z/x86_64/1", false, false),
-    ("", false, false),
-    ("app", false, false),
-    ("app/", false, false),
-    ("app/org.x.App", false, false),
-    ("app/org.x.App/x86_64", false, false),
-    ("app/org.x.App/x86_64/", false, false),
-    ("app/org.x.App//stable", false, false),
-    ("app//x86_64/stable", false, false),
-    ("/org.x.App/x86_64/stable", false, false),
-    ("app/org.x.App/x86_64/stable/", false, false),
-    ("app/org.x.App/x86_64/sta/ble", false, false),
-    ("App/org.x.App/x86_64/stable", false, false),
-    ("apps/org.x.App/x86_64/stable", false, false),
-    ("extension/org.x.App/x86_64/stable", false, false),
-    ("app/org.x.App/x86-64/stable", false, false),
-    ("app/org.x.App/x86_64/.stable", false, false),
-    ("app/org.x.App/x86_64/stable\n", false, false),
-    ("app/org.x.Y/x86_64", false, false),
-    ("app/org.x.Y/x86_64/1/2", false, false),
-    ("app/org.x/x86_64/1", false, false),
-    ("app/a.b.c/a/.1", false, false),
-    ("app/*/*/*", false, true),
-    ("app/org.x.App/*/stable", false, true),
-    ("runtime/*/x86_64/22.08", false, true),
-    ("*/org.x.App/x86_64/stable", false, false),
-    ("app/org.x.*/x86_64/stable", false, false),
-    ("app/**/x86_64/stable", false, false),
-    ("app/*/*", false, false),
-    ("app/*/*/*/*", false, false),
 ];
 
 /// Texts, and whether each is a digest.
@@ -254,14 +151,125 @@ const DIGESTS: [(&str, bool); 13] = [
     ),
 ];
 
+/// Texts, whether each is an ARCH, and whether it is a BRANCH.
+const ARCHS_AND_BRANCHES: [(&str, bool, bool); 27] = [
+    ("x86_64", true, true),
+    ("aarch64", true, true),
+    ("_", true, true),
+    ("0", true, true),
+    ("Z9", true, true),
+    ("stable", true, true),
+    ("22.08", false, true),
+    ("-", false, true),
+    ("1-", false, true),
+    ("a.", false, true),
+    ("a..b", false, true),
+    ("5.15-22.08", false, true),
+    ("", false, false),
+    (".", false, false),
+    ("..", false, false),
+    (".stable", false, false),
+    ("a/b", false, false),
+    ("1/2", false, false),
+    ("a b", false, false),
+    ("a+b", false, false),
+    ("a\t", false, false),
+    ("a\u{7f}", false, false),
+    ("a\0", false, false),
+    ("\u{e9}", false, false),
+    ("*", false, false),
+    ("a:b", false, false),
+    ("a,b", false, false),
+];
+
+/// Texts, whether each is a ref, and whether it is a pattern.
+const REFS_AND_PATTERNS: [(&str, bool, bool); 34] = [
+    ("app/org.x.App/x86_64/stable", true, true),
+    ("runtime/org.x.Y-z/x86_64/22.08", true, true),
+    ("app/a.b.c/_/-", true, true),
+    ("app/org.x/x86_64/stable", false, false),
+    ("runtime/org.x-y.Z/x86_64/1", false, false),
+    ("", false, false),
+    ("app", false, false),
+    ("app/", false, false),
+    ("app/org.x.App", false, false),
+    ("app/org.x.App/x86_64", false, false),
+    ("app/org.x.App/x86_64/", false, false),
+    ("app/org.x.App//stable", false, false),
+    ("app//x86_64/stable", false, false),
+    ("/org.x.App/x86_64/stable", false, false),
+    ("app/org.x.App/x86_64/stable/", false, false),
+    ("app/org.x.App/x86_64/sta/ble", false, false),
+    ("App/org.x.App/x86_64/stable", false, false),
+    ("apps/org.x.App/x86_64/stable", false, false),
+    ("extension/org.x.App/x86_64/stable", false, false),
+    ("app/org.x.App/x86-64/stable", false, false),
+    ("app/org.x.App/x86_64/.stable", false, false),
+    ("app/org.x.App/x86_64/stable\n", false, false),
+    ("app/org.x.Y/x86_64", false, false),
+    ("app/org.x.Y/x86_64/1/2", false, false),
+    ("app/org.x/x86_64/1", false, false),
+    ("app/a.b.c/a/.1", false, false),
+    ("app/*/*/*", false, true),
+    ("app/org.x.App/*/stable", false, true),
+    ("runtime/*/x86_64/22.08", false, true),
+    ("*/org.x.App/x86_64/stable", false, false),
+    ("app/org.x.*/x86_64/stable", false, false),
+    ("app/**/x86_64/stable", false, false),
+    ("app/*/*", false, false),
+    ("app/*/*/*/*", false, false),
+];
+
+/// Ends the test at a text that is otherwise than its row says of a kind.
+fn agree_on(rt: &impl Abort, kind: u8, rows: &[(&str, bool)]) {
+    for (text, good) in rows {
+        agree(rt, text, is_of(kind, text) == *good);
+    }
+}
+
+/// The same of two kinds.
+fn agree_on_two(rt: &impl Abort, first: u8, second: u8, rows: &[(&str, bool, bool)]) {
+    for (text, one, other) in rows {
+        let is_so = is_of(first, text) == *one && is_of(second, text) == *other;
+        agree(rt, text, is_so);
+    }
+}
+
+/// A text of `length` bytes or more: the front, and letters after it.
+fn filled_text(rt: &impl Abort, alloc: Global, front: &str, length: usize) -> String {
+    let count = length.saturating_sub(front.len());
+    let letters = "a".repeat(alloc, count).expect(rt, "memory");
+    [front, &letters].concat(alloc).expect(rt, "memory")
+}
+
+/// Texts that begin so and have this many bytes, and whether each is of the kind.
+const LENGTHS: [(u8, &str, usize, bool); 12] = [
+    (b'i', "org.x.", 255, true),
+    (b'i', "org.x.", 256, false),
+    (b'a', "", 1, true),
+    (b'a', "", 255, true),
+    (b'a', "", 256, false),
+    (b'b', "", 1, true),
+    (b'b', "", 255, true),
+    (b'b', "", 256, false),
+    (b'n', "a", 64, true),
+    (b'n', "a", 65, false),
+    (b'u', "file:///", 1024, true),
+    (b'u', "file:///", 1025, false),
+];
+
 #[test]
 fn texts_of_each_kind(rt: HostRuntime) {
-    agree_on(&rt, Kind::Id, &IDS);
-    agree_on(&rt, Kind::Remote, &REMOTES);
-    agree_on(&rt, Kind::Url, &URLS);
-    agree_on(&rt, Kind::Digest, &DIGESTS);
-    agree_on_two(&rt, Kind::Arch, Kind::Branch, &ARCHS_AND_BRANCHES);
-    agree_on_two(&rt, Kind::Ref, Kind::Pattern, &REFS_AND_PATTERNS);
+    agree_on(&rt, b'i', &IDS);
+    agree_on(&rt, b'n', &REMOTES);
+    agree_on(&rt, b'u', &URLS);
+    agree_on(&rt, b'd', &DIGESTS);
+    agree_on_two(&rt, b'a', b'b', &ARCHS_AND_BRANCHES);
+    agree_on_two(&rt, b'r', b'p', &REFS_AND_PATTERNS);
+    for (kind, front, length, good) in &LENGTHS {
+        let text = filled_text(&rt, rt.alloc(), front, *length);
+        agree(&rt, &text, is_of(*kind, &text) == *good);
+    }
 }
 
 #[test]
@@ -277,53 +285,9 @@ fn bytes_that_are_no_text(rt: HostRuntime) {
     );
 }
 
-/// Texts that begin so and have this many bytes, and whether each is of the kind.
-const LENGTHS: [(Kind, &str, usize, bool); 12] = [
-    (Kind::Id, "org.x.", 255, true),
-    (Kind::Id, "org.x.", 256, false),
-    (Kind::Arch, "", 1, true),
-    (Kind::Arch, "", 255, true),
-    (Kind::Arch, "", 256, false),
-    (Kind::Branch, "", 1, true),
-    (Kind::Branch, "", 255, true),
-    (Kind::Branch, "", 256, false),
-    (Kind::Remote, "a", 64, true),
-    (Kind::Remote, "a", 65, false),
-    (Kind::Url, "file:///", 1024, true),
-    (Kind::Url, "file:///", 1025, false),
-];
-
-/// Whether a text that begins so and has this many bytes is of the kind.
-fn is_long(rt: &impl Abort, alloc: Global, kind: Kind, front: &str, length: usize) -> bool {
-    is_of(kind, &filled_text(rt, alloc, front, length))
-}
-
-#[test]
-fn lengths(rt: HostRuntime) {
-    for (row, (kind, front, length, good)) in LENGTHS.iter().enumerate() {
-        let is_so = is_long(&rt, rt.alloc(), *kind, front, *length) == *good;
-        agree_at(&rt, row, is_so);
-    }
-}
-
 /// The ref of the text.
 fn ref_of(rt: &impl Abort, alloc: Global, text: &str) -> RefName {
     RefName::parse(alloc, text.as_bytes()).expect(rt, "a ref")
-}
-
-fn has_parts(name: &RefName, kind: RefKind, id: &str, arch: &str, branch: &str) -> bool {
-    name.kind() == kind && name.id() == id && name.arch() == arch && name.branch() == branch
-}
-
-#[test]
-fn refs_of_parts(rt: HostRuntime) {
-    let name = ref_of(&rt, rt.alloc(), "runtime/org.x.Y-z/x86_64/22.08");
-    assert!(rt; has_parts(&name, RefKind::Runtime, "org.x.Y-z", "x86_64", "22.08"));
-}
-
-/// Whether the ref of the left text comes before that of the right one.
-fn ascend(rt: &impl Abort, alloc: Global, left: &str, right: &str) -> bool {
-    ref_of(rt, alloc, left) < ref_of(rt, alloc, right)
 }
 
 /// By the bytes of the texts the left ref comes first. The first two have the other order by their
@@ -341,11 +305,9 @@ const ORDERED: [(&str, &str); 10] = [
     ("app/org.x.A/x86_64/10", "app/org.x.A/x86_64/9"),
 ];
 
-#[test]
-fn order(rt: HostRuntime) {
-    for (left, right) in &ORDERED {
-        agree(&rt, left, ascend(&rt, rt.alloc(), left, right));
-    }
+/// Whether the ref of the left text comes before that of the right one.
+fn ascend(rt: &impl Abort, alloc: Global, left: &str, right: &str) -> bool {
+    ref_of(rt, alloc, left) < ref_of(rt, alloc, right)
 }
 
 /// Patterns, and whether each matches `app/org.x.App/x86_64/stable`.
@@ -368,21 +330,20 @@ const PATTERNS: [(&str, bool); 16] = [
     ("app/*/aarch64/stable", false),
 ];
 
-/// Whether the pattern of a text matches a ref.
-fn is_match(rt: &impl Abort, alloc: Global, text: &str, name: &RefName) -> bool {
-    pattern_of(rt, alloc, text).matches(name)
-}
-
 #[test]
-fn patterns_match_refs(rt: HostRuntime) {
-    let name = ref_of(&rt, rt.alloc(), "app/org.x.App/x86_64/stable");
-    for (text, matches) in &PATTERNS {
-        agree(
-            &rt,
-            text,
-            is_match(&rt, rt.alloc(), text, &name) == *matches,
-        );
+fn refs_and_patterns(rt: HostRuntime) {
+    let alloc = rt.alloc();
+    for (left, right) in &ORDERED {
+        agree(&rt, left, ascend(&rt, alloc, left, right));
     }
+    let name = ref_of(&rt, alloc, "app/org.x.App/x86_64/stable");
+    for (text, matches) in &PATTERNS {
+        let is_so = pattern_of(&rt, alloc, text).matches(&name) == *matches;
+        agree(&rt, text, is_so);
+    }
+    let name = ref_of(&rt, alloc, "runtime/org.x.Y-z/x86_64/22.08");
+    assert!(rt; name.kind() == RefKind::Runtime && name.id() == "org.x.Y-z");
+    assert!(rt; name.arch() == "x86_64" && name.branch() == "22.08");
 }
 
 /// SHA-256 of no bytes.
@@ -404,78 +365,49 @@ fn digest(rt: HostRuntime) {
     );
 }
 
-/// Whether the text is an ID, which is written and copied.
-fn keeps_id(rt: &impl Abort, alloc: Global, text: &str) -> bool {
-    let id = AppId::parse(alloc, text.as_bytes()).expect(rt, "an ID");
-    id.write().is_ok() && id.copy().is_ok()
+/// Whether the longest names of their kinds are written and copied.
+fn keeps_names(rt: &impl Abort, alloc: Global) -> bool {
+    let id = filled_text(rt, alloc, "org.x.", 255);
+    let id = AppId::parse(alloc, id.as_bytes()).expect(rt, "an ID");
+    let name = filled_text(rt, alloc, "", 64);
+    let name = RemoteName::parse(alloc, name.as_bytes()).expect(rt, "a name");
+    let url = filled_text(rt, alloc, "file:///", 1024);
+    let url = RemoteUrl::parse(alloc, url.as_bytes()).expect(rt, "a url");
+    id.write().is_ok()
+        && id.copy().is_ok()
+        && name.write().is_ok()
+        && name.copy().is_ok()
+        && url.write().is_ok()
+        && url.copy().is_ok()
 }
 
-/// The same of the name of a remote.
-fn keeps_remote(rt: &impl Abort, alloc: Global, text: &str) -> bool {
-    let name = RemoteName::parse(alloc, text.as_bytes()).expect(rt, "a name");
-    name.write().is_ok() && name.copy().is_ok()
+/// Whether the text is a ref, which is written, copied and made again.
+fn keeps_ref(rt: &impl Abort, alloc: Global, text: &str) -> bool {
+    let name = ref_of(rt, alloc, text);
+    let (_, rest) = text.split_once('/').unwrap_or((text, ""));
+    name.write().is_ok()
+        && name.path().is_ok()
+        && name.copy().is_ok()
+        && name.app_id().is_ok()
+        && RefName::new(alloc, name.kind(), name.id(), name.arch(), name.branch()).is_ok()
+        && RefName::of_kind(alloc, name.kind(), rest).is_ok()
 }
 
-/// The same of the url of a remote.
-fn keeps_url(rt: &impl Abort, alloc: Global, text: &str) -> bool {
-    let url = RemoteUrl::parse(alloc, text.as_bytes()).expect(rt, "a url");
-    url.write().is_ok() && url.copy().is_ok()
+/// Whether the text is a pattern, which is written and copied, and matches the ref of the text.
+fn keeps_pattern(rt: &impl Abort, alloc: Global, text: &str) -> bool {
+    let pattern = pattern_of(rt, alloc, text);
+    pattern.write().is_ok() && pattern.copy().is_ok() && pattern.matches(&ref_of(rt, alloc, text))
 }
 
-/// The longest names are written and copied.
+/// The longest names, and the longest ref: an ID, an ARCH and a BRANCH of 255 bytes each.
 #[test]
 fn longest_names(rt: HostRuntime) {
     let alloc = rt.alloc();
-    assert!(rt;
-        keeps_id(&rt, alloc, &filled_text(&rt, alloc, "org.x.", 255))
-            && keeps_remote(&rt, alloc, &filled_text(&rt, alloc, "", 64))
-            && keeps_url(&rt, alloc, &filled_text(&rt, alloc, "file:///", 1024))
-    );
-}
-
-/// The longest ref: an ID, an ARCH and a BRANCH of 255 bytes each.
-fn longest_text(rt: &impl Abort, alloc: Global) -> String {
-    let id = filled_text(rt, alloc, "org.x.", 255);
-    let part = filled_text(rt, alloc, "", 255);
-    ["runtime", &id, &part, &part]
+    assert!(rt; keeps_names(&rt, alloc));
+    let id = filled_text(&rt, alloc, "org.x.", 255);
+    let part = filled_text(&rt, alloc, "", 255);
+    let text = ["runtime", &id, &part, &part]
         .join(alloc, "/")
-        .expect(rt, "memory")
-}
-
-/// Whether the ref is written and copied.
-fn is_copied(name: &RefName) -> bool {
-    name.write().is_ok() && name.path().is_ok() && name.copy().is_ok() && name.app_id().is_ok()
-}
-
-/// Whether it is made again of its parts.
-fn is_made(alloc: Global, name: &RefName) -> bool {
-    RefName::new(alloc, name.kind(), name.id(), name.arch(), name.branch()).is_ok()
-}
-
-/// Whether it is made of the text after its kind.
-fn is_made_of(alloc: Global, name: &RefName) -> bool {
-    match name.as_str().split_once('/') {
-        Some((_, rest)) => RefName::of_kind(alloc, name.kind(), rest).is_ok(),
-        None => false,
-    }
-}
-
-/// Whether the pattern is written and copied, and matches the ref.
-fn is_its_pattern(pattern: &PinPattern, name: &RefName) -> bool {
-    pattern.write().is_ok() && pattern.copy().is_ok() && pattern.matches(name)
-}
-
-/// Whether the text is a ref, which is copied and made again, and a pattern that matches it.
-fn is_kept(rt: &impl Abort, alloc: Global, text: &str) -> bool {
-    let name = ref_of(rt, alloc, text);
-    is_copied(&name)
-        && is_made(alloc, &name)
-        && is_made_of(alloc, &name)
-        && is_its_pattern(&pattern_of(rt, alloc, text), &name)
-}
-
-/// The longest ref.
-#[test]
-fn longest_ref(rt: HostRuntime) {
-    assert!(rt; is_kept(&rt, rt.alloc(), &longest_text(&rt, rt.alloc())));
+        .expect(&rt, "memory");
+    assert!(rt; keeps_ref(&rt, alloc, &text) && keeps_pattern(&rt, alloc, &text));
 }
