@@ -132,7 +132,8 @@ def breaks():
         after = objects[at + 1:] + objects[:at]
         other = others.get(kind) or next(found[2:] for found in after if found[1] == kind)
         for bits, broken in [(mode, content[:-1]), (mode, content + b"n"), other]:
-            yield name, bits, broken.hex(), digest(kind, bits, broken)
+            instead = f"link:{broken.decode()}" if kind == "link" else f"{bits:o}:{broken.hex()}"
+            yield name, instead, digest(kind, bits, broken)
 
 
 print(objects_of(few), end="")
@@ -143,5 +144,5 @@ for fill in (bare, few):
     print(listing_of(fill), end="")
 for size in (196_608, 327_680):
     print(size, digest("file", 0o644, bytes(size)), digest("file", 0o644, bytes(size - 1)))
-for name, bits, digits, broken in breaks():
-    print(f'    ("{name}", 0o{bits:o}, "{digits}", "{broken}"),')
+for name, instead, broken in breaks():
+    print(f"{name}={instead} => error: corrupt object {name} {broken}")

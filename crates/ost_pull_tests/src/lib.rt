@@ -3,17 +3,11 @@
 #![tactic(auto)]
 
 #[cfg(test)]
-mod boastful;
-#[cfg(test)]
-mod breaking;
-#[cfg(test)]
-mod faults;
-#[cfg(test)]
-mod fickle;
-#[cfg(test)]
 mod hostile;
 #[cfg(test)]
 mod made_breaks;
+#[cfg(test)]
+mod odd;
 #[cfg(test)]
 mod offering;
 #[cfg(test)]
@@ -22,7 +16,5 @@ mod offers;
 mod pulls;
 #[cfg(test)]
 mod rows;
-#[cfg(test)]
-mod sizes;
 #[cfg(test)]
 mod walks;

@@ -16,26 +16,9 @@ use std::thread::Threads;
 /// Where the remote is.
 pub const URL: &str = "file:///srv/lab";
 
-/// What the file `metadata` says.
-const METADATA: &str =
-    "[Application]\nname=org.example.App\nruntime=org.example.Platform/x86_64/1\n";
-
-/// What the files in `files/bin` say.
-pub const SCRIPT: &str = "#!/bin/sh\n";
-
 /// The path of the text.
 pub fn path(rt: &impl Abort, alloc: Global, text: &str) -> Path {
     Path::parse(alloc, text).expect(rt, "a path")
-}
-
-/// These bytes.
-pub fn blob(rt: &impl Abort, alloc: Global, bytes: &[u8]) -> Blob {
-    Blob::from_slice(alloc, bytes).expect(rt, "memory")
-}
-
-/// This many zero bytes.
-pub fn zeros(rt: &impl Abort, alloc: Global, size: usize) -> Blob {
-    Blob::from_vec(vec![in alloc; 0u8; size].expect(rt, "memory"))
 }
 
 /// The text.
@@ -43,53 +26,46 @@ pub fn text(rt: &impl Abort, alloc: Global, text: &str) -> Text {
     Text::from_str(alloc, text).expect(rt, "memory")
 }
 
-fn file(rt: &impl Abort, alloc: Global, place: &str, mode: u32, text: &str) -> TreeRow {
-    TreeRow::File {
-        path: path(rt, alloc, place),
-        mode,
-        bytes: blob(rt, alloc, text.as_bytes()),
+/// The bytes of a text in which `|` ends a line; `zeros:N` is so many zero bytes.
+fn bytes_of(rt: &impl Abort, alloc: Global, content: &str) -> Blob {
+    let bytes = match content.strip_prefix("zeros:") {
+        Some(count) => vec![in alloc; 0u8; count.parse::<usize>().unwrap_or(0)],
+        None => {
+            let lines = content.replace(alloc, "|", "\n").expect(rt, "memory");
+            Vec::from_slice(alloc, lines.as_bytes())
+        }
+    };
+    Blob::from_vec(bytes.expect(rt, "memory"))
+}
+
+/// A row of a tree: `dir PATH`, `link PATH TEXT`, or the permission bits of a file, its path and its
+/// bytes.
+fn tree_row(rt: &impl Abort, alloc: Global, row: &str) -> TreeRow {
+    let (kind, rest) = row.split_once(' ').unwrap_or((row, ""));
+    let (place, content) = rest.split_once(' ').unwrap_or((rest, ""));
+    let path = path(rt, alloc, place);
+    match kind {
+        "dir" => TreeRow::Dir(path),
+        "link" => TreeRow::Link {
+            path,
+            target: text(rt, alloc, content),
+        },
+        bits => TreeRow::File {
+            path,
+            mode: u32::from_str_radix(bits, 8).unwrap_or(0),
+            bytes: bytes_of(rt, alloc, content),
+        },
     }
 }
 
-fn link(rt: &impl Abort, alloc: Global, place: &str, target: &str) -> TreeRow {
-    TreeRow::Link {
-        path: path(rt, alloc, place),
-        target: Text::from_str(alloc, target).expect(rt, "memory"),
+/// The commit of a tree of these rows.
+pub fn commit_of(rt: &(impl Abort + Threads + Sync), alloc: Global, rows: &str) -> Built {
+    let mut tree = Vec::new(alloc);
+    for row in rows.lines() {
+        tree.push(tree_row(rt, alloc, row)).expect(rt, "memory");
     }
-}
-
-/// Two files of one content, a link, an empty folder, and `metadata`.
-fn few_rows(rt: &impl Abort, alloc: Global) -> Vec<TreeRow> {
-    let metadata = file(rt, alloc, "metadata", 0o644, METADATA);
-    let run = file(rt, alloc, "files/bin/run", 0o755, SCRIPT);
-    let again = file(rt, alloc, "files/bin/again", 0o755, SCRIPT);
-    let link = link(rt, alloc, "files/link", "bin/run");
-    let empty = TreeRow::Dir(path(rt, alloc, "empty"));
-    let rows = vec![in alloc; metadata, run, again, link, empty];
-    rows.expect(rt, "memory")
-}
-
-/// One of the many files and links.
-fn one_of_many(rt: &impl Abort, alloc: Global, i: usize) -> TreeRow {
-    let place = format!(in alloc; "files/d{}/e{}/f{i}", i % 8, i % 5).expect(rt, "memory");
-    if i % 10 == 9 {
-        let target = format!(in alloc; "f{}", i % 70).expect(rt, "memory");
-        return link(rt, alloc, &place, &target);
-    }
-    let mode = if i % 3 == 0 { 0o755 } else { 0o644 };
-    let text = format!(in alloc; "text {}\n", i % 130).expect(rt, "memory");
-    file(rt, alloc, &place, mode, &text)
-}
-
-/// 300 files and links in 40 folders, and `metadata`.
-fn many_rows(rt: &impl Abort, alloc: Global) -> Vec<TreeRow> {
-    let mut rows = Vec::new(alloc);
-    rows.push(file(rt, alloc, "metadata", 0o644, METADATA))
-        .expect(rt, "memory");
-    for i in 0usize..300 {
-        rows.push(one_of_many(rt, alloc, i)).expect(rt, "memory");
-    }
-    rows
+    let name = app(rt, alloc);
+    commit_tree(rt, alloc, &tree, &name, "subject", 1_700_000_000).expect(rt, "a commit")
 }
 
 /// The ref to which the commits are bound.
@@ -97,53 +73,37 @@ pub fn app(rt: &impl Abort, alloc: Global) -> RefName {
     RefName::parse(alloc, b"app/org.example.App/x86_64/stable").expect(rt, "a ref")
 }
 
-/// The commit of these rows.
-fn commit(rt: &(impl Abort + Threads + Sync), alloc: Global, rows: &[TreeRow]) -> Built {
-    let name = app(rt, alloc);
-    commit_tree(rt, alloc, rows, &name, "subject", 1_700_000_000).expect(rt, "a commit")
-}
+/// Two files of one content, a link, an empty folder, and `metadata`.
+pub const FEW: &str = "\
+644 metadata [Application]|name=org.example.App|runtime=org.example.Platform/x86_64/1|
+755 files/bin/run #!/bin/sh|
+755 files/bin/again #!/bin/sh|
+link files/link bin/run
+dir empty
+";
 
-/// The commit of no file.
-pub fn bare(rt: &(impl Abort + Threads + Sync), alloc: Global) -> Built {
-    commit(rt, alloc, &[])
-}
-
-/// The commit of a link `l` whose text has one letter.
-pub fn letter(rt: &(impl Abort + Threads + Sync), alloc: Global) -> Built {
-    let rows = vec![in alloc; link(rt, alloc, "l", "f")];
-    commit(rt, alloc, &rows.expect(rt, "memory"))
-}
-
-/// The commit of a file `big` of this many zero bytes.
-pub fn big(rt: &(impl Abort + Threads + Sync), alloc: Global, size: usize) -> Built {
-    let row = TreeRow::File {
-        path: path(rt, alloc, "big"),
-        mode: 0o644,
-        bytes: zeros(rt, alloc, size),
-    };
-    let rows = vec![in alloc; row];
-    commit(rt, alloc, &rows.expect(rt, "memory"))
-}
-
-/// The commit of a few files.
-pub fn few(rt: &(impl Abort + Threads + Sync), alloc: Global) -> Built {
-    commit(rt, alloc, &few_rows(rt, alloc))
-}
-
-/// The commit of many files.
-pub fn many(rt: &(impl Abort + Threads + Sync), alloc: Global) -> Built {
-    commit(rt, alloc, &many_rows(rt, alloc))
+/// 300 files and links in 40 folders, and `metadata`.
+pub fn many(rt: &impl Abort, alloc: Global) -> String {
+    let metadata = FEW.lines().next().unwrap_or("");
+    let mut rows = [metadata, "\n"].concat(alloc).expect(rt, "memory");
+    for i in 0usize..300 {
+        let place = format!(in alloc; "files/d{}/e{}/f{i}", i % 8, i % 5).expect(rt, "memory");
+        let bits = if i % 3 == 0 { 755 } else { 644 };
+        let row = if i % 10 == 9 {
+            format!(in alloc; "link {place} f{}\n", i % 70)
+        } else {
+            format!(in alloc; "{bits} {place} text {}|\n", i % 130)
+        };
+        rows.push_str(&row.expect(rt, "memory"))
+            .expect(rt, "memory");
+    }
+    rows
 }
 
 /// Puts the node at the path of the remote with this url.
-fn put_at(rt: &impl Abort, remotes: &mut MemRemotes, url: &str, place: &Path, node: MemNode) {
+pub fn put(rt: &impl Abort, remotes: &mut MemRemotes, url: &str, place: &Path, node: MemNode) {
     assert!(rt; remotes.can_put(url, place, &node));
     remotes.put(url, place, node).expect(rt, "memory");
-}
-
-/// Puts the node at the path of the remote.
-pub fn put(rt: &impl Abort, remotes: &mut MemRemotes, place: &Path, node: MemNode) {
-    put_at(rt, remotes, URL, place, node);
 }
 
 /// The path of an object at the remote.
@@ -152,7 +112,7 @@ pub fn place(rt: &impl Abort, alloc: Global, digest: &Digest, kind: ObjKind) -> 
 }
 
 /// The object, as it stands at a remote.
-pub fn node_of(rt: &impl Abort, object: &Object) -> MemNode {
+fn node_of(rt: &impl Abort, object: &Object) -> MemNode {
     match object {
         Object::Meta(bytes) => MemNode::File {
             mode: 0o644,
@@ -166,22 +126,65 @@ pub fn node_of(rt: &impl Abort, object: &Object) -> MemNode {
     }
 }
 
-/// A remote that holds nothing.
-pub fn empty(rt: &impl Abort, alloc: Global) -> MemRemotes {
-    MemRemotes::new(alloc).expect(rt, "memory")
+/// What a row has in the place of this object, if it does.
+///
+/// A row has `OBJECT=WHAT` for each such object: `nothing` is there, `link:TEXT`, or a file by its
+/// permission bits and bytes, as `644:00ff` or `644:zeros:N`. After `in/` it is not there but below
+/// a folder there.
+fn instead_of<'a>(row: &'a str, digest: &Digest) -> Option<&'a str> {
+    let digits = digest.digits();
+    for word in row.split(' ') {
+        let (object, what) = word.split_once('=').unwrap_or((word, "nothing"));
+        if object.as_bytes().starts_with(digits.as_slice()) {
+            return Some(what);
+        }
+    }
+    None
 }
 
-/// A remote with this url and the commit.
-pub fn offered_at(rt: &impl Abort, alloc: Global, url: &str, built: &Built) -> MemRemotes {
-    let mut remotes = empty(rt, alloc);
+/// A link, or a file with its permission bits.
+fn node_by(rt: &impl Abort, alloc: Global, what: &str) -> MemNode {
+    let (kind, content) = what.split_once(':').unwrap_or((what, ""));
+    if kind == "link" {
+        return MemNode::Link(text(rt, alloc, content));
+    }
+    let bytes = if content.starts_with("zeros:") {
+        bytes_of(rt, alloc, content)
+    } else {
+        Blob::from_vec(hex::decode(alloc, content).expect(rt, "digits"))
+    };
+    let mode = u32::from_str_radix(kind, 8).unwrap_or(0);
+    MemNode::File { mode, bytes }
+}
+
+/// Puts that in the place of an object.
+fn put_instead(
+    rt: &impl Abort,
+    alloc: Global,
+    remotes: &mut MemRemotes,
+    url: &str,
+    at: &Path,
+    what: &str,
+) {
+    match what.strip_prefix("in/") {
+        Some(what) => {
+            let within = at.child("within").expect(rt, "a path");
+            put(rt, remotes, url, &within, node_by(rt, alloc, what));
+        }
+        None if what == "nothing" => {}
+        None => put(rt, remotes, url, at, node_by(rt, alloc, what)),
+    }
+}
+
+/// A remote with this url and the commit, but for what the row has in the place of objects.
+pub fn offered(rt: &impl Abort, alloc: Global, url: &str, built: &Built, row: &str) -> MemRemotes {
+    let mut remotes = MemRemotes::new(alloc).expect(rt, "memory");
     for object in built.objects.as_slice() {
         let at = place(rt, alloc, &object.digest, object.kind);
-        put_at(rt, &mut remotes, url, &at, node_of(rt, &object.object));
+        match instead_of(row, &object.digest) {
+            Some(what) => put_instead(rt, alloc, &mut remotes, url, &at, what),
+            None => put(rt, &mut remotes, url, &at, node_of(rt, &object.object)),
+        }
     }
     remotes
-}
-
-/// A remote with the commit.
-pub fn offered(rt: &impl Abort, alloc: Global, built: &Built) -> MemRemotes {
-    offered_at(rt, alloc, URL, built)
 }

@@ -1,15 +1,13 @@
 //! Pulls into an empty store.
 
-use crate::fickle::Fickle;
-use crate::offers::{
-    SCRIPT, URL, bare, big, blob, empty, few, letter, many, node_of, offered, offered_at, path,
-    place, put, text, zeros,
-};
-use crate::rows::agree_at;
+use crate::made_breaks::BREAKS;
+use crate::odd::Odd;
+use crate::offers::{FEW, URL, commit_of, many, offered, path, text};
+use crate::rows::agree;
 use fl_lines::refusal_line;
-use fp_base::{ObjKind, Text};
+use fp_base::Text;
 use fp_host::{Host, Path, Remotes, Stat};
-use fp_memhost::{MemHost, MemNode, MemRemotes};
+use fp_memhost::{MemHost, MemRemotes};
 use fp_name::Digest;
 use ost_commit::Built;
 use ost_content::meta_digest;
@@ -38,24 +36,20 @@ repo/objects/9a/66a8ed7bf66427f5f2716c2f1fae391371f0d9939557f33ade986c45844bef.f
 /// The SHA-256 digest of the same of the many files, 267 lines.
 const MANY_OBJECTS: &[u8; 64] = b"71ceec0db1d292fcb5a5000d2525d209252885618c75d03f06bdf29b363730f8";
 
-/// An empty host.
-pub fn new_host(rt: &impl Abort, alloc: Global) -> MemHost {
-    MemHost::new(alloc).expect(rt, "memory")
-}
-
 /// The line that is printed of an end.
 pub fn end_line(rt: &impl Abort, alloc: Global, end: PullEnd) -> Text {
     let line = match end {
         PullEnd::Refused(refusal) => refusal_line(alloc, &refusal),
-        PullEnd::HostFault => Text::from_str(alloc, "the host failed"),
-        PullEnd::RemoteFault => Text::from_str(alloc, "the remote failed"),
-        PullEnd::NoMemory => Text::from_str(alloc, "out of memory"),
+        PullEnd::HostFault => Text::from_str(alloc, "the host failed\n"),
+        PullEnd::RemoteFault => Text::from_str(alloc, "the remote failed\n"),
+        PullEnd::NoMemory => Text::from_str(alloc, "out of memory\n"),
     };
     line.expect(rt, "memory")
 }
 
-/// Pulls the commit from this url. The text says why that wasn't done, or nothing.
-fn pull_from<R: Remotes>(
+/// Pulls the commit from this url. The line says why that wasn't done, or nothing. The folder of
+/// the pull has to be gone.
+fn pull_end<R: Remotes>(
     rt: &(impl Abort + Threads + Sync),
     alloc: Global,
     host: &mut MemHost,
@@ -67,96 +61,46 @@ fn pull_from<R: Remotes>(
     let root = Path::root(alloc).child("repo").expect(rt, "a path");
     let tmp = root.child("tmp").expect(rt, "a path");
     let work = tmp.child("pull").expect(rt, "a path");
-    match pull(rt, alloc, host, remotes, &root, url, commit, &work) {
-        Ok(()) => Text::from_str(alloc, "").expect(rt, "memory"),
+    let pulled = pull(rt, alloc, host, remotes, &root, url, commit, &work);
+    assert!(rt; host.stat(&work).expect(rt, "an answer") == Stat::Absent);
+    match pulled {
+        Ok(()) => text(rt, alloc, ""),
         Err(end) => end_line(rt, alloc, end),
     }
 }
 
-/// Pulls the commit. The text says why that wasn't done, or nothing.
-pub fn pull_into<R: Remotes>(
-    rt: &(impl Abort + Threads + Sync),
-    alloc: Global,
-    host: &mut MemHost,
-    remotes: &mut R,
-    commit: &Digest,
-) -> Text {
-    pull_from(rt, alloc, host, remotes, URL, commit)
-}
-
-/// The files and links below `objects`, one a line. The folder of the pull has to be gone.
-pub fn stored(rt: &impl Abort, alloc: Global, host: &mut MemHost) -> String {
-    let work = host.stat(&path(rt, alloc, "repo/tmp/pull"));
-    assert!(rt; work.expect(rt, "an answer") == Stat::Absent);
-    let paths = names(alloc, host, &path(rt, alloc, "repo")).expect(rt, "names");
-    let mut text = String::new(alloc);
-    for path in paths.as_slice() {
-        text.push_str(path.text()).expect(rt, "memory");
-        text.push('\n').expect(rt, "memory");
-    }
-    text
-}
-
-/// What a pull of the commit into an empty store answers, and what the store has then.
+/// Pulls the commit from this url. The lines say why that wasn't done, if it wasn't, and which files
+/// and links the store has below `objects` then.
 pub fn pulled<R: Remotes>(
     rt: &(impl Abort + Threads + Sync),
     alloc: Global,
-    remotes: &mut R,
-    commit: &Digest,
-) -> (Text, String) {
-    let mut host = new_host(rt, alloc);
-    let end = pull_into(rt, alloc, &mut host, remotes, commit);
-    let has = stored(rt, alloc, &mut host);
-    (end, has)
-}
-
-/// Whether a pull of the commit is refused with this line, and stores nothing.
-pub fn is_refused<R: Remotes>(
-    rt: &(impl Abort + Threads + Sync),
-    alloc: Global,
-    remotes: &mut R,
-    commit: &Digest,
-    line: &str,
-) -> bool {
-    let (end, has) = pulled(rt, alloc, remotes, commit);
-    end.as_str() == line && has.is_empty()
-}
-
-/// Pulls a commit of which a remote has all. The calls of the remote with these numbers fail. The
-/// text says why it wasn't done, or nothing.
-pub fn pull_offered(
-    rt: &(impl Abort + Threads + Sync),
-    alloc: Global,
     host: &mut MemHost,
-    built: &Built,
-    failing: &[u64],
-) -> Text {
-    let mut remotes = offered(rt, alloc, built);
-    remotes.fail_calls(failing).expect(rt, "memory");
-    pull_into(rt, alloc, host, &mut remotes, &built.commit)
+    remotes: &mut R,
+    url: &str,
+    commit: &Digest,
+) -> String {
+    let mut lines = pull_end(rt, alloc, host, remotes, url, commit).into_string();
+    let paths = names(alloc, host, &path(rt, alloc, "repo")).expect(rt, "names");
+    for path in paths.as_slice() {
+        lines.push_str(path.text()).expect(rt, "memory");
+        lines.push('\n').expect(rt, "memory");
+    }
+    lines
 }
 
-/// What the store has after a pull of the commit that is done.
-pub fn objects_of(rt: &(impl Abort + Threads + Sync), alloc: Global, built: &Built) -> String {
-    let mut host = new_host(rt, alloc);
-    let end = pull_offered(rt, alloc, &mut host, built, &[]);
-    assert!(rt; end.as_str().is_empty());
-    stored(rt, alloc, &mut host)
-}
-
-/// What the store has after a pull of the commit from this url.
-fn stored_from(
+/// The same of a pull into an empty host from a remote of this url, which has the commit of a tree
+/// of these rows, but for what another row has in the place of objects.
+pub fn pulled_from(
     rt: &(impl Abort + Threads + Sync),
     alloc: Global,
     url: &str,
-    built: Built,
+    rows: &str,
+    harms: &str,
 ) -> String {
-    let mut remotes = offered_at(rt, alloc, url, &built);
-    let mut host = new_host(rt, alloc);
-    let end = pull_from(rt, alloc, &mut host, &mut remotes, url, &built.commit);
-    drop(built);
-    assert!(rt; end.as_str().is_empty());
-    stored(rt, alloc, &mut host)
+    let built = commit_of(rt, alloc, rows);
+    let mut host = MemHost::new(alloc).expect(rt, "memory");
+    let mut remotes = offered(rt, alloc, url, &built, harms);
+    pulled(rt, alloc, &mut host, &mut remotes, url, &built.commit)
 }
 
 /// From a url of 1,100 bytes come the few files, and a file in pieces with the three objects above
@@ -165,205 +109,132 @@ fn stored_from(
 fn a_long_url_is_pulled_from(rt: HostRuntime) {
     let alloc = rt.alloc();
     let url = "u".repeat(alloc, 1_100).expect(&rt, "memory");
-    let few = stored_from(&rt, alloc, &url, few(&rt, alloc));
-    let big = stored_from(&rt, alloc, &url, big(&rt, alloc, 300_000));
+    let few = pulled_from(&rt, alloc, &url, FEW, "");
+    let big = pulled_from(&rt, alloc, &url, "644 big zeros:300000", "");
     assert!(rt; few.as_str() == FEW_OBJECTS && big.lines().count() == 4);
 }
+
+/// The files below `objects` of the repository that `ostree commit` makes of a file of 67,108,865
+/// zero bytes.
+const BIG_OBJECTS: &str = "\
+repo/objects/08/4d42639e534fc2582a92fe3a14608d69c66c347070d760e04fe696af57eb09.commit
+repo/objects/44/6a0ef11b7cc167f3b603e585c7eeeeb675faa412d5ec73f62988eb0b6c5488.dirmeta
+repo/objects/5f/4ba503a062ccd6ed75d6ac733128287822312300714a7a87305f53dde0bc4f.file
+repo/objects/be/9b4ef1f308291239fa0567b6dda1fd80611f43e21c9bb2ee0be0b0ac0e61a4.dirtree
+";
 
 #[test]
 fn a_store_has_what_a_repository_has(rt: HostRuntime) {
     let alloc = rt.alloc();
-    let has = objects_of(&rt, alloc, &few(&rt, alloc));
-    assert!(rt; has.as_str() == FEW_OBJECTS);
-    let has = objects_of(&rt, alloc, &many(&rt, alloc));
-    assert!(rt; meta_digest(has.as_bytes()).digits() == *MANY_OBJECTS);
+    let few = pulled_from(&rt, alloc, URL, FEW, "");
+    let many = pulled_from(&rt, alloc, URL, &many(&rt, alloc), "");
+    let big = pulled_from(&rt, alloc, URL, "644 big zeros:67108865", "");
+    assert!(rt;
+        few.as_str() == FEW_OBJECTS
+            && meta_digest(many.as_bytes()).digits() == *MANY_OBJECTS
+            && big.as_str() == BIG_OBJECTS
+    );
 }
 
-/// What a remote has in the place of an object.
-enum Instead {
-    /// Nothing.
-    Nothing,
-    /// A folder, with a file in it.
-    Folder,
-    /// A link with another text.
-    OtherLink,
-    /// A link without a text.
-    EmptyLink,
-    /// A file of so many zero bytes.
-    Zeros(usize),
-    /// The file of the object with these permission bits.
-    Mode(u32),
-}
+/// What a remote has in the place of objects of the few files, and the refusal. The objects are the
+/// file `metadata` (99a0..), the link (9a66..), the file `files/bin/run` (6059..), and the dirtree of
+/// the folder `files` (8212..), in the order of the commit but for the last one, which is before the
+/// link; the dirmeta (446a..), which is the third object, and the dirtree of the empty folder
+/// (6e34..), which is the fifth.
+const HARMS: &str = "\
+99a024be1d26a754338667712506aec165851fcef90b2793d8e540034c02a72f=in/644:77697468696e => \
+    error: missing object 99a024be1d26a754338667712506aec165851fcef90b2793d8e540034c02a72f.file
+8212608941e8922146c7ab064a948c86a6b25e843bd89412393269ffd0647bfb=in/644:77697468696e => \
+    error: missing object 8212608941e8922146c7ab064a948c86a6b25e843bd89412393269ffd0647bfb.dirtree
+8212608941e8922146c7ab064a948c86a6b25e843bd89412393269ffd0647bfb=link:other => \
+    error: missing object 8212608941e8922146c7ab064a948c86a6b25e843bd89412393269ffd0647bfb.dirtree
+446a0ef11b7cc167f3b603e585c7eeeeb675faa412d5ec73f62988eb0b6c5488=644:000000000000000000000000 6e340b9cffb37a989ca544e6bb780a2c78901d3fb33738768511a30617afa01d=nothing => \
+    error: corrupt object 446a0ef11b7cc167f3b603e585c7eeeeb675faa412d5ec73f62988eb0b6c5488.dirmeta 15ec7bf0b50732b49f8228e07d24365338f9e3ab994b00af08e5a3bffe55fd8b
+60599fdf7cf9cb8925354cd74476b5ded7850eca9b6a120998125a578b6a4d4c=1755:23212f62696e2f73680a => \
+    error: mode refused 60599fdf7cf9cb8925354cd74476b5ded7850eca9b6a120998125a578b6a4d4c.file 1755
+9a66a8ed7bf66427f5f2716c2f1fae391371f0d9939557f33ade986c45844bef=link:other => \
+    error: corrupt object 9a66a8ed7bf66427f5f2716c2f1fae391371f0d9939557f33ade986c45844bef.file 7980e3dd3c9b09cd95740ad7c9b7c19c0a28da67c56e9b2e6f7927f11eccf96c
+9a66a8ed7bf66427f5f2716c2f1fae391371f0d9939557f33ade986c45844bef=nothing 60599fdf7cf9cb8925354cd74476b5ded7850eca9b6a120998125a578b6a4d4c=link:other => \
+    error: missing object 9a66a8ed7bf66427f5f2716c2f1fae391371f0d9939557f33ade986c45844bef.file
+9a66a8ed7bf66427f5f2716c2f1fae391371f0d9939557f33ade986c45844bef=link:other 60599fdf7cf9cb8925354cd74476b5ded7850eca9b6a120998125a578b6a4d4c=nothing => \
+    error: corrupt object 9a66a8ed7bf66427f5f2716c2f1fae391371f0d9939557f33ade986c45844bef.file 7980e3dd3c9b09cd95740ad7c9b7c19c0a28da67c56e9b2e6f7927f11eccf96c
+";
 
-/// The file `metadata`, the link, the file `files/bin/run`, and the dirtree of the folder `files`,
-/// in the order of the commit but for the last one, which is before the link.
-const METADATA: &str = "99a024be1d26a754338667712506aec165851fcef90b2793d8e540034c02a72f";
+/// A link of one letter whose text is cut, and the refusal.
+const CUT_LETTER: &str = "\
+43f338adeb68637b721d7ba4c39b7677a4fbb87e3adf4a363a3d50c9de9a35ed=link: => \
+    error: missing object 43f338adeb68637b721d7ba4c39b7677a4fbb87e3adf4a363a3d50c9de9a35ed.file
+";
 
-const LINK: &str = "9a66a8ed7bf66427f5f2716c2f1fae391371f0d9939557f33ade986c45844bef";
-
-const RUN: &str = "60599fdf7cf9cb8925354cd74476b5ded7850eca9b6a120998125a578b6a4d4c";
-
-const FILES: &str = "8212608941e8922146c7ab064a948c86a6b25e843bd89412393269ffd0647bfb";
-
-/// The dirmeta, which is the third object, and the dirtree of the empty folder, which is the fifth.
-const DIRMETA: &str = "446a0ef11b7cc167f3b603e585c7eeeeb675faa412d5ec73f62988eb0b6c5488";
-
-const EMPTY: &str = "6e340b9cffb37a989ca544e6bb780a2c78901d3fb33738768511a30617afa01d";
-
-/// Objects of the few files with what a remote has in their place, and the refusal.
-const HARMS: &[(&[(&str, ObjKind, Instead)], &str)] = &[
-    (
-        &[(METADATA, ObjKind::File, Instead::Folder)],
-        "error: missing object 99a024be1d26a754338667712506aec165851fcef90b2793d8e540034c02a72f.file\n",
-    ),
-    (
-        &[(FILES, ObjKind::DirTree, Instead::Folder)],
-        "error: missing object 8212608941e8922146c7ab064a948c86a6b25e843bd89412393269ffd0647bfb.dirtree\n",
-    ),
-    (
-        &[(FILES, ObjKind::DirTree, Instead::OtherLink)],
-        "error: missing object 8212608941e8922146c7ab064a948c86a6b25e843bd89412393269ffd0647bfb.dirtree\n",
-    ),
-    (
-        &[
-            (DIRMETA, ObjKind::DirMeta, Instead::Zeros(12)),
-            (EMPTY, ObjKind::DirTree, Instead::Nothing),
-        ],
-        "error: corrupt object 446a0ef11b7cc167f3b603e585c7eeeeb675faa412d5ec73f62988eb0b6c5488.dirmeta 15ec7bf0b50732b49f8228e07d24365338f9e3ab994b00af08e5a3bffe55fd8b\n",
-    ),
-    (
-        &[(RUN, ObjKind::File, Instead::Mode(0o1755))],
-        "error: mode refused 60599fdf7cf9cb8925354cd74476b5ded7850eca9b6a120998125a578b6a4d4c.file 1755\n",
-    ),
-    (
-        &[(LINK, ObjKind::File, Instead::OtherLink)],
-        "error: corrupt object 9a66a8ed7bf66427f5f2716c2f1fae391371f0d9939557f33ade986c45844bef.file 7980e3dd3c9b09cd95740ad7c9b7c19c0a28da67c56e9b2e6f7927f11eccf96c\n",
-    ),
-    (
-        &[
-            (LINK, ObjKind::File, Instead::Nothing),
-            (RUN, ObjKind::File, Instead::OtherLink),
-        ],
-        "error: missing object 9a66a8ed7bf66427f5f2716c2f1fae391371f0d9939557f33ade986c45844bef.file\n",
-    ),
-    (
-        &[
-            (LINK, ObjKind::File, Instead::OtherLink),
-            (RUN, ObjKind::File, Instead::Nothing),
-        ],
-        "error: corrupt object 9a66a8ed7bf66427f5f2716c2f1fae391371f0d9939557f33ade986c45844bef.file 7980e3dd3c9b09cd95740ad7c9b7c19c0a28da67c56e9b2e6f7927f11eccf96c\n",
-    ),
-];
-
-/// Puts that in the place of an object.
-fn put_instead(
-    rt: &impl Abort,
-    alloc: Global,
-    remotes: &mut MemRemotes,
-    at: &Path,
-    instead: &Instead,
-) {
-    match instead {
-        Instead::Nothing => {}
-        Instead::Folder => {
-            let within = at.child("within").expect(rt, "a path");
-            let bytes = blob(rt, alloc, b"within");
-            put(rt, remotes, &within, MemNode::File { mode: 0o644, bytes });
-        }
-        Instead::OtherLink => put(rt, remotes, at, MemNode::Link(text(rt, alloc, "other"))),
-        Instead::EmptyLink => put(rt, remotes, at, MemNode::Link(text(rt, alloc, ""))),
-        Instead::Zeros(count) => {
-            let bytes = zeros(rt, alloc, *count);
-            put(rt, remotes, at, MemNode::File { mode: 0o644, bytes });
-        }
-        Instead::Mode(mode) => {
-            let bytes = blob(rt, alloc, SCRIPT.as_bytes());
-            put(rt, remotes, at, MemNode::File { mode: *mode, bytes });
-        }
+/// Ends the test at a row with what a remote has in the place of objects of a tree, where the pull
+/// isn't refused with the line of the row alone.
+fn agree_on_harms(rt: &(impl Abort + Threads + Sync), alloc: Global, tree: &str, rows: &str) {
+    for row in rows.lines() {
+        let (harms, line) = row.split_once(" => ").unwrap_or((row, ""));
+        let lines = pulled_from(rt, alloc, URL, tree, harms);
+        agree(rt, row, lines.strip_suffix('\n') == Some(line));
     }
-}
-
-/// A remote with the commit, but for what it has in the place of some objects.
-fn harmed(
-    rt: &impl Abort,
-    alloc: Global,
-    built: &Built,
-    harms: &[(&str, ObjKind, Instead)],
-) -> MemRemotes {
-    let mut remotes = empty(rt, alloc);
-    for object in built.objects.as_slice() {
-        let digits = object.digest.digits();
-        let at = place(rt, alloc, &object.digest, object.kind);
-        match harms
-            .iter()
-            .find(|harm| harm.0.as_bytes() == digits.as_slice())
-        {
-            Some(harm) => put_instead(rt, alloc, &mut remotes, &at, &harm.2),
-            None => put(rt, &mut remotes, &at, node_of(rt, &object.object)),
-        }
-    }
-    remotes
-}
-
-/// Whether a pull from such a remote is refused with this line.
-fn is_harm_refused(
-    rt: &(impl Abort + Threads + Sync),
-    alloc: Global,
-    built: &Built,
-    harms: &[(&str, ObjKind, Instead)],
-    line: &str,
-) -> bool {
-    let mut remotes = harmed(rt, alloc, built, harms);
-    is_refused(rt, alloc, &mut remotes, &built.commit, line)
 }
 
 #[test]
 fn what_is_harmed_is_refused(rt: HostRuntime) {
-    let alloc = rt.alloc();
-    let built = few(&rt, alloc);
-    for (at, (harms, line)) in HARMS.iter().enumerate() {
-        agree_at(&rt, at, is_harm_refused(&rt, alloc, &built, harms, line));
+    agree_on_harms(&rt, rt.alloc(), FEW, HARMS);
+    agree_on_harms(&rt, rt.alloc(), FEW, BREAKS);
+    agree_on_harms(&rt, rt.alloc(), "link l f", CUT_LETTER);
+}
+
+/// Files of three pieces and of five, what a remote has where the last byte is missing, and the
+/// refusals.
+const CUT: &[(&str, &str, &str)] = &[
+    (
+        "644 big zeros:196608",
+        "2fcd9d67ec2d9827cf2a5407bb4c7cada346c788ba1e9edb1c57ed8ea99f5384=644:zeros:196607",
+        "error: corrupt object 2fcd9d67ec2d9827cf2a5407bb4c7cada346c788ba1e9edb1c57ed8ea99f5384.file a5b6ec0a43f2ccf831fd75ee03f1ef70654c3d42eacd26342430234d8f227b18\n",
+    ),
+    (
+        "644 big zeros:327680",
+        "bba3ab9f413692d64215202e2e7d116374842f34c1eb93c54a4d587121c62dfc=644:zeros:327679",
+        "error: corrupt object bba3ab9f413692d64215202e2e7d116374842f34c1eb93c54a4d587121c62dfc.file a16a46dd2b9678189a5f8e497589d447ea1cd5243ab4c21a532cb33cde8eceea\n",
+    ),
+];
+
+#[test]
+fn a_file_of_several_pieces_that_is_cut_is_refused(rt: HostRuntime) {
+    for (tree, harms, want) in CUT {
+        let lines = pulled_from(&rt, rt.alloc(), URL, tree, harms);
+        agree(&rt, want, lines.as_str() == *want);
     }
 }
 
-/// A link of one letter whose text is cut, and the refusal.
-const CUT_LETTER: &[(&str, ObjKind, Instead)] = &[(
-    "43f338adeb68637b721d7ba4c39b7677a4fbb87e3adf4a363a3d50c9de9a35ed",
-    ObjKind::File,
-    Instead::EmptyLink,
-)];
-
-const NO_LETTER: &str =
-    "error: missing object 43f338adeb68637b721d7ba4c39b7677a4fbb87e3adf4a363a3d50c9de9a35ed.file\n";
-
-#[test]
-fn a_link_without_a_text_is_none(rt: HostRuntime) {
-    let alloc = rt.alloc();
-    let built = letter(&rt, alloc);
-    assert!(rt; is_harm_refused(&rt, alloc, &built, CUT_LETTER, NO_LETTER));
-}
-
-/// How many objects the store has after a pull of the commit that is done, and how many bytes were
-/// written until then.
-fn amounts_after(
+/// What a pull of a commit comes to from a remote that says of the file at a path that it is too
+/// large, and whose reads change so.
+fn pulled_oddly(
     rt: &(impl Abort + Threads + Sync),
     alloc: Global,
     host: &mut MemHost,
     built: &Built,
-) -> (usize, u64) {
-    let end = pull_offered(rt, alloc, host, built, &[]);
-    assert!(rt; end.as_str().is_empty());
-    let count = stored(rt, alloc, host).lines().count();
-    (count, host.appended(&Path::root(alloc)))
+    large: &str,
+    changed: u64,
+) -> String {
+    let mut remotes = Odd {
+        held: offered(rt, alloc, URL, built, ""),
+        large: path(rt, alloc, large),
+        changed,
+    };
+    pulled(rt, alloc, host, &mut remotes, URL, &built.commit)
 }
 
+/// The place of the file `metadata` among the few files.
+const METADATA: &str =
+    "objects/99/a024be1d26a754338667712506aec165851fcef90b2793d8e540034c02a72f.file";
+
 #[test]
-fn a_second_pull_stores_nothing(rt: HostRuntime) {
+fn a_file_that_is_said_to_have_a_byte_more_than_a_gibibyte_is_refused(rt: HostRuntime) {
     let alloc = rt.alloc();
-    let built = bare(&rt, alloc);
-    let mut host = new_host(&rt, alloc);
-    let first = amounts_after(&rt, alloc, &mut host, &built);
-    assert!(rt; first.0 == 3 && amounts_after(&rt, alloc, &mut host, &built) == first);
+    let built = commit_of(&rt, alloc, FEW);
+    let mut host = MemHost::new(alloc).expect(&rt, "memory");
+    let lines = pulled_oddly(&rt, alloc, &mut host, &built, METADATA, 0);
+    assert!(rt; lines.as_str() == "error: limit object 1073741825\n");
 }
 
 /// Whether a pull from a remote whose reads change so stores all of the few files, each true, or is
@@ -374,29 +245,62 @@ fn does_no_harm(
     built: &Built,
     changed: u64,
 ) -> bool {
-    let held = offered(rt, alloc, built);
-    let mut remotes = Fickle { held, changed };
-    let mut host = new_host(rt, alloc);
-    let end = pull_into(rt, alloc, &mut host, &mut remotes, &built.commit);
-    let has = stored(rt, alloc, &mut host);
-    if end.as_str().starts_with("error: corrupt object ") {
-        return has.is_empty();
+    let mut host = MemHost::new(alloc).expect(rt, "memory");
+    let lines = pulled_oddly(rt, alloc, &mut host, built, "none", changed);
+    if lines.starts_with("error: corrupt object ") {
+        return lines.lines().count() == 1;
     }
     // Each object that is stored is judged here: the remote has none.
-    let again = pull_into(rt, alloc, &mut host, &mut empty(rt, alloc), &built.commit);
-    end.as_str().is_empty() && again.as_str().is_empty() && has.as_str() == FEW_OBJECTS
+    let mut none = MemRemotes::new(alloc).expect(rt, "memory");
+    let again = pulled(rt, alloc, &mut host, &mut none, URL, &built.commit);
+    lines.as_str() == FEW_OBJECTS && again.as_str() == FEW_OBJECTS
 }
 
 #[test]
 fn a_remote_that_changes_its_answers_does_no_harm(rt: HostRuntime) {
     let alloc = rt.alloc();
-    let built = few(&rt, alloc);
+    let built = commit_of(&rt, alloc, FEW);
     for read in 0u32..48 {
         let one = 1u64 << read;
-        let is_safe = does_no_harm(&rt, alloc, &built, one)
-            && does_no_harm(&rt, alloc, &built, !0 << read)
-            && does_no_harm(&rt, alloc, &built, !one)
-            && does_no_harm(&rt, alloc, &built, 0x5555_5555_5555_5555 << read);
-        agree_at(&rt, read as usize, is_safe);
+        for changed in [one, !0 << read, !one, 0x5555_5555_5555_5555 << read] {
+            assert!(rt; does_no_harm(&rt, alloc, &built, changed), "read {read}");
+        }
     }
+}
+
+/// What two pulls come to: of the commit of no file, then of another one, in which this call of the
+/// remote fails.
+fn pulled_with_fault(
+    rt: &(impl Abort + Threads + Sync),
+    alloc: Global,
+    built: &Built,
+    call: u64,
+) -> String {
+    let mut host = MemHost::new(alloc).expect(rt, "memory");
+    let bare = commit_of(rt, alloc, "");
+    let mut remotes = offered(rt, alloc, URL, &bare, "");
+    let begun = pulled(rt, alloc, &mut host, &mut remotes, URL, &bare.commit);
+    assert!(rt; begun.lines().count() == 3);
+    let mut remotes = offered(rt, alloc, URL, built, "");
+    remotes.fail_calls(&[call]).expect(rt, "memory");
+    pulled(rt, alloc, &mut host, &mut remotes, URL, &built.commit)
+}
+
+/// Each call that fails, from the first on, ends a pull and leaves the store as it was, with three
+/// objects; where it is none of the pull's, there are ten, since two are among the nine of the few
+/// files.
+#[test]
+fn each_call_of_the_remote_that_fails_ends_a_pull(rt: HostRuntime) {
+    let alloc = rt.alloc();
+    let built = commit_of(&rt, alloc, FEW);
+    let mut failed = 0u64;
+    for call in 0..1_000u64 {
+        if failed == call {
+            let lines = pulled_with_fault(&rt, alloc, &built, call);
+            let has_failed = lines.starts_with("the remote failed\n");
+            assert!(rt; lines.lines().count() == if has_failed { 4 } else { 10 });
+            failed = failed.saturating_add(has_failed as u64);
+        }
+    }
+    assert!(rt; failed > 2 && failed < 1_000);
 }

@@ -2,12 +2,7 @@
 
 use std::process::Abort;
 
-/// Ends the test where this isn't so, and prints the number of the row.
-pub fn agree_at(rt: &impl Abort, row: usize, is_so: bool) {
-    assert!(rt; is_so, "row {row}");
-}
-
-/// The same for a row that is a text.
+/// Ends the test where this isn't so, and prints the row.
 pub fn agree(rt: &impl Abort, row: &str, is_so: bool) {
     assert!(rt; is_so, "{row}");
 }

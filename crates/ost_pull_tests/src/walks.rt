@@ -1,13 +1,12 @@
 //! Walks over commits: their order, what stands at a path, and what they use.
 
-use crate::offers::{URL, bare, few, offered, path, place, text};
-use crate::pulls::{end_line, new_host, pull_offered};
+use crate::offers::{FEW, URL, commit_of, offered, path, place, text};
+use crate::pulls::{end_line, pulled};
 use crate::rows::agree;
 use fp_base::{Items, ObjKind, Text};
 use fp_host::Path;
-use fp_memhost::{MemHost, MemRemotes};
+use fp_memhost::MemHost;
 use fp_name::Digest;
-use ost_commit::Built;
 use ost_prune::prune;
 use ost_store::remove;
 use ost_walk::{Found, Places, PullEnd, WalkEnd, look, order, used};
@@ -47,94 +46,51 @@ objects/4b/43e027542fd8edb531495544d85d31b4688e08dfb2fab6db04967d810ea9ff.commit
 objects/6e/340b9cffb37a989ca544e6bb780a2c78901d3fb33738768511a30617afa01d.dirtree
 ";
 
-/// Adds the object as its path at a remote, on a line.
-fn push_object(rt: &impl Abort, alloc: Global, lines: &mut String, object: &(Digest, ObjKind)) {
-    let at = place(rt, alloc, &object.0, object.1);
-    lines.push_str(at.text()).expect(rt, "memory");
-    lines.push('\n').expect(rt, "memory");
-}
-
-/// The objects, one a line.
-fn lines_of(rt: &impl Abort, alloc: Global, objects: &[(Digest, ObjKind)]) -> Text {
+/// What a walk answered: the objects as their paths at a remote, one a line, or the refusal.
+fn told(rt: &impl Abort, alloc: Global, walked: Result<Items<(Digest, ObjKind)>, WalkEnd>) -> Text {
+    let objects = match walked {
+        Ok(objects) => objects,
+        Err(end) => return end_line(rt, alloc, PullEnd::from(end)),
+    };
     let mut lines = String::new(alloc);
-    for object in objects {
-        push_object(rt, alloc, &mut lines, object);
+    for (digest, kind) in objects.as_slice() {
+        let at = place(rt, alloc, digest, *kind);
+        lines.push_str(at.text()).expect(rt, "memory");
+        lines.push('\n').expect(rt, "memory");
     }
     Text::from_string(lines)
 }
 
-/// What a walk answered: the objects, one a line, or the refusal.
-fn told(rt: &impl Abort, alloc: Global, walked: Result<Items<(Digest, ObjKind)>, WalkEnd>) -> Text {
-    match walked {
-        Ok(objects) => lines_of(rt, alloc, objects.as_slice()),
-        Err(end) => end_line(rt, alloc, PullEnd::from(end)),
-    }
-}
-
-/// The store in `repo`, and the remote.
-fn places(rt: &impl Abort, alloc: Global) -> Places {
-    Places {
-        root: path(rt, alloc, "repo"),
-        url: Some(text(rt, alloc, URL)),
-    }
-}
-
-/// The path of the text; the empty one is the root's.
-fn path_or_root(rt: &impl Abort, alloc: Global, place: &str) -> Path {
-    if place.is_empty() {
-        return Path::root(alloc);
-    }
-    path(rt, alloc, place)
-}
-
-/// What stands there: a file's digest in digits, or a word for what is none.
-fn found_text(rt: &impl Abort, alloc: Global, found: &Found) -> Text {
-    match found {
-        Found::Dir => text(rt, alloc, "a folder"),
-        Found::File(digest) => digest.write(alloc).expect(rt, "memory"),
-        Found::Nothing => text(rt, alloc, "nothing"),
-    }
-}
-
-/// What a look answered, or the refusal.
+/// What a look answered: a file's digest in digits, a word for what is none, or the refusal.
 fn seen(rt: &impl Abort, alloc: Global, looked: Result<Found, WalkEnd>) -> Text {
     match looked {
-        Ok(found) => found_text(rt, alloc, &found),
+        Ok(Found::Dir) => text(rt, alloc, "a folder"),
+        Ok(Found::File(digest)) => digest.write(alloc).expect(rt, "memory"),
+        Ok(Found::Nothing) => text(rt, alloc, "nothing"),
         Err(end) => end_line(rt, alloc, PullEnd::from(end)),
     }
 }
 
-/// The order of a commit, or what stands at a path of it.
-fn walked(
-    rt: &impl Abort,
-    alloc: Global,
-    host: &mut MemHost,
-    remotes: &mut MemRemotes,
-    commit: &Digest,
-    at: Option<&str>,
-) -> Text {
-    let places = places(rt, alloc);
-    match at {
-        None => told(rt, alloc, order(alloc, host, remotes, &places, commit)),
-        Some(at) => {
-            let at = path_or_root(rt, alloc, at);
-            seen(rt, alloc, look(alloc, host, remotes, &places, commit, &at))
+/// The order of a commit over an empty store, where a remote has all of it, or what stands at a path
+/// of it. The empty path is the root's.
+fn walked(rt: &(impl Abort + Threads + Sync), alloc: Global, rows: &str, at: Option<&str>) -> Text {
+    let built = commit_of(rt, alloc, rows);
+    let mut host = MemHost::new(alloc).expect(rt, "memory");
+    let mut remotes = offered(rt, alloc, URL, &built, "");
+    let places = Places {
+        root: path(rt, alloc, "repo"),
+        url: Some(text(rt, alloc, URL)),
+    };
+    let at = match at {
+        None => {
+            let found = order(alloc, &mut host, &mut remotes, &places, &built.commit);
+            return told(rt, alloc, found);
         }
-    }
-}
-
-/// Whether that is so over an empty store, where a remote has all of the commit.
-fn is_walked(rt: &impl Abort, alloc: Global, built: &Built, at: Option<&str>, want: &str) -> bool {
-    let mut host = new_host(rt, alloc);
-    let mut remotes = offered(rt, alloc, built);
-    walked(rt, alloc, &mut host, &mut remotes, &built.commit, at).as_str() == want
-}
-
-#[test]
-fn orders_have_the_objects_of_a_commit(rt: HostRuntime) {
-    let alloc = rt.alloc();
-    assert!(rt; is_walked(&rt, alloc, &bare(&rt, alloc), None, BARE_ORDER));
-    assert!(rt; is_walked(&rt, alloc, &few(&rt, alloc), None, FEW_ORDER));
+        Some("") => Path::root(alloc),
+        Some(at) => path(rt, alloc, at),
+    };
+    let found = look(alloc, &mut host, &mut remotes, &places, &built.commit, &at);
+    seen(rt, alloc, found)
 }
 
 /// Paths of the commit of no file, and what stands there.
@@ -162,18 +118,23 @@ const FEW_PATHS: &[(&str, &str)] = &[
     ("bin/run", "nothing"),
 ];
 
-/// Ends the test where something else stands at a path of the commit.
-fn agree_all(rt: &impl Abort, alloc: Global, built: &Built, paths: &[(&str, &str)]) {
-    for (at, want) in paths {
-        agree(rt, at, is_walked(rt, alloc, built, Some(*at), want));
-    }
-}
-
 #[test]
-fn looks_follow_a_path(rt: HostRuntime) {
+fn orders_and_looks_follow_a_commit(rt: HostRuntime) {
     let alloc = rt.alloc();
-    agree_all(&rt, alloc, &bare(&rt, alloc), BARE_PATHS);
-    agree_all(&rt, alloc, &few(&rt, alloc), FEW_PATHS);
+    assert!(rt;
+        walked(&rt, alloc, "", None).as_str() == BARE_ORDER
+            && walked(&rt, alloc, FEW, None).as_str() == FEW_ORDER
+    );
+    for (at, want) in BARE_PATHS {
+        agree(&rt, at, walked(&rt, alloc, "", Some(*at)).as_str() == *want);
+    }
+    for (at, want) in FEW_PATHS {
+        agree(
+            &rt,
+            at,
+            walked(&rt, alloc, FEW, Some(*at)).as_str() == *want,
+        );
+    }
 }
 
 /// Takes the dirtree of an empty folder away.
@@ -183,33 +144,25 @@ fn take_root(rt: &impl Abort, alloc: Global, host: &mut MemHost, root: &Path) {
     remove(alloc, host, root, &digest, ObjKind::DirTree).expect(rt, "an object");
 }
 
-/// A commit, named so often.
-fn so_often(rt: &impl Abort, alloc: Global, commit: Digest, times: usize) -> Vec<Digest> {
-    let mut commits = Vec::new(alloc);
-    for _ in 0..times {
-        commits.push(commit).expect(rt, "memory");
-    }
-    commits
-}
-
-/// Whether this is what the commit of no file, named so often, uses in a store that has it, or in
-/// one that lacks the dirtree of its root.
-fn are_used(
+/// What the commit of no file, named so often, uses in a store that has it, or in one that lacks the
+/// dirtree of its root. No object goes where it is kept, named so often.
+fn used_by(
     rt: &(impl Abort + Threads + Sync),
     alloc: Global,
     times: usize,
     lacks_root: bool,
-    want: &str,
-) -> bool {
-    let (built, root) = (bare(rt, alloc), path(rt, alloc, "repo"));
-    let mut host = new_host(rt, alloc);
-    let end = pull_offered(rt, alloc, &mut host, &built, &[]);
+) -> Text {
+    let (built, root) = (commit_of(rt, alloc, ""), path(rt, alloc, "repo"));
+    let mut host = MemHost::new(alloc).expect(rt, "memory");
+    let mut remotes = offered(rt, alloc, URL, &built, "");
+    let lines = pulled(rt, alloc, &mut host, &mut remotes, URL, &built.commit);
+    assert!(rt; lines.lines().count() == 3);
+    let commits = vec![in alloc; built.commit; times].expect(rt, "memory");
+    assert!(rt; prune(alloc, &mut host, &root, &commits) == Ok(Some(0)));
     if lacks_root {
         take_root(rt, alloc, &mut host, &root);
     }
-    let commits = so_often(rt, alloc, built.commit, times);
-    let walked = used(alloc, &mut host, &root, &commits);
-    end.as_str().is_empty() && told(rt, alloc, walked).as_str() == want
+    told(rt, alloc, used(alloc, &mut host, &root, &commits))
 }
 
 /// The refusal where the root's dirtree is absent.
@@ -219,21 +172,9 @@ const NO_ROOT: &str =
 #[test]
 fn used_objects_are_those_of_the_order(rt: HostRuntime) {
     let alloc = rt.alloc();
-    assert!(rt; are_used(&rt, alloc, 1, false, BARE_USED));
-    assert!(rt; are_used(&rt, alloc, 1, true, NO_ROOT));
-    assert!(rt; are_used(&rt, alloc, 1_100, false, BARE_USED));
-}
-
-/// Whether no object goes where the one commit is kept, named so often.
-fn all_stay(rt: &(impl Abort + Threads + Sync), alloc: Global, times: usize) -> bool {
-    let (built, root) = (bare(rt, alloc), path(rt, alloc, "repo"));
-    let mut host = new_host(rt, alloc);
-    let end = pull_offered(rt, alloc, &mut host, &built, &[]);
-    let keep = so_often(rt, alloc, built.commit, times);
-    end.as_str().is_empty() && prune(alloc, &mut host, &root, &keep) == Ok(Some(0))
-}
-
-#[test]
-fn objects_of_many_commits_stay(rt: HostRuntime) {
-    assert!(rt; all_stay(&rt, rt.alloc(), 1_100));
+    assert!(rt;
+        used_by(&rt, alloc, 1, false).as_str() == BARE_USED
+            && used_by(&rt, alloc, 1, true).as_str() == NO_ROOT
+            && used_by(&rt, alloc, 1_100, false).as_str() == BARE_USED
+    );
 }
