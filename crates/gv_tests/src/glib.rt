@@ -1,11 +1,10 @@
 //! Bytes that GLib takes or refuses, and the sizes at which its offsets widen.
 
-use crate::encode::{pair, push, written};
+use crate::encode::{texts, written};
 use crate::examples::EXAMPLES;
-use crate::rows::{agree, agree_at};
+use crate::rows::agree;
 use crate::value::parsed;
 use crate::vectors::VECTORS;
-use fp_base::Text;
 use gv_decode::{DecodeError, check_normal, decode};
 use gv_encode::encode;
 use gv_value::{GvType, GvValue};
@@ -13,78 +12,47 @@ use std::alloc::Global;
 use std::panic::Expect;
 use std::process::Abort;
 
-/// Whether a value of a type is written as these bytes.
-fn is_spelled(rt: &impl Abort, alloc: Global, of: &GvType, value: GvValue, bytes: &[u8]) -> bool {
-    let written = encode(alloc, of, &value);
-    drop(value);
-    written.expect(rt, "a value").as_slice() == bytes
-}
-
 /// Whether bytes are read exactly where they are in normal form, and are written again as they
 /// were.
 fn is_read(rt: &impl Abort, alloc: Global, normal: bool, of: &GvType, bytes: &[u8]) -> bool {
     match decode(alloc, of, bytes) {
-        Ok(value) => is_spelled(rt, alloc, of, value, bytes) && normal,
-        Err(error) => error == DecodeError::NotNormal && !normal,
+        Ok(value) => {
+            let written = encode(alloc, of, &value).expect(rt, "a value");
+            drop(value);
+            normal && written.as_slice() == bytes
+        }
+        Err(error) => !normal && error == DecodeError::NotNormal,
     }
 }
 
-/// Whether bytes pass exactly where they are in normal form.
-fn is_checked(alloc: Global, normal: bool, of: &GvType, bytes: &[u8]) -> bool {
-    match check_normal(alloc, of, bytes) {
-        Ok(()) => normal,
-        Err(error) => error == DecodeError::NotNormal && !normal,
-    }
-}
-
-/// Both of a type string.
+/// The same of a type string, and whether they pass exactly where they are in normal form.
 pub fn agrees(rt: &impl Abort, alloc: Global, normal: bool, of: &str, bytes: &[u8]) -> bool {
     let of = parsed(rt, alloc, of);
-    let is_so = is_read(rt, alloc, normal, &of, bytes) && is_checked(alloc, normal, &of, bytes);
+    let checked = check_normal(alloc, &of, bytes);
+    let is_passed = match checked {
+        Ok(()) => normal,
+        Err(error) => !normal && error == DecodeError::NotNormal,
+    };
+    let is_so = is_passed && is_read(rt, alloc, normal, &of, bytes);
     drop(of);
     is_so
-}
-
-/// The bytes of hexadecimal digits.
-fn bytes_of(rt: &impl Abort, alloc: Global, digits: &str) -> Vec<u8> {
-    hex::decode(alloc, digits).expect(rt, "digits")
 }
 
 /// Whether a line of the vectors is right.
 fn line_agrees(rt: &impl Abort, alloc: Global, line: &str) -> bool {
     let (word, rest) = line.split_once(' ').expect(rt, "a word");
     let (of, digits) = rest.split_once(' ').expect(rt, "a type");
-    agrees(rt, alloc, word == "yes", of, &bytes_of(rt, alloc, digits))
-}
-
-/// Ends the test at a line that isn't right.
-fn agree_on_lines(rt: &impl Abort, alloc: Global, lines: &str) {
-    for line in lines.lines() {
-        agree(rt, line, line_agrees(rt, alloc, line));
-    }
+    let bytes = hex::decode(alloc, digits).expect(rt, "digits");
+    agrees(rt, alloc, word == "yes", of, &bytes)
 }
 
 #[test]
 fn reads_and_writes_as_glib_does(rt: HostRuntime) {
-    agree_on_lines(&rt, rt.alloc(), VECTORS);
-    agree_on_lines(&rt, rt.alloc(), EXAMPLES);
-}
-
-/// A text of this number of letters a.
-fn letters(rt: &impl Abort, alloc: Global, count: usize) -> GvValue {
-    GvValue::Str(Text::from_string("a".repeat(alloc, count).expect(rt, "memory")))
-}
-
-/// Whether bytes have this size and this ending, and are read and written again.
-fn ends_so(
-    rt: &impl Abort,
-    alloc: Global,
-    of: &str,
-    bytes: &[u8],
-    size: usize,
-    ending: &[u8],
-) -> bool {
-    bytes.len() == size && bytes.ends_with(ending) && agrees(rt, alloc, true, of, bytes)
+    for lines in &[VECTORS, EXAMPLES] {
+        for line in lines.lines() {
+            agree(&rt, line, line_agrees(&rt, rt.alloc(), line));
+        }
+    }
 }
 
 /// Whether a value is written in bytes of this size with this ending, and is read again.
@@ -96,14 +64,10 @@ fn is_written(
     size: usize,
     ending: &[u8],
 ) -> bool {
-    ends_so(
-        rt,
-        alloc,
-        of,
-        written(rt, alloc, of, value).as_slice(),
-        size,
-        ending,
-    )
+    let bytes = written(rt, alloc, of, value).expect(rt, "a value");
+    bytes.len() == size
+        && bytes.as_slice().ends_with(ending)
+        && agrees(rt, alloc, true, of, bytes.as_slice())
 }
 
 /// The letters of two texts, the bytes that they are written in, and how those end.
@@ -114,38 +78,6 @@ const PAIRS: [(usize, usize, usize, &[u8]); 4] = [
     (65000, 532, 65538, b"a\0\xe9\xfd\0\0"),
 ];
 
-/// Two texts of these numbers of letters.
-fn two_texts(rt: &impl Abort, alloc: Global, first: usize, second: usize) -> GvValue {
-    pair(
-        rt,
-        alloc,
-        letters(rt, alloc, first),
-        letters(rt, alloc, second),
-    )
-}
-
-#[test]
-fn offsets_of_members_widen(rt: HostRuntime) {
-    let alloc = rt.alloc();
-    for (at, (first, second, size, ending)) in PAIRS.iter().enumerate() {
-        let value = two_texts(&rt, alloc, *first, *second);
-        agree_at(
-            &rt,
-            at,
-            is_written(&rt, alloc, "(ss)", value, *size, ending),
-        );
-    }
-}
-
-/// So many texts of one letter.
-pub fn many_texts(rt: &impl Abort, alloc: Global, count: usize) -> GvValue {
-    let mut items = Vec::new(alloc);
-    for _ in 0..count {
-        push(rt, &mut items, letters(rt, alloc, 1));
-    }
-    GvValue::Array(items)
-}
-
 /// How many texts an array has, the bytes that it is written in, and how those end.
 const ARRAYS: [(usize, usize, &[u8]); 4] = [
     (255, 1020, b"\xfc\x01\xfe\x01"),
@@ -155,10 +87,17 @@ const ARRAYS: [(usize, usize, &[u8]); 4] = [
 ];
 
 #[test]
-fn offsets_of_items_widen(rt: HostRuntime) {
+fn offsets_widen(rt: HostRuntime) {
     let alloc = rt.alloc();
-    for (at, (count, size, ending)) in ARRAYS.iter().enumerate() {
-        let value = many_texts(&rt, alloc, *count);
-        agree_at(&rt, at, is_written(&rt, alloc, "as", value, *size, ending));
+    for (first, second, size, ending) in &PAIRS {
+        let first = "a".repeat(alloc, *first).expect(&rt, "memory");
+        let second = "a".repeat(alloc, *second).expect(&rt, "memory");
+        let value = GvValue::Tuple(texts(&rt, alloc, &[&first, &second]));
+        assert!(rt; is_written(&rt, alloc, "(ss)", value, *size, ending));
+    }
+    for (count, size, ending) in &ARRAYS {
+        let words = vec![in alloc; "a"; *count].expect(&rt, "memory");
+        let value = GvValue::Array(texts(&rt, alloc, &words));
+        assert!(rt; is_written(&rt, alloc, "as", value, *size, ending));
     }
 }

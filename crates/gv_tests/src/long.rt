@@ -1,23 +1,14 @@
 //! Long arrays, tuples and variants, taken apart.
 
-use crate::encode::written;
-use crate::glib::{agrees, many_texts};
+use crate::encode::{texts, written};
+use crate::glib::agrees;
 use crate::rows::agree;
 use crate::value::{long_tuple, parsed};
 use gv_decode::{children, variant_parts};
+use gv_value::GvValue;
 use std::alloc::Global;
 use std::panic::Expect;
 use std::process::Abort;
-
-/// Whether these are this number of children, each of them these bytes.
-fn are_so_many(children: &[&[u8]], count: usize, each: &[u8]) -> bool {
-    for child in children {
-        if *child != each {
-            return false;
-        }
-    }
-    children.len() == count
-}
 
 /// Whether bytes have this number of children, each of them these bytes.
 fn has_children(
@@ -29,21 +20,20 @@ fn has_children(
     each: &[u8],
 ) -> bool {
     let of = parsed(rt, alloc, of);
-    let found = children(alloc, &of, bytes);
+    let found = children(alloc, &of, bytes).expect(rt, "children");
     drop(of);
-    are_so_many(&found.expect(rt, "children"), count, each)
+    for child in found.as_slice() {
+        if *child != each {
+            return false;
+        }
+    }
+    found.len() == count
 }
 
 /// Whether a child's bytes, this number of times, are as many children, and a value in normal form.
 fn is_long(rt: &impl Abort, alloc: Global, of: &str, each: &[u8], count: usize) -> bool {
     let bytes = each.repeat(alloc, count).expect(rt, "memory");
     has_children(rt, alloc, of, &bytes, count, each) && agrees(rt, alloc, true, of, &bytes)
-}
-
-/// Whether this number of texts, as they are written, are as many children.
-fn are_texts(rt: &impl Abort, alloc: Global, count: usize) -> bool {
-    let bytes = written(rt, alloc, "as", many_texts(rt, alloc, count));
-    has_children(rt, alloc, "as", bytes.as_slice(), count, b"a\0")
 }
 
 /// The types of arrays, the bytes of one element, and how many there are.
@@ -55,12 +45,16 @@ const ARRAYS: [(&str, &[u8], usize); 3] = [
 
 #[test]
 fn many_children(rt: HostRuntime) {
+    let alloc = rt.alloc();
     for (of, each, count) in &ARRAYS {
-        agree(&rt, of, is_long(&rt, rt.alloc(), of, each, *count));
+        agree(&rt, of, is_long(&rt, alloc, of, each, *count));
     }
-    let of = long_tuple(&rt, rt.alloc(), 1_100);
-    assert!(rt; is_long(&rt, rt.alloc(), &of, b"\x07", 1_100));
-    assert!(rt; are_texts(&rt, rt.alloc(), 1_100));
+    let of = long_tuple(&rt, alloc, 1_100);
+    assert!(rt; is_long(&rt, alloc, &of, b"\x07", 1_100));
+    let words = vec![in alloc; "a"; 1_100].expect(&rt, "memory");
+    let value = GvValue::Array(texts(&rt, alloc, &words));
+    let bytes = written(&rt, alloc, "as", value).expect(&rt, "a value");
+    assert!(rt; has_children(&rt, alloc, "as", bytes.as_slice(), 1_100, b"a\0"));
 }
 
 /// Whether a variant has its value in these bytes, and its type string in those.

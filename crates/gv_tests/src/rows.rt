@@ -6,8 +6,3 @@ use std::process::Abort;
 pub fn agree(rt: &impl Abort, row: &str, is_so: bool) {
     assert!(rt; is_so, "{row}");
 }
-
-/// The same for a row that is a number.
-pub fn agree_at(rt: &impl Abort, row: usize, is_so: bool) {
-    assert!(rt; is_so, "row {row}");
-}
