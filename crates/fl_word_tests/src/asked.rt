@@ -1,7 +1,9 @@
 //! What is asked of a text, and the answers.
 
 use crate::batches::{bytes_of, line_reason, told_batch};
-use crate::lines::{damage, info, printed_pins, printed_refs, printed_remotes};
+use crate::lines::{
+    info, printed_operation, printed_pins, printed_refs, printed_refusal, printed_remotes,
+};
 use crate::words::{told_words, words_of};
 use fl_lines::escape;
 use fl_words::{notes, reason};
@@ -23,8 +25,10 @@ pub enum Asked {
     Batch,
     /// Why a line of it asks for no change.
     LineReason,
-    /// How it is printed as a damaged path.
-    Damage,
+    /// How it is printed as a refusal.
+    Refusal,
+    /// How it is printed as an operation.
+    Operation,
     /// How it is escaped.
     Escaped,
     /// How its lines are printed as patterns of pins.
@@ -47,7 +51,8 @@ pub fn answer(rt: &impl Abort, alloc: Global, asked: Asked, text: &str) -> Text 
         Asked::Notes => notes(alloc, &words_of(rt, alloc, text)).expect(rt, "memory"),
         Asked::Batch => Text::from_string(told_batch(rt, alloc, &bytes_of(rt, alloc, text))),
         Asked::LineReason => line_reason(rt, alloc, &bytes_of(rt, alloc, text)),
-        Asked::Damage => damage(rt, alloc, text),
+        Asked::Refusal => printed_refusal(rt, alloc, text),
+        Asked::Operation => printed_operation(rt, alloc, text),
         Asked::Escaped => Text::from_string(escape(alloc, text).expect(rt, "memory")),
         Asked::Pins => printed_pins(rt, alloc, text),
         Asked::Remotes => printed_remotes(rt, alloc, text),

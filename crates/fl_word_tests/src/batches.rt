@@ -118,13 +118,6 @@ pub const LONG_BATCHES: &str = "\
 
 #[test]
 fn errors_are_told(rt: HostRuntime) {
-    let text = format!(in rt.alloc();
-        "{}, {}, {}",
-        BatchError::BadRecord { line: 29 },
-        BatchError::NoMemory,
-        WordsError::NoMemory
-    );
-    assert!(rt;
-        text.expect(&rt, "memory").as_str() == "bad record at 29, out of memory, out of memory"
-    );
+    let text = format!(in rt.alloc(); "{}, {}", BatchError::NoMemory, WordsError::NoMemory);
+    assert!(rt; text.expect(&rt, "memory").as_str() == "out of memory, out of memory");
 }

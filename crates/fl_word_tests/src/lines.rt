@@ -1,6 +1,6 @@
 //! The lines that commands print.
 
-use crate::rows::{agree, lined};
+use crate::rows::lined;
 use fl_lines::{
     info_text, op_line, pins_text, refs_text, refusal_line, remotes_text, skipped_line,
 };
@@ -8,7 +8,7 @@ use fp_base::{Items, ObjKind, Rule, Text, What};
 use fp_host::Path;
 use fp_name::{Digest, PinPattern, RefName, RemoteName, RemoteUrl};
 use fp_small::{Op, Previous, RefRow, Refusal, RemoteRow};
-use std::alloc::{AllocError, Global};
+use std::alloc::Global;
 use std::panic::Expect;
 use std::process::Abort;
 
@@ -26,79 +26,90 @@ fn ref_name(rt: &impl Abort, alloc: Global, text: &str) -> RefName {
     RefName::parse(alloc, text.as_bytes()).expect(rt, "a ref")
 }
 
-/// Ends the test where this isn't the line.
-fn agree_on_line(rt: &impl Abort, line: Result<Text, AllocError>, want: &str) {
-    agree(rt, want, line.expect(rt, "memory").as_str() == want);
+/// The refusal of a text: its kind, a space, and what is refused.
+fn refusal_of(rt: &impl Abort, alloc: Global, text: &str) -> Refusal {
+    let (kind, rest) = text.split_once(' ').unwrap_or((text, ""));
+    let number = rest.parse::<u64>().unwrap_or(0);
+    match kind {
+        "damaged" => Refusal::Damaged {
+            path: Path::parse(alloc, &lined(rt, alloc, rest)).expect(rt, "a path"),
+        },
+        "words" => Refusal::BadWords { index: number },
+        "record" => Refusal::BadRecord { line: number },
+        "pins" => Refusal::Limit {
+            what: What::Pins,
+            number,
+        },
+        "input" => Refusal::Limit {
+            what: What::Input,
+            number,
+        },
+        "dirtree" => Refusal::MalformedObject {
+            digest: Digest::parse(rest.as_bytes()).expect(rt, "a digest"),
+            kind: ObjKind::DirTree,
+            rule: Rule::Value,
+        },
+        "exists" => Refusal::PinExists {
+            pin: pattern(rt, alloc, rest),
+        },
+        _ => Refusal::NoSuchPin {
+            pin: pattern(rt, alloc, rest),
+        },
+    }
 }
 
-/// Ends the test where the refusal isn't printed as this line.
-fn agree_on(rt: &impl Abort, alloc: Global, refusal: Refusal, want: &str) {
-    let line = refusal_line(alloc, &refusal);
-    drop(refusal);
-    agree_on_line(rt, line, want);
+/// The line that is printed of a refusal.
+pub fn printed_refusal(rt: &impl Abort, alloc: Global, text: &str) -> Text {
+    refusal_line(alloc, &refusal_of(rt, alloc, text)).expect(rt, "memory")
 }
 
-#[test]
-fn refusals(rt: HostRuntime) {
-    let alloc = rt.alloc();
-    let first = Refusal::BadWords { index: 0 };
-    agree_on(&rt, alloc, first, "error: words 0\n");
-    let last = Refusal::BadWords { index: u64::MAX };
-    agree_on(&rt, alloc, last, "error: words 18446744073709551615\n");
-    let record = Refusal::BadRecord { line: 2 };
-    agree_on(&rt, alloc, record, "error: record 2\n");
-    let (what, number) = (What::Pins, 1025);
-    let want = "error: limit pins 1025\n";
-    agree_on(&rt, alloc, Refusal::Limit { what, number }, want);
-    let (what, number) = (What::Input, 67_108_865);
-    let want = "error: limit input 67108865\n";
-    agree_on(&rt, alloc, Refusal::Limit { what, number }, want);
-    let (kind, rule) = (ObjKind::DirTree, Rule::Value);
-    let digest = empty_digest(&rt);
-    let object = Refusal::MalformedObject { digest, kind, rule };
-    let want =
-        "error: malformed object e3b0c44298fc1c149afbf4c8996fb92427ae41e4649b934ca495991b7852b855.dirtree value\n";
-    agree_on(&rt, alloc, object, want);
-    let pin = pattern(&rt, alloc, "app/*/*/*");
-    let want = "error: pin exists app/*/*/*\n";
-    agree_on(&rt, alloc, Refusal::PinExists { pin }, want);
-    let pin = pattern(&rt, alloc, "runtime/org.x.Y/*/1.0");
-    let want = "error: no pin runtime/org.x.Y/*/1.0\n";
-    agree_on(&rt, alloc, Refusal::NoSuchPin { pin }, want);
-}
-
-/// The line that says that a path is damaged.
-pub fn damage(rt: &impl Abort, alloc: Global, text: &str) -> Text {
-    let path = Path::parse(alloc, &lined(rt, alloc, text)).expect(rt, "a path");
-    refusal_line(alloc, &Refusal::Damaged { path }).expect(rt, "memory")
-}
+/// Refusals, and the lines that are printed of them.
+pub const REFUSALS: &str = "\
+words 0=> error: words 0|
+words 18446744073709551615=> error: words 18446744073709551615|
+record 2=> error: record 2|
+pins 1025=> error: limit pins 1025|
+input 67108865=> error: limit input 67108865|
+dirtree e3b0c44298fc1c149afbf4c8996fb92427ae41e4649b934ca495991b7852b855=> \
+    error: malformed object e3b0c44298fc1c149afbf4c8996fb92427ae41e4649b934ca495991b7852b855.dirtree value|
+exists app/*/*/*=> error: pin exists app/*/*/*|
+absent runtime/org.x.Y/*/1.0=> error: no pin runtime/org.x.Y/*/1.0|
+";
 
 /// Paths, and the lines that say that they are damaged; the last has 1,100 elements that are each one
 /// character to be escaped.
 pub const DAMAGED: &str = "\
-config=> error: damaged config|
-repo/refs/heads=> error: damaged repo/refs/heads|
-a|b=> error: damaged a\\0ab|
-a\\b/\u{1f}\u{7f}=> error: damaged a\\5cb/\\1f\\7f|
- !~[]\"'=> error: damaged  !~[]\"'|
-\u{e9}\u{80}\u{1f600}\\=> error: damaged \u{e9}\u{80}\u{1f600}\\5c|
-<|/*1099>|=> error: damaged <\\0a/*1099>\\0a|
+damaged config=> error: damaged config|
+damaged repo/refs/heads=> error: damaged repo/refs/heads|
+damaged a|b=> error: damaged a\\0ab|
+damaged a\\b/\u{1f}\u{7f}=> error: damaged a\\5cb/\\1f\\7f|
+damaged  !~[]\"'=> error: damaged  !~[]\"'|
+damaged \u{e9}\u{80}\u{1f600}\\=> error: damaged \u{e9}\u{80}\u{1f600}\\5c|
+damaged <|/*1099>|=> error: damaged <\\0a/*1099>\\0a|
 ";
 
 /// A text of 100 KiB.
 pub const ESCAPED: &str = "<\\*102400>=> <\\5c*102400>";
 
-#[test]
-fn operations_and_a_skipped_ref(rt: HostRuntime) {
-    let alloc = rt.alloc();
-    let pinned = Op::AddPin(pattern(&rt, alloc, "app/*/*/*"));
-    agree_on_line(&rt, op_line(alloc, &pinned), "pinned app/*/*/*\n");
-    let unpinned = Op::DropPin(pattern(&rt, alloc, "app/org.x.Y/*/*"));
-    agree_on_line(&rt, op_line(alloc, &unpinned), "unpinned app/org.x.Y/*/*\n");
-    agree_on_line(&rt, op_line(alloc, &Op::Migrate), "migrated layout 2\n");
-    let skipped = skipped_line(alloc, &ref_name(&rt, alloc, "app/org.x.App/x86_64/stable"));
-    agree_on_line(&rt, skipped, "skipped app/org.x.App/x86_64/stable\n");
+/// The line that is printed of an operation on a pin or a layout, or of a skipped ref.
+pub fn printed_operation(rt: &impl Abort, alloc: Global, text: &str) -> Text {
+    let (kind, rest) = text.split_once(' ').unwrap_or((text, ""));
+    let line = match kind {
+        "pin" => op_line(alloc, &Op::AddPin(pattern(rt, alloc, rest))),
+        "unpin" => op_line(alloc, &Op::DropPin(pattern(rt, alloc, rest))),
+        "migrate" => op_line(alloc, &Op::Migrate),
+        _ => skipped_line(alloc, &ref_name(rt, alloc, rest)),
+    };
+    line.expect(rt, "memory")
 }
+
+/// Operations and a skipped ref, and the lines that are printed of them.
+pub const OPERATIONS: &str = "\
+pin app/*/*/*=> pinned app/*/*/*|
+unpin app/org.x.Y/*/*=> unpinned app/org.x.Y/*/*|
+migrate=> migrated layout 2|
+skip app/org.x.App/x86_64/stable=> skipped app/org.x.App/x86_64/stable|
+";
 
 /// What is printed of pins.
 pub fn printed_pins(rt: &impl Abort, alloc: Global, patterns: &str) -> Text {

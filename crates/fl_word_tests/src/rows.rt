@@ -13,21 +13,17 @@ pub fn agree(rt: &impl Abort, row: &str, is_so: bool) {
     assert!(rt; is_so, "{row}");
 }
 
-/// Adds what follows a `<`: a text as often as it says, and all after the `>`.
-fn push_part(rt: &impl Abort, alloc: Global, text: &mut String, part: &str) {
-    let (often, rest) = part.split_once('>').unwrap_or(("", part));
-    let (once, count) = often.rsplit_once('*').unwrap_or(("", "0"));
-    let often = once.repeat(alloc, count.parse::<usize>().unwrap_or(0));
-    text.push_str(&often.expect(rt, "memory"))
-        .expect(rt, "memory");
-    text.push_str(rest).expect(rt, "memory");
-}
-
-/// The text that this one stands for.
+/// The text that this one stands for: what follows a `<` as often as it says, and all after the `>`.
 fn whole(rt: &impl Abort, alloc: Global, text: &str) -> String {
     let mut whole = String::new(alloc);
     for part in text.split('<') {
-        push_part(rt, alloc, &mut whole, part);
+        let (often, rest) = part.split_once('>').unwrap_or(("", part));
+        let (once, count) = often.rsplit_once('*').unwrap_or(("", "0"));
+        let often = once.repeat(alloc, count.parse::<usize>().unwrap_or(0));
+        whole
+            .push_str(&often.expect(rt, "memory"))
+            .expect(rt, "memory");
+        whole.push_str(rest).expect(rt, "memory");
     }
     whole
 }
@@ -45,15 +41,8 @@ fn is_so(rt: &impl Abort, alloc: Global, asked: Asked, row: &str) -> bool {
     answer.as_str() == lined(rt, alloc, &want).as_str()
 }
 
-/// Ends the test at a row that isn't so.
-fn agree_on_rows(rt: &impl Abort, alloc: Global, asked: Asked, rows: &str) {
-    for row in rows.lines() {
-        agree(rt, row, is_so(rt, alloc, asked, row));
-    }
-}
-
 /// What is asked, and rows of it.
-const TABLES: [(Asked, &str); 20] = [
+const TABLES: [(Asked, &str); 22] = [
     (Asked::Command, words::WORDS),
     (Asked::Command, words::REF_WORDS),
     (Asked::Command, words::OPTION_WORDS),
@@ -67,7 +56,9 @@ const TABLES: [(Asked, &str); 20] = [
     (Asked::Batch, batches::BATCHES),
     (Asked::Batch, batches::BAD_LINES),
     (Asked::Batch, batches::LONG_BATCHES),
-    (Asked::Damage, lines::DAMAGED),
+    (Asked::Refusal, lines::REFUSALS),
+    (Asked::Refusal, lines::DAMAGED),
+    (Asked::Operation, lines::OPERATIONS),
     (Asked::Escaped, lines::ESCAPED),
     (Asked::Pins, lines::PINS),
     (Asked::Remotes, lines::REMOTES),
@@ -76,18 +67,16 @@ const TABLES: [(Asked, &str); 20] = [
     (Asked::WholeInfo, lines::WHOLE_INFO),
 ];
 
-#[test]
-fn rows(rt: HostRuntime) {
-    for (asked, rows) in &TABLES {
-        agree_on_rows(&rt, rt.alloc(), *asked, rows);
-    }
-}
-
 /// A row whose word has a newline, and so isn't a line.
 const ESCAPED_WORD: &str =
     "batch|a\nb\\c|=> fpk: 'a\\0ab\\5cc' is one word too many|usage: fpk batch|";
 
 #[test]
-fn a_word_with_a_newline(rt: HostRuntime) {
+fn rows(rt: HostRuntime) {
+    for (asked, rows) in &TABLES {
+        for row in rows.lines() {
+            agree(&rt, row, is_so(&rt, rt.alloc(), *asked, row));
+        }
+    }
     assert!(rt; is_so(&rt, rt.alloc(), Asked::Reason, ESCAPED_WORD));
 }
