@@ -67,6 +67,13 @@ const NESTED: [(usize, &str, bool); 4] = [
     (64, "v", false),
 ];
 
+/// A type string of this one inside this number of arrays.
+fn nested(rt: &impl Abort, alloc: Global, count: usize, inside: &str) -> String {
+    let mut text = "a".repeat(alloc, count).expect(rt, "memory");
+    text.push_str(inside).expect(rt, "memory");
+    text
+}
+
 #[test]
 fn types(rt: HostRuntime) {
     let alloc = rt.alloc();
@@ -77,8 +84,7 @@ fn types(rt: HostRuntime) {
         agree(&rt, text, is_taken(&rt, alloc, text, *good));
     }
     for (count, inside, good) in &NESTED {
-        let arrays = "a".repeat(alloc, *count).expect(&rt, "memory");
-        let text = [&arrays, *inside].concat(alloc).expect(&rt, "memory");
+        let text = nested(&rt, alloc, *count, inside);
         agree(&rt, &text, is_taken(&rt, alloc, &text, *good));
     }
 }

@@ -61,12 +61,19 @@ fn told(rt: &impl Abort, alloc: Global, walked: Result<Items<(Digest, ObjKind)>,
     Text::from_string(lines)
 }
 
-/// What a look answered: a file's digest in digits, a word for what is none, or the refusal.
+/// A file's digest in digits, or a word for what is none.
+fn named(rt: &impl Abort, alloc: Global, found: &Found) -> Text {
+    match found {
+        Found::Dir => text(rt, alloc, "a folder"),
+        Found::File(digest) => digest.write(alloc).expect(rt, "memory"),
+        Found::Nothing => text(rt, alloc, "nothing"),
+    }
+}
+
+/// What a look answered, as `named` says it, or the refusal.
 fn seen(rt: &impl Abort, alloc: Global, looked: Result<Found, WalkEnd>) -> Text {
     match looked {
-        Ok(Found::Dir) => text(rt, alloc, "a folder"),
-        Ok(Found::File(digest)) => digest.write(alloc).expect(rt, "memory"),
-        Ok(Found::Nothing) => text(rt, alloc, "nothing"),
+        Ok(found) => named(rt, alloc, &found),
         Err(end) => end_line(rt, alloc, PullEnd::from(end)),
     }
 }
