@@ -1,49 +1,19 @@
-//! What tests are made of: what stands before them, paths, and texts.
+//! Paths, urls and texts of a test.
 use crate::Log;
+use crate::words::{number, pair};
 use fp_host::Path;
 use fp_system::SystemError;
 use std::alloc::Global;
-use std::fs::Permissions;
-use std::os::unix::fs::{PermissionsExt, symlink};
-use std::{fs, io};
-
-/// What stands before a test.
-#[derive(Clone, Copy)]
-pub enum Made<'a> {
-    /// With the folders above it.
-    Folder(&'a str),
-    /// Its path, and what it holds.
-    File(&'a str, &'a str),
-    /// Its text, and its path.
-    Link(&'a str, &'a str),
-    /// The path of a file or folder, and the permission bits that it gets.
-    Bits(&'a str, u32),
-}
-
-fn make(rt: &HostRuntime, made: Made<'_>) -> io::Result<()> {
-    match made {
-        Made::Folder(at) => fs::create_dir_all(rt, at),
-        Made::File(at, text) => fs::write(rt, at, text),
-        Made::Link(text, at) => symlink(rt, text, at),
-        Made::Bits(at, bits) => fs::set_permissions(rt, at, Permissions::from_mode(bits)),
-    }
-}
-
-/// Makes all of it, one after another, and notes what cannot be made.
-pub fn make_all(rt: &HostRuntime, log: &Log<'_>, made: &[Made<'_>]) {
-    for (i, one) in made.iter().enumerate() {
-        log.demand(make(rt, *one).is_ok(), i, "what stands before");
-    }
-}
+use std::fs;
 
 /// Takes away what an earlier run left.
 pub fn clear(rt: &HostRuntime, folder: &str) {
     let _ = fs::remove_dir_all(rt, folder);
 }
 
-/// The path of a text that is one.
+/// The path of a text that is one. A dot is the root.
 pub fn path(log: &Log<'_>, text: &str) -> Path {
-    if text.is_empty() {
+    if text == "." || text.is_empty() {
         return Path::root(log.alloc);
     }
     match Path::parse(log.alloc, text) {
@@ -94,12 +64,20 @@ fn is_such(text: &str, want: &str) -> bool {
 }
 
 /// The permission bits and the size of a file.
-pub fn bits_and_size(alloc: Global, mode: u32, size: u64) -> Option<String> {
+pub(crate) fn bits_and_size(alloc: Global, mode: u32, size: u64) -> Option<String> {
     format!(in alloc; "{mode:o} {size}").ok()
 }
 
+/// A text without its last line, and the rest of that line, where this begins it.
+pub(crate) fn told_of(block: &str) -> (&str, &str) {
+    match block.rsplit_once("\nfaults ") {
+        Some(both) => both,
+        None => (block, "0"),
+    }
+}
+
 /// Whether this is how often a call failed, and the last refusal where one is told.
-pub fn tells(alloc: Global, faults: u64, error: Option<&SystemError>, told: (u64, &str)) -> bool {
-    let (count, last) = told;
-    faults == count && (last.is_empty() || is_message(alloc, error, last))
+pub(crate) fn tells(alloc: Global, faults: u64, error: Option<&SystemError>, told: &str) -> bool {
+    let (count, last) = pair(told);
+    faults == number(count) && (last.is_empty() || is_message(alloc, error, last))
 }

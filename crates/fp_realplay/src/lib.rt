@@ -1,6 +1,7 @@
-//! Calls of a host as data, for tests of the adapters, and what plays them.
+//! Tests of the adapters as texts, and what plays them.
 #![tactic(auto)]
 
+mod disk;
 mod fixture;
 mod log;
 mod logged;
@@ -8,11 +9,12 @@ mod play;
 mod remote;
 mod step;
 mod tale;
+mod words;
 
-pub use fixture::{Made, bits_and_size, clear, is_message, make_all, path, tells, url_of};
+pub use disk::play_disk;
+pub use fixture::{clear, is_message, path, url_of};
 pub use log::{Kind, Log};
 pub use logged::{Logged, LoggedFile};
-pub use play::{Part, is_free, play_all};
-pub use remote::{FAULT, Remote};
-pub use step::Step;
-pub use tale::{Act, tell};
+pub use play::play_lines;
+pub use tale::{tell, tell_each};
+pub use words::pair;

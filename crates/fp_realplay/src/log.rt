@@ -1,5 +1,5 @@
-//! What a test notes: what its system is asked to change, in order, as lines, and what doesn't
-//! hold.
+//! What a test notes: what its system is asked to change, in order, and what doesn't hold.
+use crate::words::{number, pair};
 use std::alloc::Global;
 use std::cell::Cell;
 use std::io;
@@ -17,7 +17,7 @@ pub enum Kind<'a> {
     Stuck,
     /// The same, and this many times its file is taken away meanwhile. Whether another one comes in
     /// its place.
-    Losing(u32, bool),
+    Losing(u64, bool),
     /// What is looked at is noted, too.
     TellingLooks,
     /// The file or folder at this path may not be opened.
@@ -25,11 +25,29 @@ pub enum Kind<'a> {
     /// No file may have a second name, and this line fails.
     Crowded(&'a str),
     /// No more files than this many may be open.
-    Narrow(u32),
+    Narrow(u64),
     /// What the process may do is told by the file at this path.
     Limited(&'a str),
     /// Each look at the clock is a second after the one before.
     Slow,
+}
+
+/// What a tale's first line says is other. Any other word is nothing.
+pub(crate) fn kind_of(text: &str) -> Kind<'_> {
+    let (word, rest) = pair(text);
+    match word {
+        "failing" => Kind::Failing(rest),
+        "busy" => Kind::Busy,
+        "stuck" => Kind::Stuck,
+        "replacing" => Kind::Losing(number(rest), true),
+        "removing" => Kind::Losing(number(rest), false),
+        "telling-looks" => Kind::TellingLooks,
+        "denying" => Kind::Denying(rest),
+        "crowded" => Kind::Crowded(rest),
+        "narrow" => Kind::Narrow(number(rest)),
+        "limited" => Kind::Limited(rest),
+        _ => Kind::Plain,
+    }
 }
 
 /// The system's number of the error that a file may have no more names: EMLINK of Linux.
@@ -41,7 +59,7 @@ const NARROW: i32 = 24;
 /// Where Linux tells what a process may have.
 const LIMITS: &str = "/proc/self/limits";
 
-/// The lines since they were read last, and the first row of a table that didn't hold.
+/// The calls since they were read last, and the first row of a table that didn't hold.
 #[derive(Drop)]
 pub struct Log<'a> {
     /// What memory is asked for.
@@ -49,9 +67,9 @@ pub struct Log<'a> {
     lines: Cell<String>,
     kind: Kind<'a>,
     // How many lock files were taken away.
-    lost: Cell<u32>,
+    lost: Cell<u64>,
     // How many files are open.
-    open: Cell<u32>,
+    open: Cell<u64>,
     // How often the clock was looked at.
     seconds: Cell<u64>,
     is_wrong: Cell<bool>,
@@ -178,7 +196,7 @@ impl<'a> Log<'a> {
     }
 
     /// Counts one more, where there are not as many yet.
-    fn counts_to(&self, times: u32) -> bool {
+    fn counts_to(&self, times: u64) -> bool {
         let lost = self.lost.get();
         self.lost.set(lost.saturating_add(1));
         lost < times
@@ -193,22 +211,39 @@ impl<'a> Log<'a> {
         }
     }
 
-    /// The lines since the last time.
+    /// The calls since the last time. Each is ended by a semicolon and a blank.
     pub fn take(&self) -> String {
         self.lines.replace(String::new(self.alloc))
     }
 
-    /// Whether just this was noted since the last time.
+    /// Forgets the calls since the last time.
+    pub(crate) fn forget(&self) {
+        self.lines.set(String::new(self.alloc));
+    }
+
+    /// Whether just these calls were noted since the last time. Between two of them stand a
+    /// semicolon and a blank.
     pub fn is_noted(&self, want: &str) -> bool {
-        self.take().as_str() == want
+        let noted = self.take();
+        noted.strip_suffix("; ").unwrap_or("") == want
     }
 
     /// Whether just this call was.
     pub fn is_one(&self, what: &str, at: &str) -> bool {
-        match self.take().strip_suffix('\n') {
+        match self.take().strip_suffix("; ") {
             Some(line) => is_line(line, what, at),
             None => false,
         }
+    }
+
+    /// How many syncs of numbered files were noted since the last time.
+    pub(crate) fn count_synced(&self) -> u64 {
+        let noted = self.take();
+        let mut count = 0u64;
+        for call in noted.split("; ") {
+            count = count.saturating_add(is_sync_of_number(call) as u64);
+        }
+        count
     }
 }
 
@@ -216,7 +251,11 @@ fn add_line(lines: &mut String, what: &str, at: &str) -> bool {
     lines.push_str(what).is_ok()
         && lines.push(' ').is_ok()
         && lines.push_str(at).is_ok()
-        && lines.push('\n').is_ok()
+        && lines.push_str("; ").is_ok()
+}
+
+fn is_sync_of_number(call: &str) -> bool {
+    call.starts_with("sync ") && call.contains("/f")
 }
 
 fn is_line(line: &str, what: &str, at: &str) -> bool {

@@ -1,80 +1,34 @@
-//! What is asked of a host, as data, and what is to come of it.
+//! What is asked of a host, line by line, and what is to come of it.
 use crate::Log;
-use crate::fixture::{Made, make_all, path};
-use crate::step::{Step, change, shows};
-use fp_host::{Host, HostError, Path, Stat};
-use fp_realroot::{Access, System};
-use std::fs;
+use crate::disk::on_disk;
+use crate::fixture::path;
+use crate::step::{change, shows};
+use crate::words::{number, pair};
+use fp_host::{Host, HostError, Stat};
 
-/// What is asked of a host in a row, and what is to come of it.
-#[derive(Clone, Copy)]
-pub enum Part<'a> {
-    /// Calls that are done.
-    Done(&'a [Step<'a>]),
-    /// Calls that fail.
-    Fail(&'a [Step<'a>]),
-    /// Calls that are done, a path, and what it shows after each.
-    Show(&'a [(Step<'a>, &'a str, &'a str)]),
-    /// Calls that are done, and what the system is asked for each.
-    Ask(&'a [(Step<'a>, &'a str)]),
-    /// What the system was asked since the last look.
-    Asked(&'a str),
-    /// Two names, and whether they are of one file.
-    AreOne(&'a str, &'a str, bool),
-    /// A file, places in it, how many bytes come from there, and the buffer after.
-    Give(&'a str, &'a [(u64, usize, [u8; 4])]),
-    /// A file or folder, and whether others could share its lock, and have it alone.
-    Free(&'a str, bool, bool),
-    /// What another program makes meanwhile.
-    Make(&'a [Made<'a>]),
-    /// Calls, the first of them that fails, and whether a sync succeeds afterwards.
-    Stop(&'a [Step<'a>], usize, bool),
-    /// How many files are made, how many of them are synced before a sync, and by it, and whether
-    /// it succeeds, twice.
-    Many(u32, &'a (usize, usize, bool)),
-}
-
-/// Notes a part that is otherwise.
-pub fn play_all<H: Host>(rt: &HostRuntime, log: &Log<'_>, host: &mut H, parts: &[Part<'_>]) {
-    for part in parts {
-        play(rt, log, host, part);
+/// Plays the lines, and notes those that are otherwise.
+pub fn play_lines<H: Host>(rt: &HostRuntime, log: &Log<'_>, host: &mut H, lines: &str) {
+    for (i, line) in lines.lines().enumerate() {
+        log.demand(play(rt, log, host, line), i, line);
     }
 }
 
-fn play<H: Host>(rt: &HostRuntime, log: &Log<'_>, host: &mut H, part: &Part<'_>) {
-    match part {
-        Part::Done(steps) => all_are(log, host, steps, None),
-        Part::Fail(steps) => all_are(log, host, steps, Some(HostError::Failed)),
-        Part::Show(rows) => all_show(log, host, rows),
-        Part::Ask(rows) => all_ask(log, host, rows),
-        Part::Asked(want) => log.demand(log.is_noted(want), 0, want),
-        Part::AreOne(a, b, want) => log.demand(are_one(log, host, a, b) == Some(*want), 0, b),
-        Part::Give(at, rows) => all_give(log, host, &path(log, at), rows),
-        Part::Free(at, looks, changes) => is_open_to(rt, log, at, *looks, *changes),
-        Part::Make(made) => make_all(rt, log, made),
-        Part::Stop(steps, at, syncs) => stop(log, host, steps, *at, *syncs),
-        Part::Many(count, want) => sync_many(log, host, *count, want),
-    }
-}
-
-/// The calls are answered with this.
-fn all_are<H: Host>(log: &Log<'_>, host: &mut H, steps: &[Step<'_>], want: Option<HostError>) {
-    for (i, step) in steps.iter().enumerate() {
-        log.demand(change(log, host, *step) == want, i, "a call");
-    }
-}
-
-fn all_show<H: Host>(log: &Log<'_>, host: &mut H, rows: &[(Step<'_>, &str, &str)]) {
-    for (i, (step, at, want)) in rows.iter().enumerate() {
-        let is_done = change(log, host, *step).is_none();
-        log.demand(is_done && shows(log, host, at, want), i, want);
-    }
-}
-
-fn all_ask<H: Host>(log: &Log<'_>, host: &mut H, rows: &[(Step<'_>, &str)]) {
-    for (i, (step, want)) in rows.iter().enumerate() {
-        let is_done = change(log, host, *step).is_none();
-        log.demand(is_done && log.is_noted(want), i, want);
+/// Whether it is as the line says.
+fn play<H: Host>(rt: &HostRuntime, log: &Log<'_>, host: &mut H, line: &str) -> bool {
+    let (verb, rest) = pair(line);
+    match verb {
+        "fails" => change(log, host, rest) == Some(HostError::Failed),
+        "shows" => shows(log, host, rest),
+        "asks" => log.is_noted(rest),
+        "one" => are_one(log, host, rest) == Some(true),
+        "two" => are_one(log, host, rest) == Some(false),
+        "bytes" => gives(log, host, rest),
+        "makes" => makes(log, host, number(rest)),
+        "synced" => log.count_synced() == number(rest),
+        _ => match on_disk(rt, log.alloc, verb, rest) {
+            Some(held) => held,
+            None => change(log, host, line).is_none(),
+        },
     }
 }
 
@@ -83,85 +37,37 @@ fn stat_at<H: Host>(log: &Log<'_>, host: &mut H, at: &str) -> Option<Stat> {
 }
 
 /// Whether two names show the same, where both can be looked at.
-fn are_one<H: Host>(log: &Log<'_>, host: &mut H, a: &str, b: &str) -> Option<bool> {
+fn are_one<H: Host>(log: &Log<'_>, host: &mut H, names: &str) -> Option<bool> {
+    let (a, b) = pair(names);
     match (stat_at(log, host, a), stat_at(log, host, b)) {
         (Some(one), Some(other)) => Some(one == other),
         _ => None,
     }
 }
 
-fn all_give<H: Host>(log: &Log<'_>, host: &mut H, file: &Path, rows: &[(u64, usize, [u8; 4])]) {
-    for (i, row) in rows.iter().enumerate() {
-        log.demand(gives(host, file, row), i, "bytes");
-    }
-}
-
-/// Whether the file gives this from a place on.
-fn gives<H: Host>(host: &mut H, file: &Path, row: &(u64, usize, [u8; 4])) -> bool {
-    let (at, n, want) = row;
+/// Whether the file gives from a place on as many bytes as are told, and what four dots are then.
+fn gives<H: Host>(log: &Log<'_>, host: &mut H, rest: &str) -> bool {
+    let (at, rest) = pair(rest);
+    let (place, rest) = pair(rest);
+    let (count, want) = pair(rest);
     let mut into = *b"....";
-    host.read_at(file, *at, &mut into).ok() == Some(*n) && into == *want
-}
-
-/// Whether nobody holds a lock that is in the way, where that can be found out.
-pub fn is_free(rt: &HostRuntime, at: &str, access: Access) -> Option<bool> {
-    match fs::open(rt, at) {
-        Ok(file) => rt.try_lock(&file, access).ok(),
-        Err(_) => None,
-    }
-}
-
-fn is_open_to(rt: &HostRuntime, log: &Log<'_>, at: &str, looks: bool, changes: bool) {
-    log.demand(is_free(rt, at, Access::Look) == Some(looks), 0, at);
-    log.demand(is_free(rt, at, Access::Change) == Some(changes), 1, at);
-}
-
-/// The first of the calls that fails.
-fn first_failure<H: Host>(log: &Log<'_>, host: &mut H, steps: &[Step<'_>]) -> Option<usize> {
-    for (i, step) in steps.iter().enumerate() {
-        if change(log, host, *step) == Some(HostError::Failed) {
-            return Some(i);
-        }
-    }
-    None
-}
-
-fn stop<H: Host>(log: &Log<'_>, host: &mut H, steps: &[Step<'_>], at: usize, syncs: bool) {
-    let first = first_failure(log, host, steps);
-    log.demand(first == Some(at), at, "the first that fails");
-    log.demand(host.sync().is_ok() == syncs, at, "a sync afterwards");
+    let read = host.read_at(&path(log, at), number(place), &mut into);
+    read.ok() == Some(number(count) as usize) && into.as_slice() == want.as_bytes()
 }
 
 /// Makes a file of this number, and answers whether it is done.
-fn makes_one<H: Host>(log: &Log<'_>, host: &mut H, number: u32) -> bool {
-    match format!(in log.alloc; "f{number:02}") {
-        Ok(name) => change(log, host, Step::Create(&name, 0o644)).is_none(),
+fn makes_one<H: Host>(log: &Log<'_>, host: &mut H, number: u64) -> bool {
+    match format!(in log.alloc; "create f{number:02} 644") {
+        Ok(line) => change(log, host, &line).is_none(),
         Err(_) => false,
     }
 }
 
-/// Makes this many files.
-fn make_many<H: Host>(log: &Log<'_>, host: &mut H, count: u32) {
+/// Makes this many files, and answers whether all are made.
+fn makes<H: Host>(log: &Log<'_>, host: &mut H, count: u64) -> bool {
+    let mut is_done = true;
     for i in 0..count {
-        log.demand(makes_one(log, host, i), 0, "a file");
+        is_done &= makes_one(log, host, i);
     }
-}
-
-/// How many files the system was asked to sync since the last look.
-fn count_synced(log: &Log<'_>) -> usize {
-    let lines = log.take();
-    lines
-        .lines()
-        .filter(|line| line.contains("sync many/root/f"))
-        .count()
-}
-
-fn sync_many<H: Host>(log: &Log<'_>, host: &mut H, count: u32, want: &(usize, usize, bool)) {
-    let (early, late, syncs) = want;
-    make_many(log, host, count);
-    log.demand(count_synced(log) == *early, 0, "synced before");
-    let done = host.sync().is_ok();
-    log.demand(count_synced(log) == *late, 1, "synced");
-    let again = done && host.sync().is_ok();
-    log.demand(again == *syncs, 2, "a sync, twice");
+    is_done
 }

@@ -1,57 +1,65 @@
-//! A folder as a remote, and what is to be found there.
-use crate::{Log, bits_and_size, path, tells, url_of};
+//! What is asked of remotes, line by line.
+use crate::Log;
+use crate::fixture::{bits_and_size, path, tells, told_of, url_of};
+use crate::words::{number, pair};
 use fp_host::{Node, Path, RemoteError, Remotes};
 use fp_realinput::DirRemotes;
 use std::alloc::Global;
 
-/// A folder as a remote, and other urls.
-#[derive(Clone, Copy)]
-pub struct Remote<'a> {
-    /// Its path from the current folder.
-    pub folder: &'a str,
-    /// A path, what stands there, and how many bytes it has from the seventh on.
-    pub holds: &'a [(&'a str, &'a str, usize)],
-    /// Urls at which each call fails.
-    pub urls: &'a [&'a str],
-    /// How often a call failed, and what was refused last, where that is told.
-    pub told: (u64, &'a str),
-}
-
 /// What stands at a path where both calls fail.
-pub const FAULT: &str = "a fault";
+const FAULT: &str = "a fault";
 
-/// Notes where the remote is otherwise, or a call at one of the other urls doesn't fail.
-pub(crate) fn ask_remote(rt: &HostRuntime, log: &Log<'_>, remote: &Remote<'_>) {
-    let url = url_of(rt, log, remote.folder);
+/// Plays the lines over a folder as a remote, and notes those that are otherwise.
+pub(crate) fn ask_remote(rt: &HostRuntime, log: &Log<'_>, folder: &str, block: &str) {
+    let url = url_of(rt, log, folder);
     let mut remotes = DirRemotes::new(rt, log.alloc);
-    all_hold(log, &mut remotes, &url, remote.holds);
-    all_fail(log, &mut remotes, remote.urls);
-    let is_told = tells(
+    let (lines, told) = told_of(block);
+    ask_lines(log, &mut remotes, &url, lines);
+    let is_told = tells(log.alloc, remotes.faults(), remotes.last_error(), told);
+    log.demand(is_told, 0, told);
+}
+
+fn ask_lines<M: Remotes>(log: &Log<'_>, remotes: &mut M, url: &str, lines: &str) {
+    for (i, line) in lines.lines().enumerate() {
+        log.demand(ask(log, remotes, url, line), i, line);
+    }
+}
+
+/// Whether it is as the line says: what stands at a path and how many bytes it has from the seventh
+/// on, or that both calls fail at another url. The first line names the folder.
+fn ask<M: Remotes>(log: &Log<'_>, remotes: &mut M, url: &str, line: &str) -> bool {
+    let (verb, rest) = pair(line);
+    match verb {
+        "node" => ask_node(log, remotes, url, rest),
+        "url" => is_there(log.alloc, remotes, rest, &Path::root(log.alloc), (0, FAULT)),
+        _ => verb == "remote",
+    }
+}
+
+fn ask_node<M: Remotes>(log: &Log<'_>, remotes: &mut M, url: &str, rest: &str) -> bool {
+    let (at, rest) = pair(rest);
+    let (count, want) = pair(rest);
+    is_there(
         log.alloc,
-        remotes.faults(),
-        remotes.last_error(),
-        remote.told,
-    );
-    log.demand(is_told, 0, "the faults");
+        remotes,
+        url,
+        &path(log, at),
+        (number(count), want),
+    )
 }
 
-fn all_hold<M: Remotes>(log: &Log<'_>, remotes: &mut M, url: &str, rows: &[(&str, &str, usize)]) {
-    for (i, (at, want, n)) in rows.iter().enumerate() {
-        let at = path(log, at);
-        let holds = is_node(log.alloc, remotes, url, &at, want);
-        log.demand(holds && gives(remotes, url, &at, want, *n), i, want);
-    }
+/// Whether this is shown there, and has so many bytes from the seventh on.
+fn is_there<M: Remotes>(
+    alloc: Global,
+    remotes: &mut M,
+    url: &str,
+    at: &Path,
+    want: (u64, &str),
+) -> bool {
+    let (count, shown) = want;
+    is_node(alloc, remotes, url, at, shown) && gives(remotes, url, at, shown, count)
 }
 
-fn all_fail<M: Remotes>(log: &Log<'_>, remotes: &mut M, urls: &[&str]) {
-    let root = Path::root(log.alloc);
-    for (i, url) in urls.iter().enumerate() {
-        let fails = is_node(log.alloc, remotes, url, &root, FAULT);
-        log.demand(fails && gives(remotes, url, &root, FAULT, 0), i, url);
-    }
-}
-
-/// Whether this is shown there.
 fn is_node<M: Remotes>(alloc: Global, remotes: &mut M, url: &str, at: &Path, want: &str) -> bool {
     match remotes.node(alloc, url, at) {
         Ok(node) => is_shown(alloc, &node, want),
@@ -77,9 +85,9 @@ fn is_file(alloc: Global, mode: u32, size: u64, want: &str) -> bool {
 }
 
 /// Whether this many bytes come from the seventh on, or the call fails.
-fn gives<M: Remotes>(remotes: &mut M, url: &str, at: &Path, want: &str, n: usize) -> bool {
+fn gives<M: Remotes>(remotes: &mut M, url: &str, at: &Path, want: &str, count: u64) -> bool {
     match remotes.read_at(url, at, 6, &mut [0u8; 8]) {
-        Ok(read) => read == n && want != FAULT,
+        Ok(read) => read as u64 == count && want != FAULT,
         Err(error) => error == RemoteError::Failed && want == FAULT,
     }
 }

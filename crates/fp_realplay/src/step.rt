@@ -1,99 +1,60 @@
-//! Calls of a host as data, and what a folder shows.
+//! Calls of a host by their lines, and what a folder shows.
 use crate::Log;
 use crate::fixture::{bits_and_size, path};
+use crate::words::{bits, pair};
 use fp_base::Text;
 use fp_host::{Host, HostError, Path, Stat};
 use std::alloc::Global;
 
-/// A call, on paths of one element or two.
-#[derive(Clone, Copy)]
-pub enum Step<'a> {
-    /// A folder is made at the path.
-    MakeDir(&'a str),
-    /// An empty file is made at the path, with these permission bits.
-    Create(&'a str, u32),
-    /// The file at the path gets this text, too.
-    Append(&'a str, &'a str),
-    /// The file at the first path gets the second one, too.
-    Link(&'a str, &'a str),
-    /// A symlink with this text is made at the path.
-    Symlink(&'a str, &'a str),
-    /// What is at the first path moves to the second.
-    Rename(&'a str, &'a str),
-    /// The file or symlink at the path goes away.
-    Unlink(&'a str),
-    /// The empty folder at the path goes away.
-    RemoveDir(&'a str),
-    /// What was done is to last.
-    Sync,
-    /// The text is printed.
-    Say(&'a str),
-    /// What stands at the path.
-    Stat(&'a str),
-    /// What the file at the path holds.
-    Read(&'a str),
-    /// The text of the symlink at the path.
-    ReadLink(&'a str),
-    /// The names in the folder at the path.
-    List(&'a str),
-}
-
-impl<'a> Step<'a> {
-    /// Its path; of two, the last one.
-    fn place(self) -> &'a str {
-        match self {
-            Step::MakeDir(at) | Step::Create(at, _) | Step::Append(at, _) => at,
-            Step::Link(_, at) | Step::Symlink(_, at) | Step::Rename(_, at) => at,
-            Step::Unlink(at) | Step::RemoveDir(at) | Step::Stat(at) => at,
-            Step::Read(at) | Step::ReadLink(at) | Step::List(at) => at,
-            Step::Sync | Step::Say(_) => "",
-        }
-    }
-
-    /// The first path of two.
-    fn source(self) -> &'a str {
-        match self {
-            Step::Link(from, _) | Step::Rename(from, _) => from,
-            _ => "",
-        }
+/// Makes the call of a line, and answers why it was not done.
+pub(crate) fn change<H: Host>(log: &Log<'_>, host: &mut H, line: &str) -> Option<HostError> {
+    let (verb, rest) = pair(line);
+    let (first, second) = pair(rest);
+    let at = path(log, first);
+    match verb {
+        "link" => host.link(&at, &path(log, second)).err(),
+        "rename" => host.rename(&at, &path(log, second)).err(),
+        "say" => host.say(rest.as_bytes()).err(),
+        _ => change_at(log.alloc, host, verb, &at, second),
     }
 }
 
-/// Makes a call, and answers why it was not done.
-pub(crate) fn change<H: Host>(log: &Log<'_>, host: &mut H, step: Step<'_>) -> Option<HostError> {
-    let from = path(log, step.source());
-    let at = path(log, step.place());
-    change_at(log.alloc, host, step, &from, &at)
-}
-
+/// Makes the call of this name at a path, with another word.
 fn change_at<H: Host>(
     alloc: Global,
     host: &mut H,
-    step: Step<'_>,
-    from: &Path,
+    verb: &str,
     at: &Path,
+    word: &str,
 ) -> Option<HostError> {
-    match step {
-        Step::MakeDir(_) => host.make_dir(at).err(),
-        Step::Create(_, mode) => host.create(at, mode).err(),
-        Step::Append(_, text) => host.append(at, text.as_bytes()).err(),
-        Step::Link(_, _) => host.link(from, at).err(),
-        Step::Symlink(text, _) => host.symlink(text, at).err(),
-        Step::Rename(_, _) => host.rename(from, at).err(),
-        Step::Unlink(_) => host.unlink(at).err(),
-        Step::RemoveDir(_) => host.remove_dir(at).err(),
-        Step::Sync => host.sync().err(),
-        Step::Say(text) => host.say(text.as_bytes()).err(),
-        Step::Stat(_) => host.stat(at).err(),
-        Step::Read(_) => host.read_at(at, 0, &mut [0u8; 4]).err(),
-        Step::ReadLink(_) => host.read_link(alloc, at).err(),
-        Step::List(_) => host.list(alloc, at).err(),
+    match verb {
+        "mkdir" => host.make_dir(at).err(),
+        "create" => host.create(at, bits(word)).err(),
+        "append" => host.append(at, word.as_bytes()).err(),
+        "symlink" => host.symlink(word, at).err(),
+        "unlink" => host.unlink(at).err(),
+        "rmdir" => host.remove_dir(at).err(),
+        "sync" => host.sync().err(),
+        _ => look_at(alloc, host, verb, at),
     }
 }
 
-/// Whether the path shows this: a folder's names, a file's permission bits, size and first bytes, a
+/// Makes the call of this name that changes nothing. Any other name is no call: neither done nor
+/// failed.
+fn look_at<H: Host>(alloc: Global, host: &mut H, verb: &str, at: &Path) -> Option<HostError> {
+    match verb {
+        "stat" => host.stat(at).err(),
+        "read" => host.read_at(at, 0, &mut [0u8; 4]).err(),
+        "readlink" => host.read_link(alloc, at).err(),
+        "list" => host.list(alloc, at).err(),
+        _ => Some(HostError::NoMemory),
+    }
+}
+
+/// Whether a path shows this: a folder's names, a file's permission bits, size and first bytes, a
 /// symlink's text.
-pub(crate) fn shows<H: Host>(log: &Log<'_>, host: &mut H, at: &str, want: &str) -> bool {
+pub(crate) fn shows<H: Host>(log: &Log<'_>, host: &mut H, rest: &str) -> bool {
+    let (at, want) = pair(rest);
     shows_at(log.alloc, host, &path(log, at), want)
 }
 
@@ -121,7 +82,10 @@ fn is_link<H: Host>(alloc: Global, host: &mut H, at: &Path, want: &str) -> bool 
 fn after_bits(alloc: Global, bits: (u32, u64), text: &str) -> Option<&str> {
     let (mode, size) = bits;
     let head = bits_and_size(alloc, mode, size)?;
-    after_word(text.strip_prefix(head.as_str()), "")
+    match text.strip_prefix(head.as_str()) {
+        Some("") => Some(""),
+        rest => after_word(rest, ""),
+    }
 }
 
 /// Whether the file's first bytes are these.

@@ -1,88 +1,89 @@
-//! A test as data: what is done one after another in a folder, and what is to come of it.
-use crate::remote::{Remote, ask_remote};
-use crate::{Kind, Log, Logged, Made, Part, clear, is_free, make_all, play_all, tells};
-use fp_host::PERMISSION_BITS;
+//! A test as a text: what is done one after another in a folder, and what is to come of it.
+use crate::disk::play_disk;
+use crate::fixture::{tells, told_of};
+use crate::log::kind_of;
+use crate::remote::ask_remote;
+use crate::words::pair;
+use crate::{Log, Logged, clear, play_lines};
 use fp_progress::{Progress, Task, Watched};
 use fp_realhost::HostDir;
 use fp_realroot::{Access, System};
-use std::fs;
 use std::io::Print;
-use std::os::unix::fs::MetadataExt;
 use std::thread::Threads;
-use std::time::{SystemTime, UNIX_EPOCH};
 
-/// What is done in a folder, and what is to come of it.
-#[derive(Clone, Copy)]
-pub enum Act<'a> {
-    /// What is made there.
-    Make(&'a [Made<'a>]),
-    /// What a host over a folder is opened for, the folder, what is asked of it, how often a call
-    /// failed, and what was refused last, where that is told.
-    Run(Access, &'a str, &'a [Part<'a>], (u64, &'a str)),
-    /// The same over a system that notes what it is asked.
-    Logged(Access, &'a str, &'a [Part<'a>]),
-    /// The same, watched as a command is.
-    Watched(Access, &'a str, &'a [Part<'a>]),
-    /// What is asked of a folder as a remote.
-    Remote(Remote<'a>),
-    /// Nobody holds the lock.
-    Free(&'a str),
-    /// The permission bits of a file.
-    Bits(&'a str, u32),
-    /// The text of a file.
-    Text(&'a str, &'a str),
-    /// Nothing stands there.
-    Absent(&'a str),
-    /// Whether a file is dated the start of 1970, or later.
-    Dated(&'a str, bool),
+/// Whether each tale of the text is as it says. Where one isn't, standard error is told of its first
+/// line that isn't so. README.md says how tales are written.
+pub fn tell<T: System + Threads + Sync>(rt: &HostRuntime, threads: &T, text: &str) -> bool {
+    let mut all_held = true;
+    for tale in text.split("# ") {
+        all_held &= tale.is_empty() || is_so(rt, threads, tale);
+    }
+    all_held
 }
 
-/// Whether each act is as it says. Where one isn't, standard error is told of the first. The folder
-/// is cleared before and after.
-pub fn tell<T: System + Threads + Sync>(
+/// The same for each row of a table, which stands in the places of two braces. Between two rows
+/// stands a line of two dashes.
+pub fn tell_each<T: System + Threads + Sync>(
     rt: &HostRuntime,
     threads: &T,
-    folder: &str,
-    kind: Kind<'_>,
-    acts: &[Act<'_>],
+    text: &str,
+    rows: &str,
 ) -> bool {
-    let log = Log::new(rt.alloc(), kind);
+    let mut all_held = true;
+    for row in rows.split("\n--\n") {
+        all_held &= match text.replace(rt.alloc(), "{}", row) {
+            Ok(text) => tell(rt, threads, &text),
+            Err(_) => false,
+        };
+    }
+    all_held
+}
+
+/// Whether a tale is as it says. Its folder is cleared before and after.
+fn is_so<T: System + Threads + Sync>(rt: &HostRuntime, threads: &T, tale: &str) -> bool {
+    let Some((head, blocks)) = tale.split_once('\n') else {
+        return false;
+    };
+    let (folder, kind) = pair(head);
+    let log = Log::new(rt.alloc(), kind_of(kind));
     clear(rt, folder);
-    act_all(rt, threads, &log, acts);
+    play_blocks(rt, threads, &log, folder, blocks);
     clear(rt, folder);
     log.all_held(rt)
 }
 
-fn act_all<T: System + Threads + Sync>(
+fn play_blocks<T: System + Threads + Sync>(
     rt: &HostRuntime,
     threads: &T,
     log: &Log<'_>,
-    acts: &[Act<'_>],
+    folder: &str,
+    blocks: &str,
 ) {
-    for act in acts {
-        do_act(rt, threads, log, act);
+    for block in blocks.split("\n\n") {
+        play_block(rt, threads, log, folder, block.trim());
     }
 }
 
-fn do_act<T: System + Threads + Sync>(rt: &HostRuntime, threads: &T, log: &Log<'_>, act: &Act<'_>) {
-    match act {
-        Act::Make(made) => make_all(rt, log, made),
-        Act::Run(access, root, parts, told) => run_plain(
-            rt,
-            threads,
-            log,
-            (*access, root),
-            parts,
-            *told,
-        ),
-        Act::Logged(access, root, parts) => run_logged(rt, threads, log, (*access, root), parts),
-        Act::Watched(access, root, parts) => run_watched(rt, threads, log, (*access, root), parts),
-        Act::Remote(remote) => ask_remote(rt, log, remote),
-        Act::Free(at) => log.demand(is_free(rt, at, Access::Change) == Some(true), 0, at),
-        Act::Bits(at, want) => log.demand(has_bits(rt, at, *want), 0, at),
-        Act::Text(at, want) => log.demand(has_text(rt, at, want), 0, at),
-        Act::Absent(at) => log.demand(is_absent(rt, at), 0, at),
-        Act::Dated(at, want) => log.demand(is_dated(rt, at, *want), 0, at),
+/// Plays a block: its first line says over what.
+fn play_block<T: System + Threads + Sync>(
+    rt: &HostRuntime,
+    threads: &T,
+    log: &Log<'_>,
+    folder: &str,
+    block: &str,
+) {
+    let (head, lines) = block.split_once('\n').unwrap_or((block, ""));
+    let (over, rest) = pair(head);
+    match over {
+        "" | "--" => (),
+        "disk" => play_disk(rt, log, lines),
+        "remote" => ask_remote(rt, log, rest, block),
+        "look" => run_plain(rt, threads, log, (Access::Look, rest), block),
+        "change" => run_plain(rt, threads, log, (Access::Change, rest), block),
+        "logged-look" => run_logged(rt, threads, log, (Access::Look, rest), lines),
+        "logged" => run_logged(rt, threads, log, (Access::Change, rest), lines),
+        "both" => run_both(rt, threads, log, folder, (Access::Change, rest), lines),
+        _ => log.demand(false, 0, head),
     }
 }
 
@@ -91,33 +92,34 @@ fn run_plain<T: System + Threads + Sync>(
     threads: &T,
     log: &Log<'_>,
     place: (Access, &str),
-    parts: &[Part<'_>],
-    told: (u64, &str),
+    block: &str,
 ) {
     let (access, root) = place;
+    let (front, told) = told_of(block);
+    let (_, lines) = front.split_once('\n').unwrap_or((front, ""));
     match HostDir::with_maker(rt, threads, rt, log.alloc, root, access) {
         Ok(mut host) => {
-            play_all(rt, log, &mut host, parts);
+            play_lines(rt, log, &mut host, lines);
             host.finish();
             let is_told = tells(log.alloc, host.faults(), host.last_error(), told);
-            log.demand(is_told, 0, "the faults");
+            log.demand(is_told, 0, told);
         }
         Err(_) => log.demand(false, 0, "memory"),
     }
 }
 
-/// Plays the parts on a folder of this system, which prints what the host says too.
+/// Plays the lines on a folder of this system, which prints what the host says too.
 fn run_over<R: System + Print, T: System + Threads + Sync>(
     rt: &HostRuntime,
     system: &R,
     threads: &T,
     log: &Log<'_>,
     place: (Access, &str),
-    parts: &[Part<'_>],
+    lines: &str,
 ) {
     let (access, root) = place;
     match HostDir::new(system, threads, system, log.alloc, root, access) {
-        Ok(mut host) => play_all(rt, log, &mut host, parts),
+        Ok(mut host) => play_lines(rt, log, &mut host, lines),
         Err(_) => log.demand(false, 0, "memory"),
     }
 }
@@ -127,10 +129,10 @@ fn run_logged<'a, T: System + Threads + Sync>(
     threads: &T,
     log: &'a Log<'_>,
     place: (Access, &str),
-    parts: &[Part<'_>],
+    lines: &str,
 ) {
     let system = Logged { rt, log };
-    run_over(rt, &system, threads, log, place, parts);
+    run_over(rt, &system, threads, log, place, lines);
 }
 
 fn run_watched<'a, T: System + Threads + Sync>(
@@ -138,46 +140,25 @@ fn run_watched<'a, T: System + Threads + Sync>(
     threads: &T,
     log: &'a Log<'_>,
     place: (Access, &str),
-    parts: &[Part<'_>],
+    lines: &str,
 ) {
     let logged = Logged { rt, log };
     let progress = Progress::new(&logged, log.alloc, Task::Other, false);
     let system = Watched::host(&logged, &progress);
-    run_over(rt, &system, threads, log, place, parts);
+    run_over(rt, &system, threads, log, place, lines);
 }
 
-fn has_bits(rt: &HostRuntime, at: &str, want: u32) -> bool {
-    match fs::metadata(rt, at) {
-        Ok(found) => found.mode() & PERMISSION_BITS == want,
-        Err(_) => false,
-    }
-}
-
-fn has_text(rt: &HostRuntime, at: &str, want: &str) -> bool {
-    match fs::read_to_string(rt, at) {
-        Ok(text) => text.as_str() == want,
-        Err(_) => false,
-    }
-}
-
-fn is_absent(rt: &HostRuntime, at: &str) -> bool {
-    match fs::exists(rt, at) {
-        Ok(is_there) => !is_there,
-        Err(_) => false,
-    }
-}
-
-fn modified(rt: &HostRuntime, at: &str) -> Option<SystemTime> {
-    match fs::metadata(rt, at) {
-        Ok(found) => found.modified().ok(),
-        Err(_) => None,
-    }
-}
-
-fn is_dated(rt: &HostRuntime, at: &str, is_start: bool) -> bool {
-    match modified(rt, at) {
-        Some(found) if is_start => found == UNIX_EPOCH,
-        Some(found) => found > UNIX_EPOCH,
-        None => false,
-    }
+/// Plays the lines over the system that notes, and once more where it is watched as a command is.
+fn run_both<T: System + Threads + Sync>(
+    rt: &HostRuntime,
+    threads: &T,
+    log: &Log<'_>,
+    folder: &str,
+    place: (Access, &str),
+    lines: &str,
+) {
+    run_logged(rt, threads, log, place, lines);
+    clear(rt, folder);
+    log.forget();
+    run_watched(rt, threads, log, place, lines);
 }

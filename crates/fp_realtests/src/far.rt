@@ -220,7 +220,7 @@ fn is_done<T: Threads + Sync>(
 fn last_line(alloc: Global, log: &Log<'_>) -> Option<String> {
     let noted = log.take();
     let (_, said) = noted.as_str().rsplit_once("complain \r")?;
-    let line = said.lines().next()?;
+    let (line, _) = said.split_once("; ")?;
     line.trim_end().to_string(alloc).ok()
 }
 

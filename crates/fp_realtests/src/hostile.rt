@@ -1,151 +1,128 @@
 //! What other programs put in the way, how few files may be open, and how small they may have to be.
-use fp_realplay::{Act, Kind, Made, Part, Step, tell};
-use fp_realroot::Access;
+use fp_realplay::tell;
 
-const DEVICES: [(Step<'static>, &str, &str); 1] = [(Step::Stat(""), "null", "a character device")];
+/// A device, and a symlink in the place of a copy.
+const IN_THE_WAY: &str = "\
+# none
+-- A device is told as a symlink, and never opened.
 
-/// A device is told as a symlink, and never opened.
-const DEVICE: [Act<'static>; 1] = [Act::Run(
-    Access::Look,
-    "/dev",
-    &[Part::Show(&DEVICES), Part::Fail(&[Step::Read("null")])],
-    (1, "cannot read /dev/null: it is no regular file"),
-)];
+look /dev
+stat .
+shows null a character device
+fails read null
+faults 1 cannot read /dev/null: it is no regular file
 
-const TAKEN: [Step<'static>; 4] = [
-    Step::Create("kept", 0o644),
-    Step::Append("kept", "words"),
-    Step::Symlink("kept", "b"),
-    Step::Create("a", 0o644),
-];
+# leading crowded
+-- Where a symlink stands in the place of a copy, what it leads to stays as it is.
 
-/// Where a symlink stands in the place of a copy, what it leads to stays as it is.
-const LEADING: [Act<'static>; 1] = [Act::Logged(
-    Access::Change,
-    "leading",
-    &[
-        Part::Done(&TAKEN),
-        Part::Fail(&[Step::Link("a", "b")]),
-        Part::Show(&[(Step::Stat("b"), "kept", "644 5 words")]),
-    ],
-)];
-
-/// With four open files, the lock among them, each call is done: what is open is synced and closed.
-/// New files are made so, too.
-const NARROW: [Step<'static>; 21] = [
-    Step::Create("a", 0o644),
-    Step::Create("b", 0o644),
-    Step::Create("c", 0o644),
-    Step::Create("d", 0o644),
-    Step::List(""),
-    Step::Append("a", "bytes"),
-    Step::Append("b", "bytes"),
-    Step::Append("c", "bytes"),
-    Step::Append("d", "bytes"),
-    Step::Read("b"),
-    Step::Append("a", "more"),
-    Step::Append("b", "more"),
-    Step::Append("c", "more"),
-    Step::Append("d", "more"),
-    Step::Create("e", 0o644),
-    Step::Append("e", "bytes"),
-    Step::Sync,
-    Step::Create("f", 0o644),
-    Step::Append("f", "bytes"),
-    Step::Unlink("d"),
-    Step::Sync,
-];
-
-const MADE: [(Step<'static>, &str, &str); 2] = [
-    (Step::Stat(""), "a", "644 9 bytesmore"),
-    (Step::Stat(""), "e", "644 5 bytes"),
-];
-
-const FEW: [Act<'static>; 1] = [Act::Logged(
-    Access::Change,
-    "few",
-    &[Part::Done(&NARROW), Part::Show(&MADE)],
-)];
+logged leading
+create kept 644
+append kept words
+symlink b kept
+create a 644
+fails link a b
+stat b
+shows kept 644 5 words
+";
 
 #[test]
 fn what_is_in_the_way_is_left_alone(rt: HostRuntime) {
-    assert!(rt;
-        tell(&rt, &rt, "none", Kind::Plain, &DEVICE)
-            && tell(&rt, &rt, "leading", Kind::Crowded(""), &LEADING)
-    );
+    assert!(rt; tell(&rt, &rt, IN_THE_WAY));
 }
+
+/// Four files may be open, the lock among them.
+const FEW: &str = "\
+# few narrow 4
+-- With four open files, the lock among them, each call is done: what is open is synced and
+closed. New files are made so, too.
+
+logged few
+create a 644
+create b 644
+create c 644
+create d 644
+list .
+append a bytes
+append b bytes
+append c bytes
+append d bytes
+read b
+append a more
+append b more
+append c more
+append d more
+create e 644
+append e bytes
+sync
+create f 644
+append f bytes
+unlink d
+sync
+stat .
+shows a 644 9 bytesmore
+stat .
+shows e 644 5 bytes
+";
 
 #[test]
 fn few_open_files_are_enough(rt: HostRuntime) {
-    assert!(rt; tell(&rt, &rt, "few", Kind::Narrow(4), &FEW));
+    assert!(rt; tell(&rt, &rt, FEW));
 }
 
 /// What Linux tells of the size of files where `ulimit` has set it, and where it hasn't.
-const LIMIT_100: &str =
-    "Limit                     Soft Limit           Hard Limit           Units     \n\
-    Max cpu time              unlimited            unlimited            seconds   \n\
-    Max file size             100                  200                  bytes     \n";
+const LARGE: &str = "\
+# large limited large/limits
+disk
+folder large
+file large/limits Limit                     Soft Limit           Hard Limit           Units     \
+    |Max cpu time              unlimited            unlimited            seconds   |Max file \
+    size             100                  200                  bytes     |
 
-const LIMIT_36: &str =
-    "Max file size             36                   unlimited            bytes     \n";
+-- A file that would be larger than it may be stays as it is, whether it waits or is made.
 
-const NO_LIMIT: &str =
-    "Max file size             unlimited            unlimited            bytes     \n";
+logged large/root
+create f 644
+append f fifty bytes and one more are here, so two are large
+fails append f fifty bytes and one more are here, so two are large
+list .
+fails append f fifty bytes and one more are here, so two are large
+append f more
+sync
 
-/// 51 bytes.
-const BYTES: &str = "fifty bytes and one more are here, so two are large";
+disk
+holds large/root/f fifty bytes and one more are here, so two are largemore
+holds large/root/.lock ------------------------------------|
 
-/// A file that would be larger than it may be stays as it is, whether it waits or is made.
-const LARGE: [Part<'static>; 5] = [
-    Part::Done(&[Step::Create("f", 0o644), Step::Append("f", BYTES)]),
-    Part::Fail(&[Step::Append("f", BYTES)]),
-    Part::Done(&[Step::List("")]),
-    Part::Fail(&[Step::Append("f", BYTES)]),
-    Part::Done(&[Step::Append("f", "more"), Step::Sync]),
-];
+# large limited large/limits
+-- Where no mark may be written, nothing is made.
 
-const LARGE_ACTS: [Act<'static>; 4] = [
-    Act::Make(&[Made::Folder("large"), Made::File("large/limits", LIMIT_100)]),
-    Act::Logged(Access::Change, "large/root", &LARGE),
-    Act::Text(
-        "large/root/f",
-        "fifty bytes and one more are here, so two are largemore",
-    ),
-    Act::Text("large/root/.lock", "------------------------------------\n"),
-];
+disk
+folder large
+file large/limits Max file size             36                   unlimited            bytes     |
 
-/// Where no mark may be written, nothing is made.
-const MARKLESS: [Act<'static>; 3] = [
-    Act::Make(&[Made::Folder("large"), Made::File("large/limits", LIMIT_36)]),
-    Act::Logged(
-        Access::Change,
-        "large/root",
-        &[Part::Fail(&[Step::Stat("f"), Step::MakeDir("d")])],
-    ),
-    Act::Absent("large/root"),
-];
+logged large/root
+fails stat f
+fails mkdir d
 
-const LIMITLESS: [Act<'static>; 3] = [
-    Act::Make(&[Made::Folder("large"), Made::File("large/limits", NO_LIMIT)]),
-    Act::Logged(
-        Access::Change,
-        "large/root",
-        &[Part::Done(&[
-            Step::Create("f", 0o644),
-            Step::Append("f", BYTES),
-            Step::Append("f", BYTES),
-            Step::Sync,
-        ])],
-    ),
-    Act::Bits("large/root/f", 0o644),
-];
+disk
+absent large/root
+
+# large limited large/limits
+disk
+folder large
+file large/limits Max file size             unlimited            unlimited            bytes     |
+
+logged large/root
+create f 644
+append f fifty bytes and one more are here, so two are large
+append f fifty bytes and one more are here, so two are large
+sync
+
+disk
+mode large/root/f 644
+";
 
 #[test]
 fn a_file_that_may_not_be_so_large_is_an_error(rt: HostRuntime) {
-    let limited = Kind::Limited("large/limits");
-    assert!(rt;
-        tell(&rt, &rt, "large", limited, &LARGE_ACTS)
-            && tell(&rt, &rt, "large", limited, &MARKLESS)
-            && tell(&rt, &rt, "large", limited, &LIMITLESS)
-    );
+    assert!(rt; tell(&rt, &rt, LARGE));
 }

@@ -3,12 +3,12 @@ ghost use Rattle.std.specs.Thread.{IsSync};
 
 use fp_host::Host;
 use fp_realhost::HostDir;
-use fp_realplay::{Kind, Log, Part, Step, clear, is_message, play_all};
+use fp_realplay::{Kind, Log, clear, is_message, play_disk, play_lines};
 use fp_realroot::{Access, Failure, System};
 use fp_system::{Maker, NewFile, Share, SystemError, Work, made_by, make_by_threads};
 use std::alloc::{Alloc, Allocator, Global};
 use std::fmt::Display;
-use std::fs::{self, File, Metadata, OpenOptions, Permissions};
+use std::fs::{File, Metadata, OpenOptions, Permissions};
 use std::io::{self, Eprint};
 use std::panic::Expect;
 use std::rt::Files;
@@ -159,43 +159,28 @@ impl System for Slow {
 }
 
 /// Files that threads make, and one among them, which is created in the second place.
-const BEFORE: [Step<'static>; 2] = [Step::Create("a", 0o644), Step::Append("a", "bytes")];
+const BEFORE: &str = "create a 644\nappend a bytes";
 
-const AFTER: [Step<'static>; 6] = [
-    Step::Create("c", 0o600),
-    Step::Append("c", "more "),
-    Step::Append("c", "bytes"),
-    Step::Create("d", 0o644),
-    Step::Create("e", 0o644),
-    Step::Append("e", "last"),
-];
+const AFTER: &str = "\
+create c 600
+append c more\u{20}
+append c bytes
+create d 644
+create e 644
+append e last";
 
 /// What they hold once they are made.
-const MADE: [(&str, &str); 4] = [
-    ("late/a", "bytes"),
-    ("late/c", "more bytes"),
-    ("late/d", ""),
-    ("late/e", "last"),
-];
-
-fn has_text(rt: &HostRuntime, at: &str, want: &str) -> bool {
-    match fs::read_to_string(rt, at) {
-        Ok(text) => text.as_str() == want,
-        Err(_) => false,
-    }
-}
-
-fn all_made(rt: &HostRuntime, log: &Log<'_>) {
-    for (i, (at, want)) in (&MADE).iter().enumerate() {
-        log.demand(has_text(rt, at, want), i, at);
-    }
-}
+const MADE: &str = "\
+holds late/a bytes
+holds late/c more bytes
+holds late/d
+holds late/e last";
 
 /// What is asked between the other files, and what is asked last.
 #[derive(Clone, Copy)]
 struct Row {
-    between: &'static [Step<'static>],
-    last: &'static [Part<'static>],
+    between: &'static str,
+    last: &'static str,
     // The refusal that is told then, where there is one.
     told: &'static str,
 }
@@ -205,34 +190,28 @@ struct Row {
 /// sync, once more by the next one.
 const ROWS: [Row; 5] = [
     Row {
-        between: &[Step::Create("b", 0o644)],
-        last: &[Part::Done(&[Step::Sync])],
+        between: "create b 644",
+        last: "sync",
         told: "",
     },
     Row {
-        between: &[Step::Create("b", 0o644), Step::Append("b", "moved")],
-        last: &[
-            Part::Done(&[Step::Rename("b", "f")]),
-            Part::Show(&[(Step::Stat("b"), "f", "644 5 moved")]),
-        ],
+        between: "create b 644\nappend b moved",
+        last: "rename b f\nstat b\nshows f 644 5 moved",
         told: "",
     },
     Row {
-        between: &[Step::Create(CROWDED, 0o644), Step::Append(CROWDED, "made")],
-        last: &[
-            Part::Done(&[Step::Sync]),
-            Part::Show(&[(Step::Stat(""), CROWDED, "644 4 made")]),
-        ],
+        between: "create crowded 644\nappend crowded made",
+        last: "sync\nstat .\nshows crowded 644 4 made",
         told: "",
     },
     Row {
-        between: &[Step::Create(FULL, 0o644)],
-        last: &[Part::Fail(&[Step::Sync])],
+        between: "create full 644",
+        last: "fails sync",
         told: "cannot create late/full: No space left on device (os error 28)",
     },
     Row {
-        between: &[Step::Create(FULL, 0o644)],
-        last: &[Part::Fail(&[Step::Sync, Step::Sync])],
+        between: "create full 644",
+        last: "fails sync\nfails sync",
         told: "cannot sync: an earlier change or sync failed and may be lost",
     },
 ];
@@ -247,16 +226,11 @@ fn is_told(alloc: Global, row: &Row, error: Option<&SystemError>) -> bool {
 
 /// What is done without a refusal stands on the disk.
 fn play_row<H: Host>(rt: &HostRuntime, log: &Log<'_>, host: &mut H, row: &Row) {
-    play_all(
-        rt,
-        log,
-        host,
-        &[Part::Done(&BEFORE), Part::Done(row.between)],
-    );
-    play_all(rt, log, host, &[Part::Done(&AFTER)]);
-    play_all(rt, log, host, row.last);
+    for lines in [BEFORE, row.between, AFTER, row.last] {
+        play_lines(rt, log, host, lines);
+    }
     if row.told.is_empty() {
-        all_made(rt, log);
+        play_disk(rt, log, MADE);
     }
 }
 

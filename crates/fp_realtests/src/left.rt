@@ -1,348 +1,405 @@
 //! What an earlier run may have left, and the mark in the lock file that tells of it.
-use fp_realplay::{Act, Kind, Made, Part, Step, tell};
-use fp_realroot::Access;
+use fp_realplay::{tell, tell_each};
 
-/// What a run does that is stopped.
-const UNSYNCED: [(Step<'static>, &str); 4] = [
-    (
-        Step::MakeDir("app"),
-        "make left\nmake left/root\ncreate left/root/.lock\nlock left/root/.lock\n\
-         write left/root/.lock\nmake left/root/app\n",
-    ),
-    (Step::Create("app/f", 0), ""),
-    (Step::Symlink("f", "app/l"), "link left/root/app/l\n"),
-    (
-        Step::List(""),
-        "create left/root/app/f\nsync left/root/app/f\n",
-    ),
-];
+/// A run that is stopped, what stands in the lock file then, and a run that has nothing to do.
+const IDLES: &str = "\
+# left
+-- What a run does that is stopped.
 
-/// The next run that syncs makes all of it last, and the one after it nothing.
-const CAUGHT_UP: [(Step<'static>, &str); 3] = [
-    (Step::Stat("app"), "lock left/root/.lock\n"),
-    (
-        Step::Sync,
-        "sync .\nsync left\nsync left/root\nsync left/root/.lock\nsync left/root/app\n\
-         sync left/root/app/f\nwrite over left/root/.lock\n",
-    ),
-    (Step::Sync, ""),
-];
+logged left/root
+mkdir app
+asks make left; make left/root; create left/root/.lock; lock left/root/.lock; \
+    write left/root/.lock; make left/root/app
+create app/f 0
+asks
+symlink app/l f
+asks link left/root/app/l
+list .
+asks create left/root/app/f; sync left/root/app/f
+
+disk
+file left/root/.lock {}
+
+logged left/root
+stat app
+asks lock left/root/.lock
+sync
+asks
+
+disk
+holds left/root/.lock {}
+";
+
+/// No mark is a cleared one, and the text of another start of the machine.
+const CLEARED: &str = "\
+------------------------------------|
+--
+00000000-0000-0000-0000-000000000000|
+--
+fedcba98-7654-3210-fedc-ba9876543210|";
+
+/// The same, and a run that makes all of it last.
+const CATCHES_UP: &str = "\
+# left
+-- What a run does that is stopped.
+
+logged left/root
+mkdir app
+asks make left; make left/root; create left/root/.lock; lock left/root/.lock; \
+    write left/root/.lock; make left/root/app
+create app/f 0
+asks
+symlink app/l f
+asks link left/root/app/l
+list .
+asks create left/root/app/f; sync left/root/app/f
+
+disk
+file left/root/.lock {}
+
+-- The next run that syncs makes all of it last, and the one after it nothing.
+
+logged left/root
+stat app
+asks lock left/root/.lock
+sync
+asks sync .; sync left; sync left/root; sync left/root/.lock; sync left/root/app; \
+    sync left/root/app/f; write over left/root/.lock
+sync
+asks
+
+disk
+holds left/root/.lock ------------------------------------|
+";
+
+/// Anything else was written over one, also by halves.
+const MARKS: &str = "\
+unknown-----------------------------|
+--
+00000000-0000-0000-0000-0000000000000
+--
+00000000-0000-0000-0000-00000000000g|
+--
+00000000-000000000-0000-000000000000|
+--
+00000000-0000-0000------------------|";
 
 /// The same where what stands in the lock file is shorter than a mark.
-const FILLED_UP: [(Step<'static>, &str); 3] = [
-    (Step::Stat("app"), "lock left/root/.lock\n"),
-    (
-        Step::Sync,
-        "sync .\nsync left\nsync left/root\nsync left/root/.lock\nsync left/root/app\n\
-         sync left/root/app/f\nwrite left/root/.lock\n",
-    ),
-    (Step::Sync, ""),
-];
+const FILLS_UP: &str = "\
+# left
+-- What a run does that is stopped.
+
+logged left/root
+mkdir app
+asks make left; make left/root; create left/root/.lock; lock left/root/.lock; \
+    write left/root/.lock; make left/root/app
+create app/f 0
+asks
+symlink app/l f
+asks link left/root/app/l
+list .
+asks create left/root/app/f; sync left/root/app/f
+
+disk
+file left/root/.lock {}
+
+-- The same where what stands in the lock file is shorter than a mark.
+
+logged left/root
+stat app
+asks lock left/root/.lock
+sync
+asks sync .; sync left; sync left/root; sync left/root/.lock; sync left/root/app; \
+    sync left/root/app/f; write left/root/.lock
+sync
+asks
+
+disk
+holds left/root/.lock ------------------------------------|
+";
+
+/// Also an empty file, which took the place of another.
+const SHORT: &str = "\
+unknown|
+--
+pinned app/*/*/*|
+--
+00000000-0000-0000-0000-000000000000
+--
+";
 
 /// The same where it is longer.
-const CUT_OFF: [(Step<'static>, &str); 3] = [
-    (Step::Stat("app"), "lock left/root/.lock\n"),
-    (
-        Step::Sync,
-        "sync .\nsync left\nsync left/root\nsync left/root/.lock\nsync left/root/app\n\
-         sync left/root/app/f\nwrite over left/root/.lock\ncut left/root/.lock\n",
-    ),
-    (Step::Sync, ""),
-];
+const CUTS_OFF: &str = "\
+# left
+-- What a run does that is stopped.
 
-const IDLE: [(Step<'static>, &str); 2] = [
-    (Step::Stat("app"), "lock left/root/.lock\n"),
-    (Step::Sync, ""),
-];
+logged left/root
+mkdir app
+asks make left; make left/root; create left/root/.lock; lock left/root/.lock; \
+    write left/root/.lock; make left/root/app
+create app/f 0
+asks
+symlink app/l f
+asks link left/root/app/l
+list .
+asks create left/root/app/f; sync left/root/app/f
 
-const CLEARED: &str = "------------------------------------\n";
+disk
+file left/root/.lock {}
 
-const UNKNOWN: &str = "unknown-----------------------------\n";
+-- The same where it is longer.
 
-const OLD: &str = "00000000-0000-0000-0000-000000000000\n";
+logged left/root
+stat app
+asks lock left/root/.lock
+sync
+asks sync .; sync left; sync left/root; sync left/root/.lock; sync left/root/app; \
+    sync left/root/app/f; write over left/root/.lock; cut left/root/.lock
+sync
+asks
 
-const LEFT: [Act<'static>; 4] = [
-    Act::Logged(Access::Change, "left/root", &[Part::Ask(&UNSYNCED)]),
-    Act::Logged(Access::Change, "left/root", &[Part::Ask(&CAUGHT_UP)]),
-    Act::Text("left/root/.lock", CLEARED),
-    Act::Logged(Access::Change, "left/root", &[Part::Ask(&IDLE)]),
-];
+disk
+holds left/root/.lock ------------------------------------|
+";
 
-const LOCK: &str = "left/root/.lock";
-
-const STOPS: Act<'static> = Act::Logged(Access::Change, "left/root", &[Part::Ask(&UNSYNCED)]);
-
-const IDLES: Act<'static> = Act::Logged(Access::Change, "left/root", &[Part::Ask(&IDLE)]);
-
-const CATCHES_UP: Act<'static> = Act::Logged(Access::Change, "left/root", &[Part::Ask(&CAUGHT_UP)]);
-
-const FILLS_UP: Act<'static> = Act::Logged(Access::Change, "left/root", &[Part::Ask(&FILLED_UP)]);
-
-const CUTS_OFF: Act<'static> = Act::Logged(Access::Change, "left/root", &[Part::Ask(&CUT_OFF)]);
-
-/// A run that is stopped, what stands in the lock file then, what the next run does, and what stands
-/// there after it. No mark is a cleared one, and the text of another start of the machine. Anything
-/// else was written over one, also by halves, and an empty file took the place of another.
-const TEXTS: [[Act<'static>; 4]; 14] = [
-    [
-        STOPS,
-        Act::Make(&[Made::File(LOCK, "")]),
-        FILLS_UP,
-        Act::Text(LOCK, CLEARED),
-    ],
-    [
-        STOPS,
-        Act::Make(&[Made::File(LOCK, CLEARED)]),
-        IDLES,
-        Act::Text(LOCK, CLEARED),
-    ],
-    [
-        STOPS,
-        Act::Make(&[Made::File(LOCK, OLD)]),
-        IDLES,
-        Act::Text(LOCK, OLD),
-    ],
-    [
-        STOPS,
-        Act::Make(&[Made::File(LOCK, "fedcba98-7654-3210-fedc-ba9876543210\n")]),
-        IDLES,
-        Act::Text(LOCK, "fedcba98-7654-3210-fedc-ba9876543210\n"),
-    ],
-    [
-        STOPS,
-        Act::Make(&[Made::File(LOCK, UNKNOWN)]),
-        CATCHES_UP,
-        Act::Text(LOCK, CLEARED),
-    ],
-    [
-        STOPS,
-        Act::Make(&[Made::File(LOCK, "unknown\n")]),
-        FILLS_UP,
-        Act::Text(LOCK, CLEARED),
-    ],
-    [
-        STOPS,
-        Act::Make(&[Made::File(LOCK, "pinned app/*/*/*\n")]),
-        FILLS_UP,
-        Act::Text(LOCK, CLEARED),
-    ],
-    [
-        STOPS,
-        Act::Make(&[Made::File(LOCK, "00000000-0000-0000-0000-000000000000")]),
-        FILLS_UP,
-        Act::Text(LOCK, CLEARED),
-    ],
-    [
-        STOPS,
-        Act::Make(&[Made::File(LOCK, "00000000-0000-0000-0000-0000000000000")]),
-        CATCHES_UP,
-        Act::Text(LOCK, CLEARED),
-    ],
-    [
-        STOPS,
-        Act::Make(&[Made::File(LOCK, "00000000-0000-0000-0000-00000000000g\n")]),
-        CATCHES_UP,
-        Act::Text(LOCK, CLEARED),
-    ],
-    [
-        STOPS,
-        Act::Make(&[Made::File(LOCK, "00000000-000000000-0000-000000000000\n")]),
-        CATCHES_UP,
-        Act::Text(LOCK, CLEARED),
-    ],
-    [
-        STOPS,
-        Act::Make(&[Made::File(LOCK, "00000000-0000-0000------------------\n")]),
-        CATCHES_UP,
-        Act::Text(LOCK, CLEARED),
-    ],
-    [
-        STOPS,
-        Act::Make(&[Made::File(LOCK, "00000000-0000-0000-0000-000000000000\n\n")]),
-        CUTS_OFF,
-        Act::Text(LOCK, CLEARED),
-    ],
-    [
-        STOPS,
-        Act::Make(&[Made::File(
-            LOCK,
-            "------------------------------------\npinned app/*/*/*\n",
-        )]),
-        CUTS_OFF,
-        Act::Text(LOCK, CLEARED),
-    ],
-];
+/// A line too many.
+const LONG: &str = "\
+00000000-0000-0000-0000-000000000000||
+--
+------------------------------------|pinned app/*/*/*|";
 
 #[test]
 fn what_stands_in_the_lock_file_tells_of_a_stop(rt: HostRuntime) {
-    for acts in &TEXTS {
-        assert!(rt; tell(&rt, &rt, "left", Kind::Plain, acts));
-    }
+    assert!(rt;
+        tell_each(&rt, &rt, IDLES, CLEARED)
+            && tell_each(&rt, &rt, CATCHES_UP, MARKS)
+            && tell_each(&rt, &rt, FILLS_UP, SHORT)
+            && tell_each(&rt, &rt, CUTS_OFF, LONG)
+    );
 }
 
-/// A change that comes before all is synced.
-const GOES_ON: [(Step<'static>, &str); 3] = [
-    (
-        Step::MakeDir("app/d"),
-        "lock left/root/.lock\nwrite over left/root/.lock\nmake left/root/app/d\n",
-    ),
-    (Step::MakeDir("app/e"), "make left/root/app/e\n"),
-    (
-        Step::Unlink("app/l"),
-        "lock left/root\nremove left/root/app/l\n",
-    ),
-];
+/// What a run leaves that is stopped.
+const LEFT: &str = "\
+# left
+-- What a run does that is stopped.
 
-/// Where the system doesn't tell its start, each text is a mark but those that are none anywhere.
-/// The next change writes one that is a mark to all.
-const UNTOLD: [Act<'static>; 11] = [
-    Act::Logged(Access::Change, "left/root", &[Part::Ask(&UNSYNCED)]),
-    Act::Text("left/root/.lock", UNKNOWN),
-    Act::Logged(Access::Change, "left/root", &[Part::Ask(&CAUGHT_UP)]),
-    Act::Text("left/root/.lock", CLEARED),
-    Act::Logged(Access::Change, "left/root", &[Part::Ask(&IDLE)]),
-    Act::Make(&[Made::File("left/root/.lock", OLD)]),
-    Act::Logged(Access::Change, "left/root", &[Part::Ask(&CAUGHT_UP)]),
-    Act::Text("left/root/.lock", CLEARED),
-    Act::Make(&[Made::File("left/root/.lock", OLD)]),
-    Act::Logged(Access::Change, "left/root", &[Part::Ask(&GOES_ON)]),
-    Act::Text("left/root/.lock", UNKNOWN),
-];
+logged left/root
+mkdir app
+asks make left; make left/root; create left/root/.lock; lock left/root/.lock; \
+    write left/root/.lock; make left/root/app
+create app/f 0
+asks
+symlink app/l f
+asks link left/root/app/l
+list .
+asks create left/root/app/f; sync left/root/app/f
 
-/// The next run fails at what was left.
-const LOST: &str = "sync left/root/app/f";
+-- The next run that syncs makes all of it last, and the one after it nothing.
 
-const LEAVING: [Act<'static>; 2] = [
-    Act::Logged(Access::Change, "left/root", &[Part::Ask(&UNSYNCED)]),
-    Act::Logged(
-        Access::Change,
-        "left/root",
-        &[Part::Stop(&[Step::Sync], 0, false)],
-    ),
-];
+logged left/root
+stat app
+asks lock left/root/.lock
+sync
+asks sync .; sync left; sync left/root; sync left/root/.lock; sync left/root/app; \
+    sync left/root/app/f; write over left/root/.lock
+sync
+asks
+
+disk
+holds left/root/.lock ------------------------------------|
+
+logged left/root
+stat app
+asks lock left/root/.lock
+sync
+asks
+
+# left denying /proc/sys/kernel/random/boot_id
+-- Where the system doesn't tell its start, each text is a mark but those that are none anywhere.
+The next change writes one that is a mark to all.
+
+-- What a run does that is stopped.
+
+logged left/root
+mkdir app
+asks make left; make left/root; create left/root/.lock; lock left/root/.lock; \
+    write left/root/.lock; make left/root/app
+create app/f 0
+asks
+symlink app/l f
+asks link left/root/app/l
+list .
+asks create left/root/app/f; sync left/root/app/f
+
+disk
+holds left/root/.lock unknown-----------------------------|
+
+-- The next run that syncs makes all of it last, and the one after it nothing.
+
+logged left/root
+stat app
+asks lock left/root/.lock
+sync
+asks sync .; sync left; sync left/root; sync left/root/.lock; sync left/root/app; \
+    sync left/root/app/f; write over left/root/.lock
+sync
+asks
+
+disk
+holds left/root/.lock ------------------------------------|
+
+logged left/root
+stat app
+asks lock left/root/.lock
+sync
+asks
+
+disk
+file left/root/.lock 00000000-0000-0000-0000-000000000000|
+
+-- The next run that syncs makes all of it last, and the one after it nothing.
+
+logged left/root
+stat app
+asks lock left/root/.lock
+sync
+asks sync .; sync left; sync left/root; sync left/root/.lock; sync left/root/app; \
+    sync left/root/app/f; write over left/root/.lock
+sync
+asks
+
+disk
+holds left/root/.lock ------------------------------------|
+file left/root/.lock 00000000-0000-0000-0000-000000000000|
+
+-- A change that comes before all is synced.
+
+logged left/root
+mkdir app/d
+asks lock left/root/.lock; write over left/root/.lock; make left/root/app/d
+mkdir app/e
+asks make left/root/app/e
+unlink app/l
+asks lock left/root; remove left/root/app/l
+
+disk
+holds left/root/.lock unknown-----------------------------|
+
+# left failing sync left/root/app/f
+-- The next run fails at what was left.
+
+-- What a run does that is stopped.
+
+logged left/root
+mkdir app
+asks make left; make left/root; create left/root/.lock; lock left/root/.lock; \
+    write left/root/.lock; make left/root/app
+create app/f 0
+asks
+symlink app/l f
+asks link left/root/app/l
+list .
+asks create left/root/app/f; sync left/root/app/f
+
+logged left/root
+fails sync
+fails sync
+";
 
 #[test]
 fn what_was_left_is_made_to_last(rt: HostRuntime) {
-    let unnamed = Kind::Denying("/proc/sys/kernel/random/boot_id");
-    assert!(rt; tell(&rt, &rt, "left", Kind::Plain, &LEFT));
-    assert!(rt; tell(&rt, &rt, "left", unnamed, &UNTOLD));
-    assert!(rt; tell(&rt, &rt, "left", Kind::Failing(LOST), &LEAVING));
-}
-
-/// What stands in a root without a lock file: each name of ours, and names that are others'.
-const NAMED: [Made<'static>; 14] = [
-    Made::Folder("old/root/app/id"),
-    Made::File("old/root/config", ""),
-    Made::Folder("old/root/exports"),
-    Made::Folder("old/root/made"),
-    Made::Folder("old/root/overrides"),
-    Made::File("old/root/pins", ""),
-    Made::File("old/root/remotes.conf", ""),
-    Made::Folder("old/root/repo"),
-    Made::File("old/root/repo/theirs", ""),
-    Made::Folder("old/root/runtime"),
-    Made::Folder("old/root/theirs/app"),
-    Made::File("old/root/theirs/app/config", ""),
-    Made::File("old/root/.profile", ""),
-    Made::File("old/root/apps", ""),
-];
-
-/// A folder that was there without a lock file may hold what was left, at our names.
-const UNLOCKED: [(Step<'static>, &str); 2] = [
-    (
-        Step::Stat("f"),
-        "create old/root/.lock\nlock old/root/.lock\nwrite old/root/.lock\n",
-    ),
-    (
-        Step::Sync,
-        "sync .\nsync old\nsync old/root\nsync old/root/.lock\nsync old/root/app\n\
-         sync old/root/app/id\nsync old/root/config\nsync old/root/exports\nsync old/root/made\n\
-         sync old/root/overrides\nsync old/root/pins\nsync old/root/remotes.conf\n\
-         sync old/root/repo\nsync old/root/repo/theirs\nsync old/root/runtime\n\
-         write over old/root/.lock\n",
-    ),
-];
-
-const UNLOCKING: [Act<'static>; 2] = [
-    Act::Make(&NAMED),
-    Act::Logged(Access::Change, "old/root", &[Part::Ask(&UNLOCKED)]),
-];
-
-/// A symlink at a name of ours leads to what isn't.
-const LEADING: [Made<'static>; 3] = [
-    Made::Folder("old/root"),
-    Made::Folder("old/theirs/deep"),
-    Made::Link("../theirs", "old/root/app"),
-];
-
-const UNFOLLOWED: [(Step<'static>, &str); 2] = [
-    (
-        Step::Stat("f"),
-        "create old/root/.lock\nlock old/root/.lock\nwrite old/root/.lock\n",
-    ),
-    (
-        Step::Sync,
-        "sync .\nsync old\nsync old/root\nsync old/root/.lock\nwrite over old/root/.lock\n",
-    ),
-];
-
-const LED: [Act<'static>; 2] = [
-    Act::Make(&LEADING),
-    Act::Logged(Access::Change, "old/root", &[Part::Ask(&UNFOLLOWED)]),
-];
-
-#[test]
-fn what_is_ours_is_made_to_last(rt: HostRuntime) {
-    assert!(rt; tell(&rt, &rt, "old", Kind::Plain, &UNLOCKING));
-    assert!(rt; tell(&rt, &rt, "old", Kind::Plain, &LED));
+    assert!(rt; tell(&rt, &rt, LEFT));
 }
 
 /// What stands in a root without a lock file.
-const OTHERS: [Made<'static>; 2] = [
-    Made::Folder("old/root/repo"),
-    Made::File("old/root/config", ""),
-];
+const OURS: &str = "\
+# old
+-- What stands in a root without a lock file: each name of ours, and names that are others'.
 
-/// The folder above the root may not be opened.
-const ABOVE_DENIED: [(Step<'static>, &str); 2] = [
-    (
-        Step::Stat("f"),
-        "create old/root/.lock\nlock old/root/.lock\nwrite old/root/.lock\n",
-    ),
-    (
-        Step::Sync,
-        "sync .\nsync old/root\nsync old/root/.lock\nsync old/root/config\n\
-         sync old/root/repo\nwrite over old/root/.lock\n",
-    ),
-];
+disk
+folder old/root/app/id
+file old/root/config
+folder old/root/exports
+folder old/root/made
+folder old/root/overrides
+file old/root/pins
+file old/root/remotes.conf
+folder old/root/repo
+file old/root/repo/theirs
+folder old/root/runtime
+folder old/root/theirs/app
+file old/root/theirs/app/config
+file old/root/.profile
+file old/root/apps
 
-/// A folder below it may not.
-const BELOW_DENIED: [(Step<'static>, &str); 2] = [
-    (
-        Step::Stat("f"),
-        "create old/root/.lock\nlock old/root/.lock\nwrite old/root/.lock\n",
-    ),
-    (
-        Step::Sync,
-        "sync .\nsync old\nsync old/root\nsync old/root/.lock\nsync old/root/config\n\
-         write over old/root/.lock\n",
-    ),
-];
+-- A folder that was there without a lock file may hold what was left, at our names.
 
-const SPARED_ABOVE: [Act<'static>; 2] = [
-    Act::Make(&OTHERS),
-    Act::Logged(Access::Change, "old/root", &[Part::Ask(&ABOVE_DENIED)]),
-];
+logged old/root
+stat f
+asks create old/root/.lock; lock old/root/.lock; write old/root/.lock
+sync
+asks sync .; sync old; sync old/root; sync old/root/.lock; sync old/root/app; \
+    sync old/root/app/id; sync old/root/config; sync old/root/exports; sync old/root/made; \
+    sync old/root/overrides; sync old/root/pins; sync old/root/remotes.conf; \
+    sync old/root/repo; sync old/root/repo/theirs; sync old/root/runtime; \
+    write over old/root/.lock
 
-const SPARED_BELOW: [Act<'static>; 2] = [
-    Act::Make(&OTHERS),
-    Act::Logged(Access::Change, "old/root", &[Part::Ask(&BELOW_DENIED)]),
-];
+# old
+-- A symlink at a name of ours leads to what isn't.
+
+disk
+folder old/root
+folder old/theirs/deep
+leads old/root/app ../theirs
+
+logged old/root
+stat f
+asks create old/root/.lock; lock old/root/.lock; write old/root/.lock
+sync
+asks sync .; sync old; sync old/root; sync old/root/.lock; write over old/root/.lock
+";
+
+#[test]
+fn what_is_ours_is_made_to_last(rt: HostRuntime) {
+    assert!(rt; tell(&rt, &rt, OURS));
+}
+
+/// What may not be opened, above the root and below it.
+const DENIED: &str = "\
+# old denying old
+-- What stands in a root without a lock file.
+
+disk
+folder old/root/repo
+file old/root/config
+
+-- The folder above the root may not be opened.
+
+logged old/root
+stat f
+asks create old/root/.lock; lock old/root/.lock; write old/root/.lock
+sync
+asks sync .; sync old/root; sync old/root/.lock; sync old/root/config; sync old/root/repo; \
+    write over old/root/.lock
+
+# old denying old/root/repo
+-- What stands in a root without a lock file.
+
+disk
+folder old/root/repo
+file old/root/config
+
+-- A folder below it may not.
+
+logged old/root
+stat f
+asks create old/root/.lock; lock old/root/.lock; write old/root/.lock
+sync
+asks sync .; sync old; sync old/root; sync old/root/.lock; sync old/root/config; \
+    write over old/root/.lock
+";
 
 #[test]
 fn what_may_not_be_opened_is_left_alone(rt: HostRuntime) {
-    let above = Kind::Denying("old");
-    let below = Kind::Denying("old/root/repo");
-    assert!(rt; tell(&rt, &rt, "old", above, &SPARED_ABOVE));
-    assert!(rt; tell(&rt, &rt, "old", below, &SPARED_BELOW));
+    assert!(rt; tell(&rt, &rt, DENIED));
 }

@@ -1,136 +1,102 @@
 //! Symlinks above a path, which no call follows.
-use fp_realplay::{Act, FAULT, Kind, Made, Part, Remote, Step, tell};
-use fp_realroot::Access;
+use fp_realplay::tell;
 
-/// A folder `links` with a root whose `repo` leads to the folder `outside` beside it, and that is
-/// itself reached by the symlink `way`.
-const LINKS: [Made<'static>; 5] = [
-    Made::Folder("links/root/d"),
-    Made::Folder("links/outside/tmp"),
-    Made::File("links/outside/tmp/file", "kept"),
-    Made::Link("../outside", "links/root/repo"),
-    Made::Link("root", "links/way"),
-];
+/// Symlinks in the place of folders, in those of a remote, and in the place of the lock file.
+const LINKS: &str = "\
+# links
+-- No call follows the symlink, and each is a fault; nor is a symlink followed that the host put
+in the place of a folder.
 
-const BELOW: [Step<'static>; 14] = [
-    Step::Stat("repo/tmp"),
-    Step::Stat("repo/tmp/file"),
-    Step::List("repo"),
-    Step::List("repo/tmp"),
-    Step::Read("repo/tmp/file"),
-    Step::ReadLink("repo/tmp/file"),
-    Step::MakeDir("repo/new"),
-    Step::Create("repo/new", 0o644),
-    Step::Append("repo/tmp/file", "x"),
-    Step::Link("repo/tmp/file", "new"),
-    Step::Symlink("x", "repo/new"),
-    Step::Rename("repo/tmp/file", "new"),
-    Step::Unlink("repo/tmp/file"),
-    Step::RemoveDir("repo/tmp"),
-];
+-- A folder `links` with a root whose `repo` leads to the folder `outside` beside it, and that is
+itself reached by the symlink `way`.
 
-/// What a symlink that is put in the place of a folder meanwhile does.
-const SWAPPED: [Step<'static>; 6] = [
-    Step::Create("d/f", 0o644),
-    Step::Unlink("d/f"),
-    Step::RemoveDir("d"),
-    Step::Symlink("../outside", "d"),
-    Step::Stat("d"),
-    Step::ReadLink("d"),
-];
+disk
+folder links/root/d
+folder links/outside/tmp
+file links/outside/tmp/file kept
+leads links/root/repo ../outside
+leads links/way root
 
-/// No call follows the symlink, and each is a fault; nor is a symlink followed that the host put in
-/// the place of a folder.
-const FOLLOWING: [Act<'static>; 4] = [
-    Act::Make(&LINKS),
-    Act::Run(
-        Access::Change,
-        "links/way",
-        &[Part::Fail(&BELOW)],
-        (
-            14,
-            "cannot remove the folder links/way/repo/tmp: a symlink is in the place of a folder",
-        ),
-    ),
-    Act::Run(
-        Access::Change,
-        "links/way",
-        &[
-            Part::Done(&SWAPPED),
-            Part::Fail(&[Step::Unlink("d/tmp/file")]),
-        ],
-        (1, ""),
-    ),
-    Act::Text("links/outside/tmp/file", "kept"),
-];
+change links/way
+fails stat repo/tmp
+fails stat repo/tmp/file
+fails list repo
+fails list repo/tmp
+fails read repo/tmp/file
+fails readlink repo/tmp/file
+fails mkdir repo/new
+fails create repo/new 644
+fails append repo/tmp/file x
+fails link repo/tmp/file new
+fails symlink repo/new x
+fails rename repo/tmp/file new
+fails unlink repo/tmp/file
+fails rmdir repo/tmp
+faults 14 cannot remove the folder links/way/repo/tmp: a symlink is in the place of a folder
 
-const LINKED_REMOTE: [Made<'static>; 4] = [
-    Made::Folder("links_there/outside/tmp"),
-    Made::Folder("links_there/root"),
-    Made::File("links_there/outside/tmp/file", "kept"),
-    Made::Link("../outside", "links_there/root/repo"),
-];
+-- What a symlink that is put in the place of a folder meanwhile does.
 
-/// Both calls of a remote fail below a symlink, and the symlink itself is shown.
-const LINKED: [Act<'static>; 2] = [
-    Act::Make(&LINKED_REMOTE),
-    Act::Remote(Remote {
-        folder: "links_there/root",
-        holds: &[("repo/tmp/file", FAULT, 0), ("repo", "../outside", 0)],
-        urls: &[],
-        told: (
-            2,
-            "../links_there/root/repo/tmp/file: a symlink is in the place of a folder",
-        ),
-    }),
-];
+change links/way
+create d/f 644
+unlink d/f
+rmdir d
+symlink d ../outside
+stat d
+readlink d
+fails unlink d/tmp/file
+faults 1
 
-/// A lock file that leads to a file outside.
-const LINKED_LOCK: [Made<'static>; 3] = [
-    Made::Folder("links_lock/root"),
-    Made::File("links_lock/outside", "kept"),
-    Made::Link("../outside", "links_lock/root/.lock"),
-];
+disk
+holds links/outside/tmp/file kept
 
-const NO_LOCK: &str = "cannot use the folder links_lock/root: its .lock is no regular file";
+# links_there
+-- Both calls of a remote fail below a symlink, and the symlink itself is shown.
 
-/// The symlink is not followed by a change, and a look doesn't ask for it.
-const LOCK_LINKED: [Act<'static>; 4] = [
-    Act::Make(&LINKED_LOCK),
-    Act::Run(
-        Access::Change,
-        "links_lock/root",
-        &[Part::Fail(&[Step::MakeDir("d")])],
-        (1, NO_LOCK),
-    ),
-    Act::Run(
-        Access::Look,
-        "links_lock/root",
-        &[Part::Done(&[Step::Stat("d")])],
-        (0, ""),
-    ),
-    Act::Text("links_lock/outside", "kept"),
-];
+disk
+folder links_there/outside/tmp
+folder links_there/root
+file links_there/outside/tmp/file kept
+leads links_there/root/repo ../outside
 
-/// A look at a folder that is not there makes nothing.
-const READS: [Step<'static>; 4] = [
-    Step::List(""),
-    Step::Stat(""),
-    Step::Stat("d/f"),
-    Step::Sync,
-];
+remote links_there/root
+node repo/tmp/file 0 a fault
+node repo 0 ../outside
+faults 2 ../links_there/root/repo/tmp/file: a symlink is in the place of a folder
 
-const UNMADE: [Act<'static>; 2] = [
-    Act::Run(Access::Look, "unmade/root", &[Part::Done(&READS)], (0, "")),
-    Act::Absent("unmade"),
-];
+# unmade
+-- A look at a folder that is not there makes nothing.
+
+look unmade/root
+list .
+stat .
+stat d/f
+sync
+
+disk
+absent unmade
+
+# links_lock
+-- The symlink is not followed by a change, and a look doesn't ask for it.
+
+-- A lock file that leads to a file outside.
+
+disk
+folder links_lock/root
+file links_lock/outside kept
+leads links_lock/root/.lock ../outside
+
+change links_lock/root
+fails mkdir d
+faults 1 cannot use the folder links_lock/root: its .lock is no regular file
+
+look links_lock/root
+stat d
+
+disk
+holds links_lock/outside kept
+";
 
 #[test]
 fn no_symlink_is_followed(rt: HostRuntime) {
-    assert!(rt;
-        tell(&rt, &rt, "links", Kind::Plain, &FOLLOWING)
-            && tell(&rt, &rt, "links_there", Kind::Plain, &LINKED)
-            && tell(&rt, &rt, "unmade", Kind::Plain, &UNMADE)
-            && tell(&rt, &rt, "links_lock", Kind::Plain, &LOCK_LINKED)
-    );
+    assert!(rt; tell(&rt, &rt, LINKS));
 }

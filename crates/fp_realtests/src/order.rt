@@ -1,454 +1,457 @@
 //! What the system is asked, in order, and what a failure of it does.
-use fp_realplay::{Act, Kind, Part, Step, tell};
-use fp_realroot::{Access, System};
-use std::thread::Threads;
+use fp_realplay::{tell, tell_each};
 
-/// Whether the parts are as they say over a root in a folder, and also where the system is watched
-/// as a command is.
-fn tell_both<T: System + Threads + Sync>(
-    rt: &HostRuntime,
-    threads: &T,
-    place: (&str, &str),
-    kind: Kind<'_>,
-    parts: &[Part<'_>],
-) -> bool {
-    let (folder, root) = place;
-    let plain = [Act::Logged(Access::Change, root, parts)];
-    let watched = [Act::Watched(Access::Change, root, parts)];
-    tell(rt, threads, folder, kind, &plain) && tell(rt, threads, folder, kind, &watched)
-}
+/// Calls, and what the system is asked for each; also what is looked at.
+const IN_ORDER: &str = "\
+# order
+-- Calls, and what the system is asked for each.
 
-/// Calls, and what the system is asked for each.
-const ASKED: [(Step<'static>, &str); 24] = [
-    (
-        Step::List(""),
-        "make order\nmake order/root\ncreate order/root/.lock\nlock order/root/.lock\n",
-    ),
-    (Step::Stat("none"), ""),
-    (
-        Step::MakeDir("d"),
-        "write order/root/.lock\nmake order/root/d\n",
-    ),
-    (Step::Create("d/f", 0o644), ""),
-    (Step::Append("d/f", "some"), ""),
-    (
-        Step::Sync,
-        "create order/root/d/f\nwrite order/root/d/f\nsync order/root/d/f\n\
-         sync .\nsync order\nsync order/root\n\
-         sync .\nsync order\nsync order/root\nsync order/root/d\n\
-         write over order/root/.lock\n",
-    ),
-    (Step::Sync, ""),
-    (Step::Create("new", 0o600), "write over order/root/.lock\n"),
-    (Step::Append("new", "more"), ""),
-    (Step::Append("new", "bytes"), ""),
-    (
-        Step::Sync,
-        "create order/root/new\nwrite order/root/new\nsync order/root/new\n\
-         sync order/root\nwrite over order/root/.lock\n",
-    ),
-    (
-        Step::Rename("new", "d/f"),
-        "write over order/root/.lock\nlock order/root\nrename to order/root/d/f\n",
-    ),
-    (
-        Step::Sync,
-        "sync order/root\nsync order/root/d\nwrite over order/root/.lock\n",
-    ),
-    (
-        Step::Symlink("text", "d/l"),
-        "write over order/root/.lock\nlink order/root/d/l\n",
-    ),
-    (
-        Step::Unlink("d/f"),
-        "lock order/root\nremove order/root/d/f\n",
-    ),
-    (
-        Step::Sync,
-        "sync order/root/d\nwrite over order/root/.lock\n",
-    ),
-    (Step::Say("words"), "print words\n"),
-    (Step::Stat("d"), ""),
-    (Step::Sync, ""),
-    (
-        Step::MakeDir("repo"),
-        "write over order/root/.lock\nmake order/root/repo\n",
-    ),
-    (
-        Step::MakeDir("repo/objects"),
-        "make order/root/repo/objects\n",
-    ),
-    (Step::Create("x", 0o644), ""),
-    (
-        Step::Rename("x", "repo/objects/x"),
-        "create order/root/x\nsync order/root/x\n\
-         lock order/root\ndate order/root/x\nrename to order/root/repo/objects/x\n",
-    ),
-    (
-        Step::Sync,
-        "sync order/root/repo/objects/x\nsync order/root\nsync order/root/repo\n\
-         sync order/root/repo/objects\nwrite over order/root/.lock\n",
-    ),
-];
+both order/root
+list .
+asks make order; make order/root; create order/root/.lock; lock order/root/.lock
+stat none
+asks
+mkdir d
+asks write order/root/.lock; make order/root/d
+create d/f 644
+asks
+append d/f some
+asks
+sync
+asks create order/root/d/f; write order/root/d/f; sync order/root/d/f; sync .; sync order; \
+    sync order/root; sync .; sync order; sync order/root; sync order/root/d; \
+    write over order/root/.lock
+sync
+asks
+create new 600
+asks write over order/root/.lock
+append new more
+asks
+append new bytes
+asks
+sync
+asks create order/root/new; write order/root/new; sync order/root/new; sync order/root; \
+    write over order/root/.lock
+rename new d/f
+asks write over order/root/.lock; lock order/root; rename to order/root/d/f
+sync
+asks sync order/root; sync order/root/d; write over order/root/.lock
+symlink d/l text
+asks write over order/root/.lock; link order/root/d/l
+unlink d/f
+asks lock order/root; remove order/root/d/f
+sync
+asks sync order/root/d; write over order/root/.lock
+say words
+asks print words
+stat d
+asks
+sync
+asks
+mkdir repo
+asks write over order/root/.lock; make order/root/repo
+mkdir repo/objects
+asks make order/root/repo/objects
+create x 644
+asks
+rename x repo/objects/x
+asks create order/root/x; sync order/root/x; lock order/root; date order/root/x; \
+    rename to order/root/repo/objects/x
+sync
+asks sync order/root/repo/objects/x; sync order/root; sync order/root/repo; \
+    sync order/root/repo/objects; write over order/root/.lock
 
-/// An object that waits for the store is dated when it is made, and again where it was written since.
-const WAITING: [(Step<'static>, &str); 14] = [
-    (
-        Step::Stat("none"),
-        "make date\nmake date/root\ncreate date/root/.lock\nlock date/root/.lock\n",
-    ),
-    (
-        Step::MakeDir("repo"),
-        "write date/root/.lock\nmake date/root/repo\n",
-    ),
-    (
-        Step::MakeDir("repo/objects"),
-        "make date/root/repo/objects\n",
-    ),
-    (Step::MakeDir("repo/tmp"), "make date/root/repo/tmp\n"),
-    (
-        Step::MakeDir("repo/tmp/pull"),
-        "make date/root/repo/tmp/pull\n",
-    ),
-    (
-        Step::MakeDir("repo/tmp/pull/objects"),
-        "make date/root/repo/tmp/pull/objects\n",
-    ),
-    (Step::Create("repo/tmp/pull/objects/a", 0o644), ""),
-    (Step::Append("repo/tmp/pull/objects/a", "a"), ""),
-    (Step::Create("repo/tmp/pull/objects/b", 0o644), ""),
-    (
-        Step::Rename("repo/tmp/pull/objects/a", "repo/objects/a"),
-        "create date/root/repo/tmp/pull/objects/a\nwrite date/root/repo/tmp/pull/objects/a\n\
-         date date/root/repo/tmp/pull/objects/a\nsync date/root/repo/tmp/pull/objects/a\n\
-         create date/root/repo/tmp/pull/objects/b\ndate date/root/repo/tmp/pull/objects/b\n\
-         sync date/root/repo/tmp/pull/objects/b\nrename to date/root/repo/objects/a\n",
-    ),
-    (Step::Create("repo/tmp/pull/objects/c", 0o644), ""),
-    (
-        Step::Append("repo/tmp/pull/objects/b", "b"),
-        "write date/root/repo/tmp/pull/objects/b\n",
-    ),
-    (
-        Step::Rename("repo/tmp/pull/objects/b", "repo/objects/b"),
-        "date date/root/repo/tmp/pull/objects/b\nrename to date/root/repo/objects/b\n",
-    ),
-    (
-        Step::Rename("repo/tmp/pull/objects/c", "repo/objects/c"),
-        "create date/root/repo/tmp/pull/objects/c\ndate date/root/repo/tmp/pull/objects/c\n\
-         sync date/root/repo/tmp/pull/objects/c\nrename to date/root/repo/objects/c\n",
-    ),
-];
+# date
+-- An object that waits for the store is dated when it is made, and again where it was written
+since.
 
-const ASKING: [Part<'static>; 1] = [Part::Ask(&ASKED)];
+logged date/root
+stat none
+asks make date; make date/root; create date/root/.lock; lock date/root/.lock
+mkdir repo
+asks write date/root/.lock; make date/root/repo
+mkdir repo/objects
+asks make date/root/repo/objects
+mkdir repo/tmp
+asks make date/root/repo/tmp
+mkdir repo/tmp/pull
+asks make date/root/repo/tmp/pull
+mkdir repo/tmp/pull/objects
+asks make date/root/repo/tmp/pull/objects
+create repo/tmp/pull/objects/a 644
+asks
+append repo/tmp/pull/objects/a a
+asks
+create repo/tmp/pull/objects/b 644
+asks
+rename repo/tmp/pull/objects/a repo/objects/a
+asks create date/root/repo/tmp/pull/objects/a; write date/root/repo/tmp/pull/objects/a; \
+    date date/root/repo/tmp/pull/objects/a; sync date/root/repo/tmp/pull/objects/a; \
+    create date/root/repo/tmp/pull/objects/b; date date/root/repo/tmp/pull/objects/b; \
+    sync date/root/repo/tmp/pull/objects/b; rename to date/root/repo/objects/a
+create repo/tmp/pull/objects/c 644
+asks
+append repo/tmp/pull/objects/b b
+asks write date/root/repo/tmp/pull/objects/b
+rename repo/tmp/pull/objects/b repo/objects/b
+asks date date/root/repo/tmp/pull/objects/b; rename to date/root/repo/objects/b
+rename repo/tmp/pull/objects/c repo/objects/c
+asks create date/root/repo/tmp/pull/objects/c; date date/root/repo/tmp/pull/objects/c; \
+    sync date/root/repo/tmp/pull/objects/c; rename to date/root/repo/objects/c
 
-const DATING: [Act<'static>; 1] = [Act::Logged(
-    Access::Change,
-    "date/root",
-    &[Part::Ask(&WAITING)],
-)];
+# looks telling-looks
+-- What is looked at: the root, and what isn't known to be there or absent. A file that was
+written while it had two names is looked at again. What goes away isn't looked at before.
 
-const CHANGES: [Step<'static>; 5] = [
-    Step::MakeDir("d"),
-    Step::Create("d/f", 0o644),
-    Step::Append("d/f", "some"),
-    Step::Sync,
-    Step::Say("words"),
-];
+logged looks/root
+stat none
+asks look looks/root; make looks; make looks/root; create looks/root/.lock; \
+    lock looks/root/.lock; look looks/root/.lock; look looks/root/none
+mkdir d
+asks write looks/root/.lock; make looks/root/d; look looks/root/d
+mkdir e
+asks make looks/root/e
+mkdir e/f
+asks make looks/root/e/f
+stat d
+asks
+stat d/x
+asks
+create d/x 644
+asks
+stat d/x
+asks
+append d/x more
+asks
+stat d/x
+asks
+read d/x
+asks
+list d
+asks
+list e
+asks
+list .
+asks create looks/root/d/x; write looks/root/d/x; sync looks/root/d/x; look looks/root/
+link d/x d/y
+asks link looks/root/d/y
+stat d/y
+asks
+append d/y more
+asks write looks/root/d/y
+stat d/x
+asks look looks/root/d/x
+stat d/x
+asks
+stat d/y
+asks look looks/root/d/y
+rename d/x d/z
+asks lock looks/root; rename to looks/root/d/z
+stat d/e/f
+asks
+unlink d/y
+asks remove looks/root/d/y
+symlink d/l text
+asks link looks/root/d/l
+unlink d/l
+asks remove looks/root/d/l
+stat none/x
+asks look looks/root/none
+stat none/y/z
+asks
+mkdir none
+asks make looks/root/none
+stat none/x
+asks
+symlink e/f/l text
+asks link looks/root/e/f/l
+list e/f
+asks
+unlink e/f/l
+asks remove looks/root/e/f/l
+rmdir e/f
+asks remove looks/root/e/f
+stat e/f/l
+asks
+mkdir e/f
+asks make looks/root/e/f
+stat e/f/l
+asks
+create e/f/l 644
+asks
 
-/// What the system fails at, the call that fails by it, and whether a sync succeeds afterwards.
-const FAILURES: [(&str, usize, bool); 12] = [
-    ("make fails/root", 0, false),
-    ("create fails/root/.lock", 0, false),
-    ("lock fails/root/.lock", 0, false),
-    ("write fails/root/.lock", 0, true),
-    ("write over fails/root/.lock", 3, false),
-    ("make fails/root/d", 0, true),
-    ("create fails/root/d/f", 3, false),
-    ("write fails/root/d/f", 3, false),
-    ("sync fails", 3, false),
-    ("sync fails/root/d", 3, false),
-    ("sync fails/root/d/f", 3, false),
-    ("print words", 4, true),
-];
+-- A file that another run made, and that was looked at, gets a second name without another look.
 
-#[test]
-fn what_the_system_fails_at_is_not_done(rt: HostRuntime) {
-    for (fails, at, syncs) in &FAILURES {
-        let parts = [Part::Stop(&CHANGES, *at, *syncs)];
-        let kind = Kind::Failing(fails);
-        assert!(rt; tell_both(&rt, &rt, ("fails", "fails/root"), kind, &parts));
-    }
-}
-
-/// A file that was renamed is synced by its path.
-const MOVED: [Step<'static>; 4] = [
-    Step::Create("x", 0o644),
-    Step::Append("x", "some"),
-    Step::Rename("x", "y"),
-    Step::Sync,
-];
-
-const UNMOVED: &str = "sync moved/root/y";
-
-const MOVING: [Act<'static>; 1] = [Act::Logged(
-    Access::Change,
-    "moved/root",
-    &[Part::Stop(&MOVED, 3, false)],
-)];
-
-/// An earlier run made the root and its lock file, which stayed empty, and changed nothing in it.
-const ENTERED: [(Step<'static>, &str); 1] = [(
-    Step::Stat("none"),
-    "make bare\nmake bare/root\ncreate bare/root/.lock\nlock bare/root/.lock\n",
-)];
-
-/// What the next one changes lasts only with the folders above.
-const CHANGED: [(Step<'static>, &str); 2] = [
-    (
-        Step::MakeDir("d"),
-        "lock bare/root/.lock\nwrite bare/root/.lock\nmake bare/root/d\n",
-    ),
-    (
-        Step::Sync,
-        "sync .\nsync bare\nsync bare/root\nsync bare/root/.lock\nsync bare/root\n\
-         sync bare/root/d\nwrite over bare/root/.lock\n",
-    ),
-];
-
-const BARE: [Act<'static>; 2] = [
-    Act::Logged(Access::Change, "bare/root", &[Part::Ask(&ENTERED)]),
-    Act::Logged(Access::Change, "bare/root", &[Part::Ask(&CHANGED)]),
-];
-
-/// What is looked at: the root, and what isn't known to be there or absent. A file that was written
-/// while it had two names is looked at again. What goes away isn't looked at before.
-const LOOKS: [(Step<'static>, &str); 37] = [
-    (
-        Step::Stat("none"),
-        "look looks/root\nmake looks\nmake looks/root\ncreate looks/root/.lock\n\
-         lock looks/root/.lock\nlook looks/root/.lock\nlook looks/root/none\n",
-    ),
-    (
-        Step::MakeDir("d"),
-        "write looks/root/.lock\nmake looks/root/d\nlook looks/root/d\n",
-    ),
-    (Step::MakeDir("e"), "make looks/root/e\n"),
-    (Step::MakeDir("e/f"), "make looks/root/e/f\n"),
-    (Step::Stat("d"), ""),
-    (Step::Stat("d/x"), ""),
-    (Step::Create("d/x", 0o644), ""),
-    (Step::Stat("d/x"), ""),
-    (Step::Append("d/x", "more"), ""),
-    (Step::Stat("d/x"), ""),
-    (Step::Read("d/x"), ""),
-    (Step::List("d"), ""),
-    (Step::List("e"), ""),
-    (
-        Step::List(""),
-        "create looks/root/d/x\nwrite looks/root/d/x\nsync looks/root/d/x\nlook looks/root/\n",
-    ),
-    (Step::Link("d/x", "d/y"), "link looks/root/d/y\n"),
-    (Step::Stat("d/y"), ""),
-    (Step::Append("d/y", "more"), "write looks/root/d/y\n"),
-    (Step::Stat("d/x"), "look looks/root/d/x\n"),
-    (Step::Stat("d/x"), ""),
-    (Step::Stat("d/y"), "look looks/root/d/y\n"),
-    (
-        Step::Rename("d/x", "d/z"),
-        "lock looks/root\nrename to looks/root/d/z\n",
-    ),
-    (Step::Stat("d/e/f"), ""),
-    (Step::Unlink("d/y"), "remove looks/root/d/y\n"),
-    (Step::Symlink("text", "d/l"), "link looks/root/d/l\n"),
-    (Step::Unlink("d/l"), "remove looks/root/d/l\n"),
-    (Step::Stat("none/x"), "look looks/root/none\n"),
-    (Step::Stat("none/y/z"), ""),
-    (Step::MakeDir("none"), "make looks/root/none\n"),
-    (Step::Stat("none/x"), ""),
-    (Step::Symlink("text", "e/f/l"), "link looks/root/e/f/l\n"),
-    (Step::List("e/f"), ""),
-    (Step::Unlink("e/f/l"), "remove looks/root/e/f/l\n"),
-    (Step::RemoveDir("e/f"), "remove looks/root/e/f\n"),
-    (Step::Stat("e/f/l"), ""),
-    (Step::MakeDir("e/f"), "make looks/root/e/f\n"),
-    (Step::Stat("e/f/l"), ""),
-    (Step::Create("e/f/l", 0o644), ""),
-];
-
-/// A file that another run made, and that was looked at, gets a second name without another look.
-const FOUND: [(Step<'static>, &str); 3] = [
-    (
-        Step::Stat("d/z"),
-        "look looks/root\nlook looks/root/.lock\nlock looks/root/.lock\n\
-         look looks/root/.lock\nlook looks/root/d\nlook looks/root/d/z\n",
-    ),
-    (Step::Link("d/z", "d/u"), "link looks/root/d/u\n"),
-    (
-        Step::Unlink("d/u"),
-        "lock looks/root\nremove looks/root/d/u\n",
-    ),
-];
-
-const LOOKING: [Act<'static>; 2] = [
-    Act::Logged(Access::Change, "looks/root", &[Part::Ask(&LOOKS)]),
-    Act::Logged(Access::Change, "looks/root", &[Part::Ask(&FOUND)]),
-];
+logged looks/root
+stat d/z
+asks look looks/root; look looks/root/.lock; lock looks/root/.lock; look looks/root/.lock; \
+    look looks/root/d; look looks/root/d/z
+link d/z d/u
+asks link looks/root/d/u
+unlink d/u
+asks lock looks/root; remove looks/root/d/u
+";
 
 #[test]
 fn the_system_is_asked_in_order(rt: HostRuntime) {
-    assert!(rt;
-        tell_both(&rt, &rt, ("order", "order/root"), Kind::Plain, &ASKING)
-            && tell(&rt, &rt, "date", Kind::Plain, &DATING)
-            && tell(&rt, &rt, "looks", Kind::TellingLooks, &LOOKING)
-    );
+    assert!(rt; tell(&rt, &rt, IN_ORDER));
 }
+
+/// What fails, and what is done then.
+const FAILING: &str = "\
+# fails failing {}
+";
+
+/// What the system fails at, the call that fails by it, and whether a sync succeeds afterwards.
+const FAILURES: &str = "\
+make fails/root
+both fails/root
+fails mkdir d
+fails sync
+--
+create fails/root/.lock
+both fails/root
+fails mkdir d
+fails sync
+--
+lock fails/root/.lock
+both fails/root
+fails mkdir d
+fails sync
+--
+write fails/root/.lock
+both fails/root
+fails mkdir d
+sync
+--
+write over fails/root/.lock
+both fails/root
+mkdir d
+create d/f 644
+append d/f some
+fails sync
+fails sync
+--
+make fails/root/d
+both fails/root
+fails mkdir d
+sync
+--
+create fails/root/d/f
+both fails/root
+mkdir d
+create d/f 644
+append d/f some
+fails sync
+fails sync
+--
+write fails/root/d/f
+both fails/root
+mkdir d
+create d/f 644
+append d/f some
+fails sync
+fails sync
+--
+sync fails
+both fails/root
+mkdir d
+create d/f 644
+append d/f some
+fails sync
+fails sync
+--
+sync fails/root/d
+both fails/root
+mkdir d
+create d/f 644
+append d/f some
+fails sync
+fails sync
+--
+sync fails/root/d/f
+both fails/root
+mkdir d
+create d/f 644
+append d/f some
+fails sync
+fails sync
+--
+print words
+both fails/root
+mkdir d
+create d/f 644
+append d/f some
+sync
+fails say words
+sync";
+
+#[test]
+fn what_the_system_fails_at_is_not_done(rt: HostRuntime) {
+    assert!(rt; tell_each(&rt, &rt, FAILING, FAILURES));
+}
+
+/// What was renamed, and what an earlier run made.
+const STANDING: &str = "\
+# moved failing sync moved/root/y
+-- A file that was renamed is synced by its path.
+
+logged moved/root
+create x 644
+append x some
+rename x y
+fails sync
+fails sync
+
+# bare
+-- An earlier run made the root and its lock file, which stayed empty, and changed nothing in it.
+
+logged bare/root
+stat none
+asks make bare; make bare/root; create bare/root/.lock; lock bare/root/.lock
+
+-- What the next one changes lasts only with the folders above.
+
+logged bare/root
+mkdir d
+asks lock bare/root/.lock; write bare/root/.lock; make bare/root/d
+sync
+asks sync .; sync bare; sync bare/root; sync bare/root/.lock; sync bare/root; \
+    sync bare/root/d; write over bare/root/.lock
+";
 
 #[test]
 fn what_stands_there_is_synced(rt: HostRuntime) {
-    assert!(rt;
-        tell(&rt, &rt, "moved", Kind::Failing(UNMOVED), &MOVING)
-            && tell(&rt, &rt, "bare", Kind::Plain, &BARE)
-    );
+    assert!(rt; tell(&rt, &rt, STANDING));
 }
 
-/// What takes a name away or gives a second one makes its folder last, and a file that waits for a
-/// sync is synced by the name that is left.
-const NAMES: [(Step<'static>, &str); 17] = [
-    (
-        Step::MakeDir("d"),
-        "make names\nmake names/root\ncreate names/root/.lock\nlock names/root/.lock\n\
-         write names/root/.lock\nmake names/root/d\n",
-    ),
-    (Step::MakeDir("d/e"), "make names/root/d/e\n"),
-    (Step::MakeDir("g"), "make names/root/g\n"),
-    (Step::Create("d/f", 0o644), ""),
-    (
-        Step::Sync,
-        "create names/root/d/f\nsync names/root/d/f\nsync .\nsync names\nsync names/root\n\
-         sync .\nsync names\nsync names/root\nsync names/root/d\nsync names/root/d/e\n\
-         sync names/root/g\nwrite over names/root/.lock\n",
-    ),
-    (
-        Step::Link("d/f", "g/f"),
-        "write over names/root/.lock\nlink names/root/g/f\n",
-    ),
-    (
-        Step::Sync,
-        "sync names/root/g\nwrite over names/root/.lock\n",
-    ),
-    (
-        Step::Unlink("d/f"),
-        "write over names/root/.lock\nlock names/root\nremove names/root/d/f\n",
-    ),
-    (
-        Step::Sync,
-        "sync names/root/d\nwrite over names/root/.lock\n",
-    ),
-    (
-        Step::RemoveDir("d/e"),
-        "write over names/root/.lock\nlock names/root\nremove names/root/d/e\n",
-    ),
-    (
-        Step::Sync,
-        "sync names/root/d\nwrite over names/root/.lock\n",
-    ),
-    (
-        Step::Symlink("x", "g/l"),
-        "write over names/root/.lock\nlink names/root/g/l\n",
-    ),
-    (
-        Step::Sync,
-        "sync names/root/g\nwrite over names/root/.lock\n",
-    ),
-    (Step::Create("d/x", 0o644), "write over names/root/.lock\n"),
-    (
-        Step::Link("d/x", "g/x"),
-        "create names/root/d/x\nsync names/root/d/x\nlink names/root/g/x\n",
-    ),
-    (
-        Step::Unlink("d/x"),
-        "lock names/root\nremove names/root/d/x\n",
-    ),
-    (
-        Step::Sync,
-        "sync names/root/g/x\nsync names/root/d\nsync names/root/g\nwrite over names/root/.lock\n",
-    ),
-];
+/// Names that are given and taken away.
+const NAMES: &str = "\
+# names
+-- What takes a name away or gives a second one makes its folder last, and a file that waits for a
+sync is synced by the name that is left.
+
+both names/root
+mkdir d
+asks make names; make names/root; create names/root/.lock; lock names/root/.lock; \
+    write names/root/.lock; make names/root/d
+mkdir d/e
+asks make names/root/d/e
+mkdir g
+asks make names/root/g
+create d/f 644
+asks
+sync
+asks create names/root/d/f; sync names/root/d/f; sync .; sync names; sync names/root; sync .; \
+    sync names; sync names/root; sync names/root/d; sync names/root/d/e; sync names/root/g; \
+    write over names/root/.lock
+link d/f g/f
+asks write over names/root/.lock; link names/root/g/f
+sync
+asks sync names/root/g; write over names/root/.lock
+unlink d/f
+asks write over names/root/.lock; lock names/root; remove names/root/d/f
+sync
+asks sync names/root/d; write over names/root/.lock
+rmdir d/e
+asks write over names/root/.lock; lock names/root; remove names/root/d/e
+sync
+asks sync names/root/d; write over names/root/.lock
+symlink g/l x
+asks write over names/root/.lock; link names/root/g/l
+sync
+asks sync names/root/g; write over names/root/.lock
+create d/x 644
+asks write over names/root/.lock
+link d/x g/x
+asks create names/root/d/x; sync names/root/d/x; link names/root/g/x
+unlink d/x
+asks lock names/root; remove names/root/d/x
+sync
+asks sync names/root/g/x; sync names/root/d; sync names/root/g; write over names/root/.lock
+";
 
 #[test]
 fn changed_names_are_synced(rt: HostRuntime) {
-    let parts = [Part::Ask(&NAMES)];
-    assert!(rt; tell_both(&rt, &rt, ("names", "names/root"), Kind::Plain, &parts));
+    assert!(rt; tell(&rt, &rt, NAMES));
 }
 
-/// Where a file may have no more names, the second name gets a copy, which is synced as a new file.
-const COPIED: [(Step<'static>, &str); 5] = [
-    (
-        Step::Create("a", 0o640),
-        "make crowded\nmake crowded/root\ncreate crowded/root/.lock\nlock crowded/root/.lock\n\
-         write crowded/root/.lock\n",
-    ),
-    (Step::Append("a", "bytes"), ""),
-    (
-        Step::Sync,
-        "create crowded/root/a\nwrite crowded/root/a\nsync crowded/root/a\nsync .\nsync crowded\nsync crowded/root\n\
-         sync .\nsync crowded\nsync crowded/root\nwrite over crowded/root/.lock\n",
-    ),
-    (
-        Step::Link("a", "b"),
-        "write over crowded/root/.lock\ncreate crowded/root/b\nwrite crowded/root/b\n",
-    ),
-    (
-        Step::Sync,
-        "sync crowded/root/b\nsync crowded/root\nwrite over crowded/root/.lock\n",
-    ),
-];
+/// A second name that is a copy, and a copy that fails.
+const COPIED: &str = "\
+# crowded crowded
+-- Where a file may have no more names, the second name gets a copy, which is synced as a new \
+    file.
 
-const COPIES: [(Step<'static>, &str, &str); 2] = [
-    (Step::Stat("b"), "b", "640 5 bytes"),
-    (Step::Unlink("b"), "", "dir a"),
-];
+both crowded/root
+create a 640
+asks make crowded; make crowded/root; create crowded/root/.lock; lock crowded/root/.lock; \
+    write crowded/root/.lock
+append a bytes
+asks
+sync
+asks create crowded/root/a; write crowded/root/a; sync crowded/root/a; sync .; sync crowded; \
+    sync crowded/root; sync .; sync crowded; sync crowded/root; write over crowded/root/.lock
+link a b
+asks write over crowded/root/.lock; create crowded/root/b; write crowded/root/b
+sync
+asks sync crowded/root/b; sync crowded/root; write over crowded/root/.lock
+two a b
+stat b
+shows b 640 5 bytes
+unlink b
+shows . dir a
 
-/// A copy that fails.
-const UNCOPIED: &str = "create uncopied/root/b";
-
-const UNCOPYING: [Step<'static>; 4] = [
-    Step::Create("a", 0o640),
-    Step::Sync,
-    Step::Link("a", "b"),
-    Step::Sync,
-];
+# uncopied crowded create uncopied/root/b
+both uncopied/root
+create a 640
+sync
+fails link a b
+sync
+";
 
 #[test]
 fn a_file_with_no_more_names_is_copied(rt: HostRuntime) {
-    let parts = [
-        Part::Ask(&COPIED),
-        Part::AreOne("a", "b", false),
-        Part::Show(&COPIES),
-    ];
-    let kind = Kind::Crowded("");
-    assert!(rt; tell_both(&rt, &rt, ("crowded", "crowded/root"), kind, &parts));
-    let parts = [Part::Stop(&UNCOPYING, 2, true)];
-    let kind = Kind::Crowded(UNCOPIED);
-    assert!(rt; tell_both(&rt, &rt, ("uncopied", "uncopied/root"), kind, &parts));
+    assert!(rt; tell(&rt, &rt, COPIED));
 }
 
-/// How many files are made, and the sync that fails. Where 800 files wait, they are made before the
-/// next one is created, and the sync makes the others. They are made in the order in which they were
-/// created, up to the first that fails.
-const MANY: [(u32, &str, (usize, usize, bool)); 4] = [
-    (60, "", (0, 60, true)),
-    (60, "sync many/root/f47", (0, 48, false)),
-    (810, "", (800, 10, true)),
-    (810, "sync many/root/f05", (6, 10, false)),
-];
+/// Files that wait by the hundred.
+const MANY: &str = "\
+# many
+-- How many files are made, and the sync that fails. Where 800 files wait, they are made before
+the next one is created, and the sync makes the others. They are made in the order in which they
+were created, up to the first that fails.
+
+both many/root
+makes 60
+synced 0
+sync
+synced 60
+sync
+
+# many failing sync many/root/f47
+both many/root
+makes 60
+synced 0
+fails sync
+synced 48
+
+# many
+both many/root
+makes 810
+synced 800
+sync
+synced 10
+sync
+
+# many failing sync many/root/f05
+both many/root
+makes 810
+synced 6
+fails sync
+synced 10
+";
 
 #[test]
 fn many_files_are_synced(rt: HostRuntime) {
-    for (count, fails, want) in &MANY {
-        let parts = [Part::Many(*count, want)];
-        let kind = Kind::Failing(fails);
-        assert!(rt; tell_both(&rt, &rt, ("many", "many/root"), kind, &parts));
-    }
+    assert!(rt; tell(&rt, &rt, MANY));
 }

@@ -1,61 +1,51 @@
 //! Folders as remotes.
 use fp_host::{Path, Remotes};
 use fp_realinput::DirRemotes;
-use fp_realplay::{Act, Kind, Log, Logged, Made, Remote, clear, make_all, path, tell, url_of};
+use fp_realplay::{Kind, Log, Logged, clear, path, play_disk, tell, url_of};
 
-const MADE: [Made<'static>; 4] = [
-    Made::Folder("remote"),
-    Made::File("remote/file", "hello world"),
-    Made::Bits("remote/file", 0o640),
-    Made::Link("file", "remote/link"),
-];
+/// What stands there.
+const MADE: &str = "\
+folder remote
+file remote/file hello world
+bits remote/file 640
+leads remote/link file
+";
 
-/// A path, what stands there, and how many bytes it has from the seventh on.
-const HELD: [(&str, &str, usize); 5] = [
-    ("", "dir", 0),
-    ("file", "640 11", 5),
-    ("link", "file", 0),
-    ("file/below", "absent", 0),
-    ("none", "absent", 0),
-];
+/// A folder as a remote, and urls of no remote.
+const REMOTES: &str = "\
+# remote
+disk
+folder remote
+file remote/file hello world
+bits remote/file 640
+leads remote/link file
 
-const REMOTE: [Act<'static>; 2] = [
-    Act::Make(&MADE),
-    Act::Remote(Remote {
-        folder: "remote",
-        holds: &HELD,
-        urls: &[],
-        told: (0, ""),
-    }),
-];
+-- A path, how many bytes it has from the seventh on, and what stands there.
 
-const OTHER_URLS: [&str; 7] = [
-    "",
-    "/",
-    "file:/",
-    "file://",
-    "file://x/",
-    "FILE:///",
-    "https:///",
-];
+remote remote
+node . 0 dir
+node file 5 640 11
+node link 0 file
+node file/below 0 absent
+node none 0 absent
 
-/// All faults are counted, and the last is told.
-const OTHERS: [Act<'static>; 1] = [Act::Remote(Remote {
-    folder: "",
-    holds: &[],
-    urls: &OTHER_URLS,
-    told: (
-        14,
-        "cannot find the remote https:///: a url is file:// and an absolute path",
-    ),
-})];
+# others
+-- All faults are counted, and the last is told.
+
+remote .
+url
+url /
+url file:/
+url file://
+url file://x/
+url FILE:///
+url https:///
+faults 14 cannot find the remote https:///: a url is file:// and an absolute path
+";
 
 #[test]
 fn folders_are_remotes_and_other_urls_are_faults(rt: HostRuntime) {
-    assert!(rt;
-        tell(&rt, &rt, "remote", Kind::Plain, &REMOTE)
-            && tell(&rt, &rt, "others", Kind::Plain, &OTHERS)
-    );
+    assert!(rt; tell(&rt, &rt, REMOTES));
 }
 
 /// Whether a path is looked at once when its node is asked for, and not again when it is read.
@@ -90,7 +80,7 @@ fn is_found(rt: &HostRuntime, log: &Log<'_>) -> bool {
 fn a_found_file_is_looked_at_once(rt: HostRuntime) {
     let log = Log::new(rt.alloc(), Kind::TellingLooks);
     clear(&rt, "remote");
-    make_all(&rt, &log, &MADE);
+    play_disk(&rt, &log, MADE);
     assert!(rt; is_found(&rt, &log) && log.all_held(&rt));
     clear(&rt, "remote");
 }

@@ -57,7 +57,7 @@ fn nothing_drives_a_terminal(rt: HostRuntime) {
 fn bytes_that_are_no_text_are_shown_so(rt: HostRuntime) {
     let log = Log::new(rt.alloc(), Kind::Plain);
     print_bytes(&rt, &rt, &log, true, b"a\x9b\xff\x1b\n");
-    assert!(rt; log.is_noted("print a\\x9b\\xff\\u{1b}\n\n"));
+    assert!(rt; log.is_noted("print a\\x9b\\xff\\u{1b}\n"));
 }
 
 /// Whether a failure of the system to print is told, on a terminal or elsewhere.

@@ -1,25 +1,25 @@
 //! Times and bits of stored files.
-use fp_realplay::{Act, Kind, Part, Step, tell};
-use fp_realroot::Access;
+use fp_realplay::tell;
 
-const STORED: [Step<'static>; 8] = [
-    Step::MakeDir("repo"),
-    Step::MakeDir("repo/objects"),
-    Step::Create("new", 0o644),
-    Step::Append("new", "bytes"),
-    Step::Rename("new", "repo/objects/old"),
-    Step::Create("new", 0o644),
-    Step::Append("new", "bytes"),
-    Step::Rename("new", "kept"),
-];
+/// An object of the store is dated, another file isn't.
+const DATED: &str = "\
+# stored
+change stored
+mkdir repo
+mkdir repo/objects
+create new 644
+append new bytes
+rename new repo/objects/old
+create new 644
+append new bytes
+rename new kept
 
-const DATED: [Act<'static>; 3] = [
-    Act::Run(Access::Change, "stored", &[Part::Done(&STORED)], (0, "")),
-    Act::Dated("stored/repo/objects/old", true),
-    Act::Dated("stored/kept", false),
-];
+disk
+dated stored/repo/objects/old 1970
+dated stored/kept later
+";
 
 #[test]
 fn stored_files_are_dated_1970(rt: HostRuntime) {
-    assert!(rt; tell(&rt, &rt, "stored", Kind::Plain, &DATED));
+    assert!(rt; tell(&rt, &rt, DATED));
 }
