@@ -1,28 +1,11 @@
 //! How far a command is, as its line says on a terminal.
 use fp_progress::{Progress, Task, Watched};
-use fp_realplay::{Kind, Log, Logged, clear};
+use fp_realplay::{Kind, Log, Logged, clear, pair, play_disk};
 use fp_realroot::System;
 use std::alloc::Global;
 use std::fs;
 use std::rt::Files;
 use std::thread::Threads;
-
-/// What a command asks of its systems.
-#[derive(Clone, Copy)]
-enum Ask<'a> {
-    /// Bytes of a remote's file.
-    Fetch(&'a str),
-    /// Bytes of a host's file.
-    Read(&'a str),
-    /// A sync of two folders.
-    Sync,
-    /// A file's way to its name in the store.
-    Rename(&'a str, &'a str),
-    /// A second name of a file.
-    Link(&'a str, &'a str),
-    /// A file's end.
-    Remove(&'a str),
-}
 
 const REF: &str = "far/hub/refs/heads/app/org.x.App/x86_64/1";
 
@@ -52,167 +35,142 @@ const LONG_REF: &str =
     "far/hub/refs/heads/app/org.example.a.b.c.d.e.f.g.h.i.j.k.l.m.n.o.p.q.r.s.t.u.v.w.x\
     .y.z.Long.Name/x86_64/1";
 
+/// The folders that stand before.
+const FOLDERS: &str = "\
+folder far/hub/refs/heads/app/org.x.App/x86_64
+folder far/hub/refs/heads/app/org.example.a.b.c.d.e.f.g.h.i.j.k.l.m.n.o.p.q.r.s.t.u.v.w.x\
+    .y.z.Long.Name/x86_64
+folder far/hub/objects/20
+folder far/hub/objects/ee
+folder far/hub/objects/7f
+folder far/hub/objects/44
+folder far/hub/objects/23
+folder far/hub/objects/7e
+folder far/hub/objects/6e
+folder far/repo/objects/23
+";
+
 /// What both refs name.
 const NAMED: &[u8] = b"7f2461fb4eec56b10606e193425ebfd413e516485530fe77cf1637c1836c0360\n";
 
-/// What `ostree commit` wrote of a tree with the files `a` and `b`, and in a folder `d` the file
-/// `c`: the files of the refs and the dirtrees. Of the other objects the names count alone.
-const WRITTEN: [(&str, &[u8]); 9] = [
-    (REF, NAMED),
-    (LONG_REF, NAMED),
-    (
-        TOP,
-        b"a\x00\x23\x01\xb5\x92\x37\x20\xc3\xed\xc1\xf0\x46\x7a\xdd\xb5\xc2\x87\xfd\x55\x59\xe3\xe0\
-        \xcd\x13\x96\xe7\xf1\xed\xb6\xb0\x1b\xe9\xf0\x02b\x00\x7e\x01\x01\x8c\x6b\xe1\x6a\x17\x97\
-        \x00\x24\x0a\x15\x69\xb1\x95\xfb\x7c\x3f\xb8\x17\x81\xfe\xd2\xfb\xa0\xdd\x1d\x22\x6c\x39\
-        \xaf\x02\x23\x46d\x00\xee\x1d\x22\xaa\x34\x79\x48\x2c\x1f\x93\xa5\x0c\xba\xf9\x34\xb5\x8f\
-        \x69\xc7\x64\x87\xb1\xdd\xcf\x30\xad\xf7\x1b\x99\x2c\x9a\xfb\x44\x6a\x0e\xf1\x1b\x7c\xc1\
-        \x67\xf3\xb6\x03\xe5\x85\xc7\xee\xee\xb6\x75\xfa\xa4\x12\xd5\xec\x73\xf6\x29\x88\xeb\x0b\
-        \x6c\x54\x88\x22\x02\x44\x48",
-    ),
-    (
-        BELOW,
-        b"c\x00\x6e\x56\x59\x0e\x2b\xb5\x70\x9a\xc2\x48\xa8\x20\x79\x66\x74\x9e\xa4\x4c\x0f\xa0\x65\
-        \x51\xd2\x63\x70\x45\x96\xba\x4f\xd9\x3d\xd4\x02\x23\x24",
-    ),
-    (COMMIT, b""),
-    (META, b""),
-    (FILE_A, b"hi"),
-    (FILE_B, b"ho"),
-    (FILE_C, b"hu"),
-];
+/// What `ostree commit` wrote of a tree with the files `a` and `b`, and a folder with the file `c`.
+const TOP_TREE: &[u8] =
+    b"a\x00\x23\x01\xb5\x92\x37\x20\xc3\xed\xc1\xf0\x46\x7a\xdd\xb5\xc2\x87\xfd\x55\x59\xe3\xe0\
+    \xcd\x13\x96\xe7\xf1\xed\xb6\xb0\x1b\xe9\xf0\x02b\x00\x7e\x01\x01\x8c\x6b\xe1\x6a\x17\x97\
+    \x00\x24\x0a\x15\x69\xb1\x95\xfb\x7c\x3f\xb8\x17\x81\xfe\xd2\xfb\xa0\xdd\x1d\x22\x6c\x39\
+    \xaf\x02\x23\x46d\x00\xee\x1d\x22\xaa\x34\x79\x48\x2c\x1f\x93\xa5\x0c\xba\xf9\x34\xb5\x8f\
+    \x69\xc7\x64\x87\xb1\xdd\xcf\x30\xad\xf7\x1b\x99\x2c\x9a\xfb\x44\x6a\x0e\xf1\x1b\x7c\xc1\
+    \x67\xf3\xb6\x03\xe5\x85\xc7\xee\xee\xb6\x75\xfa\xa4\x12\xd5\xec\x73\xf6\x29\x88\xeb\x0b\
+    \x6c\x54\x88\x22\x02\x44\x48";
+
+/// The same of the folder.
+const TREE_BELOW: &[u8] =
+    b"c\x00\x6e\x56\x59\x0e\x2b\xb5\x70\x9a\xc2\x48\xa8\x20\x79\x66\x74\x9e\xa4\x4c\x0f\xa0\x65\
+    \x51\xd2\x63\x70\x45\x96\xba\x4f\xd9\x3d\xd4\x02\x23\x24";
 
 /// What an install asks, and what its line says then.
-const INSTALL: [(Ask<'static>, &str); 19] = [
-    (Ask::Fetch(REF), "installing .."),
-    (Ask::Fetch(COMMIT), "installing org.x.App .."),
-    (Ask::Fetch(TOP), "installing org.x.App .."),
-    (Ask::Fetch(META), "installing org.x.App 5 objects found"),
-    (Ask::Fetch(BELOW), "installing org.x.App 5 objects found"),
-    (Ask::Fetch(META), "installing org.x.App 8 objects found"),
-    (
-        Ask::Fetch(COMMIT),
-        "installing org.x.App 1 of 8 objects, 0 KiB",
-    ),
-    (
-        Ask::Fetch(TOP),
-        "installing org.x.App 2 of 8 objects, 0 KiB",
-    ),
-    (
-        Ask::Fetch(META),
-        "installing org.x.App 2 of 8 objects, 0 KiB",
-    ),
-    (
-        Ask::Fetch(FILE_A),
-        "installing org.x.App 4 of 8 objects, 0 KiB",
-    ),
-    (
-        Ask::Fetch(FILE_B),
-        "installing org.x.App 5 of 8 objects, 0 KiB",
-    ),
-    (
-        Ask::Fetch(FILE_A),
-        "installing org.x.App 5 of 8 objects, 0 KiB",
-    ),
-    (
-        Ask::Fetch(FILE_C),
-        "installing org.x.App 8 of 8 objects, 0 KiB",
-    ),
-    (Ask::Sync, "installing org.x.App 2 files synced"),
-    (
-        Ask::Rename(FILE_A, "far/repo/objects/23/other.file"),
-        "installing org.x.App 1 object stored",
-    ),
-    (
-        Ask::Link(FILE_B, "far/laid"),
-        "installing org.x.App 1 of 3 files linked",
-    ),
-    (
-        Ask::Link(FILE_B, "far/out"),
-        "installing org.x.App 2 of 3 files linked",
-    ),
-    (
-        Ask::Remove("far/laid"),
-        "installing org.x.App 1 file removed",
-    ),
-    (
-        Ask::Remove("far/out"),
-        "installing org.x.App 2 files removed",
-    ),
-];
+const INSTALL: &str = "\
+fetch ref: installing ..
+fetch commit: installing org.x.App ..
+fetch top: installing org.x.App ..
+fetch meta: installing org.x.App 5 objects found
+fetch below: installing org.x.App 5 objects found
+fetch meta: installing org.x.App 8 objects found
+fetch commit: installing org.x.App 1 of 8 objects, 0 KiB
+fetch top: installing org.x.App 2 of 8 objects, 0 KiB
+fetch meta: installing org.x.App 2 of 8 objects, 0 KiB
+fetch a: installing org.x.App 4 of 8 objects, 0 KiB
+fetch b: installing org.x.App 5 of 8 objects, 0 KiB
+fetch a: installing org.x.App 5 of 8 objects, 0 KiB
+fetch c: installing org.x.App 8 of 8 objects, 0 KiB
+sync: installing org.x.App 2 files synced
+rename a far/repo/objects/23/other.file: installing org.x.App 1 object stored
+link b far/laid: installing org.x.App 1 of 3 files linked
+link b far/out: installing org.x.App 2 of 3 files linked
+remove far/laid: installing org.x.App 1 file removed
+remove far/out: installing org.x.App 2 files removed
+";
 
 /// What an update asks that finds all but the commit and a file in the store.
-const UPDATE: [(Ask<'static>, &str); 8] = [
-    (Ask::Fetch(REF), "updating .."),
-    (Ask::Fetch(COMMIT), "updating org.x.App .."),
-    (Ask::Read(TOP), "updating org.x.App .."),
-    (Ask::Read(META), "updating org.x.App 5 objects found"),
-    (Ask::Read(BELOW), "updating org.x.App 5 objects found"),
-    (Ask::Read(META), "updating org.x.App 8 objects found"),
-    (
-        Ask::Fetch(COMMIT),
-        "updating org.x.App 1 of 8 objects, 0 KiB",
-    ),
-    (
-        Ask::Fetch(FILE_C),
-        "updating org.x.App 8 of 8 objects, 0 KiB",
-    ),
-];
+const UPDATE: &str = "\
+fetch ref: updating ..
+fetch commit: updating org.x.App ..
+read top: updating org.x.App ..
+read meta: updating org.x.App 5 objects found
+read below: updating org.x.App 5 objects found
+read meta: updating org.x.App 8 objects found
+fetch commit: updating org.x.App 1 of 8 objects, 0 KiB
+fetch c: updating org.x.App 8 of 8 objects, 0 KiB
+";
 
 /// What a look at each object asks.
-const CHECK: [(Ask<'static>, &str); 3] = [
-    (Ask::Read(COMMIT), "checking 1 object, 0 KiB"),
-    (Ask::Read(TOP), "checking 2 objects, 0 KiB"),
-    (Ask::Read(FILE_A), "checking 3 objects, 0 KiB"),
-];
+const CHECK: &str = "\
+read commit: checking 1 object, 0 KiB
+read top: checking 2 objects, 0 KiB
+read a: checking 3 objects, 0 KiB
+";
 
 /// What an uninstall asks of an application with a long ID. Its end alone is shown, so that a line has
 /// 79 columns.
-const UNINSTALL: [(Ask<'static>, &str); 3] = [
-    (Ask::Fetch(LONG_REF), "uninstalling .."),
-    (
-        Ask::Fetch(COMMIT),
-        "uninstalling ..a.b.c.d.e.f.g.h.i.j.k.l.m.n.o.p.q.r.s.t.u.v.w.x.y.z.Long.Name ..",
-    ),
-    (
-        Ask::Sync,
-        "uninstalling ..g.h.i.j.k.l.m.n.o.p.q.r.s.t.u.v.w.x.y.z.Long.Name 2 files synced",
-    ),
-];
+const UNINSTALL: &str = "\
+fetch long-ref: uninstalling ..
+fetch commit: uninstalling ..a.b.c.d.e.f.g.h.i.j.k.l.m.n.o.p.q.r.s.t.u.v.w.x.y.z.Long.Name ..
+sync: uninstalling ..g.h.i.j.k.l.m.n.o.p.q.r.s.t.u.v.w.x.y.z.Long.Name 2 files synced
+";
 
-/// Whether the folder stands then.
-fn is_folder(rt: &HostRuntime, at: &str) -> bool {
-    fs::create_dir_all(rt, at).is_ok()
+fn put(rt: &HostRuntime, log: &Log<'_>, at: &str, bytes: &[u8]) {
+    log.demand(fs::write(rt, at, bytes).is_ok(), 0, at);
 }
 
-fn is_written(rt: &HostRuntime, at: &str, bytes: &[u8]) -> bool {
-    match at.rsplit_once('/') {
-        Some((folder, _)) => is_folder(rt, folder) && fs::write(rt, at, bytes).is_ok(),
-        None => false,
-    }
-}
-
+/// Of the objects but the dirtrees the names count alone.
 fn write_all(rt: &HostRuntime, log: &Log<'_>) {
-    for (i, (at, bytes)) in (&WRITTEN).iter().enumerate() {
-        log.demand(is_written(rt, at, bytes), i, at);
-    }
-    log.demand(is_folder(rt, "far/repo/objects/23"), 0, "the store");
+    play_disk(rt, log, FOLDERS);
+    put(rt, log, REF, NAMED);
+    put(rt, log, LONG_REF, NAMED);
+    put(rt, log, TOP, TOP_TREE);
+    put(rt, log, BELOW, TREE_BELOW);
+    put(rt, log, COMMIT, b"");
+    put(rt, log, META, b"");
+    put(rt, log, FILE_A, b"hi");
+    put(rt, log, FILE_B, b"ho");
+    put(rt, log, FILE_C, b"hu");
 }
 
-/// Whether the call was done.
+/// The path that a word stands for, or the word itself.
+fn place(word: &str) -> &str {
+    match word {
+        "ref" => REF,
+        "long-ref" => LONG_REF,
+        "commit" => COMMIT,
+        "top" => TOP,
+        "below" => BELOW,
+        "meta" => META,
+        "a" => FILE_A,
+        "b" => FILE_B,
+        "c" => FILE_C,
+        other => other,
+    }
+}
+
+/// Whether what is asked for was done: bytes of a remote's file or of a host's, a sync of two
+/// folders, or a name that a file gets or loses.
 fn is_done<T: Threads + Sync>(
     threads: &T,
     host: &Watched<'_, Logged<'_>>,
     remotes: &Watched<'_, Logged<'_>>,
-    ask: Ask<'_>,
+    ask: &str,
 ) -> bool {
-    match ask {
-        Ask::Fetch(at) => fs::read(remotes, at).is_ok(),
-        Ask::Read(at) => fs::read(host, at).is_ok(),
-        Ask::Sync => host.sync_paths(threads, &["far/hub", "far/repo"]).is_none(),
-        Ask::Rename(from, to) => host.rename(from, to).is_ok(),
-        Ask::Link(from, to) => host.hard_link(from, to).is_ok(),
-        Ask::Remove(at) => host.remove_file(at).is_ok(),
+    let (verb, rest) = pair(ask);
+    let (first, to) = pair(rest);
+    let at = place(first);
+    match verb {
+        "fetch" => fs::read(remotes, at).is_ok(),
+        "read" => fs::read(host, at).is_ok(),
+        "sync" => host.sync_paths(threads, &["far/hub", "far/repo"]).is_none(),
+        "rename" => host.rename(at, to).is_ok(),
+        "link" => host.hard_link(at, to).is_ok(),
+        "remove" => host.remove_file(at).is_ok(),
+        _ => false,
     }
 }
 
@@ -239,15 +197,16 @@ fn ask_all<'a, T: Threads + Sync>(
     threads: &T,
     log: &'a Log<'_>,
     told: (Task, bool),
-    asks: &[(Ask<'_>, &str)],
+    asks: &str,
 ) {
     let (task, is_terminal) = told;
     let system = Logged { rt, log };
     let progress = Progress::new(&system, log.alloc, task, is_terminal);
     let host = Watched::host(&system, &progress);
     let remotes = Watched::remotes(&system, &progress);
-    for (i, (ask, want)) in asks.iter().enumerate() {
-        log.demand(is_done(threads, &host, &remotes, *ask), i, "the call");
+    for (i, row) in asks.lines().enumerate() {
+        let (ask, want) = row.split_once(": ").unwrap_or((row, ""));
+        log.demand(is_done(threads, &host, &remotes, ask), i, ask);
         let said = last_line(log.alloc, log);
         log.demand(is_right(said.as_ref(), is_terminal, want), i, want);
     }
@@ -259,7 +218,7 @@ fn ask_there<T: Threads + Sync>(
     threads: &T,
     log: &Log<'_>,
     told: (Task, bool),
-    asks: &[(Ask<'_>, &str)],
+    asks: &str,
 ) {
     clear(rt, "far");
     write_all(rt, log);
@@ -268,12 +227,7 @@ fn ask_there<T: Threads + Sync>(
 }
 
 /// Whether a command for this says these lines on a terminal, and none elsewhere.
-fn says<T: Threads + Sync>(
-    rt: &HostRuntime,
-    threads: &T,
-    task: Task,
-    asks: &[(Ask<'_>, &str)],
-) -> bool {
+fn says<T: Threads + Sync>(rt: &HostRuntime, threads: &T, task: Task, asks: &str) -> bool {
     let log = Log::new(rt.alloc(), Kind::Slow);
     ask_there(rt, threads, &log, (task, true), asks);
     ask_there(rt, threads, &log, (task, false), asks);
@@ -283,9 +237,9 @@ fn says<T: Threads + Sync>(
 #[test]
 fn a_line_says_how_far_a_command_is(rt: HostRuntime) {
     assert!(rt;
-        says(&rt, &rt, Task::Install, &INSTALL)
-            && says(&rt, &rt, Task::Update, &UPDATE)
-            && says(&rt, &rt, Task::Check, &CHECK)
-            && says(&rt, &rt, Task::Uninstall, &UNINSTALL)
+        says(&rt, &rt, Task::Install, INSTALL)
+            && says(&rt, &rt, Task::Update, UPDATE)
+            && says(&rt, &rt, Task::Check, CHECK)
+            && says(&rt, &rt, Task::Uninstall, UNINSTALL)
     );
 }
