@@ -1,7 +1,7 @@
 //! What changes the installation.
 ghost use Rattle.std.specs.Prelude.{◌≡◌, Option, IfOk};
 ghost use Rattle.fp_small.specs.declared.state.Layout.TheVariants.{Two};
-ghost use Rattle.ost_walk.specs.Ends.{outside};
+ghost use Rattle.ost_walk.specs.Ends.{around};
 ghost use Rattle.fp_small.specs.declared.refusal.Refusal.{Refusal as SomeRefusal};
 ghost use Rattle.fp_small.specs.declared.op.Op.{Op as SomeOp};
 ghost use Rattle.fp_small.specs.declared.op.Op.TheVariants as ops;
@@ -46,10 +46,8 @@ pub fn change_all<H: Host, R: Remotes>(
     // the line of a refusal was printed, `acted` tells whether there are such operations.
     ensures acts { Acts (Opens opened) (MayDo changes.now) (changing changes.now)
         opened acted.old acted.new result
-        (outside (H.moments host.old) (H.faults host.old) (R.holds remotes.old)
-        (R.faults remotes.old))
-        (outside (H.moments host.new) (H.faults host.new) (R.holds remotes.new)
-        (R.faults remotes.new)) }
+        (around H.Host R.Remotes host.old remotes.old)
+        (around H.Host R.Remotes host.new remotes.new) }
 {
     let tidied = tidy(alloc, host, opened)?;
     let current = migrate(rt, alloc, host, remotes, acted, tidied)?;
@@ -70,10 +68,8 @@ fn migrate<H: Host, R: Remotes>(
     ensures layout { IfOk result (λ o. o.layout ≡ Two) }
     ensures acts { Acts (Rests opened) (Just ops.Migrate) migrating
         opened acted.old acted.new result
-        (outside (H.moments host.old) (H.faults host.old) (R.holds remotes.old)
-        (R.faults remotes.old))
-        (outside (H.moments host.new) (H.faults host.new) (R.holds remotes.new)
-        (R.faults remotes.new)) }
+        (around H.Host R.Remotes host.old remotes.old)
+        (around H.Host R.Remotes host.new remotes.new) }
 {
     match opened.state().layout {
         Layout::One => do_op(rt, alloc, host, remotes, acted, opened, &Op::Migrate),
@@ -95,10 +91,8 @@ fn do_each<H: Host, R: Remotes>(
     requires layout { opened.layout ≡ Two }
     ensures acts { Acts (Rests opened) (OpsOfAny changes.now) (in_turn changes.now)
         opened acted.old acted.new result
-        (outside (H.moments host.old) (H.faults host.old) (R.holds remotes.old)
-        (R.faults remotes.old))
-        (outside (H.moments host.new) (H.faults host.new) (R.holds remotes.new)
-        (R.faults remotes.new)) }
+        (around H.Host R.Remotes host.old remotes.old)
+        (around H.Host R.Remotes host.new remotes.new) }
 {
     let mut current = opened;
     for change in changes {
@@ -123,10 +117,8 @@ fn do_change<H: Host, R: Remotes>(
     ensures layout { IfOk result (λ o. o.layout ≡ Two) }
     ensures acts { Acts (Rests opened) (OpsOf change.now) (change_over change.now)
         opened acted.old acted.new result
-        (outside (H.moments host.old) (H.faults host.old) (R.holds remotes.old)
-        (R.faults remotes.old))
-        (outside (H.moments host.new) (H.faults host.new) (R.holds remotes.new)
-        (R.faults remotes.new)) }
+        (around H.Host R.Remotes host.old remotes.old)
+        (around H.Host R.Remotes host.new remotes.new) }
 {
     match change {
         Change::Install { remote, name } => install(
@@ -191,10 +183,8 @@ fn do_asked<H: Host, R: Remotes>(
     ensures acts { (refusal : Option SomeRefusal) (op : SomeOp) → IsAsked refusal op asked
         → Acts (Rests opened) (Just op) (λ held x. unless refusal (op_answer op))
         opened acted.old acted.new result
-        (outside (H.moments host.old) (H.faults host.old) (R.holds remotes.old)
-        (R.faults remotes.old))
-        (outside (H.moments host.new) (H.faults host.new) (R.holds remotes.new)
-        (R.faults remotes.new)) }
+        (around H.Host R.Remotes host.old remotes.old)
+        (around H.Host R.Remotes host.new remotes.new) }
 {
     let op = asked?;
     do_op(rt, alloc, host, remotes, acted, opened, &op)

@@ -1,7 +1,7 @@
 //! Rollbacks.
 ghost use Rattle.std.specs.Prelude.{◌≡◌, IfOk};
 ghost use Rattle.fp_small.specs.declared.state.Layout.TheVariants.{Two};
-ghost use Rattle.ost_walk.specs.Ends.{outside};
+ghost use Rattle.ost_walk.specs.Ends.{around};
 ghost use Rattle.dep_states.specs.After.{IsGood};
 ghost use Rattle.fl_change.specs.Performs.{Acts, Rests};
 ghost use Rattle.fl_change.specs.Refs.{rollback_over};
@@ -34,10 +34,8 @@ pub(crate) fn roll_back<H: Host, R: Remotes>(
     ensures layout { IfOk result (λ o. o.layout ≡ Two) }
     ensures acts { Acts (Rests opened) (IsRollback name.now) (rollback_over name.now)
         opened acted.old acted.new result
-        (outside (H.moments host.old) (H.faults host.old) (R.holds remotes.old)
-        (R.faults remotes.old))
-        (outside (H.moments host.new) (H.faults host.new) (R.holds remotes.new)
-        (R.faults remotes.new)) }
+        (around H.Host R.Remotes host.old remotes.old)
+        (around H.Host R.Remotes host.new remotes.new) }
 {
     let commit = previous_of(opened.state(), name)?;
     match described(alloc, host, name, &commit)? {

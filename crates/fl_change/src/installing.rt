@@ -4,7 +4,7 @@ ghost use Rattle.std.specs.List.{AllByRecursion};
 ghost use Rattle.fp_small.specs.Config.{name_of};
 ghost use Rattle.fp_small.specs.Order.{has_name};
 ghost use Rattle.fp_small.specs.declared.state.Layout.TheVariants.{Two};
-ghost use Rattle.ost_walk.specs.Ends.{outside};
+ghost use Rattle.ost_walk.specs.Ends.{around};
 ghost use Rattle.dep_states.specs.After.{IsGood};
 ghost use Rattle.fl_plan.specs.Allowed.{AreAllowed, IsComing};
 ghost use Rattle.op_change.specs.Applied.{Brings};
@@ -39,10 +39,8 @@ pub(crate) fn do_ops<H: Host, R: Remotes>(
     ensures good { IfOk result IsGood }
     ensures layout { IfOk result (λ o. o.layout ≡ Two) }
     ensures acts { Acts (Rests opened) Brings (ops_over ops.now) opened acted.old acted.new result
-        (outside (H.moments host.old) (H.faults host.old) (R.holds remotes.old)
-        (R.faults remotes.old))
-        (outside (H.moments host.new) (H.faults host.new) (R.holds remotes.new)
-        (R.faults remotes.new)) }
+        (around H.Host R.Remotes host.old remotes.old)
+        (around H.Host R.Remotes host.new remotes.new) }
 {
     let mut current = opened;
     for op in ops {
@@ -69,10 +67,8 @@ pub(crate) fn bring_target<H: Host, R: Remotes>(
     ensures layout { IfOk result (λ o. o.layout ≡ Two) }
     ensures acts { Acts (Rests opened) Brings (from_remote remote.now name.now)
         opened acted.old acted.new result
-        (outside (H.moments host.old) (H.faults host.old) (R.holds remotes.old)
-        (R.faults remotes.old))
-        (outside (H.moments host.new) (H.faults host.new) (R.holds remotes.new)
-        (R.faults remotes.new)) }
+        (around H.Host R.Remotes host.old remotes.old)
+        (around H.Host R.Remotes host.new remotes.new) }
 {
     let plan = ops(alloc, host, remotes, opened.state(), remote, name)?;
     do_ops(rt, alloc, host, remotes, acted, opened, plan.as_slice())
@@ -95,10 +91,8 @@ pub(crate) fn install<H: Host, R: Remotes>(
     ensures layout { IfOk result (λ o. o.layout ≡ Two) }
     ensures acts { Acts (Rests opened) Brings (install_over remote.now name.now)
         opened acted.old acted.new result
-        (outside (H.moments host.old) (H.faults host.old) (R.holds remotes.old)
-        (R.faults remotes.old))
-        (outside (H.moments host.new) (H.faults host.new) (R.holds remotes.new)
-        (R.faults remotes.new)) }
+        (around H.Host R.Remotes host.old remotes.old)
+        (around H.Host R.Remotes host.new remotes.new) }
 {
     let row = known_remote(opened.state(), remote)?;
     try_new(opened.state(), name)?;

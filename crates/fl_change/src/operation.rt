@@ -2,7 +2,7 @@
 ghost use Rattle.std.specs.Prelude.{◌≡◌, ◌⊎◌, ℕ, IfOk, IsErrOf, OnOk};
 ghost use Rattle.fp_host.specs.OverHost.{AtEachMoment, AtReturn, FailsOnly};
 ghost use Rattle.fp_small.specs.declared.state.Layout.TheVariants.{Two};
-ghost use Rattle.ost_walk.specs.Ends.{outside};
+ghost use Rattle.ost_walk.specs.Ends.{around};
 ghost use Rattle.dep_states.specs.After.{May, IsGood, after_op};
 ghost use Rattle.dep_states.specs.Sound.{Opens};
 ghost use Rattle.dep_tidy.specs.Tidy.{Tidies};
@@ -41,10 +41,8 @@ pub(crate) fn do_op<H: Host, R: Remotes>(
     ensures made { IfOk result (λ o. (timestamp : ℕ) × (o ≡ after_op opened timestamp op.now)) }
     ensures acts { Acts (Rests opened) (Just op.now) (op_over op.now)
         opened acted.old acted.new result
-        (outside (H.moments host.old) (H.faults host.old) (R.holds remotes.old)
-        (R.faults remotes.old))
-        (outside (H.moments host.new) (H.faults host.new) (R.holds remotes.new)
-        (R.faults remotes.new)) }
+        (around H.Host R.Remotes host.old remotes.old)
+        (around H.Host R.Remotes host.new remotes.new) }
 {
     let line = op_line(alloc, op)?;
     let done = do_and_say(
@@ -80,10 +78,8 @@ fn do_and_say<H: Host, R: Remotes>(
     ensures works { Works (Just op.now) opened
         (PerformsOver (Rests opened) (R.holds remotes.old) (op_over op.now) opened)
         (DoneOver (R.holds remotes.old) op.now opened result) result
-        (outside (H.moments host.old) (H.faults host.old) (R.holds remotes.old)
-        (R.faults remotes.old))
-        (outside (H.moments host.new) (H.faults host.new) (R.holds remotes.new)
-        (R.faults remotes.new)) }
+        (around H.Host R.Remotes host.old remotes.old)
+        (around H.Host R.Remotes host.new remotes.new) }
 {
     let done = apply(rt, alloc, host, remotes, opened, op)?;
     host.say(line)?;

@@ -1,7 +1,7 @@
 //! Uninstalls.
 ghost use Rattle.std.specs.Prelude.{◌≡◌, ◌≢◌, None, IfOk};
 ghost use Rattle.fp_small.specs.declared.state.Layout.TheVariants.{Two};
-ghost use Rattle.ost_walk.specs.Ends.{outside};
+ghost use Rattle.ost_walk.specs.Ends.{around};
 ghost use Rattle.dep_states.specs.After.{IsGood, row_at};
 ghost use Rattle.fp_small.specs.declared.op.Op.TheVariants as ops;
 ghost use Rattle.fl_change.specs.Answer.{each_over};
@@ -38,10 +38,8 @@ pub(crate) fn uninstall<H: Host, R: Remotes>(
     ensures layout { IfOk result (λ o. o.layout ≡ Two) }
     ensures acts { Acts (Rests opened) (Just (ops.Uninstall name.now))
         (uninstall_over name.now) opened acted.old acted.new result
-        (outside (H.moments host.old) (H.faults host.old) (R.holds remotes.old)
-        (R.faults remotes.old))
-        (outside (H.moments host.new) (H.faults host.new) (R.holds remotes.new)
-        (R.faults remotes.new)) }
+        (around H.Host R.Remotes host.old remotes.old)
+        (around H.Host R.Remotes host.new remotes.new) }
 {
     origin_of(opened.state(), name)?;
     match first_user(alloc, host, opened.state(), name)? {
@@ -70,10 +68,8 @@ fn take_away<H: Host, R: Remotes>(
     ensures layout { IfOk result (λ o. o.layout ≡ Two) }
     ensures acts { Acts (Rests opened) (Just (ops.Uninstall name.now))
         (op_over (ops.Uninstall name.now)) opened acted.old acted.new result
-        (outside (H.moments host.old) (H.faults host.old) (R.holds remotes.old)
-        (R.faults remotes.old))
-        (outside (H.moments host.new) (H.faults host.new) (R.holds remotes.new)
-        (R.faults remotes.new)) }
+        (around H.Host R.Remotes host.old remotes.old)
+        (around H.Host R.Remotes host.new remotes.new) }
 {
     let op = Op::Uninstall { name: name.copy()? };
     do_op(rt, alloc, host, remotes, acted, opened, &op)
@@ -93,10 +89,8 @@ pub(crate) fn uninstall_unused<H: Host, R: Remotes>(
     ensures good { IfOk result IsGood }
     ensures layout { IfOk result (λ o. o.layout ≡ Two) }
     ensures acts { Acts (Rests opened) IsUninstall unused_over opened acted.old acted.new result
-        (outside (H.moments host.old) (H.faults host.old) (R.holds remotes.old)
-        (R.faults remotes.old))
-        (outside (H.moments host.new) (H.faults host.new) (R.holds remotes.new)
-        (R.faults remotes.new)) }
+        (around H.Host R.Remotes host.old remotes.old)
+        (around H.Host R.Remotes host.new remotes.new) }
 {
     let metas = metas(alloc, host, opened.state())?;
     let points = points(alloc, host, opened.state())?;
@@ -120,10 +114,8 @@ fn drop_each<H: Host, R: Remotes>(
     ensures layout { IfOk result (λ o. o.layout ≡ Two) }
     ensures acts { Acts (Rests opened) IsUninstall (each_over drop_over names.now)
         opened acted.old acted.new result
-        (outside (H.moments host.old) (H.faults host.old) (R.holds remotes.old)
-        (R.faults remotes.old))
-        (outside (H.moments host.new) (H.faults host.new) (R.holds remotes.new)
-        (R.faults remotes.new)) }
+        (around H.Host R.Remotes host.old remotes.old)
+        (around H.Host R.Remotes host.new remotes.new) }
 {
     let mut current = opened;
     for name in names {
@@ -148,10 +140,8 @@ fn drop_one<H: Host, R: Remotes>(
     ensures layout { IfOk result (λ o. o.layout ≡ Two) }
     ensures acts { Acts (Rests opened) IsUninstall (drop_over name.now)
         opened acted.old acted.new result
-        (outside (H.moments host.old) (H.faults host.old) (R.holds remotes.old)
-        (R.faults remotes.old))
-        (outside (H.moments host.new) (H.faults host.new) (R.holds remotes.new)
-        (R.faults remotes.new)) }
+        (around H.Host R.Remotes host.old remotes.old)
+        (around H.Host R.Remotes host.new remotes.new) }
 {
     match find_ref(opened.state().refs.as_slice(), name) {
         Some(_) => take_away(rt, alloc, host, remotes, acted, opened, name),

@@ -3,7 +3,7 @@ ghost use Rattle.std.specs.Prelude.{◌≡◌, Bool, true, IfOk};
 ghost use Rattle.fp_small.specs.Config.{name_of};
 ghost use Rattle.fp_small.specs.Order.{has_name};
 ghost use Rattle.fp_small.specs.declared.state.Layout.TheVariants.{Two};
-ghost use Rattle.ost_walk.specs.Ends.{outside};
+ghost use Rattle.ost_walk.specs.Ends.{around};
 ghost use Rattle.dep_states.specs.After.{IsGood};
 ghost use Rattle.op_change.specs.Applied.{Brings};
 ghost use Rattle.fl_change.specs.Answer.{each_over};
@@ -40,10 +40,8 @@ pub(crate) fn update_one<H: Host, R: Remotes>(
     ensures layout { IfOk result (λ o. o.layout ≡ Two) }
     ensures acts { Acts (Rests opened) Brings (update_over name.now)
         opened acted.old acted.new result
-        (outside (H.moments host.old) (H.faults host.old) (R.holds remotes.old)
-        (R.faults remotes.old))
-        (outside (H.moments host.new) (H.faults host.new) (R.holds remotes.new)
-        (R.faults remotes.new)) }
+        (around H.Host R.Remotes host.old remotes.old)
+        (around H.Host R.Remotes host.new remotes.new) }
 {
     let origin = origin_of(opened.state(), name)?;
     let remote = known_remote(opened.state(), &origin)?;
@@ -64,10 +62,8 @@ pub(crate) fn update_all<H: Host, R: Remotes>(
     ensures good { IfOk result IsGood }
     ensures layout { IfOk result (λ o. o.layout ≡ Two) }
     ensures acts { Acts (Rests opened) Brings update_all_over opened acted.old acted.new result
-        (outside (H.moments host.old) (H.faults host.old) (R.holds remotes.old)
-        (R.faults remotes.old))
-        (outside (H.moments host.new) (H.faults host.new) (R.holds remotes.new)
-        (R.faults remotes.new)) }
+        (around H.Host R.Remotes host.old remotes.old)
+        (around H.Host R.Remotes host.new remotes.new) }
 {
     let names = targets(alloc, opened.state(), None)?;
     update_each(rt, alloc, host, remotes, acted, opened, names.as_slice())
@@ -89,10 +85,8 @@ fn update_each<H: Host, R: Remotes>(
     ensures layout { IfOk result (λ o. o.layout ≡ Two) }
     ensures acts { Acts (Rests opened) Brings (each_over target_over names.now)
         opened acted.old acted.new result
-        (outside (H.moments host.old) (H.faults host.old) (R.holds remotes.old)
-        (R.faults remotes.old))
-        (outside (H.moments host.new) (H.faults host.new) (R.holds remotes.new)
-        (R.faults remotes.new)) }
+        (around H.Host R.Remotes host.old remotes.old)
+        (around H.Host R.Remotes host.new remotes.new) }
 {
     let mut current = opened;
     for name in names {
@@ -117,10 +111,8 @@ fn update_target<H: Host, R: Remotes>(
     ensures layout { IfOk result (λ o. o.layout ≡ Two) }
     ensures acts { Acts (Rests opened) Brings (target_over name.now)
         opened acted.old acted.new result
-        (outside (H.moments host.old) (H.faults host.old) (R.holds remotes.old)
-        (R.faults remotes.old))
-        (outside (H.moments host.new) (H.faults host.new) (R.holds remotes.new)
-        (R.faults remotes.new)) }
+        (around H.Host R.Remotes host.old remotes.old)
+        (around H.Host R.Remotes host.new remotes.new) }
 {
     let origin = match find_ref(opened.state().refs.as_slice(), name) {
         Some(row) => row.origin.copy()?,
@@ -157,10 +149,8 @@ fn update_from<H: Host, R: Remotes>(
     ensures layout { IfOk result (λ o. o.layout ≡ Two) }
     ensures acts { Acts (Rests opened) Brings (updated_from remote.now name.now)
         opened acted.old acted.new result
-        (outside (H.moments host.old) (H.faults host.old) (R.holds remotes.old)
-        (R.faults remotes.old))
-        (outside (H.moments host.new) (H.faults host.new) (R.holds remotes.new)
-        (R.faults remotes.new)) }
+        (around H.Host R.Remotes host.old remotes.old)
+        (around H.Host R.Remotes host.new remotes.new) }
 {
     match ops(alloc, host, remotes, opened.state(), remote, name) {
         Ok(plan) => do_ops(rt, alloc, host, remotes, acted, opened, plan.as_slice()),
@@ -191,10 +181,8 @@ fn skip<H: Host, R: Remotes>(
     ensures layout { IfOk result (λ o. o.layout ≡ Two) }
     ensures acts { (acted : Bool) → Acts (Rests opened) Brings (λ held x. skipped name.now)
         opened acted acted result
-        (outside (H.moments host.old) (H.faults host.old) (R.holds remotes.old)
-        (R.faults remotes.old))
-        (outside (H.moments host.new) (H.faults host.new) (R.holds remotes.new)
-        (R.faults remotes.new)) }
+        (around H.Host R.Remotes host.old remotes.old)
+        (around H.Host R.Remotes host.new remotes.new) }
 {
     let line = skipped_line(alloc, name)?;
     host.say(line.as_str().as_bytes())?;

@@ -1,6 +1,6 @@
 //! What is chosen of an offer.
 ghost use Rattle.std.specs.Prelude.{◌≡◌, IfOk};
-ghost use Rattle.ost_walk.specs.Ends.{outside};
+ghost use Rattle.ost_walk.specs.Ends.{around};
 ghost use Rattle.fl_plan.specs.Answers.{Plans};
 ghost use Rattle.fl_plan.specs.Offers.{chosen};
 
@@ -18,10 +18,8 @@ pub(crate) fn choose<H: Host, R: Remotes>(
     offer: Offer,
 ) -> Result<Chosen, PullEnd>
     ensures plans { Plans (λ held stored. chosen held stored offer) result
-        (outside (H.moments host.old) (H.faults host.old) (R.holds remotes.old)
-        (R.faults remotes.old))
-        (outside (H.moments host.new) (H.faults host.new) (R.holds remotes.new)
-        (R.faults remotes.new)) }
+        (around H.Host R.Remotes host.old remotes.old)
+        (around H.Host R.Remotes host.new remotes.new) }
     ensures same { IfOk result (λ chosen. chosen.offer ≡ offer) }
 {
     match read_head(

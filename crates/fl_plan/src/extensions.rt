@@ -2,7 +2,7 @@
 ghost use Rattle.std.specs.Prelude.{◌≡◌, ◌++◌, true, option_to_list, IfOk, IfSome, OnOk};
 ghost use Rattle.fp_small.specs.Config.{name_of};
 ghost use Rattle.fp_small.specs.Order.{has_name};
-ghost use Rattle.ost_walk.specs.Ends.{outside};
+ghost use Rattle.ost_walk.specs.Ends.{around};
 ghost use Rattle.fl_plan.specs.Allowed.{ComesTo, IsPlan};
 ghost use Rattle.fl_plan.specs.Answers.{Plans};
 ghost use Rattle.fl_plan.specs.Extensions as spec;
@@ -42,10 +42,8 @@ fn if_any<H: Host, R: Remotes>(
     offer: Option<Offer>,
 ) -> Result<Option<Offer>, PullEnd>
     ensures plans { Plans (λ held stored. spec.if_any held stored offer) result
-        (outside (H.moments host.old) (H.faults host.old) (R.holds remotes.old)
-        (R.faults remotes.old))
-        (outside (H.moments host.new) (H.faults host.new) (R.holds remotes.new)
-        (R.faults remotes.new)) }
+        (around H.Host R.Remotes host.old remotes.old)
+        (around H.Host R.Remotes host.new remotes.new) }
     ensures same { IfOk result (λ more. more ≡ offer) }
 {
     let Some(offer) = offer else {
@@ -70,10 +68,8 @@ fn extension_at<H: Host, R: Remotes>(
     requires remote { has_name name_of state.now.remotes remote.now.name ≡ true }
     ensures plans { Plans (λ held stored. spec.extension_at held stored
         state.now remote.now plan.now point.now) result
-        (outside (H.moments host.old) (H.faults host.old) (R.holds remotes.old)
-        (R.faults remotes.old))
-        (outside (H.moments host.new) (H.faults host.new) (R.holds remotes.new)
-        (R.faults remotes.new)) }
+        (around H.Host R.Remotes host.old remotes.old)
+        (around H.Host R.Remotes host.new remotes.new) }
     ensures good { IfOk result (λ more. IfSome more (ComesTo state.now plan.now)) }
 {
     if !point.auto || is_filled(state, plan, point) {
@@ -109,10 +105,8 @@ fn with_points<H: Host, R: Remotes>(
     requires plan { IsPlan state.now plan }
     ensures plans { Plans (λ held stored. spec.with_points held stored
         state.now remote.now points.now plan) result
-        (outside (H.moments host.old) (H.faults host.old) (R.holds remotes.old)
-        (R.faults remotes.old))
-        (outside (H.moments host.new) (H.faults host.new) (R.holds remotes.new)
-        (R.faults remotes.new)) }
+        (around H.Host R.Remotes host.old remotes.old)
+        (around H.Host R.Remotes host.new remotes.new) }
     ensures good { IfOk result (IsPlan state.now) }
 {
     for point in points {
@@ -137,10 +131,8 @@ pub(crate) fn with_extensions<H: Host, R: Remotes>(
     requires plan { IsPlan state.now plan }
     ensures plans { Plans (λ held stored. spec.with_extensions held stored
         state.now owner.now plan) result
-        (outside (H.moments host.old) (H.faults host.old) (R.holds remotes.old)
-        (R.faults remotes.old))
-        (outside (H.moments host.new) (H.faults host.new) (R.holds remotes.new)
-        (R.faults remotes.new)) }
+        (around H.Host R.Remotes host.old remotes.old)
+        (around H.Host R.Remotes host.new remotes.new) }
     ensures good { IfOk result (IsPlan state.now) }
 {
     let points = points_in(alloc, &owner.offer.name, &owner.metadata)?;
@@ -169,10 +161,8 @@ pub(crate) fn with_runtime<H: Host, R: Remotes>(
     requires plan { IsPlan state.now plan }
     ensures plans { Plans (λ held stored. spec.with_runtime held stored
         state.now runtime.now plan) result
-        (outside (H.moments host.old) (H.faults host.old) (R.holds remotes.old)
-        (R.faults remotes.old))
-        (outside (H.moments host.new) (H.faults host.new) (R.holds remotes.new)
-        (R.faults remotes.new)) }
+        (around H.Host R.Remotes host.old remotes.old)
+        (around H.Host R.Remotes host.new remotes.new) }
     ensures good { IfOk result (IsPlan state.now) }
 {
     match runtime {

@@ -5,7 +5,7 @@ ghost use Rattle.std.specs.Str.{bytes_eq};
 ghost use Rattle.fp_name.specs.Refs.{ref_text};
 ghost use Rattle.fp_small.specs.Config.{name_of};
 ghost use Rattle.fp_small.specs.Order.{has_name};
-ghost use Rattle.ost_walk.specs.Ends.{outside};
+ghost use Rattle.ost_walk.specs.Ends.{around};
 ghost use Rattle.ost_walk.specs.PullEnds.{Answers, NoFault};
 ghost use Rattle.fl_plan.specs.Allowed.{AreAllowed, IsComing, IsOfferOf, IsPlan, MayCome};
 ghost use Rattle.fl_plan.specs.Answers.{Plans};
@@ -133,10 +133,8 @@ fn extended<H: Host, R: Remotes>(
         × (bytes_eq (ref_text c.offer.name) (ref_text target.now.offer.name) ≡ false)) }
     ensures plans { Plans (λ held stored. spec.extended held stored
         state.now target.now runtime.now) result
-        (outside (H.moments host.old) (H.faults host.old) (R.holds remotes.old)
-        (R.faults remotes.old))
-        (outside (H.moments host.new) (H.faults host.new) (R.holds remotes.new)
-        (R.faults remotes.new)) }
+        (around H.Host R.Remotes host.old remotes.old)
+        (around H.Host R.Remotes host.new remotes.new) }
     ensures good { IfOk result (IsPlan state.now) }
 {
     let plan = begun(alloc, runtime, target)?;
@@ -160,10 +158,8 @@ fn plan_with<H: Host, R: Remotes>(
         × (bytes_eq (ref_text c.offer.name) (ref_text target.now.offer.name) ≡ false)) }
     ensures plans { Plans (λ held stored. spec.plan_with held stored
         state.now target.now runtime.now) result
-        (outside (H.moments host.old) (H.faults host.old) (R.holds remotes.old)
-        (R.faults remotes.old))
-        (outside (H.moments host.new) (H.faults host.new) (R.holds remotes.new)
-        (R.faults remotes.new)) }
+        (around H.Host R.Remotes host.old remotes.old)
+        (around H.Host R.Remotes host.new remotes.new) }
     ensures allowed { IfOk result (AreAllowed state.now) }
     ensures coming { IfOk result (AllByRecursion IsComing) }
 {
@@ -184,10 +180,8 @@ fn if_named<H: Host, R: Remotes>(
     runtime: Option<RefName>,
 ) -> Result<Option<Chosen>, PullEnd>
     ensures plans { Plans (λ held stored. if_named held stored state.now own.now runtime) result
-        (outside (H.moments host.old) (H.faults host.old) (R.holds remotes.old)
-        (R.faults remotes.old))
-        (outside (H.moments host.new) (H.faults host.new) (R.holds remotes.new)
-        (R.faults remotes.new)) }
+        (around H.Host R.Remotes host.old remotes.old)
+        (around H.Host R.Remotes host.new remotes.new) }
     ensures good { IfOk result (λ found. IfSome found
         (λ c. (Some c.offer.name ≡ runtime) × MayCome state.now c.offer)) }
 {
@@ -207,10 +201,8 @@ fn planned<H: Host, R: Remotes>(
 ) -> Result<Items<Op>, PullEnd>
     requires target { MayCome state.now target.now.offer }
     ensures plans { Plans (λ held stored. spec.planned held stored state.now target.now) result
-        (outside (H.moments host.old) (H.faults host.old) (R.holds remotes.old)
-        (R.faults remotes.old))
-        (outside (H.moments host.new) (H.faults host.new) (R.holds remotes.new)
-        (R.faults remotes.new)) }
+        (around H.Host R.Remotes host.old remotes.old)
+        (around H.Host R.Remotes host.new remotes.new) }
     ensures allowed { IfOk result (AreAllowed state.now) }
     ensures coming { IfOk result (AllByRecursion IsComing) }
 {
@@ -237,10 +229,8 @@ fn target_of<H: Host, R: Remotes>(
     offer: Offer,
 ) -> Result<Chosen, PullEnd>
     ensures plans { Plans (λ held stored. spec.target_of held stored state.now offer) result
-        (outside (H.moments host.old) (H.faults host.old) (R.holds remotes.old)
-        (R.faults remotes.old))
-        (outside (H.moments host.new) (H.faults host.new) (R.holds remotes.new)
-        (R.faults remotes.new)) }
+        (around H.Host R.Remotes host.old remotes.old)
+        (around H.Host R.Remotes host.new remotes.new) }
     ensures same { IfOk result (λ chosen. chosen.offer ≡ offer) }
 {
     let since = time_of(state, &offer.name);
@@ -271,10 +261,8 @@ fn planned_at<H: Host, R: Remotes>(
 ) -> Result<Items<Op>, PullEnd>
     requires { IsOfferOf state.now.remotes offer.name offer }
     ensures plans { Plans (λ held stored. spec.planned_at held stored state.now offer) result
-        (outside (H.moments host.old) (H.faults host.old) (R.holds remotes.old)
-        (R.faults remotes.old))
-        (outside (H.moments host.new) (H.faults host.new) (R.holds remotes.new)
-        (R.faults remotes.new)) }
+        (around H.Host R.Remotes host.old remotes.old)
+        (around H.Host R.Remotes host.new remotes.new) }
     ensures allowed { IfOk result (AreAllowed state.now) }
     ensures coming { IfOk result (AllByRecursion IsComing) }
 {
@@ -307,10 +295,8 @@ pub fn ops<H: Host, R: Remotes>(
     requires { has_name name_of state.now.remotes remote.now.name ≡ true }
     ensures plans { Plans (λ held stored. spec.plan_of held stored
         state.now remote.now name.now) result
-        (outside (H.moments host.old) (H.faults host.old) (R.holds remotes.old)
-        (R.faults remotes.old))
-        (outside (H.moments host.new) (H.faults host.new) (R.holds remotes.new)
-        (R.faults remotes.new)) }
+        (around H.Host R.Remotes host.old remotes.old)
+        (around H.Host R.Remotes host.new remotes.new) }
     ensures allowed { IfOk result (AreAllowed state.now) }
     ensures coming { IfOk result (AllByRecursion IsComing) }
 {

@@ -1,7 +1,7 @@
 //! The runtime that is installed along with an application.
 ghost use Rattle.std.specs.Prelude.{◌≡◌, IfOk, IfSome, IsSomeAnd, Some, is_some, not};
 ghost use Rattle.fp_small.specs.declared.refusal.Refusal.TheVariants as refusals;
-ghost use Rattle.ost_walk.specs.Ends.{outside};
+ghost use Rattle.ost_walk.specs.Ends.{around};
 ghost use Rattle.fl_extension.specs.Found.{has_ref};
 ghost use Rattle.fl_plan.specs.Allowed.{IsOfferOf, MayCome};
 ghost use Rattle.fl_plan.specs.Answers.{Plans};
@@ -35,10 +35,8 @@ fn if_offered<H: Host, R: Remotes>(
     offer: Option<Offer>,
 ) -> Result<Option<Chosen>, PullEnd>
     ensures plans { Plans (λ held stored. spec.if_offered held stored runtime.now offer) result
-        (outside (H.moments host.old) (H.faults host.old) (R.holds remotes.old)
-        (R.faults remotes.old))
-        (outside (H.moments host.new) (H.faults host.new) (R.holds remotes.new)
-        (R.faults remotes.new)) }
+        (around H.Host R.Remotes host.old remotes.old)
+        (around H.Host R.Remotes host.new remotes.new) }
     ensures some { IfOk result (λ found. IsSomeAnd found (λ chosen. Some chosen.offer ≡ offer)) }
 {
     let Some(offer) = offer else {
@@ -62,10 +60,8 @@ pub(crate) fn find_runtime<H: Host, R: Remotes>(
 ) -> Result<Option<Chosen>, PullEnd>
     ensures plans { Plans (λ held stored. spec.runtime_for held stored
         state.now own.now runtime.now) result
-        (outside (H.moments host.old) (H.faults host.old) (R.holds remotes.old)
-        (R.faults remotes.old))
-        (outside (H.moments host.new) (H.faults host.new) (R.holds remotes.new)
-        (R.faults remotes.new)) }
+        (around H.Host R.Remotes host.old remotes.old)
+        (around H.Host R.Remotes host.new remotes.new) }
     ensures installed { IfOk result (λ found. is_some found ≡ not (has_ref state.now runtime.now)) }
     ensures good { IfOk result (λ found. IfSome found
         (λ chosen. (chosen.offer.name ≡ runtime.now) × MayCome state.now chosen.offer)) }
@@ -119,10 +115,8 @@ pub fn resolve_runtime<H: Host, R: Remotes>(
 ) -> Result<Option<Op>, PullEnd>
     ensures plans { Plans (λ held stored. spec.runtime_install held stored
         state.now remote.now runtime.now) result
-        (outside (H.moments host.old) (H.faults host.old) (R.holds remotes.old)
-        (R.faults remotes.old))
-        (outside (H.moments host.new) (H.faults host.new) (R.holds remotes.new)
-        (R.faults remotes.new)) }
+        (around H.Host R.Remotes host.old remotes.old)
+        (around H.Host R.Remotes host.new remotes.new) }
     ensures installed { IfOk result (λ op. is_some op ≡ not (has_ref state.now runtime.now)) }
 {
     match find_runtime(alloc, host, remotes, state, remote, runtime) {

@@ -1,7 +1,7 @@
 //! The changes of an exercise, and its last line.
 ghost use Rattle.std.specs.Prelude.{◌≡◌, Bool, IfOk, count_by};
 ghost use Rattle.fp_name.specs.Pins.{same_kind};
-ghost use Rattle.ost_walk.specs.Ends.{outside};
+ghost use Rattle.ost_walk.specs.Ends.{around};
 ghost use Rattle.dep_states.specs.After.{IsGood};
 ghost use Rattle.dep_states.specs.Sound.{Opens};
 ghost use Rattle.fl_gen.specs.Exercise.{exercise_changes};
@@ -36,10 +36,8 @@ pub fn make_exercise<H: Host, R: Remotes>(
     requires good { IsGood opened }
     ensures acts { Acts (Opens opened) (MayDo (exercise_changes apps.now))
         (exercising apps.now) opened acted.old acted.new result
-        (outside (H.moments host.old) (H.faults host.old) (R.holds remotes.old)
-        (R.faults remotes.old))
-        (outside (H.moments host.new) (H.faults host.new) (R.holds remotes.new)
-        (R.faults remotes.new)) }
+        (around H.Host R.Remotes host.old remotes.old)
+        (around H.Host R.Remotes host.new remotes.new) }
 {
     let changes = exercise_commands(alloc, apps.number())?;
     let changed = change_all(rt, alloc, host, remotes, acted, opened, changes.as_slice())?;
@@ -56,10 +54,8 @@ fn say_end<H: Host, R: Remotes>(
 ) -> Result<Opened, RunEnd>
     ensures acts { (acted : Bool) → Acts (Rests opened) (MayDo (exercise_changes apps.now))
         (end_answer apps.now) opened acted acted result
-        (outside (H.moments host.old) (H.faults host.old) (R.holds remotes.old)
-        (R.faults remotes.old))
-        (outside (H.moments host.new) (H.faults host.new) (R.holds remotes.new)
-        (R.faults remotes.new)) }
+        (around H.Host R.Remotes host.old remotes.old)
+        (around H.Host R.Remotes host.new remotes.new) }
 {
     let line = end_line(alloc, opened.state(), apps)?;
     host.say(line.as_str().as_bytes())?;

@@ -1,6 +1,6 @@
 //! One operation on an installation.
 ghost use Rattle.std.specs.Prelude.{ℕ, ◌≡◌, IfOk};
-ghost use Rattle.ost_walk.specs.Ends.{outside};
+ghost use Rattle.ost_walk.specs.Ends.{around};
 ghost use Rattle.dep_states.specs.After.{May, IsGood, after_op};
 ghost use Rattle.op_change.specs.Applied.{IsShort};
 ghost use Rattle.op_change.specs.Attempts.{Attempts};
@@ -35,10 +35,8 @@ pub fn apply<H: Host, R: Remotes>(
     ensures made { IfOk result (λ o. (timestamp : ℕ) × (o ≡ after_op opened timestamp op.now)) }
     ensures good { IfOk result IsGood }
     ensures attempts { Attempts opened op.now result
-        (outside (H.moments host.old) (H.faults host.old) (R.holds remotes.old)
-        (R.faults remotes.old))
-        (outside (H.moments host.new) (H.faults host.new) (R.holds remotes.new)
-        (R.faults remotes.new)) }
+        (around H.Host R.Remotes host.old remotes.old)
+        (around H.Host R.Remotes host.new remotes.new) }
 {
     match op {
         Op::Install {

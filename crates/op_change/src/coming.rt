@@ -3,7 +3,7 @@ ghost use Rattle.std.specs.Prelude.{Some, IfOk};
 ghost use Rattle.fp_small.specs.Places.{repo};
 ghost use Rattle.ost_model.specs.Objects.{Have};
 ghost use Rattle.ost_model.specs.Remotes.{Supplies};
-ghost use Rattle.ost_walk.specs.Ends.{outside};
+ghost use Rattle.ost_walk.specs.Ends.{around};
 ghost use Rattle.ost_walk.specs.PullEnds.{Looks};
 ghost use Rattle.op_change.specs.Coming.{HeadsFor, IsComing};
 
@@ -40,10 +40,8 @@ impl Coming {
         commit: &Digest,
     ) -> Result<Coming, PullEnd>
         ensures looks { Looks result
-            (outside (H.moments host.old) (H.faults host.old) (R.holds remotes.old)
-            (R.faults remotes.old))
-            (outside (H.moments host.new) (H.faults host.new) (R.holds remotes.new)
-            (R.faults remotes.new)) }
+            (around H.Host R.Remotes host.old remotes.old)
+            (around H.Host R.Remotes host.new remotes.new) }
         ensures heads { (have : Have)
             → Supplies repo (Some remote.now.url) (H.moments host.old) (R.holds remotes.old) have
             → HeadsFor have name.now commit.now result }

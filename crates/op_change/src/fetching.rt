@@ -1,6 +1,6 @@
 //! A commit that is fetched beside the state.
 ghost use Rattle.std.specs.Prelude.{◌≡◌, false};
-ghost use Rattle.ost_walk.specs.Ends.{outside};
+ghost use Rattle.ost_walk.specs.Ends.{around};
 ghost use Rattle.dep_states.specs.Frames.{KeptIn};
 ghost use Rattle.op_change.specs.Fetching.{Retrieves};
 ghost use Rattle.op_change.specs.Places.{ArePlaces};
@@ -33,10 +33,8 @@ pub(crate) fn fetch<H: Host, R: Remotes>(
     requires places { ArePlaces name.now commit.now places.now }
     requires unkept { kept ≡ false → KeptIn opened.now name.now commit.now → ⊥ }
     ensures { Retrieves opened.now name.now commit.now kept url.now result
-        (outside (H.moments host.old) (H.faults host.old) (R.holds remotes.old)
-        (R.faults remotes.old))
-        (outside (H.moments host.new) (H.faults host.new) (R.holds remotes.new)
-        (R.faults remotes.new)) }
+        (around H.Host R.Remotes host.old remotes.old)
+        (around H.Host R.Remotes host.new remotes.new) }
 {
     make_room(alloc, host, &places.tmp, &places.folder, kept)?;
     pull_trusting(

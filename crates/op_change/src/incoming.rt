@@ -5,7 +5,7 @@ ghost use Rattle.fp_small.specs.Config.{name_of};
 ghost use Rattle.fp_small.specs.Order.{has_name};
 ghost use Rattle.fp_small.specs.declared.op.Op.{Op};
 ghost use Rattle.fp_small.specs.declared.refusal.Refusal.{Refusal};
-ghost use Rattle.ost_walk.specs.Ends.{outside};
+ghost use Rattle.ost_walk.specs.Ends.{around};
 ghost use Rattle.dep_states.specs.After.{May, IsGood, after_op};
 ghost use Rattle.dep_states.specs.Shown.{at_name};
 ghost use Rattle.dep_switch.specs.Rows.{IsAt};
@@ -57,10 +57,8 @@ pub fn bring<H: Host, R: Remotes>(
     ensures good { IfOk result IsGood }
     ensures attempts { (op : Op) → May opened op → IsToBring op name.now origin.now commit.now
         → Attempts opened op result
-        (outside (H.moments host.old) (H.faults host.old) (R.holds remotes.old)
-        (R.faults remotes.old))
-        (outside (H.moments host.new) (H.faults host.new) (R.holds remotes.new)
-        (R.faults remotes.new)) }
+        (around H.Host R.Remotes host.old remotes.old)
+        (around H.Host R.Remotes host.new remotes.new) }
     ensures refused_names { (r : Refusal) → IsErrOf result (ApplyEnd.Refused r)
         → AtReturn H.Host host.old host.new
         (LeavesNames opened name.now commit.now (R.holds remotes.old)) }

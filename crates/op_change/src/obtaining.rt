@@ -1,6 +1,6 @@
 //! A commit that is obtained of a remote.
 ghost use Rattle.std.specs.Prelude.{IfOk};
-ghost use Rattle.ost_walk.specs.Ends.{outside};
+ghost use Rattle.ost_walk.specs.Ends.{around};
 ghost use Rattle.dep_switch.specs.Rows.{IsAt};
 ghost use Rattle.op_change.specs.Coming.{IsRowFor};
 ghost use Rattle.op_change.specs.Obtaining.{Obtains};
@@ -30,10 +30,8 @@ pub(crate) fn obtain<H: Host, R: Remotes>(
     requires { IsAt opened.now name.now commit.now → ⊥ }
     ensures row { IfOk result (IsRowFor opened.now remote.now.name name.now commit.now) }
     ensures obtains { Obtains opened.now remote.now name.now commit.now result
-        (outside (H.moments host.old) (H.faults host.old) (R.holds remotes.old)
-        (R.faults remotes.old))
-        (outside (H.moments host.new) (H.faults host.new) (R.holds remotes.new)
-        (R.faults remotes.new)) }
+        (around H.Host R.Remotes host.old remotes.old)
+        (around H.Host R.Remotes host.new remotes.new) }
 {
     let coming = Coming::of(alloc, host, remotes, opened.state(), remote, name, commit)?;
     fetch(

@@ -2,7 +2,7 @@
 ghost use Rattle.std.specs.Prelude.{◌≡◌, None, Some, IfOk};
 ghost use Rattle.ost_model.specs.Objects.{Have, object_fault};
 ghost use Rattle.ost_model.specs.Remotes.{Supplies};
-ghost use Rattle.ost_walk.specs.Ends.{Observes, outside};
+ghost use Rattle.ost_walk.specs.Ends.{Observes, around};
 ghost use Rattle.ost_head.specs.Objects.{IsFit, Judges};
 ghost use Rattle.ost_head.specs.Found.{found_object, IsFound, IsKeepableIfNew};
 
@@ -35,10 +35,8 @@ pub fn find<H: Host, R: Remotes>(
     kind: ObjKind,
 ) -> Result<Found, WalkEnd>
     ensures looks { Observes result
-        (outside (H.moments host.old) (H.faults host.old) (R.holds remotes.old)
-        (R.faults remotes.old))
-        (outside (H.moments host.new) (H.faults host.new) (R.holds remotes.new)
-        (R.faults remotes.new)) }
+        (around H.Host R.Remotes host.old remotes.old)
+        (around H.Host R.Remotes host.new remotes.new) }
     ensures good { IfOk result (λ found. object_fault digest.now kind (Some (found_object found))
         ≡ None) }
     ensures keepable { IfOk result IsKeepableIfNew }

@@ -6,7 +6,7 @@ ghost use Rattle.ost_model.specs.Objects.{Have};
 ghost use Rattle.ost_model.specs.Look.{entry_in, file_at};
 ghost use Rattle.ost_model.specs.Remotes.{Supplies};
 ghost use Rattle.ost_object.specs.Views.{commit_view, tree_view};
-ghost use Rattle.ost_walk.specs.Ends.{Observes, outside};
+ghost use Rattle.ost_walk.specs.Ends.{Observes, around};
 ghost use Rattle.ost_walk.specs.PullEnds.{Answers, Looks, NoFault};
 ghost use Rattle.ost_head.specs.Found.{found_object};
 ghost use Rattle.ost_head.specs.Heads.{commit_refused, content_in, head_in, head_of, metadata_at, root_refused, with_content};
@@ -53,10 +53,8 @@ fn read_tree<H: Host, R: Remotes>(
     commit: &Commit,
 ) -> Result<DirTree, WalkEnd>
     ensures looks { Observes result
-        (outside (H.moments host.old) (H.faults host.old) (R.holds remotes.old)
-        (R.faults remotes.old))
-        (outside (H.moments host.new) (H.faults host.new) (R.holds remotes.new)
-        (R.faults remotes.new)) }
+        (around H.Host R.Remotes host.old remotes.old)
+        (around H.Host R.Remotes host.new remotes.new) }
     ensures tells { (have : Have) → Supplies store.now (Some url.now) (H.moments host.old)
         (R.holds remotes.old) have
         → ReadsTree have (commit_view commit.now) result }
@@ -80,10 +78,8 @@ fn read_root<H: Host, R: Remotes>(
     commit: &Digest,
 ) -> Result<Root, WalkEnd>
     ensures looks { Observes result
-        (outside (H.moments host.old) (H.faults host.old) (R.holds remotes.old)
-        (R.faults remotes.old))
-        (outside (H.moments host.new) (H.faults host.new) (R.holds remotes.new)
-        (R.faults remotes.new)) }
+        (around H.Host R.Remotes host.old remotes.old)
+        (around H.Host R.Remotes host.new remotes.new) }
     ensures tells { (have : Have) → Supplies store.now (Some url.now) (H.moments host.old)
         (R.holds remotes.old) have
         → ReadsRoot have commit.now result }
@@ -164,10 +160,8 @@ fn head_at<H: Host, R: Remotes>(
     digest: &Digest,
 ) -> Result<Head, PullEnd>
     ensures looks { Looks result
-        (outside (H.moments host.old) (H.faults host.old) (R.holds remotes.old)
-        (R.faults remotes.old))
-        (outside (H.moments host.new) (H.faults host.new) (R.holds remotes.new)
-        (R.faults remotes.new)) }
+        (around H.Host R.Remotes host.old remotes.old)
+        (around H.Host R.Remotes host.new remotes.new) }
     ensures tells { (have : Have) → Supplies store.now (Some url.now) (H.moments host.old)
         (R.holds remotes.old) have
         → Answers result (metadata_at have name.now commit.now timestamp (file_at digest.now)) }
@@ -191,10 +185,8 @@ fn head_below<H: Host, R: Remotes>(
     tree: &DirTree,
 ) -> Result<Head, PullEnd>
     ensures looks { Looks result
-        (outside (H.moments host.old) (H.faults host.old) (R.holds remotes.old)
-        (R.faults remotes.old))
-        (outside (H.moments host.new) (H.faults host.new) (R.holds remotes.new)
-        (R.faults remotes.new)) }
+        (around H.Host R.Remotes host.old remotes.old)
+        (around H.Host R.Remotes host.new remotes.new) }
     ensures tells { (have : Have) → Supplies store.now (Some url.now) (H.moments host.old)
         (R.holds remotes.old) have
         → Answers result (metadata_at have name.now commit.now timestamp
@@ -224,10 +216,8 @@ fn head_in<H: Host, R: Remotes>(
     root: &Root,
 ) -> Result<Head, PullEnd>
     ensures looks { Looks result
-        (outside (H.moments host.old) (H.faults host.old) (R.holds remotes.old)
-        (R.faults remotes.old))
-        (outside (H.moments host.new) (H.faults host.new) (R.holds remotes.new)
-        (R.faults remotes.new)) }
+        (around H.Host R.Remotes host.old remotes.old)
+        (around H.Host R.Remotes host.new remotes.new) }
     ensures tells { (have : Have) → Supplies store.now (Some url.now) (H.moments host.old)
         (R.holds remotes.old) have
         → Answers result (head_in have name.now commit.now since (commit_view root.now.commit)
@@ -259,10 +249,8 @@ pub fn read_head<H: Host, R: Remotes>(
     since: Option<u64>,
 ) -> Result<Head, PullEnd>
     ensures looks { Looks result
-        (outside (H.moments host.old) (H.faults host.old) (R.holds remotes.old)
-        (R.faults remotes.old))
-        (outside (H.moments host.new) (H.faults host.new) (R.holds remotes.new)
-        (R.faults remotes.new)) }
+        (around H.Host R.Remotes host.old remotes.old)
+        (around H.Host R.Remotes host.new remotes.new) }
     ensures tells { (have : Have)
         → Supplies repo (Some remote.now.url) (H.moments host.old) (R.holds remotes.old) have
         → Answers result (head_of have name.now commit.now since) }

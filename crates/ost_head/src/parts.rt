@@ -6,7 +6,7 @@ ghost use Rattle.ost_model.specs.Order.{commit_at, tree_at, read_as};
 ghost use Rattle.ost_model.specs.Readers.{commit_of, tree_of};
 ghost use Rattle.ost_model.specs.Remotes.{Supplies};
 ghost use Rattle.ost_object.specs.Views.{commit_view, tree_view};
-ghost use Rattle.ost_walk.specs.Ends.{EndsBy, IsFaultOf, NoFault, Observes, outside};
+ghost use Rattle.ost_walk.specs.Ends.{EndsBy, IsFaultOf, NoFault, Observes, around};
 ghost use Rattle.ost_walk.specs.Steps.{own_fault};
 ghost use Rattle.ost_head.specs.Found.{found_object};
 ghost use Rattle.ost_head.specs.Parts.{ReadsAs, IsReadAs};
@@ -71,10 +71,8 @@ pub(crate) fn find_commit<H: Host, R: Remotes>(
     digest: &Digest,
 ) -> Result<Commit, WalkEnd>
     ensures looks { Observes result
-        (outside (H.moments host.old) (H.faults host.old) (R.holds remotes.old)
-        (R.faults remotes.old))
-        (outside (H.moments host.new) (H.faults host.new) (R.holds remotes.new)
-        (R.faults remotes.new)) }
+        (around H.Host R.Remotes host.old remotes.old)
+        (around H.Host R.Remotes host.new remotes.new) }
     ensures tells { (have : Have) → Supplies root.now (Some url.now) (H.moments host.old)
         (R.holds remotes.old) have
         → EndsBy (λ c. IsReadAs (own_fault have digest.now kinds.Commit)
@@ -97,10 +95,8 @@ pub(crate) fn find_tree<H: Host, R: Remotes>(
     digest: &Digest,
 ) -> Result<DirTree, WalkEnd>
     ensures looks { Observes result
-        (outside (H.moments host.old) (H.faults host.old) (R.holds remotes.old)
-        (R.faults remotes.old))
-        (outside (H.moments host.new) (H.faults host.new) (R.holds remotes.new)
-        (R.faults remotes.new)) }
+        (around H.Host R.Remotes host.old remotes.old)
+        (around H.Host R.Remotes host.new remotes.new) }
     ensures tells { (have : Have) → Supplies root.now (Some url.now) (H.moments host.old)
         (R.holds remotes.old) have
         → EndsBy (λ t. IsReadAs (own_fault have digest.now kinds.DirTree) (tree_at have digest.now)
@@ -124,10 +120,8 @@ pub(crate) fn find_meta<H: Host, R: Remotes>(
     digest: &Digest,
 ) -> Result<(), WalkEnd>
     ensures looks { Observes result
-        (outside (H.moments host.old) (H.faults host.old) (R.holds remotes.old)
-        (R.faults remotes.old))
-        (outside (H.moments host.new) (H.faults host.new) (R.holds remotes.new)
-        (R.faults remotes.new)) }
+        (around H.Host R.Remotes host.old remotes.old)
+        (around H.Host R.Remotes host.new remotes.new) }
     ensures tells { (have : Have) → Supplies root.now (Some url.now) (H.moments host.old)
         (R.holds remotes.old) have
         → EndsBy (λ _. own_fault have digest.now kinds.DirMeta ≡ None)

@@ -5,7 +5,7 @@ ghost use Rattle.fp_host.specs.OverHost.{AtEachMoment, AtReturn, FailsOnly};
 ghost use Rattle.ost_model.specs.Objects.{Have};
 ghost use Rattle.ost_model.specs.Order.{first_fault};
 ghost use Rattle.ost_model.specs.Remotes.{Supplies};
-ghost use Rattle.ost_walk.specs.Ends.{EndsBy, IsRemotes, outside};
+ghost use Rattle.ost_walk.specs.Ends.{EndsBy, IsRemotes, around};
 ghost use Rattle.ost_walk.specs.Surveys.{first_bad, first_named, told_fault};
 ghost use Rattle.ost_pull.specs.Pulls.{IsApart};
 ghost use Rattle.ost_pull.specs.Takes.{AddsAmong, AreTaken, AreTakenNow, CoversOrder, StaysTaken, TakesAll};
@@ -156,10 +156,8 @@ pub(crate) fn gather<H: Host, R: Remotes, G: Gate + Sync>(
     requires apart { IsApart root.now work.now }
     requires empty { kept.old.items ≡ [] }
     ensures { GathersCommit root.now work.now url.now trust commit.now kept.new.items result
-        (outside (H.moments host.old) (H.faults host.old) (R.holds remotes.old)
-        (R.faults remotes.old))
-        (outside (H.moments host.new) (H.faults host.new) (R.holds remotes.new)
-        (R.faults remotes.new)) }
+        (around H.Host R.Remotes host.old remotes.old)
+        (around H.Host R.Remotes host.new remotes.new) }
 {
     match clear(alloc, host, work) {
         Ok(()) => take_order(

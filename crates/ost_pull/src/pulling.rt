@@ -1,6 +1,6 @@
 //! A commit that is pulled.
 ghost use Rattle.std.specs.Prelude.{⊤};
-ghost use Rattle.ost_walk.specs.Ends.{outside};
+ghost use Rattle.ost_walk.specs.Ends.{around};
 ghost use Rattle.ost_pull.specs.Pulls.{IsApart, PullsCommit, HasTrueFilesNow};
 ghost use Rattle.ost_pull.specs.Trusts.{MayTrust};
 
@@ -33,10 +33,8 @@ pub fn pull<H: Host, R: Remotes>(
 ) -> Result<(), PullEnd>
     requires { IsApart root.now work.now }
     ensures { PullsCommit root.now work.now url.now commit.now ⊤ result
-        (outside (H.moments host.old) (H.faults host.old) (R.holds remotes.old)
-        (R.faults remotes.old))
-        (outside (H.moments host.new) (H.faults host.new) (R.holds remotes.new)
-        (R.faults remotes.new)) }
+        (around H.Host R.Remotes host.old remotes.old)
+        (around H.Host R.Remotes host.new remotes.new) }
 {
     pull_gated(rt, alloc, host, remotes, root, url, commit, work, &NoGate)
 }
@@ -59,10 +57,8 @@ pub fn pull_gated<H: Host, R: Remotes, G: Gate + Sync>(
 ) -> Result<(), PullEnd>
     requires { IsApart root.now work.now }
     ensures { PullsCommit root.now work.now url.now commit.now ⊤ result
-        (outside (H.moments host.old) (H.faults host.old) (R.holds remotes.old)
-        (R.faults remotes.old))
-        (outside (H.moments host.new) (H.faults host.new) (R.holds remotes.new)
-        (R.faults remotes.new)) }
+        (around H.Host R.Remotes host.old remotes.old)
+        (around H.Host R.Remotes host.new remotes.new) }
 {
     pull_by(
         rt,
@@ -95,10 +91,8 @@ pub fn pull_trusting<H: Host, R: Remotes>(
     requires { IsApart root.now work.now }
     ensures { PullsCommit root.now work.now url.now commit.now
         (HasTrueFilesNow root.now (H.moments host.old)) result
-        (outside (H.moments host.old) (H.faults host.old) (R.holds remotes.old)
-        (R.faults remotes.old))
-        (outside (H.moments host.new) (H.faults host.new) (R.holds remotes.new)
-        (R.faults remotes.new)) }
+        (around H.Host R.Remotes host.old remotes.old)
+        (around H.Host R.Remotes host.new remotes.new) }
 {
     pull_by(
         rt,
@@ -131,10 +125,8 @@ fn pull_by<H: Host, R: Remotes, G: Gate + Sync>(
     requires { IsApart root.now work.now }
     ensures { PullsCommit root.now work.now url.now commit.now
         (MayTrust trust root.now (H.moments host.old)) result
-        (outside (H.moments host.old) (H.faults host.old) (R.holds remotes.old)
-        (R.faults remotes.old))
-        (outside (H.moments host.new) (H.faults host.new) (R.holds remotes.new)
-        (R.faults remotes.new)) }
+        (around H.Host R.Remotes host.old remotes.old)
+        (around H.Host R.Remotes host.new remotes.new) }
 {
     let mut kept = Vec::new(alloc);
     match gather(

@@ -5,7 +5,7 @@ ghost use Rattle.fp_host.specs.OverHost.{AtEachMoment, AtReturn, FailsOnly};
 ghost use Rattle.par_digest.specs.Digests.{item_digest, item_digests};
 ghost use Rattle.ost_model.specs.Objects.{Have};
 ghost use Rattle.ost_model.specs.Remotes.{Supplies};
-ghost use Rattle.ost_walk.specs.Ends.{EndsBy, IsRemotes, outside};
+ghost use Rattle.ost_walk.specs.Ends.{EndsBy, IsRemotes, around};
 ghost use Rattle.ost_walk.specs.Surveys.{first_bad, told_fault};
 ghost use Rattle.ost_pull.specs.Batches.{AreReady, IsBatched, IsReady};
 ghost use Rattle.ost_pull.specs.Pulls.{IsApart};
@@ -51,10 +51,8 @@ fn take_read<H: Host, R: Remotes>(
     requires got { got.now ≡ item_digest item.now }
     ensures { TakesObject root.now work.now url.now trust (digest.now, kind)
         kept.old.items kept.new.items result
-        (outside (H.moments host.old) (H.faults host.old) (R.holds remotes.old)
-        (R.faults remotes.old))
-        (outside (H.moments host.new) (H.faults host.new) (R.holds remotes.new)
-        (R.faults remotes.new)) }
+        (around H.Host R.Remotes host.old remotes.old)
+        (around H.Host R.Remotes host.new remotes.new) }
 {
     let _bytes = digest.as_bytes();
     let object = whole(alloc, form, item)?;
@@ -92,10 +90,8 @@ fn take_turn<H: Host, R: Remotes>(
     requires digests { digests.now ≡ item_digests items.now }
     ensures { TakesObject root.now work.now url.now trust (digest.now, kind)
         kept.old.items kept.new.items result
-        (outside (H.moments host.old) (H.faults host.old) (R.holds remotes.old)
-        (R.faults remotes.old))
-        (outside (H.moments host.new) (H.faults host.new) (R.holds remotes.new)
-        (R.faults remotes.new)) }
+        (around H.Host R.Remotes host.old remotes.old)
+        (around H.Host R.Remotes host.new remotes.new) }
 {
     match turn {
         Turn::Alone => take(
@@ -141,10 +137,8 @@ fn take_turns<H: Host, R: Remotes>(
     requires digests { digests.now ≡ item_digests items.now }
     ensures { TakesObjects root.now work.now url.now trust objects.now
         kept.old.items kept.new.items result
-        (outside (H.moments host.old) (H.faults host.old) (R.holds remotes.old)
-        (R.faults remotes.old))
-        (outside (H.moments host.new) (H.faults host.new) (R.holds remotes.new)
-        (R.faults remotes.new)) }
+        (around H.Host R.Remotes host.old remotes.old)
+        (around H.Host R.Remotes host.new remotes.new) }
 {
     for (at, object) in objects.iter().enumerate() {
         match take_turn(
@@ -178,10 +172,8 @@ fn take_batch<H: Host, R: Remotes, G: Gate + Sync>(
     requires few { length objects.now ≤ MOST_IN_BATCH }
     ensures { TakesObjects root.now work.now url.now trust objects.now
         kept.old.items kept.new.items result
-        (outside (H.moments host.old) (H.faults host.old) (R.holds remotes.old)
-        (R.faults remotes.old))
-        (outside (H.moments host.new) (H.faults host.new) (R.holds remotes.new)
-        (R.faults remotes.new)) }
+        (around H.Host R.Remotes host.old remotes.old)
+        (around H.Host R.Remotes host.new remotes.new) }
 {
     match read_batch(alloc, host, remotes, root, url, work, objects) {
         Ok(batch) => {

@@ -1,5 +1,7 @@
 -- How a walk ends.
 use Rattle.std.specs.Prelude.{◌≡◌, ◌≤◌, ℕ, ⊤, List, Option, Some, Result, Ok, Err, IsErrOf}
+use Rattle.fp_host.specs.declared.host.Host.{Ghosts}
+use Rattle.fp_host.specs.declared.remotes.Remotes as of_remotes
 use Rattle.fp_host.specs.Moments.{Moments, Rose}
 use Rattle.fp_host.specs.Causes.{IsCaused}
 use Rattle.fp_host.specs.Frame.{Unchanged}
@@ -105,6 +107,11 @@ outside told host_faults holdings remote_faults =
       holdings = holdings;
       remote_faults = remote_faults;
     }
+
+-- the same of a host and of remotes, at bounds `H: Host` and `R: Remotes`
+abbrev pub around : {H R : Type 0} → Ghosts H → of_remotes.Ghosts R → H → R → Outside
+around h r host remotes =
+    outside (h.moments host) (h.faults host) (r.holds remotes) (r.faults remotes)
 
 -- Nothing changes outside, and each fault is that outside's own.
 pub record Observes {A : Type 0} (result : Result A WalkEnd) (u w : Outside) : Type 0 where

@@ -5,7 +5,7 @@ ghost use Rattle.ost_model.specs.Objects.{Have};
 ghost use Rattle.ost_model.specs.Order.{walk_fault};
 ghost use Rattle.ost_object.specs.Views.{tree_view};
 ghost use Rattle.ost_model.specs.Remotes.{Supplies};
-ghost use Rattle.ost_walk.specs.Ends.{EndsBy, IsFaultOf, IsFirst, Observes, outside};
+ghost use Rattle.ost_walk.specs.Ends.{EndsBy, IsFaultOf, IsFirst, Observes, around};
 ghost use Rattle.ost_walk.specs.Steps.{IsTreeOf, IsGood, IsRoot, IsTree, IsChecked, IsOpened, tree_of, meta_of, own_fault, heads_fault, limit_of};
 
 use crate::dirs::Dir;
@@ -28,10 +28,8 @@ fn fetch_tree<H: Host, R: Remotes>(
     places: &Places,
     digest: &Digest,
 ) -> Result<DirTree, WalkEnd>
-    ensures looks { Observes result (outside (H.moments host.old) (H.faults host.old)
-        (R.holds remotes.old) (R.faults remotes.old))
-        (outside (H.moments host.new) (H.faults host.new) (R.holds remotes.new)
-        (R.faults remotes.new)) }
+    ensures looks { Observes result (around H.Host R.Remotes host.old remotes.old)
+        (around H.Host R.Remotes host.new remotes.new) }
     ensures tells { (have : Have) → Supplies places.now.root places.now.url (H.moments host.old)
         (R.holds remotes.old) have
         → EndsBy (λ t. IsTreeOf have digest.now (tree_view t))
@@ -51,10 +49,8 @@ pub(crate) fn fetch_root<H: Host, R: Remotes>(
     places: &Places,
     commit: &Digest,
 ) -> Result<Dir, WalkEnd>
-    ensures looks { Observes result (outside (H.moments host.old) (H.faults host.old)
-        (R.holds remotes.old) (R.faults remotes.old))
-        (outside (H.moments host.new) (H.faults host.new) (R.holds remotes.new)
-        (R.faults remotes.new)) }
+    ensures looks { Observes result (around H.Host R.Remotes host.old remotes.old)
+        (around H.Host R.Remotes host.new remotes.new) }
     ensures tells { (have : Have) → Supplies places.now.root places.now.url (H.moments host.old)
         (R.holds remotes.old) have
         → EndsBy (IsRoot have commit.now)
@@ -74,10 +70,8 @@ fn fetch_meta<H: Host, R: Remotes>(
     places: &Places,
     digest: &Digest,
 ) -> Result<(), WalkEnd>
-    ensures looks { Observes result (outside (H.moments host.old) (H.faults host.old)
-        (R.holds remotes.old) (R.faults remotes.old))
-        (outside (H.moments host.new) (H.faults host.new) (R.holds remotes.new)
-        (R.faults remotes.new)) }
+    ensures looks { Observes result (around H.Host R.Remotes host.old remotes.old)
+        (around H.Host R.Remotes host.new remotes.new) }
     ensures tells { (have : Have) → Supplies places.now.root places.now.url (H.moments host.old)
         (R.holds remotes.old) have
         → EndsBy (λ _. IsGood have digest.now kinds.DirMeta)
@@ -98,10 +92,8 @@ pub(crate) fn open_tree<H: Host, R: Remotes>(
     dir: &Dir,
     count: usize,
 ) -> Result<DirTree, WalkEnd>
-    ensures looks { Observes result (outside (H.moments host.old) (H.faults host.old)
-        (R.holds remotes.old) (R.faults remotes.old))
-        (outside (H.moments host.new) (H.faults host.new) (R.holds remotes.new)
-        (R.faults remotes.new)) }
+    ensures looks { Observes result (around H.Host R.Remotes host.old remotes.old)
+        (around H.Host R.Remotes host.new remotes.new) }
     ensures limits { OnOk result (limit_of count dir.now.depth ≡ None) }
     ensures tells { (have : Have) → Supplies places.now.root places.now.url (H.moments host.old)
         (R.holds remotes.old) have
@@ -123,10 +115,8 @@ fn open_meta<H: Host, R: Remotes>(
     dir: &Dir,
     count: usize,
 ) -> Result<(), WalkEnd>
-    ensures looks { Observes result (outside (H.moments host.old) (H.faults host.old)
-        (R.holds remotes.old) (R.faults remotes.old))
-        (outside (H.moments host.new) (H.faults host.new) (R.holds remotes.new)
-        (R.faults remotes.new)) }
+    ensures looks { Observes result (around H.Host R.Remotes host.old remotes.old)
+        (around H.Host R.Remotes host.new remotes.new) }
     ensures limits { OnOk result (limit_of count dir.now.depth ≡ None) }
     ensures tells { (have : Have) → Supplies places.now.root places.now.url (H.moments host.old)
         (R.holds remotes.old) have
@@ -149,10 +139,8 @@ pub(crate) fn open_dir<H: Host, R: Remotes>(
     dir: &Dir,
     count: usize,
 ) -> Result<DirTree, WalkEnd>
-    ensures looks { Observes result (outside (H.moments host.old) (H.faults host.old)
-        (R.holds remotes.old) (R.faults remotes.old))
-        (outside (H.moments host.new) (H.faults host.new) (R.holds remotes.new)
-        (R.faults remotes.new)) }
+    ensures looks { Observes result (around H.Host R.Remotes host.old remotes.old)
+        (around H.Host R.Remotes host.new remotes.new) }
     ensures limits { OnOk result (limit_of (count + 1) dir.now.depth ≡ None) }
     ensures tells { (have : Have) → Supplies places.now.root places.now.url (H.moments host.old)
         (R.holds remotes.old) have

@@ -4,7 +4,7 @@ ghost use Rattle.fp_host.specs.Remote.{Holdings};
 ghost use Rattle.ost_model.specs.Objects.{Have};
 ghost use Rattle.ost_model.specs.Objects.{may_be_link};
 ghost use Rattle.ost_model.specs.Remotes.{Supplies, remote};
-ghost use Rattle.ost_walk.specs.Ends.{Observes, outside, IsRemotes};
+ghost use Rattle.ost_walk.specs.Ends.{Observes, IsRemotes, around};
 ghost use Rattle.ost_walk.specs.Steps.{Fetches};
 
 use crate::ends::{ObjectFault, WalkEnd, refused};
@@ -29,10 +29,8 @@ pub fn fetch<H: Host, R: Remotes>(
     kind: ObjKind,
 ) -> Result<Blob, WalkEnd>
     requires { may_be_link kind ≡ false }
-    ensures looks { Observes result (outside (H.moments host.old) (H.faults host.old)
-        (R.holds remotes.old) (R.faults remotes.old))
-        (outside (H.moments host.new) (H.faults host.new) (R.holds remotes.new)
-        (R.faults remotes.new)) }
+    ensures looks { Observes result (around H.Host R.Remotes host.old remotes.old)
+        (around H.Host R.Remotes host.new remotes.new) }
     ensures tells { (have : Have) → Supplies places.now.root places.now.url (H.moments host.old)
         (R.holds remotes.old) have
         → Fetches digest.now kind (have digest.now kind) result }

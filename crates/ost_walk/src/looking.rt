@@ -6,7 +6,7 @@ ghost use Rattle.ost_model.specs.Objects.{Have};
 ghost use Rattle.ost_model.specs.Look.{look_fault};
 ghost use Rattle.ost_model.specs.Remotes.{Supplies};
 ghost use Rattle.ost_object.specs.Views.{tree_view};
-ghost use Rattle.ost_walk.specs.Ends.{EndsBy, IsFirst, Observes, outside};
+ghost use Rattle.ost_walk.specs.Ends.{EndsBy, IsFirst, Observes, outside, around};
 ghost use Rattle.ost_walk.specs.Looked.{IsFound, IsDirAt, IsHere, IsLow};
 
 use crate::checking::{fetch_root, open_tree};
@@ -27,10 +27,8 @@ fn start<H: Host, R: Remotes>(
     places: &Places,
     commit: &Digest,
 ) -> Result<Here, WalkEnd>
-    ensures looks { Observes result (outside (H.moments host.old) (H.faults host.old)
-        (R.holds remotes.old) (R.faults remotes.old))
-        (outside (H.moments host.new) (H.faults host.new) (R.holds remotes.new)
-        (R.faults remotes.new)) }
+    ensures looks { Observes result (around H.Host R.Remotes host.old remotes.old)
+        (around H.Host R.Remotes host.new remotes.new) }
     ensures low { IfOk result IsLow }
     ensures tells { (have : Have) → Supplies places.now.root places.now.url (H.moments host.old)
         (R.holds remotes.old) have
@@ -56,10 +54,8 @@ fn enter<H: Host, R: Remotes>(
     name: &str,
 ) -> Result<Here, WalkEnd>
     requires { depth ≤ MOST_LEVELS }
-    ensures looks { Observes result (outside (H.moments host.old) (H.faults host.old)
-        (R.holds remotes.old) (R.faults remotes.old))
-        (outside (H.moments host.new) (H.faults host.new) (R.holds remotes.new)
-        (R.faults remotes.new)) }
+    ensures looks { Observes result (around H.Host R.Remotes host.old remotes.old)
+        (around H.Host R.Remotes host.new remotes.new) }
     ensures low { IfOk result IsLow }
     ensures tells { (have : Have) (commit : List ℕ) (up : Elements) → Supplies places.now.root
         places.now.url (H.moments host.old) (R.holds remotes.old) have
@@ -89,10 +85,8 @@ fn advance<H: Host, R: Remotes>(
     name: &str,
 ) -> Result<Here, WalkEnd>
     requires { IsLow here.now }
-    ensures looks { Observes result (outside (H.moments host.old) (H.faults host.old)
-        (R.holds remotes.old) (R.faults remotes.old))
-        (outside (H.moments host.new) (H.faults host.new) (R.holds remotes.new)
-        (R.faults remotes.new)) }
+    ensures looks { Observes result (around H.Host R.Remotes host.old remotes.old)
+        (around H.Host R.Remotes host.new remotes.new) }
     ensures low { IfOk result IsLow }
     ensures tells { (have : Have) (commit : List ℕ) (up : Elements) → Supplies places.now.root
         places.now.url (H.moments host.old) (R.holds remotes.old) have
@@ -117,10 +111,8 @@ fn follow_one<H: Host, R: Remotes>(
 ) -> Result<Here, WalkEnd>
     requires some { path.now ≢ [] }
     requires low { IsLow here.now }
-    ensures looks { Observes result (outside (H.moments host.old) (H.faults host.old)
-        (R.holds remotes.old) (R.faults remotes.old))
-        (outside (H.moments host.new) (H.faults host.new) (R.holds remotes.new)
-        (R.faults remotes.new)) }
+    ensures looks { Observes result (around H.Host R.Remotes host.old remotes.old)
+        (around H.Host R.Remotes host.new remotes.new) }
     ensures low { IfOk result IsLow }
     ensures tells { (have : Have) (commit : List ℕ) → Supplies places.now.root places.now.url
         (H.moments host.old) (R.holds remotes.old) have
@@ -143,10 +135,8 @@ fn follow<H: Host, R: Remotes>(
     path: &Path,
 ) -> Result<Here, WalkEnd>
     requires { IsLow root }
-    ensures looks { Observes result (outside (H.moments host.old) (H.faults host.old)
-        (R.holds remotes.old) (R.faults remotes.old))
-        (outside (H.moments host.new) (H.faults host.new) (R.holds remotes.new)
-        (R.faults remotes.new)) }
+    ensures looks { Observes result (around H.Host R.Remotes host.old remotes.old)
+        (around H.Host R.Remotes host.new remotes.new) }
     ensures tells { (have : Have) (commit : List ℕ) → Supplies places.now.root places.now.url
         (H.moments host.old) (R.holds remotes.old) have
         → IsHere have commit [] root
@@ -189,10 +179,8 @@ pub fn look<H: Host, R: Remotes>(
     path: &Path,
 ) -> Result<Found, WalkEnd>
     // Nothing changes, and a fault comes only where the count of that outside rose.
-    ensures looks { Observes result (outside (H.moments host.old) (H.faults host.old)
-        (R.holds remotes.old) (R.faults remotes.old))
-        (outside (H.moments host.new) (H.faults host.new) (R.holds remotes.new)
-        (R.faults remotes.new)) }
+    ensures looks { Observes result (around H.Host R.Remotes host.old remotes.old)
+        (around H.Host R.Remotes host.new remotes.new) }
     ensures tells { (have : Have) → Supplies places.now.root places.now.url (H.moments host.old)
         (R.holds remotes.old) have
         → EndsBy (IsFound have commit.now path.now)

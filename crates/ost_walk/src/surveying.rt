@@ -4,7 +4,7 @@ ghost use Rattle.fp_base.specs.declared.object.ObjKind.TheVariants as kinds;
 ghost use Rattle.ost_model.specs.Objects.{Have};
 ghost use Rattle.ost_model.specs.Order.{first_walk_fault};
 ghost use Rattle.ost_model.specs.Remotes.{Supplies};
-ghost use Rattle.ost_walk.specs.Ends.{EndsBy, IsFirst, Observes, outside};
+ghost use Rattle.ost_walk.specs.Ends.{EndsBy, IsFirst, Observes, around};
 ghost use Rattle.ost_walk.specs.Steps.{IsRoot, IsOrder};
 ghost use Rattle.ost_walk.specs.Surveys.{IsSurvey, stopped_at, unless_faulty};
 
@@ -61,10 +61,8 @@ fn survey_from<H: Host, R: Remotes>(
     commit: &Digest,
     root: Dir,
 ) -> Result<Survey, WalkEnd>
-    ensures looks { Observes result (outside (H.moments host.old) (H.faults host.old)
-        (R.holds remotes.old) (R.faults remotes.old))
-        (outside (H.moments host.new) (H.faults host.new) (R.holds remotes.new)
-        (R.faults remotes.new)) }
+    ensures looks { Observes result (around H.Host R.Remotes host.old remotes.old)
+        (around H.Host R.Remotes host.new remotes.new) }
     ensures tells { (have : Have) → Supplies places.now.root places.now.url (H.moments host.old)
         (R.holds remotes.old) have → IsRoot have commit.now root
         → EndsBy (IsSurvey have commit.now) (λ w. ⊥) result }
@@ -90,10 +88,8 @@ pub fn survey<H: Host, R: Remotes>(
     places: &Places,
     commit: &Digest,
 ) -> Result<Survey, WalkEnd>
-    ensures looks { Observes result (outside (H.moments host.old) (H.faults host.old)
-        (R.holds remotes.old) (R.faults remotes.old))
-        (outside (H.moments host.new) (H.faults host.new) (R.holds remotes.new)
-        (R.faults remotes.new)) }
+    ensures looks { Observes result (around H.Host R.Remotes host.old remotes.old)
+        (around H.Host R.Remotes host.new remotes.new) }
     ensures tells { (have : Have) → Supplies places.now.root places.now.url (H.moments host.old)
         (R.holds remotes.old) have
         → EndsBy (IsSurvey have commit.now) (λ w. ⊥) result }
@@ -126,10 +122,8 @@ pub fn order<H: Host, R: Remotes>(
     places: &Places,
     commit: &Digest,
 ) -> Result<Items<(Digest, ObjKind)>, WalkEnd>
-    ensures looks { Observes result (outside (H.moments host.old) (H.faults host.old)
-        (R.holds remotes.old) (R.faults remotes.old))
-        (outside (H.moments host.new) (H.faults host.new) (R.holds remotes.new)
-        (R.faults remotes.new)) }
+    ensures looks { Observes result (around H.Host R.Remotes host.old remotes.old)
+        (around H.Host R.Remotes host.new remotes.new) }
     ensures tells { (have : Have) → Supplies places.now.root places.now.url (H.moments host.old)
         (R.holds remotes.old) have
         → EndsBy (IsOrder have commit.now) (IsFirst (first_walk_fault have commit.now)) result }

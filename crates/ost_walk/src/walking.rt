@@ -4,7 +4,7 @@ ghost use Rattle.ost_model.specs.declared.limits.TheConstants.{MOST_OBJECTS};
 ghost use Rattle.ost_model.specs.Objects.{Have};
 ghost use Rattle.ost_model.specs.Remotes.{Supplies};
 ghost use Rattle.ost_model.specs.Walk.{open_places};
-ghost use Rattle.ost_walk.specs.Ends.{EndsBy, Observes, outside};
+ghost use Rattle.ost_walk.specs.Ends.{EndsBy, Observes, around};
 ghost use Rattle.ost_walk.specs.Steps.{IsWalked, IsOnTheWay, open_of};
 ghost use Rattle.ost_walk.specs.Surveys.{StopsAmong, StopsIn};
 
@@ -28,10 +28,8 @@ fn visit<H: Host, R: Remotes>(
     done: &mut Vec<(Digest, ObjKind)>,
     left: &mut Vec<Dir>,
 ) -> Result<(), WalkEnd>
-    ensures looks { Observes result (outside (H.moments host.old) (H.faults host.old)
-        (R.holds remotes.old) (R.faults remotes.old))
-        (outside (H.moments host.new) (H.faults host.new) (R.holds remotes.new)
-        (R.faults remotes.new)) }
+    ensures looks { Observes result (around H.Host R.Remotes host.old remotes.old)
+        (around H.Host R.Remotes host.new remotes.new) }
     ensures more { OnOk result (length done.old.items + 2 ≤ length done.new.items) }
     ensures most { OnOk result (length done.new.items ≤ MOST_OBJECTS) }
     ensures tells { (have : Have) → Supplies places.now.root places.now.url (H.moments host.old)
@@ -55,10 +53,8 @@ pub(crate) fn walk<H: Host, R: Remotes>(
     done: &mut Vec<(Digest, ObjKind)>,
     left: &mut Vec<Dir>,
 ) -> Result<(), WalkEnd>
-    ensures looks { Observes result (outside (H.moments host.old) (H.faults host.old)
-        (R.holds remotes.old) (R.faults remotes.old))
-        (outside (H.moments host.new) (H.faults host.new) (R.holds remotes.new)
-        (R.faults remotes.new)) }
+    ensures looks { Observes result (around H.Host R.Remotes host.old remotes.old)
+        (around H.Host R.Remotes host.new remotes.new) }
     ensures tells { (have : Have) (commit : List ℕ) → Supplies places.now.root places.now.url
         (H.moments host.old) (R.holds remotes.old) have
         → IsOnTheWay have commit done.old.items left.old.items
