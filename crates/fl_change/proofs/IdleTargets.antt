@@ -12,7 +12,7 @@ use Rattle.fp_small.specs.declared.refusal.Refusal.TheVariants as refusals
 use Rattle.fp_small.specs.declared.state.State.{State}
 use Rattle.fp_small.specs.declared.state.RefRow.{RefRow}
 use Rattle.fp_small.specs.declared.state.RemoteRow.{RemoteRow}
-use Rattle.ost_head.specs.Offers.{offered}
+use Rattle.ost_refs.specs.Offers.{offered}
 use Rattle.dep_states.specs.After.{Done, row_at, after_all}
 use Rattle.dep_states.specs.Shown.{at_name}
 use Rattle.fl_extension.specs.Found.{row_of}

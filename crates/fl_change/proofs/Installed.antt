@@ -15,7 +15,7 @@ use Rattle.fl_extension.specs.Points.{point_of, points_of}
 use Rattle.ost_model.specs.Contents.{file_digest, meta_digest, header}
 use Rattle.ost_model.specs.Objects.{Have}
 use Rattle.ost_model.specs.Order.{first_fault}
-use Rattle.ost_head.specs.Offers.{offered}
+use Rattle.ost_refs.specs.Offers.{offered}
 use Rattle.ost_head.specs.Heads.{head_of}
 use Rattle.ost_head.specs.declared.head.Head.{Head}
 use Rattle.dep_states.specs.Samples.{hub}

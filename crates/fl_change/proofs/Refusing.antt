@@ -27,7 +27,7 @@ use Rattle.fp_small.specs.declared.refusal.Refusal.{Refusal}
 use Rattle.fp_small.specs.declared.refusal.Refusal.TheVariants as refusals
 use Rattle.ost_model.specs.Objects.{Have, Fault, too_many, too_deep, missing, too_long, refused_mode, corrupt, malformed}
 use Rattle.ost_head.specs.Heads.{head_of}
-use Rattle.ost_head.specs.Offers.{offered, after_mode, commit_said, wrong_mode, ref_at}
+use Rattle.ost_refs.specs.Offers.{offered, after_mode, commit_said, wrong_mode, ref_at}
 use Rattle.ost_walk.specs.Refusals.{refusal_of}
 use Rattle.ost_refs.specs.declared.place.RefFile.{RefFile}
 use Rattle.ost_refs.specs.declared.place.RefFile.TheVariants as files

@@ -15,7 +15,7 @@ use Rattle.fp_small.specs.declared.refusal.Refusal.{Refusal}
 use Rattle.fp_small.specs.declared.state.State.{State}
 use Rattle.fp_small.specs.declared.state.RefRow.{RefRow}
 use Rattle.fp_small.specs.declared.state.RemoteRow.{RemoteRow}
-use Rattle.ost_head.specs.Offers.{offered}
+use Rattle.ost_refs.specs.Offers.{offered}
 use Rattle.dep_states.specs.After.{Done, row_at, with_refs, moved, updated, state_after, after_op, after_all}
 use Rattle.dep_states.specs.Shown.{at_name, ref_key}
 use Rattle.dep_states.proofs.Changes.{at_replaced}

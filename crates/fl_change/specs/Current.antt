@@ -7,7 +7,7 @@ use Rattle.fp_small.specs.declared.refusal.Refusal.TheVariants.{NoSuchRef}
 use Rattle.fp_small.specs.declared.state.State.{State}
 use Rattle.fp_small.specs.declared.state.RefRow.{RefRow}
 use Rattle.fp_small.specs.declared.state.RemoteRow.{RemoteRow}
-use Rattle.ost_head.specs.Offers.{offered}
+use Rattle.ost_refs.specs.Offers.{offered}
 use Rattle.dep_states.specs.After.{row_at}
 use Rattle.dep_states.specs.Shown.{at_name}
 

@@ -23,7 +23,7 @@ ghost use Rattle.ost_model.specs.Order.{In, order};
 ghost use Rattle.ost_model.specs.Stores.{objects_folder};
 ghost use Rattle.ost_store.specs.Created.{Creates};
 ghost use Rattle.ost_walk.specs.Steps.{place_name};
-ghost use Rattle.ost_head.specs.Offers.{offered};
+ghost use Rattle.ost_refs.specs.Offers.{offered};
 ghost use Rattle.dep_states.specs.After.{Done, plain, row_at};
 ghost use Rattle.dep_states.specs.Deployed.{platform, commit, commit_text, deployed_state};
 ghost use Rattle.dep_states.specs.Shown.{at_name, override_key};

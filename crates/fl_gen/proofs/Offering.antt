@@ -23,7 +23,7 @@ use Rattle.ost_commit.specs.declared.built.BuiltObject.{BuiltObject}
 use Rattle.ost_commit.specs.Objects.{have_of}
 use Rattle.fp_base.specs.Objects.{is_kind}
 use Rattle.fp_base.proofs.ObjectKinds.{kind_is}
-use Rattle.ost_head.specs.Offers.{small_file, mode_in, ref_said, commit_said, after_mode, offered, config_path, ref_path}
+use Rattle.ost_refs.specs.Offers.{small_file, mode_in, ref_said, commit_said, after_mode, offered, config_path, ref_path}
 use Rattle.ost_export.specs.Exports.{IsOffered}
 use Rattle.ost_export.specs.Remotes.{held_of, held_at}
 use Rattle.fl_gen.specs.declared.limits.TheConstants.{RUNTIMES}

@@ -9,7 +9,7 @@ use Rattle.ost_model.specs.Remotes.{remote_at}
 use Rattle.ost_commit.specs.declared.built.Built.{Built}
 use Rattle.ost_commit.specs.Built.{BuiltCommit}
 use Rattle.ost_commit.specs.Objects.{have_of}
-use Rattle.ost_head.specs.Offers.{offered}
+use Rattle.ost_refs.specs.Offers.{offered}
 use Rattle.fl_gen.specs.declared.filling.TheConstants.{SUBJECT}
 use Rattle.fl_gen.specs.Made.{Ware}
 

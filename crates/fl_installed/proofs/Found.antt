@@ -6,7 +6,7 @@ use Rattle.fp_host.specs.declared.host.HostEnd.{HostEnd}
 use Rattle.fp_base.specs.declared.object.ObjKind.TheVariants as kinds
 use Rattle.ost_model.specs.Objects.{Have, Fault}
 use Rattle.ost_model.specs.Order.{Place}
-use Rattle.ost_model.specs.Look.{nothing, directory, file_at, look, look_fault}
+use Rattle.ost_model.specs.Look.{nothing, directory, file_at, look, look_fault, file_in}
 use Rattle.ost_model.specs.Look.{Found as ModelFound}
 use Rattle.ost_model.specs.Standing.{metadata_name}
 use Rattle.ost_walk.specs.declared.ends.WalkEnd.{WalkEnd}
@@ -14,7 +14,6 @@ use Rattle.ost_walk.specs.declared.ends.WalkEnd.TheVariants as walks
 use Rattle.ost_walk.specs.declared.found.Found.{Found}
 use Rattle.ost_walk.specs.Ends.{EndsBy, IsFirst}
 use Rattle.ost_walk.specs.Looked.{found_of, IsFound}
-use Rattle.ost_head.specs.Heads.{file_in}
 use Rattle.fl_installed.specs.Files.{digest_in, unless_faulty, metadata_digest, short_content, metadata_file}
 
 -- ---- where it is

@@ -8,11 +8,10 @@ use Rattle.fp_host.specs.Paths.{Elements}
 use Rattle.fp_host.specs.Outcome.{Spot, gone, folder, holds, points, Disk}
 use Rattle.ost_model.specs.Objects.{Have, Fault, object_at, object_path, store}
 use Rattle.ost_model.specs.Order.{Place, Agree, order, first_fault}
-use Rattle.ost_model.specs.Look.{Found, nothing, directory, file_at, look, FileReached}
+use Rattle.ost_model.specs.Look.{Found, nothing, directory, file_at, look, FileReached, file_in}
 use Rattle.ost_model.specs.Standing.{Stands, expected, is_metadata, metadata_name, deploy_name}
 use Rattle.ost_model.proofs.Looked.{file_reached, look_same, no_fault_on_path}
 use Rattle.ost_model.proofs.Places.{first_same}
-use Rattle.ost_head.specs.Heads.{file_in}
 use Rattle.fl_installed.specs.Files.{unless_faulty, metadata_digest, short_content, metadata_file, metadata_in}
 use Rattle.fl_installed.specs.Standing.{IsRead, StandingIsRead, MetadataIsLocal}
 

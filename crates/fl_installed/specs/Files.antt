@@ -7,14 +7,13 @@ use Rattle.ost_model.specs.declared.limits.TheConstants.{MOST_METADATA_FILE_BYTE
 use Rattle.ost_model.specs.declared.object.Object.{Object}
 use Rattle.ost_model.specs.Objects.{Have, Fault}
 use Rattle.ost_model.specs.Order.{Place}
-use Rattle.ost_model.specs.Look.{look, look_fault}
+use Rattle.ost_model.specs.Look.{look, look_fault, file_in}
 use Rattle.ost_model.specs.Standing.{metadata_name}
 use Rattle.ost_store.specs.Reads.{content_within}
 use Rattle.ost_walk.specs.declared.ends.WalkEnd.{WalkEnd}
 use Rattle.ost_walk.specs.declared.ends.WalkEnd.TheVariants as walks
 use Rattle.ost_walk.specs.declared.found.Found.{Found}
 use Rattle.ost_walk.specs.declared.found.Found.TheVariants as found
-use Rattle.ost_head.specs.Heads.{file_in}
 
 -- the digest of the file or link that was found
 abbrev pub digest_of : Found → Option (List ℕ)

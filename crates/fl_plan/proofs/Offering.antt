@@ -11,7 +11,7 @@ use Rattle.fp_host.specs.Moments.{Rose}
 use Rattle.ost_walk.specs.declared.pull_end.PullEnd.{PullEnd}
 use Rattle.ost_walk.specs.declared.pull_end.PullEnd.TheVariants as ends
 use Rattle.ost_walk.specs.PullEnds.{NoFault, RefusesBy, Tells}
-use Rattle.ost_head.specs.Offers.{offered}
+use Rattle.ost_refs.specs.Offers.{offered}
 use Rattle.fl_plan.specs.Answers.{Asks}
 use Rattle.fl_plan.specs.Offers.{first_of, is_in_turn, offer_of, offer_if, offer_with, unless_declined, declined}
 use Rattle.fl_plan.specs.declared.offer.Offer.{Offer}

@@ -15,7 +15,7 @@ use Rattle.fp_small.specs.declared.state.RemoteRow.{RemoteRow}
 use Rattle.ost_model.specs.Objects.{Have}
 use Rattle.ost_head.specs.declared.head.Head.{Head}
 use Rattle.ost_head.specs.Heads.{head_of}
-use Rattle.ost_head.specs.Offers.{offered}
+use Rattle.ost_refs.specs.Offers.{offered}
 use Rattle.fl_extension.specs.declared.point.Point.{Point}
 use Rattle.fl_extension.specs.Found.{has_ref, row_of}
 use Rattle.fl_plan.specs.Answers.{and_then, mapped}

@@ -26,7 +26,7 @@ use Rattle.ost_model.specs.Look.{Found, nothing, directory, file_at, entry_in}
 use Rattle.ost_model.specs.Binding.{binding_in}
 use Rattle.ost_walk.specs.Refusals.{refusal_of, object_refused}
 use Rattle.ost_head.specs.Heads.{lists, binding_refused, age_refused, commit_refused, is_nothing, root_refused, meta_refused, lines_refused, metadata_refused, unless_refused, content_in, with_content, metadata_at, head_in, with_tree, with_commit, head_of}
-use Rattle.ost_head.specs.Offers.{offered}
+use Rattle.ost_refs.specs.Offers.{offered}
 use Rattle.fl_plan.specs.Answers.{and_then, mapped}
 use Rattle.fl_plan.specs.Offers.{offer_with, offer_of, first_of, first_offer, in_turn, have_at, chosen_with, chosen}
 use Rattle.fl_installed.specs.Metadata.{runtime_named, points_in}

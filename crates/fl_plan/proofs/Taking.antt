@@ -17,7 +17,7 @@ use Rattle.fp_small.specs.declared.state.State.{State}
 use Rattle.fp_small.specs.declared.state.RemoteRow.{RemoteRow}
 use Rattle.ost_model.specs.Objects.{Have}
 use Rattle.ost_head.specs.Heads.{head_of}
-use Rattle.ost_head.specs.Offers.{offered}
+use Rattle.ost_refs.specs.Offers.{offered}
 use Rattle.dep_states.specs.Shown.{at_name}
 use Rattle.dep_states.proofs.Good.{each_found}
 use Rattle.fl_extension.specs.declared.point.Point.{Point}

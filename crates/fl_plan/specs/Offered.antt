@@ -7,7 +7,7 @@ use Rattle.fp_small.specs.Places.{repo}
 use Rattle.fp_small.specs.declared.state.State.{State}
 use Rattle.fp_small.specs.declared.state.RefRow.{RefRow}
 use Rattle.ost_model.specs.Objects.{Have, store}
-use Rattle.ost_head.specs.Offers.{config_path, ref_path}
+use Rattle.ost_refs.specs.Offers.{config_path, ref_path}
 use Rattle.dep_states.specs.Deployed.{platform, commit_text, deployed_disk, deployed_state}
 
 abbrev pub stored : Have

@@ -8,7 +8,7 @@ use Rattle.fp_small.specs.declared.op.Op.{Op}
 use Rattle.fp_small.specs.declared.op.Op.TheVariants.{Install, Update}
 use Rattle.fp_small.specs.declared.state.State.{State}
 use Rattle.fp_small.specs.declared.state.RemoteRow.{RemoteRow}
-use Rattle.ost_head.specs.Offers.{offered}
+use Rattle.ost_refs.specs.Offers.{offered}
 use Rattle.dep_states.specs.Shown.{at_name}
 use Rattle.fl_extension.specs.Found.{row_of}
 use Rattle.fl_plan.specs.Plans.{is_at}

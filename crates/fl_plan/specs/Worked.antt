@@ -8,7 +8,7 @@ use Rattle.fl_extension.specs.declared.point.Point.{Point}
 use Rattle.ost_model.specs.Objects.{Have}
 use Rattle.ost_head.specs.declared.head.Head.{Head}
 use Rattle.ost_head.specs.Heads.{head_of}
-use Rattle.ost_head.specs.Offers.{offered}
+use Rattle.ost_refs.specs.Offers.{offered}
 use Rattle.fl_installed.specs.Metadata.{runtime_named, points_in}
 use Rattle.fl_plan.specs.Offers.{have_at}
 use Rattle.fl_extension.specs.Found.{row_of}

@@ -22,7 +22,7 @@ ghost use Rattle.fl_extension.specs.Found.{has_ref, row_of};
 ghost use Rattle.ost_model.specs.Objects.{Have};
 ghost use Rattle.ost_head.specs.declared.head.Head.{Head};
 ghost use Rattle.ost_head.specs.Heads.{head_of};
-ghost use Rattle.ost_head.specs.Offers.{offered};
+ghost use Rattle.ost_refs.specs.Offers.{offered};
 ghost use Rattle.fl_plan.specs.Extensions.{is_done};
 ghost use Rattle.fl_plan.specs.Offered as shop;
 ghost use Rattle.fl_plan.specs.Offers.{first_of, first_offer, have_at, in_turn, offer_of, offer_with};

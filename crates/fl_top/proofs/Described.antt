@@ -16,12 +16,11 @@ use Rattle.ost_model.specs.Fields.{DirRow, FileRow, CommitView, TreeView}
 use Rattle.ost_model.specs.Readers.{tree_of, commit_of}
 use Rattle.ost_model.specs.Objects.{Have, Fault, store, object_fault}
 use Rattle.ost_model.specs.Order.{Place, In, each_in, inside, dir_places, file_place, file_places, tree_place, read_as, tree_at, commit_at, below_commit, root_row, commit_place, limited, place_fault, found_at, first_of, order, Agree}
-use Rattle.ost_model.specs.Look.{Found, nothing, directory, file_at, find_dir, find_file, either, entry_in, next, at_root, look, found_places, look_places, look_fault}
+use Rattle.ost_model.specs.Look.{Found, nothing, directory, file_at, find_dir, find_file, either, entry_in, next, at_root, look, found_places, look_places, look_fault, file_in}
 use Rattle.ost_model.specs.Standing.{metadata_name}
 use Rattle.ost_model.proofs.Places.{in_each}
 use Rattle.ost_model.proofs.Looked.{if_some, dir_found}
 use Rattle.ost_model.proofs.Members.{in_left, in_right}
-use Rattle.ost_head.specs.Heads.{file_in}
 use Rattle.dep_states.specs.Shown.{at_name, ref_key}
 use Rattle.dep_states.specs.After.{row_at}
 use Rattle.dep_tidy.specs.Kept.{kept_by, kept_of}

@@ -20,7 +20,7 @@ use Rattle.ost_model.specs.Remotes.{as_spot, remote_at}
 use Rattle.ost_refs.specs.Files.{ref_bytes}
 use Rattle.ost_refs.specs.declared.place.RefFile.TheVariants as files
 use Rattle.ost_refs.proofs.Files.{written}
-use Rattle.ost_head.specs.Offers.{small_file, mode_in, wrong_mode, ref_said, ref_at, commit_said, after_mode, offered}
+use Rattle.ost_refs.specs.Offers.{small_file, mode_in, wrong_mode, ref_said, ref_at, commit_said, after_mode, offered}
 use Rattle.ost_export.specs.Exports.{config_text, IsOffered}
 use Rattle.ost_export.specs.Remotes.{held_of, held_at}
 

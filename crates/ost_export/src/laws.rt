@@ -19,7 +19,7 @@ ghost use Rattle.ost_commit.specs.declared.row.TreeRow.{TreeRow};
 ghost use Rattle.ost_commit.specs.declared.built.Built.{Built};
 ghost use Rattle.ost_commit.specs.Objects.{have_of};
 ghost use Rattle.ost_commit.specs.Built.{BuiltCommit};
-ghost use Rattle.ost_head.specs.Offers.{offered};
+ghost use Rattle.ost_refs.specs.Offers.{offered};
 ghost use Rattle.ost_export.specs.Remotes.{held_at};
 ghost use Rattle.ost_export.specs.Staging.{AreWhole};
 ghost use Rattle.ost_export.specs.Storing.{IsNoWork};

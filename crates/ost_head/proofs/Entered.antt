@@ -2,9 +2,9 @@
 use Rattle.std.proofs.Common.{◌≡◌, ℕ, List, Bool, true, false, Option, Some, None, refl, sym, ◌∙◌, ap}
 use Rattle.std.specs.Prelude.{is_some, not, option_map}
 use Rattle.ost_model.specs.Fields.{DirRow, FileRow, TreeView}
-use Rattle.ost_model.specs.Look.{find_dir, find_file, either, entry_in}
+use Rattle.ost_model.specs.Look.{find_dir, find_file, either, entry_in, file_in}
 use Rattle.ost_walk.specs.Looked.{file_digest}
-use Rattle.ost_head.specs.Heads.{file_in, is_nothing}
+use Rattle.ost_head.specs.Heads.{is_nothing}
 
 with_dir : (e : Option DirRow) (f : Option FileRow) → is_some e ≡ true → None ≡ file_in (either e f)
 with_dir (Some e) f is = refl

@@ -9,7 +9,7 @@ use Rattle.ost_model.specs.declared.object.Object.{Object}
 use Rattle.ost_model.specs.Fields.{CommitView, TreeView}
 use Rattle.ost_model.specs.Objects.{Have, Fault, object_fault}
 use Rattle.ost_model.specs.Order.{commit_at, tree_at, read_as}
-use Rattle.ost_model.specs.Look.{Found, nothing, directory, file_at}
+use Rattle.ost_model.specs.Look.{Found, nothing, directory, file_at, file_in}
 use Rattle.ost_walk.specs.declared.ends.WalkFault.{WalkFault}
 use Rattle.ost_walk.specs.declared.ends.WalkEnd.{WalkEnd}
 use Rattle.ost_walk.specs.declared.ends.WalkEnd.TheVariants as walks
@@ -21,7 +21,7 @@ use Rattle.ost_walk.specs.PullEnds.{walk_refusal, of_walk, Answers}
 use Rattle.ost_head.specs.Objects.{IsGood}
 use Rattle.ost_head.specs.Parts.{ReadsAs, IsReadAs}
 use Rattle.ost_walk.specs.Refusals.{refusal_of, object_refused}
-use Rattle.ost_head.specs.Heads.{unless_refused, with_tree, with_commit, with_content, content_in, file_in, metadata_at, head_in, head_of}
+use Rattle.ost_head.specs.Heads.{unless_refused, with_tree, with_commit, with_content, content_in, metadata_at, head_in, head_of}
 use Rattle.ost_head.specs.Roots.{of_tree, ReadsTree, ReadsRoot}
 
 -- the refusal of an object that has a fault

@@ -5,7 +5,7 @@ use Rattle.std.proofs.lemmas.Bool.{le-leb}
 use Rattle.fp_host.specs.Remote.{Held, nothing, directory, contents, target, IsNode, bytes_of}
 use Rattle.fp_host.specs.declared.remotes.Node.{Node}
 use Rattle.fp_host.specs.declared.remotes.Node.TheVariants as nodes
-use Rattle.ost_head.specs.Offers.{size_in, small_file}
+use Rattle.ost_refs.specs.Offers.{size_in, small_file}
 
 pub loads_small : (most : ℕ) (h : Held) (mode size : ℕ) (bytes : List ℕ) → IsNode h (nodes.File mode size) → size ≤ most → (length (bytes_of h) ≡ size → bytes ≡ bytes_of h) → Some bytes ≡ small_file most h
 loads_small most nothing mode size bytes is short whole = absurd (cc is)

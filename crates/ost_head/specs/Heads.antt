@@ -59,12 +59,6 @@ abbrev pub root_refused : List ℕ → TreeView → Option Refusal
 root_refused commit v = if is_nothing (entry_in (codes "deploy") (Some v)) then None
     else Some (refusals.ReservedName commit)
 
--- the digest of a file
-abbrev pub file_in : Found → Option (List ℕ)
-file_in nothing = None
-file_in (directory e) = None
-file_in (file_at d) = Some d
-
 -- ---- the file `metadata`
 
 abbrev pub no_metadata : Ref → Refusal

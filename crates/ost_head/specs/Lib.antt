@@ -1,4 +1,3 @@
-pub mod Offers
 pub mod Objects
 pub mod Fetches
 pub mod Stored

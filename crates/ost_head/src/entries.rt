@@ -1,8 +1,8 @@
 //! Entries of a dirtree.
 ghost use Rattle.std.specs.Prelude.{◌≡◌, Some, map, is_some};
-ghost use Rattle.ost_model.specs.Look.{find_dir, entry_in};
+ghost use Rattle.ost_model.specs.Look.{find_dir, entry_in, file_in};
 ghost use Rattle.ost_object.specs.Views.{dir_row, tree_view};
-ghost use Rattle.ost_head.specs.Heads.{file_in, is_nothing};
+ghost use Rattle.ost_head.specs.Heads.{is_nothing};
 
 use fp_name::Digest;
 use ost_object::{DirEntry, DirTree};

@@ -10,7 +10,6 @@ mod fetching;
 mod found;
 mod head;
 mod judging;
-pub mod laws;
 mod limits;
 mod modes;
 mod offering;

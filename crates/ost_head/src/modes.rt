@@ -2,18 +2,16 @@
 ghost use Rattle.std.specs.Prelude.{◌≡◌, IfOk};
 ghost use Rattle.std.specs.List.{list_all};
 ghost use Rattle.std.specs.Option.{option_copied};
-ghost use Rattle.ost_head.specs.Offers.{is_core, is_pullable, is_mode_byte, is_mode_word, mode_word, mode_refused, mode_in};
+ghost use Rattle.ost_refs.specs.Offers.{is_core, is_pullable, is_mode_byte, is_mode_word, mode_word, mode_refused, mode_in};
 ghost use Rattle.fp_keyfile.specs.KeyFile.{value_at};
 
 use fp_base::{Blob, Text};
 use fp_keyfile::{KeyError, KeyFile};
+use ost_refs::MOST_MODE_BYTES;
 use std::alloc::{AllocError, Global};
 
 /// What stands for a mode that isn't said.
 const NO_MODE: &str = "-";
-
-/// The most bytes of a mode that is said.
-const MOST_MODE_BYTES: usize = 32;
 
 /// Whether a key of the group `core` has this value.
 fn is_core(file: &KeyFile, key: &str, value: &str) -> bool

@@ -4,7 +4,7 @@ ghost use Rattle.fp_host.specs.Remote.{Holdings};
 ghost use Rattle.fp_small.specs.declared.refusal.Refusal.TheVariants as refusals;
 ghost use Rattle.ost_walk.specs.Ends.{IsRemotes};
 ghost use Rattle.ost_walk.specs.PullEnds.{Answers, Tells};
-ghost use Rattle.ost_head.specs.Offers.{config_path, wrong_mode, ref_path, ref_at, commit_said, offered};
+ghost use Rattle.ost_refs.specs.Offers.{config_path, wrong_mode, ref_path, ref_at, commit_said, offered};
 
 use crate::modes::mode_in;
 use crate::small::load_remote;
@@ -12,12 +12,9 @@ use fp_base::Text;
 use fp_host::{Path, RemoteError, Remotes};
 use fp_name::{Digest, RefName};
 use fp_small::{Refusal, RemoteRow};
-use ost_refs::{REF_FILE_BYTES, RefFile, RefPlace, path_of, ref_file};
+use ost_refs::{MOST_STORE_CONFIG_BYTES, REF_FILE_BYTES, RefFile, RefPlace, path_of, ref_file};
 use ost_walk::PullEnd;
 use std::alloc::{AllocError, Global};
-
-/// The most bytes of a repository's `config`.
-const MOST_STORE_CONFIG_BYTES: u64 = 1024 * 1024;
 
 /// The path of `config`.
 fn config_path(alloc: Global) -> Result<Path, AllocError>

@@ -3,7 +3,7 @@ ghost use Rattle.std.specs.Prelude.{◌≡◌, length, ℕ, IfOk, IsErrOf, Some}
 ghost use Rattle.fp_host.specs.Remote.{Holdings, IsNode, bytes_of};
 ghost use Rattle.fp_host.specs.declared.remotes.Node.TheVariants as nodes;
 ghost use Rattle.ost_walk.specs.Ends.{IsRemotes};
-ghost use Rattle.ost_head.specs.Offers.{size_in, small_file};
+ghost use Rattle.ost_refs.specs.Offers.{size_in, small_file};
 
 use fp_base::Blob;
 use fp_host::{Node, Path, RemoteError, Remotes};

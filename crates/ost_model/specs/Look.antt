@@ -30,6 +30,12 @@ abbrev pub entry_in : List ℕ → Option TreeView → Found
 entry_in x None = nothing
 entry_in x (Some v) = either (find_dir x v.dirs) (find_file x v.files)
 
+-- the digest of a file that was found
+abbrev pub file_in : Found → Option (List ℕ)
+file_in nothing = None
+file_in (directory e) = None
+file_in (file_at d) = Some d
+
 -- what has the name x in what was found
 abbrev pub next : Have → List ℕ → Found → Found
 next have x nothing = nothing

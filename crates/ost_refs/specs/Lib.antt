@@ -4,3 +4,4 @@ pub mod Changes
 pub mod Lists
 pub mod Walks
 pub mod Found
+pub mod Offers

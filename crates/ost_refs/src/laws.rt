@@ -11,6 +11,7 @@ ghost use Rattle.ost_refs.specs.Places.{place_path};
 ghost use Rattle.ost_refs.specs.Files.{ref_bytes, ref_file, ref_in};
 ghost use Rattle.ost_refs.specs.Changes.{WasDropped};
 ghost use Rattle.ost_refs.specs.declared.reading.TheConstants.{REF_FILE_BYTES};
+ghost use Rattle.ost_refs.specs.declared.limits.TheConstants.{MOST_MODE_BYTES, MOST_STORE_CONFIG_BYTES};
 ghost use Rattle.ost_refs.specs.declared.listing.TheConstants.{HEAD_DEPTH, REMOTE_DEPTH};
 ghost use Rattle.ost_refs.specs.declared.place.RefPlace.{RefPlace};
 ghost use Rattle.ost_refs.specs.declared.place.RefFile.TheVariants.{Digest, Absent};
@@ -43,4 +44,10 @@ pub fn places_as_numbers()
     ensures bytes { REF_FILE_BYTES ≡ 65 }
     ensures heads { HEAD_DEPTH ≡ 4 }
     ensures remotes { REMOTE_DEPTH ≡ 5 }
+{}
+
+/// The most bytes of a store's `config` and of the mode that it says, as numbers.
+pub fn limits_as_numbers()
+    ensures config { MOST_STORE_CONFIG_BYTES ≡ 1048576 }
+    ensures mode { MOST_MODE_BYTES ≡ 32 }
 {}

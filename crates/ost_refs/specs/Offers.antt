@@ -17,8 +17,7 @@ use Rattle.ost_refs.specs.Places.{place_path}
 use Rattle.ost_refs.specs.Files.{ref_file}
 use Rattle.ost_refs.specs.declared.place.RefPlace.TheVariants.{Head}
 use Rattle.ost_refs.specs.declared.reading.TheConstants.{REF_FILE_BYTES}
-use Rattle.ost_head.specs.declared.modes.TheConstants.{MOST_MODE_BYTES}
-use Rattle.ost_head.specs.declared.offering.TheConstants.{MOST_STORE_CONFIG_BYTES}
+use Rattle.ost_refs.specs.declared.limits.TheConstants.{MOST_MODE_BYTES, MOST_STORE_CONFIG_BYTES}
 use Rattle.ost_refs.specs.declared.place.RefFile.{RefFile}
 use Rattle.ost_refs.specs.declared.place.RefFile.TheVariants as files
 
