@@ -3,8 +3,8 @@ use Rattle.std.specs.Prelude.{◌≡◌, ℕ, List, [], ◌∷◌, ◌++◌, Opt
 use Rattle.fp_base.specs.declared.side.Side.{Side}
 use Rattle.bus_policy.specs.declared.verdict.Verdict.{Verdict}
 use Rattle.bus_policy.specs.declared.verdict.Verdict.TheVariants as verdict
-use Rattle.bus_policy.specs.Events.{Event}
-use Rattle.bus_policy.specs.Watching.{Owners, WatchAt, rules_of, client_of, count_kept}
+use Rattle.bus_policy.specs.Events.{Event, Judged}
+use Rattle.bus_policy.specs.Watching.{Owners, WatchAt, rules_of, client_of, count_kept, level_after}
 use Rattle.bus_proxy.specs.declared.out.Out.{Out}
 use Rattle.bus_proxy.specs.declared.error.FilterError.{FilterError}
 use Rattle.bus_proxy.specs.declared.error.FilterError.TheVariants.{Bad, NoMemory}
@@ -13,7 +13,7 @@ use Rattle.bus_proxy.specs.declared.proxy.Filter.{Filter}
 use Rattle.bus_proxy.specs.declared.proxy.Next.{Next}
 use Rattle.bus_proxy.specs.declared.proxy.Next.TheVariants as next
 use Rattle.bus_proxy.specs.Arrivals.{Pieces, End, other_side, breach, events, end_of}
-use Rattle.bus_proxy.specs.Outs.{Setting, judged_by, out_after, forwarded}
+use Rattle.bus_proxy.specs.Outs.{Setting, judged_by, out_after, out_by, forwarded}
 use Rattle.bus_proxy.specs.Streaming.{StreamsAt, unread_bytes}
 
 -- a judge knows what is known after these events
@@ -30,6 +30,14 @@ given_by verdict.FilterNameList side bytes instead = instead
 given_by verdict.Deny side bytes instead = instead
 given_by verdict.Hide side bytes instead = instead
 given_by verdict.Drop side bytes instead = instead
+
+-- What the verdict makes of an event, by what a judge knows that has these owners and has noted
+-- these events.
+abbrev pub out_now : {S H : Type 0} → Judge S H → Owners → List Judged → Event → Verdict
+    → Option Out
+out_now j owners noted e decided =
+    out_by (level_after (rules_of j.watch) (client_of j.watch) owners noted)
+    (option_map (λ name. name.text) j.client) e decided
 
 -- A filter that was made with this setting and fed these pieces, of which these events were taken,
 -- the latest first. What it gave is what these events give.

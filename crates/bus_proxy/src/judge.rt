@@ -6,10 +6,10 @@ ghost use Rattle.bus_frame.specs.declared.limits.TheConstants.{MOST_NAME_BYTES};
 ghost use Rattle.bus_frame.specs.Reading.{whole, frame_of};
 ghost use Rattle.bus_frame.specs.Writing.{error_bytes};
 ghost use Rattle.bus_policy.specs.Events.{Event, Judged};
-ghost use Rattle.bus_policy.specs.Watching.{Owners, WatchAt, rules_of, client_of, level_after, event};
+ghost use Rattle.bus_policy.specs.Watching.{Owners, WatchAt, event};
 ghost use Rattle.bus_proxy.specs.Arrivals.{other_side};
-ghost use Rattle.bus_proxy.specs.Outs.{Setting, setting, out_by, out_after};
-ghost use Rattle.bus_proxy.specs.Filters.{JudgeAt, given_by};
+ghost use Rattle.bus_proxy.specs.Outs.{Setting, setting, out_after};
+ghost use Rattle.bus_proxy.specs.Filters.{JudgeAt, given_by, out_now};
 
 use crate::client::{Name, name_of};
 use crate::out::Out;
@@ -115,10 +115,8 @@ impl<S: BuildHasher + Copy> Judge<S> {
         requires { frame_of message.now ≡ whole header.now (length message.now) }
         ensures { IfOk result (λ out. (owners : Owners) (noted : List Judged)
             → WatchAt self.now.watch owners noted
-            → out ≡ out_by
-            (level_after (rules_of self.now.watch) (client_of self.now.watch) owners noted)
-            (option_map (λ name. name.text) self.now.client)
-            (event side header.now message.now) Verdict.FilterNameList) }
+            → out ≡ out_now self.now owners noted (event side header.now message.now)
+            Verdict.FilterNameList) }
     {
         match without_unseen(self.alloc, &self.watch, header, message)? {
             Some(bytes) => Ok(Some(sent(opposite(side), bytes)?)),
@@ -138,9 +136,7 @@ impl<S: BuildHasher + Copy> Judge<S> {
         ensures { IfOk result
             (λ out. (owners : Owners) (noted : List Judged) → WatchAt self.now.watch owners noted
             → given_by verdict side message.now out
-            ≡ out_by (level_after (rules_of self.now.watch) (client_of self.now.watch) owners noted)
-            (option_map (λ name. name.text) self.now.client)
-            (event side header.now message.now) verdict) }
+            ≡ out_now self.now owners noted (event side header.now message.now) verdict) }
     {
         match verdict {
             Verdict::FilterNameList => self.shortened(side, header, message),

@@ -31,6 +31,21 @@ pub record Done : Type 0 where
 
 -- ---- the rows of refs
 
+-- a ref that is deployed from this remote at this commit, of this time, with this previous one
+abbrev pub ref_row : Ref → List ℕ → List ℕ → ℕ → Option Previous → RefRow
+ref_row name origin commit timestamp previous =
+    record {
+      name = name;
+      origin = origin;
+      commit = commit;
+      timestamp = timestamp;
+      previous = previous;
+    }
+
+-- the commit of a row, as a previous one
+abbrev pub as_previous : RefRow → Option Previous
+as_previous row = Some (record { commit = row.commit; timestamp = row.timestamp })
+
 abbrev pub row_at : State → Ref → Option RefRow
 row_at s name = at_name ref_key s.refs (ref_text name)
 

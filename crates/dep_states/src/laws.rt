@@ -23,7 +23,7 @@ ghost use Rattle.ost_model.specs.Order.{In};
 ghost use Rattle.ost_model.specs.Stores.{IsStore};
 ghost use Rattle.ost_refs.specs.Places.{place_path};
 ghost use Rattle.ost_refs.specs.declared.place.RefPlace.{RefPlace};
-ghost use Rattle.dep_states.specs.After.{HasOrder, IsGood, row_at, after_op};
+ghost use Rattle.dep_states.specs.After.{HasOrder, IsGood, row_at, ref_row, as_previous, after_op};
 ghost use Rattle.dep_states.specs.Frames.{KeptIn, InDir, IsUnused, ObjectGone, IsNewObject, Pulls};
 ghost use Rattle.dep_states.specs.Small.{IsSetting, IsLayered};
 ghost use Rattle.dep_states.specs.Switch.{IsWith, SwitchesAt, Stages, OpensEither};
@@ -247,41 +247,18 @@ pub fn operations_change_one_override()
 /// What the operations on refs make of a state: the row of that ref changes, and no other.
 pub fn operations_change_one_row()
     ensures install { (s : State) (name : Ref) (remote commit : List ℕ) (time : ℕ) → HasOrder s
-        → row_at s name ≡ None
-        → IsWith s name
-        (Some (record {
-          name = name;
-          origin = remote;
-          commit = commit;
-          timestamp = time;
-          previous = None;
-        }))
+        → row_at s name ≡ None → IsWith s name (Some (ref_row name remote commit time None))
         (after_op s time (Install name remote commit)) }
     ensures update { (s : State) (name : Ref) (remote commit : List ℕ) (time : ℕ) (row : RefRow)
-        → HasOrder s
-        → row_at s name ≡ Some row
-        → IsWith s name
-        (Some (record {
-          name = name;
-          origin = remote;
-          commit = commit;
-          timestamp = time;
-          previous = Some (record { commit = row.commit; timestamp = row.timestamp });
-        }))
+        → HasOrder s → row_at s name ≡ Some row
+        → IsWith s name (Some (ref_row name remote commit time (as_previous row)))
         (after_op s time (Update name remote commit)) }
     ensures uninstall { (s : State) (name : Ref) (time : ℕ) → HasOrder s
         → IsWith s name None (after_op s time (Uninstall name)) }
     ensures rollback { (s : State) (commit : List ℕ) (time : ℕ) (row : RefRow) (p : Previous)
-        → HasOrder s
-        → row_at s row.name ≡ Some row → row.previous ≡ Some p
+        → HasOrder s → row_at s row.name ≡ Some row → row.previous ≡ Some p
         → IsWith s row.name
-        (Some (record {
-          name = row.name;
-          origin = row.origin;
-          commit = p.commit;
-          timestamp = p.timestamp;
-          previous = Some (record { commit = row.commit; timestamp = row.timestamp });
-        }))
+        (Some (ref_row row.name row.origin p.commit p.timestamp (as_previous row)))
         (after_op s time (Rollback row.name commit)) }
 {}
 

@@ -11,3 +11,4 @@ pub mod Ends
 pub mod Says
 pub mod Sample
 pub mod Current
+pub mod Premises

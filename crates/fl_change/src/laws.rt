@@ -20,7 +20,6 @@ ghost use Rattle.ost_model.specs.Objects.{Have};
 ghost use Rattle.ost_model.specs.Order.{Place, In, order};
 ghost use Rattle.dep_states.specs.After.{Done, after_all, plain};
 ghost use Rattle.op_change.specs.Applied.{op_refusal};
-ghost use Rattle.fl_lines.specs.Lines.{op_text};
 ghost use Rattle.fl_words.specs.declared.command.Change.{Change};
 ghost use Rattle.fl_words.specs.declared.command.Change.TheVariants as changes;
 ghost use Rattle.fl_meta.specs.Names.{is_among};
@@ -28,6 +27,7 @@ ghost use Rattle.fl_change.specs.World.{World, kept_commits, is_used, used_of, w
 ghost use Rattle.fl_change.specs.Answer.{Answer, done_answer, nothing, op_answer, refusal_answer, IsUnpulled};
 ghost use Rattle.fl_change.specs.Settings.{first_from};
 ghost use Rattle.fl_change.specs.Turns.{change_over, changing, in_turn};
+ghost use Rattle.fl_change.specs.Premises.{after_piece, done_piece};
 
 /// A world has the objects of the orders of its state's commits as they are, and it has nothing
 /// else: what it has is all used. Operations make of its state what they make of a state.
@@ -52,11 +52,7 @@ pub fn changes_go_in_turn()
     ensures done { (held : Holdings) (x : World) (change : Change) (more : List Change)
         (d : Done) (next : Answer) → change_over change held x ≡ done_answer d
         → in_turn more held (world_after held x d) ≡ next
-        → in_turn (change ∷ more) held x
-        ≡ record {
-          pieces = record { text = op_text d.op; op = Some d } ∷ next.pieces;
-          refusal = next.refusal;
-        } }
+        → in_turn (change ∷ more) held x ≡ after_piece (done_piece d) next }
     ensures refused { (held : Holdings) (x : World) (change : Change) (more : List Change)
         (refusal : Refusal) → change_over change held x ≡ refusal_answer refusal
         → in_turn (change ∷ more) held x ≡ refusal_answer refusal }
@@ -67,12 +63,7 @@ pub fn changes_go_in_turn()
 pub fn migration_comes_first()
     ensures migrates { (held : Holdings) (x : World) (more : List Change) (next : Answer)
         → x.state.layout ≡ One → in_turn more held (world_after held x (plain ops.Migrate)) ≡ next
-        → changing more held x
-        ≡ record {
-          pieces = record { text = op_text ops.Migrate; op = Some (plain ops.Migrate) }
-              ∷ next.pieces;
-          refusal = next.refusal;
-        } }
+        → changing more held x ≡ after_piece (done_piece (plain ops.Migrate)) next }
     ensures stays { (held : Holdings) (x : World) (more : List Change) → x.state.layout ≡ Two
         → changing more held x ≡ in_turn more held x }
 {}

@@ -1,6 +1,6 @@
 //! Laws of what changes of overrides by options answer. Each is the contract of a function that
 //! does nothing.
-ghost use Rattle.std.specs.Prelude.{◌≡◌, ◌<◌, ◌≤◌, ℕ, List, [], ◌∷◌, ◌++◌, true, length, codes};
+ghost use Rattle.std.specs.Prelude.{◌≡◌, ◌<◌, ◌≤◌, ℕ, List, [], ◌∷◌, ◌++◌, true, codes};
 ghost use Rattle.fp_base.specs.declared.what.What.TheVariants as whats;
 ghost use Rattle.fp_host.specs.Remote.{Holdings};
 ghost use Rattle.fp_keyfile.specs.declared.group.Group.{Group};
@@ -16,20 +16,20 @@ ghost use Rattle.fl_options.specs.Options.{layer_of};
 ghost use Rattle.fl_words.specs.declared.command.Change.TheVariants as changes;
 ghost use Rattle.fl_change.specs.World.{World};
 ghost use Rattle.fl_change.specs.Answer.{op_answer, refusal_answer};
-ghost use Rattle.fl_change.specs.Overrides.{changed_file, changed_row};
+ghost use Rattle.fl_change.specs.Overrides.{changed_file};
 ghost use Rattle.fl_change.specs.Turns.{change_over};
+ghost use Rattle.fl_change.specs.Premises.{override_len, override_with};
 
 /// An override is changed by options, unless its text had more than 1 MiB then.
 pub fn changed_overrides_answer()
     ensures limit { (held : Holdings) (x : World) (name : List ℕ) (options : List (List ℕ))
-        → small_most < length (text_of (changed_row x.state.overrides name options).file)
+        → small_most < override_len x name options
         → change_over (changes.OverrideChange name options) held x
-        ≡ refusal_answer (refusals.Limit whats.Override
-        (length (text_of (changed_row x.state.overrides name options).file))) }
+        ≡ refusal_answer (refusals.Limit whats.Override (override_len x name options)) }
     ensures done { (held : Holdings) (x : World) (name : List ℕ) (options : List (List ℕ))
-        → length (text_of (changed_row x.state.overrides name options).file) ≤ small_most
+        → override_len x name options ≤ small_most
         → change_over (changes.OverrideChange name options) held x
-        ≡ op_answer (ops.SetOverride (changed_row x.state.overrides name options)) }
+        ≡ op_answer (ops.SetOverride (override_with x name options)) }
 {}
 
 /// A changed override reads back, of each permission, as the last mention of the old one and the

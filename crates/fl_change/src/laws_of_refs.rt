@@ -1,6 +1,6 @@
 //! Laws of what changes of refs and of overrides answer. Each is the contract of a function that
 //! does nothing.
-ghost use Rattle.std.specs.Prelude.{◌≡◌, ℕ, List, [], ◌∷◌, ◌++◌, map, true, false, Option, Some, None, Ok, Err, Contains, codes};
+ghost use Rattle.std.specs.Prelude.{◌≡◌, ℕ, List, [], ◌∷◌, ◌++◌, map, true, false, Some, None, Ok, Err, Contains, codes};
 ghost use Rattle.fp_base.specs.declared.object.ObjKind.{ObjKind};
 ghost use Rattle.fp_base.specs.declared.object.ObjKind.TheVariants as kinds;
 ghost use Rattle.fp_host.specs.Paths.{Elements, IsAbove, file};
@@ -8,7 +8,6 @@ ghost use Rattle.fp_host.specs.Remote.{Holdings};
 ghost use Rattle.fp_host.specs.View.{View};
 ghost use Rattle.fp_name.specs.Hex.{is_digest};
 ghost use Rattle.fp_name.specs.Refs.{Ref};
-ghost use Rattle.fp_small.specs.Config.{name_of};
 ghost use Rattle.fp_small.specs.Files.{KeepsFiles};
 ghost use Rattle.fp_small.specs.Places.{repo};
 ghost use Rattle.fp_small.specs.declared.op.Op.{Op};
@@ -27,10 +26,8 @@ ghost use Rattle.ost_refs.specs.Offers.{offered};
 ghost use Rattle.dep_states.specs.After.{Done, plain, row_at};
 ghost use Rattle.dep_states.specs.Deployed.{platform, commit, commit_text, deployed_state};
 ghost use Rattle.dep_states.specs.Shown.{at_name, override_key};
-ghost use Rattle.op_change.specs.Applied.{done_with, op_refusal};
-ghost use Rattle.fl_meta.specs.declared.meta.Meta.{Meta};
+ghost use Rattle.op_change.specs.Applied.{op_refusal};
 ghost use Rattle.fl_extension.specs.Found.{has_ref};
-ghost use Rattle.fl_installed.specs.Described.{described};
 ghost use Rattle.fl_installed.specs.Users.{first_user, installed_metas, installed_points};
 ghost use Rattle.fl_plan.specs.Plans.{plan_of};
 ghost use Rattle.fl_plan.specs.Targets.{targets_of};
@@ -38,11 +35,12 @@ ghost use Rattle.fl_plan.specs.Unused.{unused_of};
 ghost use Rattle.fl_lines.specs.Lines.{op_text, skipped_text};
 ghost use Rattle.fl_words.specs.declared.command.Change.TheVariants as changes;
 ghost use Rattle.fl_change.specs.World.{World, supplied, world_after};
-ghost use Rattle.fl_change.specs.Answer.{Answer, done_answer, each_over, nothing, op_answer, refusal_answer};
+ghost use Rattle.fl_change.specs.Answer.{done_answer, nothing, op_answer, refusal_answer};
 ghost use Rattle.fl_change.specs.Created.{LacksFor, CreatesInTurn};
-ghost use Rattle.fl_change.specs.Refs.{drop_over, ops_over, skipped, target_over};
+ghost use Rattle.fl_change.specs.Refs.{ops_over, skipped, target_over};
 ghost use Rattle.fl_change.specs.Sample as sample;
 ghost use Rattle.fl_change.specs.Turns.{change_over};
+ghost use Rattle.fl_change.specs.Premises.{Does, GoesBackTo, IsDeployedFrom, IsOfNoOffer, MayInstall, NamesRuntime, after_piece, done_piece, drops_over, remote_named, targets_over};
 
 /// Operations go in turn. Each prints its line, and the next one works on the world that it leaves.
 /// The first whose commit is refused ends them: nothing is printed of those that would come after
@@ -50,13 +48,8 @@ ghost use Rattle.fl_change.specs.Turns.{change_over};
 pub fn operations_go_in_turn()
     ensures none { (held : Holdings) (x : World) → ops_over [] held x ≡ nothing }
     ensures done { (held : Holdings) (x : World) (op : Op) (more : List Op) (d : Done)
-        (next : Answer) → op_refusal (supplied held x op) op ≡ None
-        → done_with (supplied held x op) op ≡ d → ops_over more held (world_after held x d) ≡ next
-        → ops_over (op ∷ more) held x
-        ≡ record {
-          pieces = record { text = op_text d.op; op = Some d } ∷ next.pieces;
-          refusal = next.refusal;
-        } }
+        → Does held x op d → ops_over (op ∷ more) held x
+        ≡ after_piece (done_piece d) (ops_over more held (world_after held x d)) }
     ensures refused { (held : Holdings) (x : World) (op : Op) (more : List Op)
         (refusal : Refusal) → op_refusal (supplied held x op) op ≡ Some refusal
         → ops_over (op ∷ more) held x ≡ refusal_answer refusal }
@@ -66,22 +59,20 @@ pub fn operations_go_in_turn()
 /// then for what the plan is refused for. Else the operations of the plan are done.
 pub fn installs_answer()
     ensures no_remote { (held : Holdings) (x : World) (remote : List ℕ) (name : Ref)
-        → at_name name_of x.state.remotes remote ≡ None
+        → remote_named x remote ≡ None
         → change_over (changes.Install remote name) held x
         ≡ refusal_answer (refusals.NoSuchRemote remote) }
     ensures installed { (held : Holdings) (x : World) (remote : List ℕ) (name : Ref)
-        (from : RemoteRow) (row : RefRow) → at_name name_of x.state.remotes remote ≡ Some from
+        (from : RemoteRow) (row : RefRow) → remote_named x remote ≡ Some from
         → row_at x.state name ≡ Some row
         → change_over (changes.Install remote name) held x
         ≡ refusal_answer (refusals.AlreadyInstalled name) }
     ensures refused { (held : Holdings) (x : World) (remote : List ℕ) (name : Ref)
-        (from : RemoteRow) (refusal : Refusal)
-        → at_name name_of x.state.remotes remote ≡ Some from → row_at x.state name ≡ None
+        (from : RemoteRow) (refusal : Refusal) → MayInstall x remote name from
         → plan_of held x.have x.state from name ≡ Err refusal
         → change_over (changes.Install remote name) held x ≡ refusal_answer refusal }
     ensures planned { (held : Holdings) (x : World) (remote : List ℕ) (name : Ref)
-        (from : RemoteRow) (plan : List Op)
-        → at_name name_of x.state.remotes remote ≡ Some from → row_at x.state name ≡ None
+        (from : RemoteRow) (plan : List Op) → MayInstall x remote name from
         → plan_of held x.have x.state from name ≡ Ok plan
         → change_over (changes.Install remote name) held x ≡ ops_over plan held x }
 {}
@@ -95,23 +86,19 @@ pub fn updates_answer()
         → change_over (changes.UpdateOne name) held x
         ≡ refusal_answer (refusals.NotInstalled name) }
     ensures no_remote { (held : Holdings) (x : World) (name : Ref) (row : RefRow)
-        → row_at x.state name ≡ Some row → at_name name_of x.state.remotes row.origin ≡ None
+        → row_at x.state name ≡ Some row → remote_named x row.origin ≡ None
         → change_over (changes.UpdateOne name) held x
         ≡ refusal_answer (refusals.NoSuchRemote row.origin) }
-    ensures refused { (held : Holdings) (x : World) (name : Ref) (row : RefRow)
-        (from : RemoteRow) (refusal : Refusal) → row_at x.state name ≡ Some row
-        → at_name name_of x.state.remotes row.origin ≡ Some from
+    ensures refused { (held : Holdings) (x : World) (name : Ref) (from : RemoteRow)
+        (refusal : Refusal) → IsDeployedFrom x name from
         → plan_of held x.have x.state from name ≡ Err refusal
         → change_over (changes.UpdateOne name) held x ≡ refusal_answer refusal }
-    ensures planned { (held : Holdings) (x : World) (name : Ref) (row : RefRow)
-        (from : RemoteRow) (plan : List Op) → row_at x.state name ≡ Some row
-        → at_name name_of x.state.remotes row.origin ≡ Some from
+    ensures planned { (held : Holdings) (x : World) (name : Ref) (from : RemoteRow)
+        (plan : List Op) → IsDeployedFrom x name from
         → plan_of held x.have x.state from name ≡ Ok plan
         → change_over (changes.UpdateOne name) held x ≡ ops_over plan held x }
-    ensures up_to_date { (held : Holdings) (x : World) (name : Ref) (row : RefRow)
-        (from : RemoteRow) → row_at x.state name ≡ Some row
-        → at_name name_of x.state.remotes row.origin ≡ Some from
-        → plan_of held x.have x.state from name ≡ Ok []
+    ensures up_to_date { (held : Holdings) (x : World) (name : Ref) (from : RemoteRow)
+        → IsDeployedFrom x name from → plan_of held x.have x.state from name ≡ Ok []
         → change_over (changes.UpdateOne name) held x ≡ nothing }
 {}
 
@@ -120,27 +107,22 @@ pub fn updates_answer()
 /// mode is no reason to skip.
 pub fn targets_answer()
     ensures remote_gone { (held : Holdings) (x : World) (name : Ref) (row : RefRow)
-        → row_at x.state name ≡ Some row → at_name name_of x.state.remotes row.origin ≡ None
+        → row_at x.state name ≡ Some row → remote_named x row.origin ≡ None
         → target_over name held x ≡ skipped name }
-    ensures not_offered { (held : Holdings) (x : World) (name : Ref) (row : RefRow)
-        (from : RemoteRow) (remote : List ℕ) (missed : Ref) → row_at x.state name ≡ Some row
-        → at_name name_of x.state.remotes row.origin ≡ Some from
+    ensures not_offered { (held : Holdings) (x : World) (name : Ref) (from : RemoteRow)
+        (remote : List ℕ) (missed : Ref) → IsDeployedFrom x name from
         → offered held from name ≡ Err (refusals.NoSuchRef remote missed)
         → target_over name held x ≡ skipped name }
-    ensures wrong_mode { (held : Holdings) (x : World) (name : Ref) (row : RefRow)
-        (from : RemoteRow) (remote mode : List ℕ) → row_at x.state name ≡ Some row
-        → at_name name_of x.state.remotes row.origin ≡ Some from
+    ensures wrong_mode { (held : Holdings) (x : World) (name : Ref) (from : RemoteRow)
+        (remote mode : List ℕ) → IsDeployedFrom x name from
         → offered held from name ≡ Err (refusals.WrongMode remote mode)
         → target_over name held x ≡ refusal_answer (refusals.WrongMode remote mode) }
-    ensures refused { (held : Holdings) (x : World) (name : Ref) (row : RefRow)
-        (from : RemoteRow) (refusal : Refusal) → row_at x.state name ≡ Some row
-        → at_name name_of x.state.remotes row.origin ≡ Some from
-        → plan_of held x.have x.state from name ≡ Err refusal
-        → ((remote : List ℕ) (missed : Ref) → refusal ≡ refusals.NoSuchRef remote missed → ⊥)
+    ensures refused { (held : Holdings) (x : World) (name : Ref) (from : RemoteRow)
+        (refusal : Refusal) → IsDeployedFrom x name from
+        → plan_of held x.have x.state from name ≡ Err refusal → (IsOfNoOffer refusal → ⊥)
         → target_over name held x ≡ refusal_answer refusal }
-    ensures planned { (held : Holdings) (x : World) (name : Ref) (row : RefRow)
-        (from : RemoteRow) (plan : List Op) → row_at x.state name ≡ Some row
-        → at_name name_of x.state.remotes row.origin ≡ Some from
+    ensures planned { (held : Holdings) (x : World) (name : Ref) (from : RemoteRow)
+        (plan : List Op) → IsDeployedFrom x name from
         → plan_of held x.have x.state from name ≡ Ok plan
         → target_over name held x ≡ ops_over plan held x }
 {}
@@ -150,31 +132,21 @@ pub fn targets_answer()
 /// target that is refused ends the update.
 pub fn updates_of_all_go_on()
     ensures begins { (held : Holdings) (x : World)
-        → change_over changes.UpdateAll held x
-        ≡ each_over target_over (targets_of x.state None) held x }
-    ensures none { (held : Holdings) (x : World) → each_over target_over [] held x ≡ nothing }
-    ensures skips { (held : Holdings) (x : World) (name : Ref) (more : List Ref) (next : Answer)
-        → target_over name held x ≡ skipped name → each_over target_over more held x ≡ next
-        → each_over target_over (name ∷ more) held x
-        ≡ record {
-          pieces = record { text = skipped_text name; op = None } ∷ next.pieces;
-          refusal = next.refusal;
-        } }
+        → change_over changes.UpdateAll held x ≡ targets_over (targets_of x.state None) held x }
+    ensures none { (held : Holdings) (x : World) → targets_over [] held x ≡ nothing }
+    ensures skips { (held : Holdings) (x : World) (name : Ref) (more : List Ref)
+        → target_over name held x ≡ skipped name → targets_over (name ∷ more) held x
+        ≡ after_piece (record { text = skipped_text name; op = None }) (targets_over more held x) }
     ensures stays { (held : Holdings) (x : World) (name : Ref) (more : List Ref)
         → target_over name held x ≡ nothing
-        → each_over target_over (name ∷ more) held x ≡ each_over target_over more held x }
+        → targets_over (name ∷ more) held x ≡ targets_over more held x }
     ensures brings { (held : Holdings) (x : World) (name : Ref) (more : List Ref) (op : Op)
-        (d : Done) (next : Answer) → target_over name held x ≡ ops_over (op ∷ []) held x
-        → op_refusal (supplied held x op) op ≡ None → done_with (supplied held x op) op ≡ d
-        → each_over target_over more held (world_after held x d) ≡ next
-        → each_over target_over (name ∷ more) held x
-        ≡ record {
-          pieces = record { text = op_text d.op; op = Some d } ∷ next.pieces;
-          refusal = next.refusal;
-        } }
+        (d : Done) → target_over name held x ≡ ops_over (op ∷ []) held x
+        → Does held x op d → targets_over (name ∷ more) held x
+        ≡ after_piece (done_piece d) (targets_over more held (world_after held x d)) }
     ensures refused { (held : Holdings) (x : World) (name : Ref) (more : List Ref)
         (refusal : Refusal) → target_over name held x ≡ refusal_answer refusal
-        → each_over target_over (name ∷ more) held x ≡ refusal_answer refusal }
+        → targets_over (name ∷ more) held x ≡ refusal_answer refusal }
 {}
 
 /// A ref that isn't deployed isn't uninstalled, nor is a runtime that a deployed application names:
@@ -198,20 +170,13 @@ pub fn uninstalls_answer()
 pub fn unused_runtimes_go()
     ensures begins { (held : Holdings) (x : World)
         → change_over changes.UninstallUnused held x
-        ≡ each_over drop_over (unused_of x.state (installed_metas x.have x.state.refs)
+        ≡ drops_over (unused_of x.state (installed_metas x.have x.state.refs)
         (installed_points x.have x.state.refs)) held x }
-    ensures none { (held : Holdings) (x : World) → each_over drop_over [] held x ≡ nothing }
+    ensures none { (held : Holdings) (x : World) → drops_over [] held x ≡ nothing }
     ensures taken { (held : Holdings) (x : World) (name : Ref) (more : List Ref) (row : RefRow)
-        (next : Answer) → row_at x.state name ≡ Some row
-        → each_over drop_over more held (world_after held x (plain (ops.Uninstall name))) ≡ next
-        → each_over drop_over (name ∷ more) held x
-        ≡ record {
-          pieces = record {
-            text = op_text (ops.Uninstall name);
-            op = Some (plain (ops.Uninstall name));
-          } ∷ next.pieces;
-          refusal = next.refusal;
-        } }
+        → row_at x.state name ≡ Some row → drops_over (name ∷ more) held x
+        ≡ after_piece (done_piece (plain (ops.Uninstall name)))
+        (drops_over more held (world_after held x (plain (ops.Uninstall name)))) }
 {}
 
 /// A rollback is refused for a ref that isn't deployed, then for one that has no previous commit,
@@ -226,27 +191,21 @@ pub fn rollbacks_answer()
         → row_at x.state name ≡ Some row → row.previous ≡ None
         → change_over (changes.Rollback name) held x
         ≡ refusal_answer (refusals.NoPrevious name) }
-    ensures bad_metadata { (held : Holdings) (x : World) (name : Ref) (row : RefRow)
-        (previous : Previous) (refusal : Refusal) → row_at x.state name ≡ Some row
-        → row.previous ≡ Some previous
-        → described x.have name previous.commit ≡ Err refusal
+    ensures bad_metadata { (held : Holdings) (x : World) (name : Ref) (previous : Previous)
+        (refusal : Refusal) → GoesBackTo x name previous (Err refusal)
         → change_over (changes.Rollback name) held x ≡ refusal_answer refusal }
-    ensures runtime_missing { (held : Holdings) (x : World) (name : Ref) (row : RefRow)
-        (previous : Previous) (meta : Meta) (runtime : Ref) → row_at x.state name ≡ Some row
-        → row.previous ≡ Some previous → described x.have name previous.commit ≡ Ok meta
-        → meta.runtime ≡ Some runtime → has_ref x.state runtime ≡ false
+    ensures runtime_missing { (held : Holdings) (x : World) (name : Ref) (previous : Previous)
+        (runtime : Ref) → NamesRuntime x name previous (Some runtime)
+        → has_ref x.state runtime ≡ false
         → change_over (changes.Rollback name) held x
         ≡ refusal_answer (refusals.RuntimeMissing runtime) }
-    ensures runtime_there { (held : Holdings) (x : World) (name : Ref) (row : RefRow)
-        (previous : Previous) (meta : Meta) (runtime : Ref) → row_at x.state name ≡ Some row
-        → row.previous ≡ Some previous → described x.have name previous.commit ≡ Ok meta
-        → meta.runtime ≡ Some runtime → has_ref x.state runtime ≡ true
+    ensures runtime_there { (held : Holdings) (x : World) (name : Ref) (previous : Previous)
+        (runtime : Ref) → NamesRuntime x name previous (Some runtime)
+        → has_ref x.state runtime ≡ true
         → change_over (changes.Rollback name) held x
         ≡ op_answer (ops.Rollback name previous.commit) }
-    ensures no_runtime { (held : Holdings) (x : World) (name : Ref) (row : RefRow)
-        (previous : Previous) (meta : Meta) → row_at x.state name ≡ Some row
-        → row.previous ≡ Some previous → described x.have name previous.commit ≡ Ok meta
-        → meta.runtime ≡ None
+    ensures no_runtime { (held : Holdings) (x : World) (name : Ref) (previous : Previous)
+        → NamesRuntime x name previous None
         → change_over (changes.Rollback name) held x
         ≡ op_answer (ops.Rollback name previous.commit) }
 {}

@@ -1,6 +1,7 @@
 pub mod Steps
 pub mod Heads
 pub mod Offering
+mod Own
 pub mod Points
 pub mod Skips
 pub mod Turns

@@ -1,7 +1,10 @@
--- What is known of a target in the worked plans.
-use Rattle.std.specs.Prelude.{◌≡◌, ℕ, false, List, Option, Ok}
+-- What is known in the worked plans.
+use Rattle.std.specs.Prelude.{◌≡◌, ◌≤◌, ℕ, true, false, List, map, Option, Some, None, Result, Ok, Err}
 use Rattle.fp_host.specs.Remote.{Holdings}
 use Rattle.fp_name.specs.Refs.{Ref}
+use Rattle.fp_small.specs.declared.limits.TheConstants.{MOST_REFS}
+use Rattle.fp_small.specs.declared.op.Op.{Op}
+use Rattle.fp_small.specs.declared.refusal.Refusal.{Refusal}
 use Rattle.fp_small.specs.declared.state.State.{State}
 use Rattle.fp_small.specs.declared.state.RemoteRow.{RemoteRow}
 use Rattle.fl_extension.specs.declared.point.Point.{Point}
@@ -10,9 +13,11 @@ use Rattle.ost_head.specs.declared.head.Head.{Head}
 use Rattle.ost_head.specs.Heads.{head_of}
 use Rattle.ost_refs.specs.Offers.{offered}
 use Rattle.fl_installed.specs.Metadata.{runtime_named, points_in}
-use Rattle.fl_plan.specs.Offers.{have_at}
-use Rattle.fl_extension.specs.Found.{row_of}
-use Rattle.fl_plan.specs.Plans.{is_at, time_of}
+use Rattle.fl_extension.specs.Found.{has_ref, row_of}
+use Rattle.fl_plan.specs.Offers.{first_of, first_offer, have_at, in_turn, offer_of, offer_with}
+use Rattle.fl_plan.specs.Extensions.{is_done}
+use Rattle.fl_plan.specs.Plans.{is_at, number_after, op_of, plan_of, time_of}
+use Rattle.fl_plan.specs.declared.offer.Offer.{Offer}
 
 -- a remote offers a ref at this commit, which has this head where the ref is deployed since
 pub record Heads (held : Holdings) (stored : Have) (remote : RemoteRow) (name : Ref)
@@ -31,3 +36,87 @@ pub record Says (name : Ref) (head : Head) (runtime : Option Ref) (points : List
   where
     pub runtime_is : runtime_named name head.metadata ≡ runtime
     pub points_are : points_in name head.metadata ≡ points
+
+-- ---- by offers
+
+-- what a plan goes by: what the remotes hold, the objects of the store, and the state
+pub record Basis : Type 0 where
+  pub held : Holdings
+  pub stored : Have
+  pub state : State
+
+-- the plan of the ref of an offer, from the remote of the offer
+abbrev pub plan_for : Basis → Offer → Result (List Op) Refusal
+plan_for b target = plan_of b.held b.stored b.state target.remote target.name
+
+-- The plan of the target is the operations of these offers, in this order, where they pass no limit.
+abbrev pub PlanIs : Basis → Offer → List Offer → Type 0
+PlanIs b target offers = number_after b.state offers ≤ MOST_REFS
+    → plan_for b target ≡ Ok (map (op_of b.state) offers)
+
+-- the head of the commit of an offer, where the ref is deployed since this time
+abbrev pub head_at : Basis → Offer → Option ℕ → Result Head Refusal
+head_at b offer since =
+    head_of (have_at b.held b.stored offer.remote) offer.name offer.commit since
+
+-- The target isn't deployed at the commit that its remote offers, and the metadata of that commit
+-- names this runtime and these extension points.
+pub record IsTargetWith (b : Basis) (target : Offer) (runtime : Option Ref)
+    (points : List Point) : Type 0 where
+  pub head : Head
+  pub is : IsTarget b.held b.stored b.state target.remote target.name target.commit head
+  pub says : Says target.name head runtime points
+
+-- so too, of an application whose runtime is installed
+pub record HasItsRuntime (b : Basis) (target : Offer) (points : List Point) : Type 0 where
+  pub runtime : Ref
+  pub comes : IsTargetWith b target (Some runtime) points
+  pub there : has_ref b.state runtime ≡ true
+
+-- ---- what comes along
+
+-- the first offer of a runtime: the remote of the target is asked first, then the others
+abbrev pub runtime_offer : Basis → Offer → Ref → Option Offer
+runtime_offer b target runtime =
+    first_offer b.held (in_turn target.remote.name b.state.remotes) runtime
+
+-- The target comes with its runtime, which isn't installed, by the first offer of it. The metadata
+-- of the one names no runtime and these extension points, that of the other the runtime and those.
+pub record ComeTogether (b : Basis) (runtime : Offer) (points : List Point) (target : Offer)
+    (others : List Point) : Type 0 where
+  pub comes : IsTargetWith b target (Some runtime.name) others
+  pub missing : has_ref b.state runtime.name ≡ false
+  pub first : runtime_offer b target runtime.name ≡ Some runtime
+  pub head : Head
+  pub heads : Heads b.held b.stored runtime.remote runtime.name None runtime.commit head
+  pub says : Says runtime.name head None points
+
+-- The runtime isn't installed, and the head of its first offer is refused for this.
+pub record RuntimeRefused (b : Basis) (target : Offer) (runtime : Ref) (refusal : Refusal) : Type 0
+  where
+    pub missing : has_ref b.state runtime ≡ false
+    pub remote : RemoteRow
+    pub commit : List ℕ
+    pub first : runtime_offer b target runtime ≡ Some (offer_with remote runtime commit)
+    pub refused : head_at b (offer_with remote runtime commit) None ≡ Err refusal
+
+-- the first of the candidates of a point that the remote of its application or runtime offers
+abbrev pub extension_offer : Basis → Offer → Point → Option Offer
+extension_offer b owner point = first_of (offer_of b.held owner.remote) point.candidates
+
+-- The point isn't done while these are to come, and this is what is offered for it.
+pub record Fills (b : Basis) (coming : List Offer) (owner : Offer) (point : Point)
+    (extension : Offer) : Type 0 where
+  pub undone : is_done b.state coming point ≡ false
+  pub first : extension_offer b owner point ≡ Some extension
+  pub head : Head
+  pub heads : Heads b.held b.stored extension.remote extension.name None extension.commit head
+
+-- The point isn't done while these are to come, and the head of what is offered for it is refused
+-- for this.
+pub record ExtensionRefused (b : Basis) (coming : List Offer) (owner : Offer) (point : Point)
+    (refusal : Refusal) : Type 0 where
+  pub undone : is_done b.state coming point ≡ false
+  pub extension : Offer
+  pub first : extension_offer b owner point ≡ Some extension
+  pub refused : head_at b extension None ≡ Err refusal

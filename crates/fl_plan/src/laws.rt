@@ -1,7 +1,7 @@
 //! Laws of the words that the contracts use, for crates that build on them, and worked plans. Each
 //! is the contract of a function that does nothing.
 
-ghost use Rattle.std.specs.Prelude.{◌≡◌, ◌≤◌, ◌<◌, ◌+◌, ℕ, List, [], ◌∷◌, map, true, false, codes, Option, Some, None, Ok, Err};
+ghost use Rattle.std.specs.Prelude.{◌≡◌, ◌<◌, ◌+◌, ℕ, List, [], ◌∷◌, map, true, false, codes, Option, Some, None, Ok, Err};
 ghost use Rattle.fp_base.specs.declared.what.What.TheVariants as whats;
 ghost use Rattle.fp_host.specs.Reads.{is_ascending};
 ghost use Rattle.fp_host.specs.Remote.{Holdings};
@@ -20,18 +20,17 @@ ghost use Rattle.dep_states.specs.Shown.{at_name};
 ghost use Rattle.fl_extension.specs.declared.point.Point.{Point};
 ghost use Rattle.fl_extension.specs.Found.{has_ref, row_of};
 ghost use Rattle.ost_model.specs.Objects.{Have};
-ghost use Rattle.ost_head.specs.declared.head.Head.{Head};
-ghost use Rattle.ost_head.specs.Heads.{head_of};
 ghost use Rattle.ost_refs.specs.Offers.{offered};
 ghost use Rattle.fl_plan.specs.Extensions.{is_done};
 ghost use Rattle.fl_plan.specs.Offered as shop;
-ghost use Rattle.fl_plan.specs.Offers.{first_of, first_offer, have_at, in_turn, offer_of, offer_with};
+ghost use Rattle.fl_plan.specs.Offers.{first_of, first_offer, in_turn, offer_of, offer_with};
 ghost use Rattle.fl_plan.specs.Plans.{is_at, number_after, op_of, plan_of, time_of};
 ghost use Rattle.fl_plan.specs.Sample as sample;
 ghost use Rattle.fl_plan.specs.Taking.{Settles};
 ghost use Rattle.fl_plan.specs.Targets.{targets_of};
 ghost use Rattle.fl_plan.specs.Unused.{unused_of};
-ghost use Rattle.fl_plan.specs.Worked.{Heads, IsTarget, Says};
+ghost use Rattle.fl_plan.specs.Worked.{Basis, ComeTogether, ExtensionRefused, Fills, HasItsRuntime, IsTargetWith, PlanIs, RuntimeRefused, extension_offer, head_at, plan_for, runtime_offer};
+ghost use Rattle.fl_plan.specs.declared.offer.Offer.{Offer};
 
 /// What the target's own remote refuses is what the plan refuses, and what its head is refused for,
 /// `Older` than what is deployed among it. That a ref isn't offered is said of the target itself,
@@ -40,12 +39,11 @@ pub fn plans_refuse()
     ensures own { (held : Holdings) (stored : Have) (state : State) (remote : RemoteRow)
         (name : Ref) (refusal : Refusal) → offered held remote name ≡ Err refusal
         → plan_of held stored state remote name ≡ Err refusal }
-    ensures head { (held : Holdings) (stored : Have) (state : State) (remote : RemoteRow)
-        (name : Ref) (commit : List ℕ) (refusal : Refusal)
-        → offered held remote name ≡ Ok commit → is_at commit (row_of state name) ≡ false
-        → head_of (have_at held stored remote) name commit (time_of (row_of state name))
-        ≡ Err refusal
-        → plan_of held stored state remote name ≡ Err refusal }
+    ensures head { (b : Basis) (target : Offer) (refusal : Refusal)
+        → offered b.held target.remote target.name ≡ Ok target.commit
+        → is_at target.commit (row_of b.state target.name) ≡ false
+        → head_at b target (time_of (row_of b.state target.name)) ≡ Err refusal
+        → plan_for b target ≡ Err refusal }
     ensures absent { (held : Holdings) (stored : Have) (state : State) (remote : RemoteRow)
         (name : Ref) (other : List ℕ) (missed : Ref)
         → plan_of held stored state remote name ≡ Err (refusals.NoSuchRef other missed)
@@ -54,39 +52,26 @@ pub fn plans_refuse()
 
 /// An update whose offered commit is deployed has no operations.
 pub fn up_to_date()
-    ensures { (held : Holdings) (stored : Have) (state : State) (remote : RemoteRow)
-        (name : Ref) (commit : List ℕ)
-        → offered held remote name ≡ Ok commit → is_at commit (row_of state name) ≡ true
-        → plan_of held stored state remote name ≡ Ok [] }
+    ensures { (b : Basis) (target : Offer)
+        → offered b.held target.remote target.name ≡ Ok target.commit
+        → is_at target.commit (row_of b.state target.name) ≡ true
+        → plan_for b target ≡ Ok [] }
 {}
 
 /// A runtime without extensions is one operation.
 pub fn runtimes_come_alone()
-    ensures { (held : Holdings) (stored : Have) (state : State) (remote : RemoteRow)
-        (name : Ref) (commit : List ℕ) (head : Head)
-        → IsTarget held stored state remote name commit head → Says name head None []
-        → number_after state (offer_with remote name commit ∷ []) ≤ MOST_REFS
-        → plan_of held stored state remote name
-        ≡ Ok (op_of state (offer_with remote name commit) ∷ []) }
+    ensures { (b : Basis) (target : Offer) → IsTargetWith b target None []
+        → PlanIs b target (target ∷ []) }
 {}
 
 /// An application without extensions whose runtime is installed is one operation, where that passes
 /// no limit.
 pub fn runtime_is_installed()
-    ensures planned { (held : Holdings) (stored : Have) (state : State) (remote : RemoteRow)
-        (name : Ref) (commit : List ℕ) (head : Head) (runtime : Ref)
-        → IsTarget held stored state remote name commit head → Says name head (Some runtime) []
-        → has_ref state runtime ≡ true
-        → number_after state (offer_with remote name commit ∷ []) ≤ MOST_REFS
-        → plan_of held stored state remote name
-        ≡ Ok (op_of state (offer_with remote name commit) ∷ []) }
-    ensures limited { (held : Holdings) (stored : Have) (state : State) (remote : RemoteRow)
-        (name : Ref) (commit : List ℕ) (head : Head) (runtime : Ref)
-        → IsTarget held stored state remote name commit head → Says name head (Some runtime) []
-        → has_ref state runtime ≡ true
-        → MOST_REFS < number_after state (offer_with remote name commit ∷ [])
-        → plan_of held stored state remote name
-        ≡ Err (refusals.Limit whats.Refs (MOST_REFS + 1)) }
+    ensures planned { (b : Basis) (target : Offer) → HasItsRuntime b target []
+        → PlanIs b target (target ∷ []) }
+    ensures limited { (b : Basis) (target : Offer) → HasItsRuntime b target []
+        → MOST_REFS < number_after b.state (target ∷ [])
+        → plan_for b target ≡ Err (refusals.Limit whats.Refs (MOST_REFS + 1)) }
 {}
 
 /// An application whose runtime isn't installed: the runtime comes first, from the first remote in
@@ -94,34 +79,15 @@ pub fn runtime_is_installed()
 /// plan is refused for: no other remote is tried. The application's own remote is the first in
 /// turn, wherever it stands.
 pub fn runtime_comes_along()
-    ensures planned { (held : Holdings) (stored : Have) (state : State) (remote : RemoteRow)
-        (name : Ref) (commit : List ℕ) (head : Head)
-        (runtime : Ref) (other : RemoteRow) (d : List ℕ) (below : Head)
-        → IsTarget held stored state remote name commit head → Says name head (Some runtime) []
-        → Says runtime below None [] → has_ref state runtime ≡ false
-        → first_offer held (in_turn remote.name state.remotes) runtime
-        ≡ Some (offer_with other runtime d)
-        → Heads held stored other runtime None d below
-        → number_after state (offer_with other runtime d ∷ offer_with remote name commit ∷ [])
-        ≤ MOST_REFS
-        → plan_of held stored state remote name
-        ≡ Ok (op_of state (offer_with other runtime d)
-        ∷ op_of state (offer_with remote name commit) ∷ []) }
-    ensures missing { (held : Holdings) (stored : Have) (state : State) (remote : RemoteRow)
-        (name : Ref) (commit : List ℕ) (head : Head) (runtime : Ref) (points : List Point)
-        → IsTarget held stored state remote name commit head
-        → Says name head (Some runtime) points → has_ref state runtime ≡ false
-        → first_offer held (in_turn remote.name state.remotes) runtime ≡ None
-        → plan_of held stored state remote name ≡ Err (refusals.RuntimeMissing runtime) }
-    ensures refused { (held : Holdings) (stored : Have) (state : State) (remote : RemoteRow)
-        (name : Ref) (commit : List ℕ) (head : Head) (runtime : Ref) (points : List Point)
-        (other : RemoteRow) (d : List ℕ) (refusal : Refusal)
-        → IsTarget held stored state remote name commit head
-        → Says name head (Some runtime) points → has_ref state runtime ≡ false
-        → first_offer held (in_turn remote.name state.remotes) runtime
-        ≡ Some (offer_with other runtime d)
-        → head_of (have_at held stored other) runtime d None ≡ Err refusal
-        → plan_of held stored state remote name ≡ Err refusal }
+    ensures planned { (b : Basis) (target runtime : Offer)
+        → ComeTogether b runtime [] target [] → PlanIs b target (runtime ∷ target ∷ []) }
+    ensures missing { (b : Basis) (target : Offer) (runtime : Ref) (points : List Point)
+        → IsTargetWith b target (Some runtime) points → has_ref b.state runtime ≡ false
+        → runtime_offer b target runtime ≡ None
+        → plan_for b target ≡ Err (refusals.RuntimeMissing runtime) }
+    ensures refused { (b : Basis) (target : Offer) (runtime : Ref) (points : List Point)
+        (refusal : Refusal) → IsTargetWith b target (Some runtime) points
+        → RuntimeRefused b target runtime refusal → plan_for b target ≡ Err refusal }
     ensures own_first { (other own : RemoteRow) → (other.name ≡ own.name → ⊥)
         → in_turn own.name (other ∷ own ∷ []) ≡ own ∷ other ∷ [] }
     ensures second { (held : Holdings) (first second : RemoteRow) (runtime : Ref)
@@ -135,63 +101,24 @@ pub fn runtime_comes_along()
 /// the first candidate that is offered is refused for is what the plan is refused for: no later
 /// candidate is tried. The same goes for an extension of a runtime that comes along.
 pub fn extension_comes_along()
-    ensures planned { (held : Holdings) (stored : Have) (state : State) (remote : RemoteRow)
-        (name : Ref) (commit : List ℕ) (head : Head)
-        (runtime : Ref) (point : Point) (candidate : Ref) (d : List ℕ) (below : Head)
-        → IsTarget held stored state remote name commit head
-        → Says name head (Some runtime) (point ∷ []) → has_ref state runtime ≡ true
-        → is_done state (offer_with remote name commit ∷ []) point ≡ false
-        → first_of (offer_of held remote) point.candidates
-        ≡ Some (offer_with remote candidate d)
-        → Heads held stored remote candidate None d below
-        → number_after state (offer_with remote name commit ∷ offer_with remote candidate d ∷ [])
-        ≤ MOST_REFS
-        → plan_of held stored state remote name
-        ≡ Ok (op_of state (offer_with remote name commit)
-        ∷ op_of state (offer_with remote candidate d) ∷ []) }
-    ensures filled { (held : Holdings) (stored : Have) (state : State) (remote : RemoteRow)
-        (name : Ref) (commit : List ℕ) (head : Head) (runtime : Ref) (point : Point)
-        → IsTarget held stored state remote name commit head
-        → Says name head (Some runtime) (point ∷ []) → has_ref state runtime ≡ true
-        → is_done state (offer_with remote name commit ∷ []) point ≡ true
-        → number_after state (offer_with remote name commit ∷ []) ≤ MOST_REFS
-        → plan_of held stored state remote name
-        ≡ Ok (op_of state (offer_with remote name commit) ∷ []) }
-    ensures not_offered { (held : Holdings) (stored : Have) (state : State) (remote : RemoteRow)
-        (name : Ref) (commit : List ℕ) (head : Head) (runtime : Ref) (point : Point)
-        → IsTarget held stored state remote name commit head
-        → Says name head (Some runtime) (point ∷ []) → has_ref state runtime ≡ true
-        → is_done state (offer_with remote name commit ∷ []) point ≡ false
-        → first_of (offer_of held remote) point.candidates ≡ None
-        → number_after state (offer_with remote name commit ∷ []) ≤ MOST_REFS
-        → plan_of held stored state remote name
-        ≡ Ok (op_of state (offer_with remote name commit) ∷ []) }
-    ensures refused { (held : Holdings) (stored : Have) (state : State) (remote : RemoteRow)
-        (name : Ref) (commit : List ℕ) (head : Head) (runtime : Ref) (point : Point)
-        (points : List Point) (candidate : Ref) (d : List ℕ) (refusal : Refusal)
-        → IsTarget held stored state remote name commit head
-        → Says name head (Some runtime) (point ∷ points) → has_ref state runtime ≡ true
-        → is_done state (offer_with remote name commit ∷ []) point ≡ false
-        → first_of (offer_of held remote) point.candidates
-        ≡ Some (offer_with remote candidate d)
-        → head_of (have_at held stored remote) candidate d None ≡ Err refusal
-        → plan_of held stored state remote name ≡ Err refusal }
-    ensures of_runtime_refused { (held : Holdings) (stored : Have) (state : State)
-        (remote : RemoteRow) (name : Ref) (commit : List ℕ) (head : Head)
-        (runtime : Ref) (other : RemoteRow) (d : List ℕ) (below : Head)
-        (mine points : List Point) (point : Point)
-        (candidate : Ref) (e : List ℕ) (refusal : Refusal)
-        → IsTarget held stored state remote name commit head
-        → Says name head (Some runtime) mine → Says runtime below None (point ∷ points)
-        → has_ref state runtime ≡ false
-        → first_offer held (in_turn remote.name state.remotes) runtime
-        ≡ Some (offer_with other runtime d)
-        → Heads held stored other runtime None d below
-        → is_done state (offer_with other runtime d ∷ offer_with remote name commit ∷ []) point
-        ≡ false
-        → first_of (offer_of held other) point.candidates ≡ Some (offer_with other candidate e)
-        → head_of (have_at held stored other) candidate e None ≡ Err refusal
-        → plan_of held stored state remote name ≡ Err refusal }
+    ensures planned { (b : Basis) (target extension : Offer) (point : Point)
+        → HasItsRuntime b target (point ∷ []) → Fills b (target ∷ []) target point extension
+        → PlanIs b target (target ∷ extension ∷ []) }
+    ensures filled { (b : Basis) (target : Offer) (point : Point)
+        → HasItsRuntime b target (point ∷ []) → is_done b.state (target ∷ []) point ≡ true
+        → PlanIs b target (target ∷ []) }
+    ensures not_offered { (b : Basis) (target : Offer) (point : Point)
+        → HasItsRuntime b target (point ∷ []) → is_done b.state (target ∷ []) point ≡ false
+        → extension_offer b target point ≡ None → PlanIs b target (target ∷ []) }
+    ensures refused { (b : Basis) (target : Offer) (point : Point) (points : List Point)
+        (refusal : Refusal) → HasItsRuntime b target (point ∷ points)
+        → ExtensionRefused b (target ∷ []) target point refusal
+        → plan_for b target ≡ Err refusal }
+    ensures of_runtime_refused { (b : Basis) (target runtime : Offer) (mine points : List Point)
+        (point : Point) (refusal : Refusal)
+        → ComeTogether b runtime (point ∷ points) target mine
+        → ExtensionRefused b (runtime ∷ target ∷ []) runtime point refusal
+        → plan_for b target ≡ Err refusal }
 {}
 
 /// Of the candidates of a point, the first that the remote offers is taken.
@@ -210,31 +137,11 @@ pub fn candidates_in_order()
 /// application, then the extension of the runtime from the runtime's remote, and that of the
 /// application from its own.
 pub fn extensions_come_last()
-    ensures { (held : Holdings) (stored : Have) (state : State) (remote : RemoteRow)
-        (name : Ref) (commit : List ℕ) (head : Head)
-        (runtime : Ref) (other : RemoteRow) (d : List ℕ) (below : Head)
-        (p q : Point) (first second : Ref) (e f : List ℕ) (one two : Head)
-        → IsTarget held stored state remote name commit head
-        → Says name head (Some runtime) (q ∷ []) → Says runtime below None (p ∷ [])
-        → has_ref state runtime ≡ false
-        → first_offer held (in_turn remote.name state.remotes) runtime
-        ≡ Some (offer_with other runtime d)
-        → Heads held stored other runtime None d below
-        → is_done state (offer_with other runtime d ∷ offer_with remote name commit ∷ []) p
-        ≡ false
-        → first_of (offer_of held other) p.candidates ≡ Some (offer_with other first e)
-        → Heads held stored other first None e one
-        → is_done state (offer_with other runtime d ∷ offer_with remote name commit
-        ∷ offer_with other first e ∷ []) q ≡ false
-        → first_of (offer_of held remote) q.candidates ≡ Some (offer_with remote second f)
-        → Heads held stored remote second None f two
-        → number_after state (offer_with other runtime d ∷ offer_with remote name commit
-        ∷ offer_with other first e ∷ offer_with remote second f ∷ []) ≤ MOST_REFS
-        → plan_of held stored state remote name
-        ≡ Ok (op_of state (offer_with other runtime d)
-        ∷ op_of state (offer_with remote name commit)
-        ∷ op_of state (offer_with other first e)
-        ∷ op_of state (offer_with remote second f) ∷ []) }
+    ensures { (b : Basis) (target runtime first second : Offer) (p q : Point)
+        → ComeTogether b runtime (p ∷ []) target (q ∷ [])
+        → Fills b (runtime ∷ target ∷ []) runtime p first
+        → Fills b (runtime ∷ target ∷ first ∷ []) target q second
+        → PlanIs b target (runtime ∷ target ∷ first ∷ second ∷ []) }
 {}
 
 /// Of the small installation: the order of an update; and what is unused, by whose point finds the
@@ -289,9 +196,9 @@ pub fn plans_can_be_made()
 /// A plan settles its ref: what its remote offers is deployed, and there is no operation, or each
 /// operation takes up what a remote of the state offers, and one of them is of the ref.
 pub fn plans_settle()
-    ensures { (held : Holdings) (stored : Have) (state : State) (remote : RemoteRow)
-        (name : Ref) (ops : List Op) → is_ascending (map name_of state.remotes) ≡ true
-        → at_name name_of state.remotes remote.name ≡ Some remote
-        → plan_of held stored state remote name ≡ Ok ops
-        → Settles held state remote name ops }
+    ensures { (b : Basis) (remote : RemoteRow) (name : Ref) (ops : List Op)
+        → is_ascending (map name_of b.state.remotes) ≡ true
+        → at_name name_of b.state.remotes remote.name ≡ Some remote
+        → plan_of b.held b.stored b.state remote name ≡ Ok ops
+        → Settles b.held b.state remote name ops }
 {}

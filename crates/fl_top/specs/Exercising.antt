@@ -8,9 +8,9 @@ use Rattle.fp_small.specs.declared.state.RefRow.{RefRow}
 use Rattle.fp_small.specs.declared.state.State.{State}
 use Rattle.fl_lines.specs.Lines.{exercise_text}
 use Rattle.fl_gen.specs.Exercise.{exercise_changes}
-use Rattle.fl_change.specs.Answer.{Answer, text_answer, then_over}
+use Rattle.fl_change.specs.Answer.{Answer, ops_of, text_answer, then_over}
 use Rattle.fl_change.specs.Turns.{changing}
-use Rattle.fl_change.specs.World.{World}
+use Rattle.fl_change.specs.World.{World, worlds_after}
 
 abbrev pub is_of : RefKind → RefRow → Bool
 is_of kind row = same_kind kind row.name.kind
@@ -18,6 +18,14 @@ is_of kind row = same_kind kind row.name.kind
 -- how many refs of this kind are deployed
 abbrev pub deployed : RefKind → State → ℕ
 deployed kind s = count_by (is_of kind) s.refs
+
+-- what its changes answer
+abbrev pub changes_answer : ℕ → Holdings → World → Answer
+changes_answer apps held x = changing (exercise_changes apps) held x
+
+-- the state that they leave
+abbrev pub changed_state : ℕ → Holdings → World → State
+changed_state apps held x = (worlds_after held x (ops_of (changes_answer apps held x))).state
 
 -- its last line
 abbrev pub end_text : ℕ → State → List ℕ
@@ -29,4 +37,4 @@ end_answer apps held x = text_answer (end_text apps x.state)
 -- its changes one after another, up to the first refusal, and its last line where none is refused
 abbrev pub exercising : ℕ → Holdings → World → Answer
 exercising apps held x =
-    then_over held x (changing (exercise_changes apps) held x) (end_answer apps held)
+    then_over held x (changes_answer apps held x) (end_answer apps held)

@@ -17,3 +17,4 @@ pub mod Exercises
 pub mod Exercising
 pub mod Sample
 pub mod Whole
+pub mod Updated

@@ -3,6 +3,7 @@ use Rattle.std.specs.Prelude.{◌≡◌, ◌≢◌, ℕ, true, false, ◌⊎◌,
 use Rattle.fp_host.specs.Paths.{Elements}
 use Rattle.fp_host.specs.Remote.{Holdings}
 use Rattle.fp_host.specs.View.{View}
+use Rattle.fp_host.specs.Moments.{Goes, Moments}
 use Rattle.fp_host.specs.Outcome.{Disk, Leaves, shows}
 use Rattle.fp_small.specs.Files.{KeepsFiles}
 use Rattle.fp_small.specs.Shares.{Shares}
@@ -21,7 +22,7 @@ use Rattle.fp_small.specs.declared.op.Op.{Op}
 use Rattle.fl_top.specs.Answer.{Given, shown_answer, answer_over, checked, IsOver}
 use Rattle.fl_top.specs.Fsck.{Finds, HasReport}
 use Rattle.fl_top.specs.Asked.{OpsBy}
-use Rattle.fl_top.specs.Runs.{Runs, Ran, Stands, IsJust, Told, IsGivenTo, IsReady, IsKnown, MayAnswer}
+use Rattle.fl_top.specs.Runs.{Runs, Ran, Stands, IsJust, Told, IsGivenTo, IsReady, IsKnown, MayAnswer, told_start}
 use Rattle.fl_change.specs.Changes.{IsUntouched, HasText}
 use Rattle.fl_change.specs.Created.{CreatesInTurn}
 use Rattle.fp_host.specs.Frame.{NoName}
@@ -198,6 +199,12 @@ pub record EndedOn (asked : Command) (t : Told) (result : Result (Unit {0}) Comm
   pub ended : OverAll asked t u (λ held a. Closed held a result u w)
   pub given : HasAnswer asked t u (IsClosedBy result)
   pub made : MadeWhere result asked t.left u w
+
+-- A command runs and ends so, by what is left of the input and what the remotes hold.
+abbrev pub GoesOn : Command → Option (List ℕ) → Option Holdings → Result (Unit {0}) CommandEnd
+    → Option Moments → Option Moments → Type 0
+GoesOn asked left holds result a b = Goes a b (RunsOn asked (told_start left holds a))
+    (EndedOn asked (told_start left holds a) result)
 
 pub record RanOn (asked : Command) (t : Told) (status : ℕ) (u w : View) : Type 0 where
   pub ran : OverAll asked t u (λ held a. Ran held a status u w)

@@ -2,16 +2,19 @@
 use Rattle.std.specs.Prelude.{◌≡◌, ◌⊎◌, ℕ, List, Option, Some, Result}
 use Rattle.fp_host.specs.Paths.{Elements}
 use Rattle.fp_host.specs.View.{View}
-use Rattle.fp_host.specs.Moments.{Moments}
+use Rattle.fp_host.specs.Moments.{Moments, Rose}
 use Rattle.fp_host.specs.Frame.{AtEnd}
 use Rattle.fp_host.specs.Outcome.{shows}
 use Rattle.fp_host.specs.Remote.{Holdings}
+use Rattle.ost_walk.specs.Ends.{Outside}
 use Rattle.dep_states.specs.Sound.{IsSound}
 use Rattle.fl_words.specs.Forms.{command_of}
 use Rattle.fl_words.specs.declared.command.Command.{Command}
 use Rattle.fl_change.specs.World.{World}
 use Rattle.fl_change.specs.Answer.{Answer}
+use Rattle.fl_change.specs.Performs.{AreToldFor}
 use Rattle.fl_top.specs.Answer.{answer, Given, IsOver}
+use Rattle.fl_top.specs.Asked.{AsksFor}
 use Rattle.fl_top.specs.Exercises.{IsRunOver, IsUnmade}
 use Rattle.fl_top.specs.Fsck.{IsListable}
 use Rattle.fl_top.specs.Runs.{Answers, Stands, Told, IsGiven, Checks, IsFreeFor, told_start}
@@ -48,3 +51,11 @@ EndsWhole words left given status a b =
     ((holds : Option Holdings) × IsRunOver (command_of words) given holds
     × AtEnd (WasWhole words (told_start left holds a) status) a b)
     ⊎ IsUnmade (command_of words) status a b
+
+-- It ends so where the installation fits the command, the remotes tell what they are asked, and no
+-- count of faults rises, the host's or the remotes'.
+abbrev pub EndsUndisturbed : List (List ℕ) → Option (List ℕ) → ℕ → Outside → Outside → Type 0
+EndsUndisturbed words left status u w =
+    StartsFit (command_of words) u.told → AreToldFor (AsksFor (command_of words) left) u.holdings
+    → (Rose u.host_faults w.host_faults → ⊥) → (Rose u.remote_faults w.remote_faults → ⊥)
+    → EndsWhole words left u.holdings status u.told w.told

@@ -1,12 +1,11 @@
 //! A remote that is made of the input.
 ghost use Rattle.std.specs.Prelude.{◌≤◌, Option, IsErrOf};
 ghost use Rattle.fp_host.specs.OverHost.{ChangesNothing, FailsOnly};
-ghost use Rattle.fp_host.specs.Moments.{Goes, Rose};
+ghost use Rattle.fp_host.specs.Moments.{Rose};
 ghost use Rattle.fp_host.specs.Remote.{Holdings};
 ghost use Rattle.fl_words.specs.declared.command.Command.TheVariants.{Export as Exporting};
 ghost use Rattle.fl_make.specs.Making.{CanMake};
-ghost use Rattle.fl_top.specs.Runs.{told_start};
-ghost use Rattle.fl_top.specs.RunsOver.{RunsOn, EndedOn, TakenBy};
+ghost use Rattle.fl_top.specs.RunsOver.{GoesOn, TakenBy};
 
 use crate::command_end::CommandEnd;
 use crate::input::read_input;
@@ -27,11 +26,8 @@ pub(crate) fn export<T: Threads + Sync, H: Host, I: Source>(
     remote: &RemoteName,
     name: &RefName,
 ) -> Result<(), CommandEnd>
-    ensures any_moment { (holds : Option Holdings) → Goes (H.moments host.old) (H.moments host.new)
-        (RunsOn (Exporting remote.now name.now)
-        (told_start (I.left input.old) holds (H.moments host.old)))
-        (EndedOn (Exporting remote.now name.now)
-        (told_start (I.left input.old) holds (H.moments host.old)) result) }
+    ensures any_moment { (holds : Option Holdings) → GoesOn (Exporting remote.now name.now)
+        (I.left input.old) holds result (H.moments host.old) (H.moments host.new) }
     ensures fault_has_cause { FailsOnly H.Host host.old host.new
         (CanMake remote.now name.now) (IsErrOf result CommandEnd.Fault) }
     ensures no_remote_fault { IsErrOf result CommandEnd.RemoteFault → ⊥ }

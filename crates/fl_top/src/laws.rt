@@ -9,12 +9,10 @@ ghost use Rattle.fp_small.specs.declared.state.State.{State};
 ghost use Rattle.dep_states.specs.Shown.{Shows};
 ghost use Rattle.dep_states.specs.Sound.{IsSound};
 ghost use Rattle.fl_words.specs.Forms.{command_of};
-ghost use Rattle.fl_words.specs.declared.command.Change.TheVariants.{UpdateAll};
-ghost use Rattle.fl_words.specs.declared.command.Command.TheVariants.{Change as Changing};
 ghost use Rattle.fl_words.specs.declared.command.Listing.TheVariants as listings;
 ghost use Rattle.fl_export.specs.Placed.{ExportsAre};
 ghost use Rattle.fl_export.specs.Sample as sample;
-ghost use Rattle.fl_change.specs.Answer.{text_answer, ops_of};
+ghost use Rattle.fl_change.specs.Answer.{text_answer};
 ghost use Rattle.fl_change.specs.Changes.{IsStill};
 ghost use Rattle.fl_top.specs.declared.input.TheConstants.{MOST_INPUT};
 ghost use Rattle.fl_top.specs.Answer.{answer, listing_answer, Given, IsOver};
@@ -22,7 +20,8 @@ ghost use Rattle.fl_top.specs.Exports.{IsInStep};
 ghost use Rattle.fl_top.specs.ExportSample.{desktop_text, placed_disk, stale_disk, listed_text};
 ghost use Rattle.fl_change.specs.World.{World};
 ghost use Rattle.fl_top.specs.History.{Stretch, History, Reopens, IsReached};
-ghost use Rattle.fl_top.specs.Runs.{Told, RunsBy, RanBy};
+ghost use Rattle.fl_top.specs.Runs.{Told, RunsBy};
+ghost use Rattle.fl_top.specs.Updated.{HasNothingToDo, WasUpdated};
 
 /// The answers to words that count are the same. There is one over a view that is sound; and to
 /// words that are no command there is one over each image.
@@ -70,13 +69,11 @@ pub fn exports_can_stand()
 /// file keeps its mode and its bytes, and no new file has a byte.
 pub fn idle_updates_write_nothing()
     ensures answer { (words : List (List ℕ)) (first : Told) (given : Given) (held : Holdings)
-        (u v : View) (shown : Result World Elements) → command_of words ≡ Some (Changing UpdateAll)
-        → IsSound u → first.holds ≡ Some held → RanBy words first 0 u v → given.held ≡ held
-        → IsOver (answer words given) (shows v) shown
-        → (ops_of (answer words given shown) ≡ []) × ((answer words given shown).refusal ≡ None) }
+        (u v : View) (shown : Result World Elements) → WasUpdated words first held u v
+        → given.held ≡ held → IsOver (answer words given) (shows v) shown
+        → HasNothingToDo (answer words given shown) }
     ensures unwritten { (words : List (List ℕ)) (first second : Told) (held : Holdings)
-        (u v w : View) → command_of words ≡ Some (Changing UpdateAll) → IsSound u
-        → first.holds ≡ Some held → second.holds ≡ Some held → RanBy words first 0 u v
+        (u v w : View) → WasUpdated words first held u v → second.holds ≡ Some held
         → IsInStep first.holds v → RunsBy words second v w → IsStill v w × KeepsFiles v w }
 {}
 

@@ -16,7 +16,7 @@ ghost use Rattle.fl_top.specs.Exports.{IsInStep};
 ghost use Rattle.fl_top.specs.Asked.{OpsBy, AsksFor, AsksRemotes};
 ghost use Rattle.fl_change.specs.Performs.{AreToldFor};
 ghost use Rattle.fl_top.specs.Exercises.{IsRun};
-ghost use Rattle.fl_top.specs.RunsOver.{RunsOver, EndedOver, RunsOn, EndedOn, RanOn, Takes, TakenBy, IsClosedBy};
+ghost use Rattle.fl_top.specs.RunsOver.{GoesOn, RunsOver, EndedOver, RunsOn, EndedOn, RanOn, Takes, TakenBy, IsClosedBy};
 ghost use Rattle.fl_top.specs.Runs.{Checks, IsChange, told_start, WasTaken, ReadsInput, IsReady, HasCauses};
 ghost use Rattle.fl_top.specs.Status.{IsStatus, IsAnswered, IsOfWords, IsOfCommand, reads_input};
 
@@ -223,10 +223,8 @@ fn show<H: Host, I: Source>(
     host: &mut H,
     thing: &Shown,
 ) -> Result<(), CommandEnd>
-    ensures any_moment { (holds : Option Holdings) → Goes (H.moments host.old) (H.moments host.new)
-        (RunsOn (Showing thing.now) (told_start (I.left input.old) holds (H.moments host.old)))
-        (EndedOn (Showing thing.now) (told_start (I.left input.old) holds (H.moments host.old))
-        result) }
+    ensures any_moment { (holds : Option Holdings) → GoesOn (Showing thing.now) (I.left input.old)
+        holds result (H.moments host.old) (H.moments host.new) }
     ensures fault_has_cause { FailsAlone H.Host host.old host.new
         (IsErrOf result CommandEnd.Fault) }
     ensures no_remote_fault { IsErrOf result CommandEnd.RemoteFault → ⊥ }
@@ -247,10 +245,8 @@ fn filter<H: Host, I: Source>(
     host: &mut H,
     source: &PolicySource,
 ) -> Result<(), CommandEnd>
-    ensures any_moment { (holds : Option Holdings) → Goes (H.moments host.old) (H.moments host.new)
-        (RunsOn (Filtering source.now) (told_start (I.left input.old) holds (H.moments host.old)))
-        (EndedOn (Filtering source.now) (told_start (I.left input.old) holds (H.moments host.old))
-        result) }
+    ensures any_moment { (holds : Option Holdings) → GoesOn (Filtering source.now) (I.left input.old)
+        holds result (H.moments host.old) (H.moments host.new) }
     ensures fault_has_cause { FailsAlone H.Host host.old host.new
         (IsErrOf result CommandEnd.Fault) }
     ensures no_remote_fault { IsErrOf result CommandEnd.RemoteFault → ⊥ }

@@ -1,10 +1,8 @@
 //! A run that nothing disturbs.
 ghost use Rattle.std.specs.Prelude.{map, string_bytes};
 ghost use Rattle.fp_host.specs.Moments.{Rose};
-ghost use Rattle.fl_words.specs.Forms.{command_of};
-ghost use Rattle.fl_top.specs.Asked.{AsksFor};
-ghost use Rattle.fl_change.specs.Performs.{AreToldFor};
-ghost use Rattle.fl_top.specs.Whole.{StartsFit, EndsWhole};
+ghost use Rattle.ost_walk.specs.Ends.{around};
+ghost use Rattle.fl_top.specs.Whole.{EndsUndisturbed};
 
 use crate::running::run;
 use fp_host::{Host, Remotes, Source};
@@ -23,14 +21,10 @@ pub fn run_undisturbed<H: Host, R: Remotes, I: Source>(
     host: &mut H,
     remotes: &mut R,
 ) -> u8
-    ensures { StartsFit (command_of (map string_bytes words.now)) (H.moments host.old)
-        → AreToldFor (AsksFor (command_of (map string_bytes words.now)) (I.left input.old))
-        (R.holds remotes.old)
-        → (Rose (H.faults host.old) (H.faults host.new) → ⊥)
-        → (Rose (R.faults remotes.old) (R.faults remotes.new) → ⊥)
-        → (Rose (I.faults input.old) (I.faults input.new) → ⊥)
-        → EndsWhole (map string_bytes words.now) (I.left input.old) (R.holds remotes.old) result
-        (H.moments host.old) (H.moments host.new) }
+    ensures { (Rose (I.faults input.old) (I.faults input.new) → ⊥)
+        → EndsUndisturbed (map string_bytes words.now) (I.left input.old) result
+        (around H.Host R.Remotes host.old remotes.old)
+        (around H.Host R.Remotes host.new remotes.new) }
 {
     run(rt, alloc, words, input, host, remotes)
 }

@@ -6,8 +6,8 @@ ghost use Rattle.ost_model.specs.Order.{commit_at, tree_at, read_as};
 ghost use Rattle.ost_model.specs.Readers.{commit_of, tree_of};
 ghost use Rattle.ost_model.specs.Remotes.{Supplies};
 ghost use Rattle.ost_object.specs.Views.{commit_view, tree_view};
-ghost use Rattle.ost_walk.specs.Ends.{EndsBy, IsFaultOf, NoFault, Observes, around};
-ghost use Rattle.ost_walk.specs.Steps.{own_fault};
+ghost use Rattle.ost_walk.specs.Ends.{EndsBy, NoFault, Observes, around};
+ghost use Rattle.ost_walk.specs.Steps.{IsOwnFault, own_fault};
 ghost use Rattle.ost_head.specs.Found.{found_object};
 ghost use Rattle.ost_head.specs.Parts.{ReadsAs, IsReadAs};
 
@@ -77,7 +77,7 @@ pub(crate) fn find_commit<H: Host, R: Remotes>(
         (R.holds remotes.old) have
         → EndsBy (λ c. IsReadAs (own_fault have digest.now kinds.Commit)
         (commit_at have digest.now) (commit_view c))
-        (IsFaultOf digest.now kinds.Commit (own_fault have digest.now kinds.Commit)) result }
+        (IsOwnFault have digest.now kinds.Commit) result }
 {
     match find(alloc, host, remotes, root, url, digest, ObjKind::Commit) {
         Ok(found) => commit_in(alloc, digest, object_in(&found)),
@@ -101,7 +101,7 @@ pub(crate) fn find_tree<H: Host, R: Remotes>(
         (R.holds remotes.old) have
         → EndsBy (λ t. IsReadAs (own_fault have digest.now kinds.DirTree) (tree_at have digest.now)
         (tree_view t))
-        (IsFaultOf digest.now kinds.DirTree (own_fault have digest.now kinds.DirTree)) result }
+        (IsOwnFault have digest.now kinds.DirTree) result }
 {
     match find(alloc, host, remotes, root, url, digest, ObjKind::DirTree) {
         Ok(found) => tree_in(alloc, digest, object_in(&found)),
@@ -125,7 +125,7 @@ pub(crate) fn find_meta<H: Host, R: Remotes>(
     ensures tells { (have : Have) → Supplies root.now (Some url.now) (H.moments host.old)
         (R.holds remotes.old) have
         → EndsBy (λ _. own_fault have digest.now kinds.DirMeta ≡ None)
-        (IsFaultOf digest.now kinds.DirMeta (own_fault have digest.now kinds.DirMeta)) result }
+        (IsOwnFault have digest.now kinds.DirMeta) result }
 {
     match find(alloc, host, remotes, root, url, digest, ObjKind::DirMeta) {
         Ok(_found) => Ok(()),

@@ -20,6 +20,12 @@ bytes_value bytes = Tree.array (byte_trees bytes)
 abbrev pub each_value : {A : Type 0} → (A → Tree) → List A → Trees
 each_value one xs = trees_from (map one xs)
 
+-- a commit's members in their order
+abbrev pub commit_value : (metadata parent related subject body time dirtree dirmeta : Tree) → Tree
+commit_value metadata parent related subject body time dirtree dirmeta = Tree.tuple
+    (tree metadata (tree parent (tree related (tree subject
+    (tree body (tree time (tree dirtree (tree dirmeta no_trees))))))))
+
 -- without extended attributes
 abbrev pub meta_value : MetaView → Tree
 meta_value m = Tree.tuple

@@ -1,11 +1,10 @@
 //! Commits, as they are written.
 ghost use Rattle.std.specs.Prelude.{◌≡◌, ◌<◌, ◌^◌, true, None, ◌==◌, ◌||◌, length, IfOk, OnOk};
-ghost use Rattle.gv_value.specs.Tree.{tuple, tree as first, no_trees};
 ghost use Rattle.gv_value.specs.Views.{plain};
 ghost use Rattle.ost_model.specs.Readers.{commit_breaks, commit_read, is_long};
 ghost use Rattle.ost_model.specs.Types.{commit_shape, dictionary_shape, related_shape};
 ghost use Rattle.ost_object.specs.Decodes.{Decodes};
-ghost use Rattle.ost_object.specs.Values.{bytes_value, time_value};
+ghost use Rattle.ost_object.specs.Values.{bytes_value, commit_value, time_value};
 ghost use Rattle.ost_model.specs.Fields.{text_value};
 ghost use Rattle.ost_object.specs.Views.{commit_view, parent_bytes, tree_at};
 ghost use Rattle.ost_object.specs.Writes.{Spells, Writes};
@@ -113,11 +112,10 @@ fn spelled_commit(
     related: GvValue,
     digests: DigestValues,
 ) -> Result<Blob, ObjectError>
-    ensures spelled { Spells result commit_shape (tuple (first (plain metadata)
-        (first (plain digests.parent) (first (plain related)
-        (first (text_value commit.now.subject)
-        (first (text_value commit.now.body) (first (time_value commit.now.timestamp)
-        (first (plain digests.tree) (first (plain digests.meta) no_trees))))))))) }
+    ensures spelled { Spells result commit_shape (commit_value (plain metadata)
+        (plain digests.parent) (plain related) (text_value commit.now.subject)
+        (text_value commit.now.body) (time_value commit.now.timestamp)
+        (plain digests.tree) (plain digests.meta)) }
     ensures small { commit.now.timestamp < 2 ^ 64 }
 {
     match said_values(alloc, commit) {
@@ -159,10 +157,9 @@ fn spelled_members(
     said: SaidValues,
     digests: DigestValues,
 ) -> Result<Blob, ObjectError>
-    ensures { Spells result commit_shape (tuple (first (plain metadata)
-        (first (plain digests.parent) (first (plain related)
-        (first (plain said.subject) (first (plain said.body) (first (plain said.time)
-        (first (plain digests.tree) (first (plain digests.meta) no_trees))))))))) }
+    ensures { Spells result commit_shape (commit_value (plain metadata)
+        (plain digests.parent) (plain related) (plain said.subject) (plain said.body)
+        (plain said.time) (plain digests.tree) (plain digests.meta)) }
 {
     match commit_as_value(alloc, metadata, related, said, digests) {
         Ok(value) => spelled_value(alloc, &value),
@@ -194,12 +191,9 @@ fn commit_as_value(
     said: SaidValues,
     digests: DigestValues,
 ) -> Result<GvValue, AllocError>
-    ensures { IfOk result (λ value. plain value ≡ tuple (first (plain metadata)
-        (first (plain digests.parent) (first (plain related)
-        (first (plain said.subject)
-        (first (plain said.body)
-        (first (plain said.time)
-        (first (plain digests.tree) (first (plain digests.meta) no_trees))))))))) }
+    ensures { IfOk result (λ value. plain value ≡ commit_value (plain metadata)
+        (plain digests.parent) (plain related) (plain said.subject) (plain said.body)
+        (plain said.time) (plain digests.tree) (plain digests.meta)) }
 {
     Ok(GvValue::Tuple(vec![in alloc;
         metadata,

@@ -2,7 +2,7 @@
 use Rattle.std.specs.Prelude.{◌≡◌, ◌⊎◌, ◌↔◌, ℕ, List, Bool, length, map, true, false, is_some, None, Contains}
 use Rattle.fp_host.specs.Paths.{Elements, Slot, absent}
 use Rattle.fp_host.specs.View.{View}
-use Rattle.fp_host.specs.Outcome.{Spot, gone, shows}
+use Rattle.fp_host.specs.Outcome.{Disk, Leaves, Spot, gone, shows}
 use Rattle.fp_host.specs.Frame.{Keeps, NoPath}
 use Rattle.fp_host.specs.Reads.{is_ascending}
 use Rattle.fp_name.specs.Hex.{is_digest}
@@ -12,11 +12,20 @@ use Rattle.ost_model.specs.Objects.{store}
 use Rattle.ost_model.specs.Used.{IsUsed}
 use Rattle.ost_store.specs.Names.{name_in, name_text}
 
+-- the store has the object
+abbrev pub IsStored : Elements → View → List ℕ × ObjKind → Type 0
+IsStored root v object = is_some (store root (shows v) object.0 object.1) ≡ true
+
+-- each stop leaves at the path what some stop of before would have left there
+abbrev pub LeavesAsBefore : View → View → Elements → Type 0
+LeavesAsBefore u w q = (disk : Disk) → Leaves w disk
+    → (before : Disk) × Leaves u before × (disk q ≡ before q)
+
 -- the object is there, and no commit to keep uses it
 pub record IsUnused (root : Elements) (keep : List (List ℕ)) (v : View)
     (object : List ℕ × ObjKind) : Type 0 where
   pub digits : is_digest object.0 ≡ true
-  pub there : is_some (store root (shows v) object.0 object.1) ≡ true
+  pub there : IsStored root v object
   pub unused : IsUsed (store root (shows v)) keep object → ⊥
 
 -- the path is the name of such an object

@@ -1,15 +1,15 @@
 //! Laws of the words that the contract uses, for crates that build on it. Each is the contract of a
 //! function that does nothing.
-ghost use Rattle.std.specs.Prelude.{◌≡◌, ◌↔◌, ℕ, List, true, false, is_some};
+ghost use Rattle.std.specs.Prelude.{◌≡◌, ◌↔◌, ℕ, List, true, false};
 ghost use Rattle.fp_host.specs.Paths.{Elements};
 ghost use Rattle.fp_host.specs.View.{View, IsTree};
 ghost use Rattle.fp_host.specs.Calls.{unlinks, done};
-ghost use Rattle.fp_host.specs.Outcome.{Disk, Leaves, shows};
+ghost use Rattle.fp_host.specs.Outcome.{shows};
 ghost use Rattle.fp_name.specs.Hex.{is_digest};
 ghost use Rattle.fp_base.specs.declared.object.ObjKind.{ObjKind};
 ghost use Rattle.ost_model.specs.Objects.{store};
 ghost use Rattle.ost_model.specs.Used.{IsUsed};
-ghost use Rattle.ost_prune.specs.Prune.{is_commit, CommitsFirst, IsUnused, Prunes, WasPruned};
+ghost use Rattle.ost_prune.specs.Prune.{is_commit, CommitsFirst, IsStored, IsUnused, LeavesAsBefore, Prunes, WasPruned};
 ghost use Rattle.ost_store.specs.Names.{name_in};
 
 /// What a commit to keep uses is untouched: its name holds what it held, and each stop leaves there
@@ -23,9 +23,7 @@ pub fn used_objects_stay()
     ensures stop { (root : Elements) (keep : List (List ℕ)) (object : List ℕ × ObjKind)
         (u w : View) → is_digest object.0 ≡ true
         → Prunes root keep u w → IsUsed (store root (shows u)) keep object
-        → (disk : Disk) → Leaves w disk
-        → (before : Disk) × Leaves u before
-        × (disk (name_in root object) ≡ before (name_in root object)) }
+        → LeavesAsBefore u w (name_in root object) }
 {}
 
 /// After it an object is there exactly if it was there and isn't one that no commit to keep uses.
@@ -33,9 +31,8 @@ pub fn used_objects_are_left()
     ensures { (root : Elements) (keep : List (List ℕ)) (number : ℕ) (object : List ℕ × ObjKind)
         (u w : View) → IsTree u → IsTree w
         → is_digest object.0 ≡ true → Prunes root keep u w → WasPruned root keep number u w
-        → (is_some (store root (shows w) object.0 object.1) ≡ true)
-        ↔ ((is_some (store root (shows u) object.0 object.1) ≡ true)
-        × (IsUnused root keep u object → ⊥)) }
+        → IsStored root w object
+        ↔ (IsStored root u object × (IsUnused root keep u object → ⊥)) }
 {}
 
 /// Of the objects that no commit to keep uses, a commit's name may go first, and the order is kept;

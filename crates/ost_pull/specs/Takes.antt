@@ -1,5 +1,5 @@
 -- The objects of an order that are taken one by one.
-use Rattle.std.specs.Prelude.{◌≡◌, ◌≢◌, ◌⊎◌, ℕ, List, map, true, Option, Some, None}
+use Rattle.std.specs.Prelude.{◌≡◌, ◌≢◌, ◌⊎◌, ℕ, List, [], map, true, Option, Some, None}
 use Rattle.fp_host.specs.Paths.{Elements}
 use Rattle.fp_host.specs.View.{View}
 use Rattle.fp_host.specs.Moments.{Moments}
@@ -59,6 +59,12 @@ pub record CoversOrder (root : Elements) (have : Have) (commit : List ℕ)
   pub covered : (o : List ℕ × ObjKind) → In (map place_name (order have commit)) o
       → IsCovered root kept v o
   pub only : (o : List ℕ × ObjKind) → In kept o → In (map place_name (order have commit)) o
+
+-- so it is where nothing was taken into the folder t before
+abbrev pub CoversFromNone : (root t : Elements) → List ℕ → Option Holdings → Have → List ℕ
+    → List (List ℕ × ObjKind) → View → View → Type 0
+CoversFromNone root t url holds have commit kept u w =
+    AreTaken root t url holds [] u → CoversOrder root have commit kept w
 
 -- what is kept goes on to be objects that the store lacks, and nothing else is written
 pub record StaysTaken (root t : Elements) (url : List ℕ) (holds : Option Holdings)

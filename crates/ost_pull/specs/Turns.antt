@@ -10,16 +10,28 @@ use Rattle.ost_model.specs.Objects.{Have}
 use Rattle.ost_model.specs.Order.{first_fault}
 use Rattle.ost_model.specs.Remotes.{Supplies}
 use Rattle.ost_store.specs.ObjectNames.{AreOpen}
-use Rattle.ost_walk.specs.Ends.{EndsBy, IsFaultOf, IsRemotes, Outside}
-use Rattle.ost_walk.specs.Steps.{IsGood, own_fault}
+use Rattle.ost_walk.specs.Ends.{EndsBy, IsRemotes, Outside}
+use Rattle.ost_walk.specs.Steps.{IsGood, IsOwnFault}
 use Rattle.ost_walk.specs.Surveys.{first_bad, first_named, told_fault}
 use Rattle.ost_walk.specs.declared.ends.WalkEnd.{WalkEnd}
+use Rattle.ost_walk.specs.declared.ends.WalkFault.{WalkFault}
 use Rattle.ost_walk.specs.declared.ends.WalkEnd.TheVariants as ends
 use Rattle.ost_pull.specs.declared.trusting.Trust.{Trust}
 use Rattle.ost_pull.specs.Pulls.{CanPull}
 use Rattle.ost_pull.specs.Takes.{AddsAmong, AreTaken, AreTakenNow, CoversOrder, StaysNoted, TakesAll, TakesOne}
 use Rattle.ost_pull.specs.Trusts.{MayTrust}
 use Rattle.ost_pull.specs.Work.{Adds, GathersAnew, Works}
+
+-- How a step ends, by the objects that store and remote have between them: it is right to succeed,
+-- or the refusal is the right one. These were taken into the work folder t before, and the names of
+-- files and links in the store are trusted only where they are true.
+abbrev pub EndsTold : {A : Type 0} → (root t : Elements) → List ℕ → Trust
+    → List (List ℕ × ObjKind) → Outside → (Have → Type 0) → (Have → WalkFault → Type 0)
+    → Result A WalkEnd → Type 0
+EndsTold root t url trust before u good refused result =
+    (have : Have) → Supplies root (Some url) u.told u.holdings have
+    → AreTakenNow root t url u.holdings before u.told → MayTrust trust root u.told
+    → EndsBy (λ _. good have) (refused have) result
 
 -- One object is taken into the work folder t, or is the store's. It is refused for its own fault.
 pub record TakesObject (root t : Elements) (url : List ℕ) (trust : Trust) (o : List ℕ × ObjKind)
@@ -29,9 +41,8 @@ pub record TakesObject (root t : Elements) (url : List ℕ) (trust : Trust) (o :
   pub same : w.holdings ≡ u.holdings
   pub adds : OnOk result (Adds o before after)
   pub on_success : OnOk result (AtEnd (TakesOne root t url u.holdings o before after) u.told w.told)
-  pub tells : (have : Have) → Supplies root (Some url) u.told u.holdings have
-      → AreTakenNow root t url u.holdings before u.told → MayTrust trust root u.told
-      → EndsBy (λ _. IsGood have o.0 o.1) (IsFaultOf o.0 o.1 (own_fault have o.0 o.1)) result
+  pub tells : EndsTold root t url trust before u (λ have. IsGood have o.0 o.1)
+      (λ have. IsOwnFault have o.0 o.1) result
   pub fault_has_cause : IsCaused (IsErrOf result ends.HostFault) u.told (AreOpen t)
       u.host_faults w.host_faults
   pub remote_fault_has_cause : IsRemotes (IsErrOf result ends.RemoteFault)
@@ -47,10 +58,8 @@ pub record TakesObjects (root t : Elements) (url : List ℕ) (trust : Trust)
   pub noted : OnOk result (StaysNoted before after)
   pub on_success : OnOk result
       (AtEnd (TakesAll root t url u.holdings objects before after) u.told w.told)
-  pub tells : (have : Have) → Supplies root (Some url) u.told u.holdings have
-      → AreTakenNow root t url u.holdings before u.told → MayTrust trust root u.told
-      → EndsBy (λ _. first_bad have objects ≡ None)
-      (λ f. first_bad have objects ≡ Some (told_fault f)) result
+  pub tells : EndsTold root t url trust before u (λ have. first_bad have objects ≡ None)
+      (λ have f. first_bad have objects ≡ Some (told_fault f)) result
   pub fault_has_cause : IsCaused (IsErrOf result ends.HostFault) u.told (AreOpen t)
       u.host_faults w.host_faults
   pub remote_fault_has_cause : IsRemotes (IsErrOf result ends.RemoteFault)

@@ -1,18 +1,16 @@
 //! All that a store lacks of a commit, gathered in the work folder.
-ghost use Rattle.std.specs.Prelude.{◌≡◌, None, Some, [], IfOk, OnOk, IsErrOf, option_map};
-ghost use Rattle.std.specs.Option.{option_or};
+ghost use Rattle.std.specs.Prelude.{◌≡◌, None, Some, [], IfOk, OnOk, IsErrOf};
 ghost use Rattle.fp_host.specs.OverHost.{AtEachMoment, AtReturn, FailsOnly};
 ghost use Rattle.ost_model.specs.Objects.{Have};
 ghost use Rattle.ost_model.specs.Order.{first_fault};
 ghost use Rattle.ost_model.specs.Remotes.{Supplies};
-ghost use Rattle.ost_walk.specs.Ends.{EndsBy, IsRemotes, around};
-ghost use Rattle.ost_walk.specs.Surveys.{first_bad, first_named, told_fault};
+ghost use Rattle.ost_walk.specs.Ends.{IsRemotes, around};
+ghost use Rattle.ost_walk.specs.Surveys.{first_named, told_fault, first_told, TellsNoFault};
 ghost use Rattle.ost_pull.specs.Pulls.{IsApart};
-ghost use Rattle.ost_pull.specs.Takes.{AddsAmong, AreTaken, AreTakenNow, CoversOrder, StaysTaken, TakesAll};
-ghost use Rattle.ost_pull.specs.Trusts.{MayTrust};
+ghost use Rattle.ost_pull.specs.Takes.{AddsAmong, StaysTaken, TakesAll, CoversFromNone};
 ghost use Rattle.ost_store.specs.ObjectNames.{AreOpen};
 ghost use Rattle.ost_pull.specs.Work.{Works};
-ghost use Rattle.ost_pull.specs.Turns.{GathersCommit};
+ghost use Rattle.ost_pull.specs.Turns.{GathersCommit, EndsTold};
 
 use crate::taking::walk_end;
 use crate::trusting::Trust;
@@ -59,14 +57,9 @@ fn take_surveyed<H: Host, R: Remotes, G: Gate + Sync>(
     ensures on_success { OnOk result (AtReturn H.Host host.old host.new
         (TakesAll root.now work.now url.now (R.holds remotes.old) survey.now.objects kept.old.items
         kept.new.items)) }
-    ensures tells { (have : Have) → Supplies root.now (Some url.now) (H.moments host.old)
-        (R.holds remotes.old) have
-        → AreTakenNow root.now work.now url.now (R.holds remotes.old) kept.old.items
-        (H.moments host.old)
-        → MayTrust trust root.now (H.moments host.old)
-        → EndsBy (λ _. (first_bad have survey.now.objects ≡ None) × (survey.now.fault ≡ None))
-        (λ w. option_or (first_bad have survey.now.objects) (option_map told_fault survey.now.fault)
-        ≡ Some (told_fault w)) result }
+    ensures tells { EndsTold root.now work.now url.now trust kept.old.items
+        (around H.Host R.Remotes host.old remotes.old) (λ have. TellsNoFault have survey.now)
+        (λ have w. first_told have survey.now ≡ Some (told_fault w)) result }
     ensures fault_has_cause { FailsOnly H.Host host.old host.new
         (AreOpen work.now) (IsErrOf result WalkEnd.HostFault) }
     ensures remote_fault_has_cause { IsRemotes (IsErrOf result WalkEnd.RemoteFault)
@@ -115,15 +108,11 @@ fn take_order<H: Host, R: Remotes, G: Gate + Sync>(
     ensures covers { (have : Have) → Supplies root.now (Some url.now) (H.moments host.old)
         (R.holds remotes.old) have → kept.old.items ≡ []
         → OnOk result (AtReturn H.Host host.old host.new
-        (λ u w. AreTaken root.now work.now url.now (R.holds remotes.old) [] u
-        → CoversOrder root.now have commit.now kept.new.items w)) }
-    ensures refuses { (have : Have) → Supplies root.now (Some url.now) (H.moments host.old)
-        (R.holds remotes.old) have
-        → AreTakenNow root.now work.now url.now (R.holds remotes.old) kept.old.items
-        (H.moments host.old)
-        → MayTrust trust root.now (H.moments host.old)
-        → EndsBy (λ _. first_fault have commit.now ≡ None)
-        (λ w. first_named have commit.now ≡ Some (told_fault w)) result }
+        (CoversFromNone root.now work.now url.now (R.holds remotes.old) have commit.now
+        kept.new.items)) }
+    ensures refuses { EndsTold root.now work.now url.now trust kept.old.items
+        (around H.Host R.Remotes host.old remotes.old) (λ have. first_fault have commit.now ≡ None)
+        (λ have w. first_named have commit.now ≡ Some (told_fault w)) result }
     ensures fault_has_cause { FailsOnly H.Host host.old host.new
         (AreOpen work.now) (IsErrOf result WalkEnd.HostFault) }
     ensures remote_fault_has_cause { IsRemotes (IsErrOf result WalkEnd.RemoteFault)

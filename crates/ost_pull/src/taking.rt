@@ -4,13 +4,13 @@ ghost use Rattle.fp_base.specs.declared.object.ObjKind.TheVariants as kinds;
 ghost use Rattle.fp_host.specs.OverHost.{AtEachMoment, AtReturn, FailsOnly};
 ghost use Rattle.ost_model.specs.Objects.{Have};
 ghost use Rattle.ost_model.specs.Remotes.{Supplies};
-ghost use Rattle.ost_walk.specs.Ends.{EndsBy, IsFaultOf, IsRemotes, of_host};
-ghost use Rattle.ost_walk.specs.Steps.{IsGood, own_fault};
+ghost use Rattle.ost_walk.specs.Ends.{EndsBy, IsRemotes, of_host, around};
+ghost use Rattle.ost_walk.specs.Steps.{IsGood, IsOwnFault};
 ghost use Rattle.ost_pull.specs.Pulls.{IsApart};
-ghost use Rattle.ost_pull.specs.Takes.{AreTakenNow, TakesOne};
-ghost use Rattle.ost_pull.specs.Trusts.{MayTrust};
+ghost use Rattle.ost_pull.specs.Takes.{TakesOne};
 ghost use Rattle.ost_store.specs.ObjectNames.{AreOpen};
 ghost use Rattle.ost_pull.specs.Work.{Works, Adds};
+ghost use Rattle.ost_pull.specs.Turns.{EndsTold};
 
 use crate::keeping::{keep, keep_content};
 use crate::trusting::{Trust, check_content};
@@ -56,7 +56,7 @@ fn take_whole<H: Host, R: Remotes>(
     ensures tells { (have : Have) → Supplies root.now (Some url.now) (H.moments host.old)
         (R.holds remotes.old) have
         → EndsBy (λ _. IsGood have digest.now kind)
-        (IsFaultOf digest.now kind (own_fault have digest.now kind)) result }
+        (IsOwnFault have digest.now kind) result }
     ensures fault_has_cause { FailsOnly H.Host host.old host.new
         (AreOpen work.now) (IsErrOf result WalkEnd.HostFault) }
     ensures remote_fault_has_cause { IsRemotes (IsErrOf result WalkEnd.RemoteFault)
@@ -94,13 +94,9 @@ fn take_content<H: Host, R: Remotes>(
     ensures on_success { OnOk result (AtReturn H.Host host.old host.new
         (TakesOne root.now work.now url.now (R.holds remotes.old)
         (digest.now, kinds.File) kept.old.items kept.new.items)) }
-    ensures tells { (have : Have) → Supplies root.now (Some url.now) (H.moments host.old)
-        (R.holds remotes.old) have
-        → AreTakenNow root.now work.now url.now (R.holds remotes.old) kept.old.items
-        (H.moments host.old)
-        → MayTrust trust root.now (H.moments host.old)
-        → EndsBy (λ _. IsGood have digest.now kinds.File)
-        (IsFaultOf digest.now kinds.File (own_fault have digest.now kinds.File)) result }
+    ensures tells { EndsTold root.now work.now url.now trust kept.old.items
+        (around H.Host R.Remotes host.old remotes.old) (λ have. IsGood have digest.now kinds.File)
+        (λ have. IsOwnFault have digest.now kinds.File) result }
     ensures fault_has_cause { FailsOnly H.Host host.old host.new
         (AreOpen work.now) (IsErrOf result WalkEnd.HostFault) }
     ensures remote_fault_has_cause { IsRemotes (IsErrOf result WalkEnd.RemoteFault)
@@ -136,13 +132,9 @@ pub(crate) fn take<H: Host, R: Remotes>(
     ensures on_success { OnOk result (AtReturn H.Host host.old host.new
         (TakesOne root.now work.now url.now (R.holds remotes.old)
         (digest.now, kind) kept.old.items kept.new.items)) }
-    ensures tells { (have : Have) → Supplies root.now (Some url.now) (H.moments host.old)
-        (R.holds remotes.old) have
-        → AreTakenNow root.now work.now url.now (R.holds remotes.old) kept.old.items
-        (H.moments host.old)
-        → MayTrust trust root.now (H.moments host.old)
-        → EndsBy (λ _. IsGood have digest.now kind)
-        (IsFaultOf digest.now kind (own_fault have digest.now kind)) result }
+    ensures tells { EndsTold root.now work.now url.now trust kept.old.items
+        (around H.Host R.Remotes host.old remotes.old) (λ have. IsGood have digest.now kind)
+        (λ have. IsOwnFault have digest.now kind) result }
     ensures fault_has_cause { FailsOnly H.Host host.old host.new
         (AreOpen work.now) (IsErrOf result WalkEnd.HostFault) }
     ensures remote_fault_has_cause { IsRemotes (IsErrOf result WalkEnd.RemoteFault)

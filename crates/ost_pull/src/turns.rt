@@ -3,17 +3,14 @@
 ghost use Rattle.std.specs.Prelude.{◌≡◌, ◌+◌, ◌<◌, ◌≤◌, length, None, Some, OnOk, IsErrOf};
 ghost use Rattle.fp_host.specs.OverHost.{AtEachMoment, AtReturn, FailsOnly};
 ghost use Rattle.par_digest.specs.Digests.{item_digest, item_digests};
-ghost use Rattle.ost_model.specs.Objects.{Have};
-ghost use Rattle.ost_model.specs.Remotes.{Supplies};
-ghost use Rattle.ost_walk.specs.Ends.{EndsBy, IsRemotes, around};
+ghost use Rattle.ost_walk.specs.Ends.{IsRemotes, around};
 ghost use Rattle.ost_walk.specs.Surveys.{first_bad, told_fault};
 ghost use Rattle.ost_pull.specs.Batches.{AreReady, IsBatched, IsReady};
 ghost use Rattle.ost_pull.specs.Pulls.{IsApart};
-ghost use Rattle.ost_pull.specs.Takes.{AddsAmong, AreTakenNow, TakesAll};
-ghost use Rattle.ost_pull.specs.Trusts.{MayTrust};
+ghost use Rattle.ost_pull.specs.Takes.{AddsAmong, TakesAll};
 ghost use Rattle.ost_store.specs.ObjectNames.{AreOpen};
 ghost use Rattle.ost_pull.specs.Work.{Works};
-ghost use Rattle.ost_pull.specs.Turns.{TakesObject, TakesObjects};
+ghost use Rattle.ost_pull.specs.Turns.{TakesObject, TakesObjects, EndsTold};
 
 use crate::batches::{Turn, read_batch};
 use crate::forms::{Form, is_good, whole};
@@ -229,13 +226,9 @@ pub(crate) fn take_all<H: Host, R: Remotes, G: Gate + Sync>(
     ensures on_success { OnOk result (AtReturn H.Host host.old host.new
         (TakesAll root.now work.now url.now (R.holds remotes.old) objects.now kept.old.items
         kept.new.items)) }
-    ensures tells { (have : Have) → Supplies root.now (Some url.now) (H.moments host.old)
-        (R.holds remotes.old) have
-        → AreTakenNow root.now work.now url.now (R.holds remotes.old) kept.old.items
-        (H.moments host.old)
-        → MayTrust trust root.now (H.moments host.old)
-        → EndsBy (λ _. first_bad have objects.now ≡ None)
-        (λ w. first_bad have objects.now ≡ Some (told_fault w)) result }
+    ensures tells { EndsTold root.now work.now url.now trust kept.old.items
+        (around H.Host R.Remotes host.old remotes.old) (λ have. first_bad have objects.now ≡ None)
+        (λ have w. first_bad have objects.now ≡ Some (told_fault w)) result }
     ensures fault_has_cause { FailsOnly H.Host host.old host.new
         (AreOpen work.now) (IsErrOf result WalkEnd.HostFault) }
     ensures remote_fault_has_cause { IsRemotes (IsErrOf result WalkEnd.RemoteFault)

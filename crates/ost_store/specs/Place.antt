@@ -2,10 +2,11 @@
 use Rattle.std.specs.Prelude.{◌≡◌, ◌⊎◌, List, ℕ, true, is_some, Contains}
 use Rattle.fp_host.specs.Paths.{Elements, Slot, absent}
 use Rattle.fp_host.specs.View.{View}
-use Rattle.fp_host.specs.Calls.{IsLeaf, IsDirty}
+use Rattle.fp_host.specs.Calls.{IsLeaf, IsDirty, creates, appends, syncs, done}
 use Rattle.fp_host.specs.Outcome.{Spot, Disk, Leaves, Gives, gone, shows}
 use Rattle.fp_host.specs.Frame.{Keeps, NoPath}
 use Rattle.fp_small.specs.Clear.{GoneAt, AbsentAt}
+use Rattle.fp_small.specs.declared.limits.TheConstants.{FILE_MODE}
 use Rattle.fp_small.specs.Folders.{ancestors, FoldersAt, DirsAt, AreFree}
 use Rattle.fp_base.specs.declared.object.ObjKind.{ObjKind}
 use Rattle.ost_model.specs.Objects.{object_path, Named}
@@ -37,6 +38,14 @@ pub record WasPlaced (t p : Elements) (u w : View) : Type 0 where
 pub record WasRemoved (p : Elements) (u w : View) : Type 0 where
   pub leaf : IsLeaf (u.names p)
   pub left : w.names p ≡ absent
+
+-- The name at p may go, and nothing else changes.
+abbrev pub TakesAway : Elements → View → View → Type 0
+TakesAway p u w = Keeps (GoneAt p) (AbsentAt p) NoPath u w
+
+-- the view with a new file at t that has these bytes, once it is created, written and synced
+abbrev pub with_new_file : Elements → ℕ → List ℕ → View → View
+with_new_file t id bytes v = done syncs (done (appends t bytes) (done (creates t FILE_MODE id) v))
 
 -- t is a link, or a file that isn't created since the last sync, and it is the object that the
 -- digest names

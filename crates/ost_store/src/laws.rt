@@ -4,9 +4,9 @@
 ghost use Rattle.std.specs.Prelude.{◌≡◌, ◌≢◌, ℕ, List, [], ◌∷◌, ◌++◌, true, Some, None, Contains};
 ghost use Rattle.fp_host.specs.Paths.{Elements, absent, file, link, IsAbove};
 ghost use Rattle.fp_host.specs.View.{View, IsTree};
-ghost use Rattle.fp_host.specs.Calls.{creates, appends, syncs, done, CanCreate};
+ghost use Rattle.fp_host.specs.Calls.{creates, syncs, done, CanCreate};
 ghost use Rattle.fp_host.specs.Outcome.{Nothing, shows, IsSettled};
-ghost use Rattle.fp_host.specs.Frame.{Keeps, NoPath, Only, NoName};
+ghost use Rattle.fp_host.specs.Frame.{Keeps, Only, NoName};
 ghost use Rattle.fp_name.specs.Hex.{is_digest};
 ghost use Rattle.ost_store.specs.declared.naming.TheConstants.{REST_DIGITS};
 ghost use Rattle.fp_base.specs.declared.object.ObjKind.{ObjKind};
@@ -15,7 +15,7 @@ ghost use Rattle.ost_model.specs.declared.object.Object.{Object};
 ghost use Rattle.ost_model.specs.Objects.{object_path, name_fault, store, Named};
 ghost use Rattle.ost_model.specs.Order.{In};
 ghost use Rattle.ost_model.specs.Stores.{objects_folder};
-ghost use Rattle.fp_small.specs.Clear.{GoneAt, AbsentAt, IsWithin};
+ghost use Rattle.fp_small.specs.Clear.{IsWithin};
 ghost use Rattle.fp_small.specs.declared.limits.TheConstants.{FILE_MODE};
 ghost use Rattle.fp_small.specs.Unsynced.{Unsynced};
 ghost use Rattle.fp_small.specs.Files.{KeepsFiles, MakesFile};
@@ -24,7 +24,7 @@ ghost use Rattle.ost_store.specs.Created.{WasPutSince, Creates, NoObject};
 ghost use Rattle.ost_store.specs.Gathers.{Gathers};
 ghost use Rattle.ost_store.specs.Stage.{IsStaged, IsHeld, Stages};
 ghost use Rattle.ost_store.specs.Stays.{Stays};
-ghost use Rattle.ost_store.specs.Place.{Places, WasPlaced, IsReadyAs, LeavesObject, LeavesStore};
+ghost use Rattle.ost_store.specs.Place.{Places, TakesAway, WasPlaced, IsReadyAs, LeavesObject, LeavesStore, with_new_file};
 
 /// After a sync, an object that the digest names is ready to be placed, and what is staged is held.
 pub fn staged_objects_are_ready()
@@ -45,8 +45,7 @@ pub fn names_elsewhere_stay()
         u.names t → Stays q u w }
     ensures placed { (q t p : Elements) (u w : View) → Places t p u w → (IsWithin q p → ⊥) → q ≢ t
         → Stays q u w }
-    ensures removed { (q p : Elements) (u w : View) → Keeps (GoneAt p) (AbsentAt p) NoPath u w → q
-        ≢ p → Stays q u w }
+    ensures removed { (q p : Elements) (u w : View) → TakesAway p u w → q ≢ p → Stays q u w }
 {}
 
 /// What a name that stays holds and shows stays too; and where nothing is synced, what is staged
@@ -86,9 +85,9 @@ pub fn placed_objects_are_there()
         (object_path root d k) u w → is_digest d ≡ true → is_digest e ≡ true
         → ((e ≡ d) × (m ≡ k) → ⊥) → object_path root e m ≢ t → IsTree u → IsTree w
         → store root (shows w) e m ≡ store root (shows u) e m }
-    ensures removed { (root : Elements) (d e : List ℕ) (k m : ObjKind) (u w : View) → Keeps
-        (GoneAt (object_path root d k)) (AbsentAt (object_path root d k)) NoPath u w
-        → is_digest d ≡ true → is_digest e ≡ true → ((e ≡ d) × (m ≡ k) → ⊥) → IsTree u → IsTree w
+    ensures removed { (root : Elements) (d e : List ℕ) (k m : ObjKind) (u w : View)
+        → TakesAway (object_path root d k) u w → is_digest d ≡ true → is_digest e ≡ true
+        → ((e ≡ d) × (m ≡ k) → ⊥) → IsTree u → IsTree w
         → store root (shows w) e m ≡ store root (shows u) e m }
 {}
 
@@ -119,11 +118,10 @@ pub fn placed_names_are_true()
 
 /// The same where a name is taken away.
 pub fn names_left_are_true()
-    ensures name { (root p : Elements) (d : List ℕ) (kind : ObjKind) (u w : View) → Keeps
-        (GoneAt p) (AbsentAt p) NoPath u w
-        → LeavesObject root d kind u → LeavesObject root d kind w }
-    ensures store { (root p : Elements) (u w : View) → Keeps (GoneAt p) (AbsentAt p) NoPath u w →
-        LeavesStore root u → LeavesStore root w }
+    ensures name { (root p : Elements) (d : List ℕ) (kind : ObjKind) (u w : View)
+        → TakesAway p u w → LeavesObject root d kind u → LeavesObject root d kind w }
+    ensures store { (root p : Elements) (u w : View) → TakesAway p u w
+        → LeavesStore root u → LeavesStore root w }
 {}
 
 /// What is asked of views can be met. Where nothing stands below `objects` and all is settled,
@@ -137,10 +135,8 @@ pub fn views_can_have_stores()
     ensures object { (root : Elements) (d : List ℕ) (kind : ObjKind) (v : View)
         → is_digest d ≡ true → LeavesStore root v → LeavesObject root d kind v }
     ensures ready { (d : List ℕ) × (bytes : List ℕ) × ((t : Elements) (id : ℕ) (v : View)
-        → CanCreate t FILE_MODE v → v.files id ≡ None
-        → IsTree (done syncs (done (appends t bytes) (done (creates t FILE_MODE id) v)))
-        → IsReadyAs d kinds.DirMeta t
-        (done syncs (done (appends t bytes) (done (creates t FILE_MODE id) v)))) }
+        → CanCreate t FILE_MODE v → v.files id ≡ None → IsTree (with_new_file t id bytes v)
+        → IsReadyAs d kinds.DirMeta t (with_new_file t id bytes v)) }
 {}
 
 /// Where nothing happens no object is made. Where objects are made and then, or before, nothing is

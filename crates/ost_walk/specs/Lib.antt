@@ -1,4 +1,5 @@
 pub mod Ends
+pub mod Sources
 pub mod Steps
 pub mod Dirs
 pub mod Looked

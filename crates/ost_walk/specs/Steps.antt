@@ -14,6 +14,7 @@ use Rattle.ost_model.specs.Walk.{Open, Walked, open_places, open_tree, open_meta
 use Rattle.ost_walk.specs.declared.ends.ObjectFault.{ObjectFault}
 use Rattle.ost_walk.specs.declared.ends.ObjectFault.TheVariants as faults
 use Rattle.ost_walk.specs.declared.ends.WalkEnd.{WalkEnd}
+use Rattle.ost_walk.specs.declared.ends.WalkFault.{WalkFault}
 use Rattle.ost_walk.specs.declared.dirs.Dir.{Dir}
 use Rattle.ost_walk.specs.Ends.{EndsBy, IsFaultOf}
 
@@ -83,6 +84,10 @@ meta_of dir = open_meta (open_of dir)
 -- the fault of an object
 abbrev pub own_fault : Have → List ℕ → ObjKind → Option Fault
 own_fault have d kind = object_fault d kind (have d kind)
+
+-- the refusal is of this object, and tells its own fault
+abbrev pub IsOwnFault : Have → List ℕ → ObjKind → WalkFault → Type 0
+IsOwnFault have d kind = IsFaultOf d kind (own_fault have d kind)
 
 -- the first fault of a directory's dirtree and dirmeta, which have n places before them
 abbrev pub heads_fault : Have → ℕ → Dir → Option (Place × Fault)

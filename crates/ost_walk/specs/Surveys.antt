@@ -1,15 +1,17 @@
 -- What can be told of an order without its content objects.
-use Rattle.std.specs.Prelude.{◌≡◌, ◌*◌, ℕ, List, [], ◌∷◌, ◌++◌, map, Option, Some, None, Result, Ok, Err, option_map}
+use Rattle.std.specs.Prelude.{◌≡◌, ◌*◌, ℕ, List, [], ◌∷◌, ◌++◌, length, map, Option, Some, None, Result, Ok, Err, option_map}
 use Rattle.std.specs.Option.{option_or}
 use Rattle.fp_base.specs.declared.object.ObjKind.{ObjKind}
 use Rattle.ost_model.specs.Objects.{Have, Fault, object_fault}
 use Rattle.ost_model.specs.Order.{Place, order, first_of, place_fault, walk_fault, first_fault, first_walk_fault}
+use Rattle.ost_model.specs.Walk.{open_places}
 use Rattle.ost_walk.specs.declared.ends.WalkFault.{WalkFault}
 use Rattle.ost_walk.specs.declared.ends.WalkEnd.{WalkEnd}
 use Rattle.ost_walk.specs.declared.ends.WalkEnd.TheVariants as ends
+use Rattle.ost_walk.specs.declared.dirs.Dir.{Dir}
 use Rattle.ost_walk.specs.declared.surveys.Survey.{Survey}
-use Rattle.ost_walk.specs.Ends.{IsFirst, fault_of}
-use Rattle.ost_walk.specs.Steps.{place_name}
+use Rattle.ost_walk.specs.Ends.{EndsBy, IsFirst, fault_of}
+use Rattle.ost_walk.specs.Steps.{IsWalked, open_of, place_name}
 
 -- a place's object with its fault, without the depth
 abbrev pub named_fault : Place × Fault → (List ℕ × ObjKind) × Fault
@@ -33,6 +35,14 @@ first_bad have (o ∷ os) =
 abbrev pub told_fault : WalkFault → (List ℕ × ObjKind) × Fault
 told_fault w = ((w.digest, w.kind), fault_of w.fault)
 
+-- the first fault that a survey tells: of its objects, or else its own
+abbrev pub first_told : Have → Survey → Option ((List ℕ × ObjKind) × Fault)
+first_told have s = option_or (first_bad have s.objects) (option_map told_fault s.fault)
+
+-- there is none
+abbrev pub TellsNoFault : Have → Survey → Type 0
+TellsNoFault have s = (first_bad have s.objects ≡ None) × (s.fault ≡ None)
+
 -- the first fault was told, where there is one
 abbrev pub IsFirstIfAny : Option (Place × Fault) → Option WalkFault → Type 0
 IsFirstIfAny found None = found ≡ None
@@ -46,8 +56,7 @@ pub record IsSurvey (have : Have) (commit : List ℕ) (s : Survey) : Type 0 wher
   pub rest : List (List ℕ × ObjKind)
   pub front : map place_name (order have commit) ≡ s.objects ++ rest
   pub whole : s.fault ≡ None → s.objects ≡ map place_name (order have commit)
-  pub first : first_named have commit ≡ option_or (first_bad have s.objects)
-      (option_map told_fault s.fault)
+  pub first : first_named have commit ≡ first_told have s
 
 -- ---- where a walk stops
 
@@ -62,6 +71,13 @@ pub record StopsAmong (have : Have) (n : ℕ) (places : List Place)
   pub front : map place_name places ≡ new ++ rest
   pub named : option_map named_fault (first_of (place_fault have) n places)
       ≡ option_or (first_bad have new) (Some (told_fault w))
+
+-- A directory was walked, without those in it; or the walk stops among its places.
+abbrev pub WalksDir : {A : Type 0} → Have → Dir → (done done' : List (List ℕ × ObjKind))
+    → (left left' : List Dir) → Result A WalkEnd → Type 0
+WalksDir have dir done done' left left' result = EndsBy
+    (λ _. IsWalked have dir done done' left left')
+    (StopsAmong have (length done) (open_places have (open_of dir)) done done') result
 
 -- the walk of the commit stops so, with these objects in order
 pub record StopsIn (have : Have) (commit : List ℕ) (done : List (List ℕ × ObjKind))

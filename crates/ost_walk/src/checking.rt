@@ -4,9 +4,9 @@ ghost use Rattle.fp_base.specs.declared.object.ObjKind.TheVariants as kinds;
 ghost use Rattle.ost_model.specs.Objects.{Have};
 ghost use Rattle.ost_model.specs.Order.{walk_fault};
 ghost use Rattle.ost_object.specs.Views.{tree_view};
-ghost use Rattle.ost_model.specs.Remotes.{Supplies};
 ghost use Rattle.ost_walk.specs.Ends.{EndsBy, IsFaultOf, IsFirst, Observes, around};
-ghost use Rattle.ost_walk.specs.Steps.{IsTreeOf, IsGood, IsRoot, IsTree, IsChecked, IsOpened, tree_of, meta_of, own_fault, heads_fault, limit_of};
+ghost use Rattle.ost_walk.specs.Sources.{SuppliesAt};
+ghost use Rattle.ost_walk.specs.Steps.{IsTreeOf, IsGood, IsRoot, IsTree, IsChecked, IsOpened, tree_of, meta_of, IsOwnFault, heads_fault, limit_of};
 
 use crate::dirs::Dir;
 use crate::ends::{ObjectFault, WalkEnd, WalkFault, refused};
@@ -30,10 +30,10 @@ fn fetch_tree<H: Host, R: Remotes>(
 ) -> Result<DirTree, WalkEnd>
     ensures looks { Observes result (around H.Host R.Remotes host.old remotes.old)
         (around H.Host R.Remotes host.new remotes.new) }
-    ensures tells { (have : Have) → Supplies places.now.root places.now.url (H.moments host.old)
+    ensures tells { (have : Have) → SuppliesAt places.now (H.moments host.old)
         (R.holds remotes.old) have
         → EndsBy (λ t. IsTreeOf have digest.now (tree_view t))
-        (IsFaultOf digest.now kinds.DirTree (own_fault have digest.now kinds.DirTree)) result }
+        (IsOwnFault have digest.now kinds.DirTree) result }
 {
     match fetch(alloc, host, remotes, places, digest, ObjKind::DirTree) {
         Ok(bytes) => tree_in(alloc, &bytes, digest),
@@ -51,10 +51,10 @@ pub(crate) fn fetch_root<H: Host, R: Remotes>(
 ) -> Result<Dir, WalkEnd>
     ensures looks { Observes result (around H.Host R.Remotes host.old remotes.old)
         (around H.Host R.Remotes host.new remotes.new) }
-    ensures tells { (have : Have) → Supplies places.now.root places.now.url (H.moments host.old)
+    ensures tells { (have : Have) → SuppliesAt places.now (H.moments host.old)
         (R.holds remotes.old) have
         → EndsBy (IsRoot have commit.now)
-        (IsFaultOf commit.now kinds.Commit (own_fault have commit.now kinds.Commit)) result }
+        (IsOwnFault have commit.now kinds.Commit) result }
 {
     match fetch(alloc, host, remotes, places, commit, ObjKind::Commit) {
         Ok(bytes) => root_in(alloc, &bytes, commit),
@@ -72,10 +72,10 @@ fn fetch_meta<H: Host, R: Remotes>(
 ) -> Result<(), WalkEnd>
     ensures looks { Observes result (around H.Host R.Remotes host.old remotes.old)
         (around H.Host R.Remotes host.new remotes.new) }
-    ensures tells { (have : Have) → Supplies places.now.root places.now.url (H.moments host.old)
+    ensures tells { (have : Have) → SuppliesAt places.now (H.moments host.old)
         (R.holds remotes.old) have
         → EndsBy (λ _. IsGood have digest.now kinds.DirMeta)
-        (IsFaultOf digest.now kinds.DirMeta (own_fault have digest.now kinds.DirMeta)) result }
+        (IsOwnFault have digest.now kinds.DirMeta) result }
 {
     match fetch(alloc, host, remotes, places, digest, ObjKind::DirMeta) {
         Ok(bytes) => check_meta(alloc, &bytes, digest),
@@ -95,7 +95,7 @@ pub(crate) fn open_tree<H: Host, R: Remotes>(
     ensures looks { Observes result (around H.Host R.Remotes host.old remotes.old)
         (around H.Host R.Remotes host.new remotes.new) }
     ensures limits { OnOk result (limit_of count dir.now.depth ≡ None) }
-    ensures tells { (have : Have) → Supplies places.now.root places.now.url (H.moments host.old)
+    ensures tells { (have : Have) → SuppliesAt places.now (H.moments host.old)
         (R.holds remotes.old) have
         → EndsBy (λ t. IsTree have count dir.now (tree_view t))
         (IsFaultOf dir.now.tree kinds.DirTree (walk_fault have count (tree_of dir.now))) result }
@@ -118,7 +118,7 @@ fn open_meta<H: Host, R: Remotes>(
     ensures looks { Observes result (around H.Host R.Remotes host.old remotes.old)
         (around H.Host R.Remotes host.new remotes.new) }
     ensures limits { OnOk result (limit_of count dir.now.depth ≡ None) }
-    ensures tells { (have : Have) → Supplies places.now.root places.now.url (H.moments host.old)
+    ensures tells { (have : Have) → SuppliesAt places.now (H.moments host.old)
         (R.holds remotes.old) have
         → EndsBy (λ _. IsChecked have count (meta_of dir.now))
         (IsFaultOf dir.now.meta kinds.DirMeta (walk_fault have count (meta_of dir.now))) result }
@@ -142,7 +142,7 @@ pub(crate) fn open_dir<H: Host, R: Remotes>(
     ensures looks { Observes result (around H.Host R.Remotes host.old remotes.old)
         (around H.Host R.Remotes host.new remotes.new) }
     ensures limits { OnOk result (limit_of (count + 1) dir.now.depth ≡ None) }
-    ensures tells { (have : Have) → Supplies places.now.root places.now.url (H.moments host.old)
+    ensures tells { (have : Have) → SuppliesAt places.now (H.moments host.old)
         (R.holds remotes.old) have
         → EndsBy (λ t. IsOpened have count dir.now (tree_view t))
         (IsFirst (heads_fault have count dir.now)) result }

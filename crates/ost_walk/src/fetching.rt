@@ -3,8 +3,9 @@ ghost use Rattle.std.specs.Prelude.{◌≡◌, false, Some, IsErrOf};
 ghost use Rattle.fp_host.specs.Remote.{Holdings};
 ghost use Rattle.ost_model.specs.Objects.{Have};
 ghost use Rattle.ost_model.specs.Objects.{may_be_link};
-ghost use Rattle.ost_model.specs.Remotes.{Supplies, remote};
+ghost use Rattle.ost_model.specs.Remotes.{remote};
 ghost use Rattle.ost_walk.specs.Ends.{Observes, IsRemotes, around};
+ghost use Rattle.ost_walk.specs.Sources.{SuppliesAt};
 ghost use Rattle.ost_walk.specs.Steps.{Fetches};
 
 use crate::ends::{ObjectFault, WalkEnd, refused};
@@ -31,7 +32,7 @@ pub fn fetch<H: Host, R: Remotes>(
     requires { may_be_link kind ≡ false }
     ensures looks { Observes result (around H.Host R.Remotes host.old remotes.old)
         (around H.Host R.Remotes host.new remotes.new) }
-    ensures tells { (have : Have) → Supplies places.now.root places.now.url (H.moments host.old)
+    ensures tells { (have : Have) → SuppliesAt places.now (H.moments host.old)
         (R.holds remotes.old) have
         → Fetches digest.now kind (have digest.now kind) result }
 {

@@ -4,11 +4,10 @@ ghost use Rattle.fp_base.specs.declared.object.ObjKind.TheVariants as kinds;
 ghost use Rattle.ost_model.specs.declared.limits.TheConstants.{MOST_OBJECTS};
 ghost use Rattle.ost_model.specs.Objects.{Have};
 ghost use Rattle.ost_model.specs.Order.{file_places};
-ghost use Rattle.ost_model.specs.Walk.{open_places};
 ghost use Rattle.ost_object.specs.Views.{file_row, tree_view};
 ghost use Rattle.ost_walk.specs.Ends.{EndsBy, IsLimit, NoFault};
-ghost use Rattle.ost_walk.specs.Steps.{AreListed, IsOpened, IsWalked, heads_of, limit_of, open_of};
-ghost use Rattle.ost_walk.specs.Surveys.{StopsAmong};
+ghost use Rattle.ost_walk.specs.Steps.{AreListed, IsOpened, heads_of, limit_of};
+ghost use Rattle.ost_walk.specs.Surveys.{StopsAmong, WalksDir};
 ghost use Rattle.ost_walk.specs.declared.ends.WalkFault.{WalkFault};
 
 use crate::dirs::{Dir, add_dirs};
@@ -82,9 +81,8 @@ pub(crate) fn list_dir(
     requires { limit_of (length done.old.items + 1) dir.now.depth ≡ None }
     ensures tells { (have : Have) → IsOpened have (length done.old.items) dir.now
         (tree_view tree.now)
-        → EndsBy (λ _. IsWalked have dir.now done.old.items done.new.items left.old.items
-        left.new.items) (StopsAmong have (length done.old.items)
-        (open_places have (open_of dir.now)) done.old.items done.new.items) result }
+        → WalksDir have dir.now done.old.items done.new.items left.old.items left.new.items
+        result }
     ensures more { OnOk result (length done.old.items + 2 ≤ length done.new.items) }
     ensures most { OnOk result (length done.new.items ≤ MOST_OBJECTS) }
     ensures faults { NoFault result }

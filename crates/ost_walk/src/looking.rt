@@ -4,9 +4,9 @@ ghost use Rattle.fp_host.specs.Paths.{Elements};
 ghost use Rattle.ost_model.specs.declared.limits.TheConstants.{MOST_LEVELS};
 ghost use Rattle.ost_model.specs.Objects.{Have};
 ghost use Rattle.ost_model.specs.Look.{look_fault};
-ghost use Rattle.ost_model.specs.Remotes.{Supplies};
 ghost use Rattle.ost_object.specs.Views.{tree_view};
 ghost use Rattle.ost_walk.specs.Ends.{EndsBy, IsFirst, Observes, outside, around};
+ghost use Rattle.ost_walk.specs.Sources.{SuppliesAt};
 ghost use Rattle.ost_walk.specs.Looked.{IsFound, IsDirAt, IsHere, IsLow};
 
 use crate::checking::{fetch_root, open_tree};
@@ -30,7 +30,7 @@ fn start<H: Host, R: Remotes>(
     ensures looks { Observes result (around H.Host R.Remotes host.old remotes.old)
         (around H.Host R.Remotes host.new remotes.new) }
     ensures low { IfOk result IsLow }
-    ensures tells { (have : Have) → Supplies places.now.root places.now.url (H.moments host.old)
+    ensures tells { (have : Have) → SuppliesAt places.now (H.moments host.old)
         (R.holds remotes.old) have
         → EndsBy (IsHere have commit.now []) (IsFirst (look_fault have commit.now [])) result }
 {
@@ -57,8 +57,8 @@ fn enter<H: Host, R: Remotes>(
     ensures looks { Observes result (around H.Host R.Remotes host.old remotes.old)
         (around H.Host R.Remotes host.new remotes.new) }
     ensures low { IfOk result IsLow }
-    ensures tells { (have : Have) (commit : List ℕ) (up : Elements) → Supplies places.now.root
-        places.now.url (H.moments host.old) (R.holds remotes.old) have
+    ensures tells { (have : Have) (commit : List ℕ) (up : Elements)
+        → SuppliesAt places.now (H.moments host.old) (R.holds remotes.old) have
         → IsDirAt have commit up (tree_view tree.now) depth
         → EndsBy (IsHere have commit (name.now ∷ up))
         (IsFirst (look_fault have commit (name.now ∷ up))) result }
@@ -88,8 +88,8 @@ fn advance<H: Host, R: Remotes>(
     ensures looks { Observes result (around H.Host R.Remotes host.old remotes.old)
         (around H.Host R.Remotes host.new remotes.new) }
     ensures low { IfOk result IsLow }
-    ensures tells { (have : Have) (commit : List ℕ) (up : Elements) → Supplies places.now.root
-        places.now.url (H.moments host.old) (R.holds remotes.old) have
+    ensures tells { (have : Have) (commit : List ℕ) (up : Elements)
+        → SuppliesAt places.now (H.moments host.old) (R.holds remotes.old) have
         → IsHere have commit up here.now
         → EndsBy (IsHere have commit (name.now ∷ up))
         (IsFirst (look_fault have commit (name.now ∷ up))) result }
@@ -114,7 +114,7 @@ fn follow_one<H: Host, R: Remotes>(
     ensures looks { Observes result (around H.Host R.Remotes host.old remotes.old)
         (around H.Host R.Remotes host.new remotes.new) }
     ensures low { IfOk result IsLow }
-    ensures tells { (have : Have) (commit : List ℕ) → Supplies places.now.root places.now.url
+    ensures tells { (have : Have) (commit : List ℕ) → SuppliesAt places.now
         (H.moments host.old) (R.holds remotes.old) have
         → IsHere have commit (drop 1 path.now) here.now
         → EndsBy (IsHere have commit path.now) (IsFirst (look_fault have commit path.now)) result }
@@ -137,7 +137,7 @@ fn follow<H: Host, R: Remotes>(
     requires { IsLow root }
     ensures looks { Observes result (around H.Host R.Remotes host.old remotes.old)
         (around H.Host R.Remotes host.new remotes.new) }
-    ensures tells { (have : Have) (commit : List ℕ) → Supplies places.now.root places.now.url
+    ensures tells { (have : Have) (commit : List ℕ) → SuppliesAt places.now
         (H.moments host.old) (R.holds remotes.old) have
         → IsHere have commit [] root
         → EndsBy (IsHere have commit path.now) (IsFirst (look_fault have commit path.now)) result }
@@ -181,7 +181,7 @@ pub fn look<H: Host, R: Remotes>(
     // Nothing changes, and a fault comes only where the count of that outside rose.
     ensures looks { Observes result (around H.Host R.Remotes host.old remotes.old)
         (around H.Host R.Remotes host.new remotes.new) }
-    ensures tells { (have : Have) → Supplies places.now.root places.now.url (H.moments host.old)
+    ensures tells { (have : Have) → SuppliesAt places.now (H.moments host.old)
         (R.holds remotes.old) have
         → EndsBy (IsFound have commit.now path.now)
         (IsFirst (look_fault have commit.now path.now)) result }

@@ -3,8 +3,8 @@ ghost use Rattle.std.specs.Prelude.{◌≡◌, ◌∷◌, [], IfOk};
 ghost use Rattle.fp_base.specs.declared.object.ObjKind.TheVariants as kinds;
 ghost use Rattle.ost_model.specs.Objects.{Have};
 ghost use Rattle.ost_model.specs.Order.{first_walk_fault};
-ghost use Rattle.ost_model.specs.Remotes.{Supplies};
 ghost use Rattle.ost_walk.specs.Ends.{EndsBy, IsFirst, Observes, around};
+ghost use Rattle.ost_walk.specs.Sources.{SuppliesAt};
 ghost use Rattle.ost_walk.specs.Steps.{IsRoot, IsOrder};
 ghost use Rattle.ost_walk.specs.Surveys.{IsSurvey, stopped_at, unless_faulty};
 
@@ -63,7 +63,7 @@ fn survey_from<H: Host, R: Remotes>(
 ) -> Result<Survey, WalkEnd>
     ensures looks { Observes result (around H.Host R.Remotes host.old remotes.old)
         (around H.Host R.Remotes host.new remotes.new) }
-    ensures tells { (have : Have) → Supplies places.now.root places.now.url (H.moments host.old)
+    ensures tells { (have : Have) → SuppliesAt places.now (H.moments host.old)
         (R.holds remotes.old) have → IsRoot have commit.now root
         → EndsBy (IsSurvey have commit.now) (λ w. ⊥) result }
 {
@@ -90,7 +90,7 @@ pub fn survey<H: Host, R: Remotes>(
 ) -> Result<Survey, WalkEnd>
     ensures looks { Observes result (around H.Host R.Remotes host.old remotes.old)
         (around H.Host R.Remotes host.new remotes.new) }
-    ensures tells { (have : Have) → Supplies places.now.root places.now.url (H.moments host.old)
+    ensures tells { (have : Have) → SuppliesAt places.now (H.moments host.old)
         (R.holds remotes.old) have
         → EndsBy (IsSurvey have commit.now) (λ w. ⊥) result }
 {
@@ -124,7 +124,7 @@ pub fn order<H: Host, R: Remotes>(
 ) -> Result<Items<(Digest, ObjKind)>, WalkEnd>
     ensures looks { Observes result (around H.Host R.Remotes host.old remotes.old)
         (around H.Host R.Remotes host.new remotes.new) }
-    ensures tells { (have : Have) → Supplies places.now.root places.now.url (H.moments host.old)
+    ensures tells { (have : Have) → SuppliesAt places.now (H.moments host.old)
         (R.holds remotes.old) have
         → EndsBy (IsOrder have commit.now) (IsFirst (first_walk_fault have commit.now)) result }
 {

@@ -2,11 +2,10 @@
 ghost use Rattle.std.specs.Prelude.{◌≡◌, ◌≤◌, ◌+◌, [], List, ℕ, length, OnOk};
 ghost use Rattle.ost_model.specs.declared.limits.TheConstants.{MOST_OBJECTS};
 ghost use Rattle.ost_model.specs.Objects.{Have};
-ghost use Rattle.ost_model.specs.Remotes.{Supplies};
-ghost use Rattle.ost_model.specs.Walk.{open_places};
 ghost use Rattle.ost_walk.specs.Ends.{EndsBy, Observes, around};
-ghost use Rattle.ost_walk.specs.Steps.{IsWalked, IsOnTheWay, open_of};
-ghost use Rattle.ost_walk.specs.Surveys.{StopsAmong, StopsIn};
+ghost use Rattle.ost_walk.specs.Sources.{SuppliesAt};
+ghost use Rattle.ost_walk.specs.Steps.{IsOnTheWay};
+ghost use Rattle.ost_walk.specs.Surveys.{StopsIn, WalksDir};
 
 use crate::checking::open_dir;
 use crate::dirs::Dir;
@@ -32,11 +31,10 @@ fn visit<H: Host, R: Remotes>(
         (around H.Host R.Remotes host.new remotes.new) }
     ensures more { OnOk result (length done.old.items + 2 ≤ length done.new.items) }
     ensures most { OnOk result (length done.new.items ≤ MOST_OBJECTS) }
-    ensures tells { (have : Have) → Supplies places.now.root places.now.url (H.moments host.old)
+    ensures tells { (have : Have) → SuppliesAt places.now (H.moments host.old)
         (R.holds remotes.old) have
-        → EndsBy (λ _. IsWalked have dir.now done.old.items done.new.items left.old.items
-        left.new.items) (StopsAmong have (length done.old.items)
-        (open_places have (open_of dir.now)) done.old.items done.new.items) result }
+        → WalksDir have dir.now done.old.items done.new.items left.old.items left.new.items
+        result }
 {
     match open_dir(alloc, host, remotes, places, dir, done.len()) {
         Ok(tree) => list_dir(&tree, dir, done, left),
@@ -55,7 +53,7 @@ pub(crate) fn walk<H: Host, R: Remotes>(
 ) -> Result<(), WalkEnd>
     ensures looks { Observes result (around H.Host R.Remotes host.old remotes.old)
         (around H.Host R.Remotes host.new remotes.new) }
-    ensures tells { (have : Have) (commit : List ℕ) → Supplies places.now.root places.now.url
+    ensures tells { (have : Have) (commit : List ℕ) → SuppliesAt places.now
         (H.moments host.old) (R.holds remotes.old) have
         → IsOnTheWay have commit done.old.items left.old.items
         → EndsBy (λ _. IsOnTheWay have commit done.new.items [])

@@ -8,7 +8,7 @@ pub returns-clause-installed : goal.returns-clause-installed
 returns-clause-installed c held x remote name from row some there = rw (some, there) refl
 
 pub returns-clause-refused : goal.returns-clause-refused
-returns-clause-refused c held x remote name from refusal some none is = rw (some, none, is) refl
+returns-clause-refused c held x remote name from refusal may is = rw (may.there, may.absent, is) refl
 
 pub returns-clause-planned : goal.returns-clause-planned
-returns-clause-planned c held x remote name from plan some none is = rw (some, none, is) refl
+returns-clause-planned c held x remote name from plan may is = rw (may.there, may.absent, is) refl

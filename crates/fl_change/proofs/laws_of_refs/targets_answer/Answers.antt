@@ -8,13 +8,14 @@ pub returns-clause-remote_gone : goal.returns-clause-remote_gone
 returns-clause-remote_gone c held x name row some none = rw (some, none) refl
 
 pub returns-clause-not_offered : goal.returns-clause-not_offered
-returns-clause-not_offered c held x name row from remote missed some has is = rw (some, has, own_refusal held x.have x.state from name (refusals.NoSuchRef remote missed) is) refl
+returns-clause-not_offered c held x name from remote missed comes is = rw (comes.deployed, comes.there, own_refusal held x.have x.state from name (refusals.NoSuchRef remote missed) is) refl
 
 pub returns-clause-wrong_mode : goal.returns-clause-wrong_mode
-returns-clause-wrong_mode c held x name row from remote mode some has is = rw (some, has, own_refusal held x.have x.state from name (refusals.WrongMode remote mode) is) refl
+returns-clause-wrong_mode c held x name from remote mode comes is = rw (comes.deployed, comes.there, own_refusal held x.have x.state from name (refusals.WrongMode remote mode) is) refl
 
 pub returns-clause-refused : goal.returns-clause-refused
-returns-clause-refused c held x name row from refusal some has is not = rw (some, has, is, is_no_offer-alone refusal not) refl
+returns-clause-refused c held x name from refusal comes is not =
+    rw (comes.deployed, comes.there, is, is_no_offer-alone refusal (λ remote missed same. not (remote, missed, same))) refl
 
 pub returns-clause-planned : goal.returns-clause-planned
-returns-clause-planned c held x name row from plan some has is = rw (some, has, is) refl
+returns-clause-planned c held x name from plan comes is = rw (comes.deployed, comes.there, is) refl

@@ -8,4 +8,4 @@ pub returns-clause-none : goal.returns-clause-none
 returns-clause-none c held x = refl
 
 pub returns-clause-taken : goal.returns-clause-taken
-returns-clause-taken c held x name more row next some goes = rw (some, goes) refl
+returns-clause-taken c held x name more row some = rw some refl

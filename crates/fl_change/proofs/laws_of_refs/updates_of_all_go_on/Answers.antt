@@ -1,8 +1,6 @@
-use Rattle.std.proofs.Common.{◌≡◌, ◌∷◌, Some, refl, subst}
+use Rattle.std.proofs.Common.{◌≡◌, ◌∷◌, refl, subst}
 use Rattle.dep_states.specs.After.{Done}
-use Rattle.fl_lines.specs.Lines.{op_text}
-use Rattle.fl_change.specs.Answer.{each_over}
-use Rattle.fl_change.specs.Refs.{target_over}
+use Rattle.fl_change.specs.Premises.{after_piece, done_piece, targets_over}
 use Rattle.fl_change.specs.World.{world_after}
 use Rattle.fl_change.proofs.laws_of_refs.updates_of_all_go_on.Goals as goal
 
@@ -13,16 +11,15 @@ pub returns-clause-none : goal.returns-clause-none
 returns-clause-none c held x = refl
 
 pub returns-clause-skips : goal.returns-clause-skips
-returns-clause-skips c held x name more next is goes = rw (is, goes) refl
+returns-clause-skips c held x name more is = rw is refl
 
 pub returns-clause-stays : goal.returns-clause-stays
 returns-clause-stays c held x name more is = rw is refl
 
 pub returns-clause-brings : goal.returns-clause-brings
-returns-clause-brings c held x name more op d next is fits done =
-    subst (λ (e : Done). each_over target_over more held (world_after held x e) ≡ next
-    → each_over target_over (name ∷ more) held x ≡ record { pieces = record { text = op_text e.op; op = Some e } ∷ next.pieces; refusal = next.refusal }) done
-    (λ goes. rw (is, fits, goes) refl)
+returns-clause-brings c held x name more op d is does =
+    subst (λ (e : Done). targets_over (name ∷ more) held x ≡ after_piece (done_piece e) (targets_over more held (world_after held x e))) does.is
+    (rw (is, does.accepted) refl)
 
 pub returns-clause-refused : goal.returns-clause-refused
 returns-clause-refused c held x name more refusal is = rw is refl

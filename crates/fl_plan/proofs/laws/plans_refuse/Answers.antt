@@ -6,7 +6,7 @@ pub returns-clause-own : goal.returns-clause-own
 returns-clause-own c = own_refusal
 
 pub returns-clause-head : goal.returns-clause-head
-returns-clause-head c = head_refuses
+returns-clause-head c b target refusal = head_refuses b.held b.stored b.state target.remote target.name target.commit refusal
 
 pub returns-clause-absent : goal.returns-clause-absent
 returns-clause-absent c = only_own_ref

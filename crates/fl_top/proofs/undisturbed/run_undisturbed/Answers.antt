@@ -6,7 +6,7 @@ use Rattle.fl_top.proofs.Whole.{undisturbed, whole_run}
 use Rattle.fl_top.proofs.undisturbed.run_undisturbed.Goals as goal
 
 pub returns : goal.returns
-returns g c = λ fit told host remote input.
+returns g c = λ input fit told host remote.
     let words = map string_bytes c.args.words.now in
     let left = g.I.Source.left c.args.input.now in
     let holds = g.R.Remotes.holds c.args.remotes.now in

@@ -5,4 +5,4 @@ pub returns-clause-name : goal.returns-clause-name
 returns-clause-name c root keep object u w good pruned used = used_name object good pruned used
 
 pub returns-clause-stop : goal.returns-clause-stop
-returns-clause-stop c root keep object u w good pruned used disk left = used_stop object good pruned used disk left
+returns-clause-stop c root keep object u w good pruned used = λ disk left. used_stop object good pruned used disk left
