@@ -23,6 +23,7 @@ pub mod Absent
 pub mod Pulling
 pub mod Small
 pub mod Lasting
+pub mod SharedAs
 pub mod Linked
 pub mod Elsewhere
 pub mod Texts

@@ -12,10 +12,9 @@ use Rattle.fp_small.specs.Clear.{IsWithin}
 use Rattle.fp_small.specs.Files.{KeepsFiles}
 use Rattle.fp_small.specs.Places.{repo, tmp}
 use Rattle.ost_model.specs.Objects.{object_path}
-use Rattle.dep_states.specs.Lasting.{IsLasting}
 use Rattle.dep_states.specs.Links.{WasStored, Links}
 use Rattle.dep_states.specs.Names.{commit_dir, deploy}
-use Rattle.dep_states.proofs.Lasting.{lasting_record, commit_no_work}
+use Rattle.dep_states.proofs.Lasting.{TakesFiles, an_object, takes_record, commit_no_work}
 
 pub links_refl : {v : View} → Links v v
 links_refl = record { each = λ name commit q id above is. inl is }
@@ -40,12 +39,12 @@ links_on first second keeps = record {
 }
 
 -- where files come to lasting names and to work alone
-pub links_lasting : (W : Elements → Slot → Type 0) {u w : View} → ((q : Elements) → (w.names q ≡ u.names q) ⊎ W q (w.names q)) → ((q : Elements) (id : ℕ) → W q (file id) → IsLasting q ⊎ IsWithin tmp q) → Links u w
+pub links_lasting : (W : Elements → Slot → Type 0) {u w : View} → ((q : Elements) → (w.names q ≡ u.names q) ⊎ W q (w.names q)) → ((q : Elements) (id : ℕ) → W q (file id) → TakesFiles q ⊎ IsWithin tmp q) → Links u w
 links_lasting W names where_files = record {
   each = λ name commit q id above is. elim (names q) [
     | inl same ↦ inl (sym same ∙ is)
     | inr put ↦ elim (where_files q id (subst (W q) is put)) [
-      | inl lasts ↦ inr (inl (lasting_record name commit q above lasts))
+      | inl lasts ↦ inr (inl (takes_record name commit q above lasts))
       | inr work ↦ absurd (commit_no_work name commit q above work)
     ]
   ];
@@ -92,7 +91,7 @@ written_no_links v name commit bytes q mode id can none above off linked =
             let had : Contains (v.stood ++ (q, file id) ∷ []) (stored.at, file id) = subst (λ (l : List (Elements × Slot)). Contains l (stored.at, file id)) (grow_stood (made.names q) bytes made) stored.put in
             elim (Contains-push_cases v.stood (q, file id) (stored.at, file id) had) [
               | inl old ↦ none (record { at = stored.at; below = stored.below; put = old })
-              | inr is ↦ off (lasting_record name commit q above (subst IsLasting (ap (λ (x : Elements × Slot). x.0) (sym is)) (IsLasting.an_object stored.below)))
+              | inr is ↦ off (takes_record name commit q above (subst TakesFiles (ap (λ (x : Elements × Slot). x.0) (sym is)) (an_object stored.below)))
             ]
       ]
     ]

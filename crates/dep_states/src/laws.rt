@@ -1,11 +1,13 @@
 //! Laws of what images show. Each is the contract of a function that does nothing.
-ghost use Rattle.std.specs.Prelude.{◌≡◌, ◌≢◌, ◌⊎◌, ◌↔◌, ◌≤◌, ◌++◌, ◌∷◌, ℕ, List, [], length, map, true, Some, None, Result, Err};
+ghost use Rattle.std.specs.Prelude.{◌≡◌, ◌≢◌, ◌⊎◌, ◌↔◌, ◌≤◌, ◌++◌, ◌∷◌, ℕ, List, [], length, map, true, Some, None, Result, Ok, Err};
 ghost use Rattle.fp_host.specs.Paths.{Elements, absent, IsAbove};
-ghost use Rattle.fp_host.specs.View.{View, IsTree};
+ghost use Rattle.fp_host.specs.View.{View, Inode, IsTree};
 ghost use Rattle.fp_host.specs.Calls.{CanCreate, creates, appends, links, done};
 ghost use Rattle.fp_host.specs.Outcome.{Disk, Follows, Nothing, IsSettled, gone, folder, shows};
 ghost use Rattle.fp_base.specs.declared.object.ObjKind.{ObjKind};
 ghost use Rattle.fp_host.specs.Reads.{is_ascending};
+ghost use Rattle.fp_keyfile.specs.KeyFile.{file_of, text_of, is_good};
+ghost use Rattle.fp_keyfile.specs.declared.group.Group.{Group};
 ghost use Rattle.fp_name.specs.Hex.{is_digest};
 ghost use Rattle.fp_name.specs.Refs.{Ref, is_ref};
 ghost use Rattle.fp_small.specs.Config.{IsSettings, config_text};
@@ -21,15 +23,16 @@ ghost use Rattle.fp_small.specs.declared.state.Previous.{Previous};
 ghost use Rattle.ost_model.specs.Objects.{object_path};
 ghost use Rattle.ost_model.specs.Order.{In};
 ghost use Rattle.ost_model.specs.Stores.{IsStore};
+ghost use Rattle.ost_model.specs.declared.limits.TheConstants.{STORE_CONFIG};
 ghost use Rattle.ost_refs.specs.Places.{place_path};
 ghost use Rattle.ost_refs.specs.declared.place.RefPlace.{RefPlace};
 ghost use Rattle.dep_states.specs.After.{HasOrder, IsGood, row_at, ref_row, as_previous, after_op};
 ghost use Rattle.dep_states.specs.Frames.{KeptIn, InDir, IsUnused, ObjectGone, IsNewObject, Pulls};
 ghost use Rattle.dep_states.specs.Small.{IsSetting, IsLayered};
 ghost use Rattle.dep_states.specs.Switch.{IsWith, SwitchesAt, Stages, OpensEither};
-ghost use Rattle.dep_states.specs.Lasting.{IsLasting};
+ghost use Rattle.dep_states.specs.Lasting.{Says, IsLasting};
 ghost use Rattle.dep_states.specs.Links.{WasStored, Links};
-ghost use Rattle.dep_states.specs.Names.{active, commit_dir, config, deploy, remotes_conf, pins_file, override_path};
+ghost use Rattle.dep_states.specs.Names.{active, commit_dir, config, deploy, repo_config, remotes_conf, pins_file, override_path};
 ghost use Rattle.dep_states.specs.Shown.{there, seen_of, settings_seen, override_seen, at_name, override_key, setup_of, Shows, IsShown, config_most};
 ghost use Rattle.dep_states.specs.Zones.{Allowed, IsFileOrGone, IsFolderOrGone, anything, outward, zone};
 ghost use Rattle.dep_states.specs.Damaged.{Damages, Gives};
@@ -274,15 +277,18 @@ pub fn a_switch_is_old_or_new()
 
 // ---- where files stay
 
-/// No work lasts, and of what stands in a commit's folder only the record does. An object of the
-/// store lasts, and a file of its refs.
+/// No work lasts, and of what stands in a commit's folder only the record does. At an override's
+/// path lasts the text that its own groups have, and no other that reads as them; at the path of
+/// the store's `config` its one text. Each has the permission bits 0644.
 pub fn what_lasts()
-    ensures no_work { (q : Elements) → IsWithin tmp q → IsLasting q → ⊥ }
-    ensures record { (name : Ref) (commit : List ℕ) (q : Elements)
+    ensures no_work { (q : Elements) (f : Inode) → IsWithin tmp q → IsLasting q f → ⊥ }
+    ensures record { (name : Ref) (commit : List ℕ) (q : Elements) (f : Inode)
         → IsAbove (commit_dir name commit) q
-        → IsLasting q → q ≡ deploy (commit_dir name commit) }
-    ensures object { (d : List ℕ) (kind : ObjKind) → IsLasting (object_path repo d kind) }
-    ensures a_ref { (place : RefPlace) → IsLasting (place_path repo place) }
+        → IsLasting q f → q ≡ deploy (commit_dir name commit) }
+    ensures overrides { (name : List ℕ) (f : Inode) → IsLasting (override_path name) f
+        → (groups : List Group) × (is_good groups ≡ true) × Says (text_of groups) f
+        × (file_of f.bytes ≡ Ok groups) }
+    ensures config { (f : Inode) → IsLasting repo_config f → Says STORE_CONFIG.now f }
 {}
 
 /// Where no name changes, all that stands in commits' folders is linked; so it is after two steps

@@ -19,14 +19,14 @@ use Rattle.fp_small.specs.Folders.{ancestors, FoldersAt, DirsAt, AreFree, AreDir
 use Rattle.fp_small.specs.Places.{repo, tmp}
 use Rattle.fp_small.specs.Replace.{IsFreeFile}
 use Rattle.fp_small.proofs.Keeping.{files_stay, files_on, files_kept}
-use Rattle.fp_small.proofs.Sharing.{shares_refl, shares_empty, shares_on}
 use Rattle.fp_small.proofs.Staging.{synced}
+use Rattle.dep_states.proofs.SharedAs.{shared_refl, shared_empty, shared_on}
 use Rattle.dep_switch.specs.Writing.{new_link, FileName, WritesFile, HasFile, CanWrite, PreparesAt, a_deploy, a_folder, a_link, PreparesName, new_deploy, new_folder, the_link, Prepares, WasPrepared, CanPrepare}
 use Rattle.dep_switch.proofs.Sparing.{which}
 
 module _ {deploy : Elements} {text : List ℕ} where
   pub prepares_start : {u : View} → Prepares deploy text u u
-  prepares_start = record { follows = follows_refl; names = λ q. inl refl; puts = λ x had. inl had; files = files_stay; shares = shares_refl; printed = refl }
+  prepares_start = record { follows = follows_refl; names = λ q. inl refl; puts = λ x had. inl had; files = files_stay; shares = shared_refl; printed = refl }
 
   pub prepares_same : {u w : View} → w ≡ u → Prepares deploy text u w
   prepares_same {u = u} same = subst (Prepares deploy text u) (sym same) prepares_start
@@ -40,7 +40,7 @@ module _ {deploy : Elements} {text : List ℕ} where
     ];
     puts = λ x had. elim (second.puts x had) [ inl before ↦ first.puts x before | inr may ↦ inr may ];
     files = files_on first.files second.files;
-    shares = shares_on first.shares second.shares second.files;
+    shares = shared_on first.shares second.shares second.files;
     printed = second.printed ∙ first.printed;
   }
 
@@ -51,7 +51,7 @@ module _ {deploy : Elements} {text : List ℕ} where
     names = λ q. elim (keeps.names q) [ inl same ↦ inl same | inr h ↦ inr (may q _ h) ];
     puts = λ x had. elim (keeps.puts x had) [ inl before ↦ inl before | inr h ↦ inr (may x.0 x.1 h) ];
     files = files_kept keeps;
-    shares = shares_empty keeps;
+    shares = shared_empty keeps;
     printed = keeps.printed;
   }
 

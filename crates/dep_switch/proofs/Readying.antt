@@ -27,6 +27,7 @@ use Rattle.ost_model.specs.Objects.{object_path, store}
 use Rattle.ost_model.specs.Order.{commit_at, root_row}
 use Rattle.ost_model.specs.Standing.{expected, is_metadata, deploy_name, metadata_name, Stands}
 use Rattle.ost_model.proofs.Local.{stands_same}
+use Rattle.dep_states.specs.Lasting.IsLasting.{a_record}
 use Rattle.dep_states.specs.Names.{commit_dir, deploy}
 use Rattle.dep_states.specs.Deploy.{deploy_of}
 use Rattle.dep_states.specs.Shown.{bad, there, read_of, read_file, row_in, deploy_at, small_most, Shows}
@@ -34,6 +35,7 @@ use Rattle.dep_states.specs.Sound.{reads_as, IsPrevious, Keeps, Sound, Opens}
 use Rattle.dep_states.specs.Switch.{Prepared, Stages}
 use Rattle.dep_states.proofs.Deployed.{top}
 use Rattle.dep_states.proofs.Law.{frame_law}
+use Rattle.dep_states.proofs.SharedAs.{shared_refl, shared_to}
 use Rattle.dep_states.proofs.Sparing.{settled_same, state_of_kept}
 use Rattle.dep_states.proofs.Switching.{word_no_repo}
 use Rattle.dep_states.proofs.Deployed.{outward_append}
@@ -48,10 +50,11 @@ use Rattle.dep_switch.proofs.Spots.{shown_at, folder_dir, folder_free, same_show
 
 -- ---- at every moment
 
-pub readies : {s : State} {row : RefRow} {u w : View} → is_digest row.commit ≡ true → Prepares (row_deploy row) (hex row.commit) u w → Readies s row u w
-readies {row = row} digest prepares = record {
+pub readies : {s : State} {row : RefRow} {u w : View} → is_ref row.name ≡ true → is_digest row.commit ≡ true → Prepares (row_deploy row) (hex row.commit) u w → Readies s row u w
+readies {row = row} good digest prepares = record {
   opens = λ opens off. frame_law (prepares_spares (hex row.commit) (deploy_spares row.name row.commit digest opens off)) prepares.follows opens;
   prepares = prepares;
+  shares = shared_to (λ q f at. a_record row.name row.commit good digest at.0 at.1) prepares.shares;
 }
 
 -- ---- what stays
@@ -103,7 +106,7 @@ module _ {s : State} (row : RefRow) (bytes : List ℕ) {u w : View} (good : is_r
     (before : IsTree u) (after : IsTree w) (prepares : Prepares (row_deploy row) (hex row.commit) u w) (done : WasPrepared (row_deploy row) (hex row.commit) bytes w) where
   module _ (can : CanStage s row u) where
     still_opens : Opens s w
-    still_opens = (readies {s = s} {row = row} digest prepares).opens can.opens can.moves
+    still_opens = (readies {s = s} {row = row} good digest prepares).opens can.opens can.moves
 
     recorded : deploy_at row.name (hex row.commit) (shows w (row_deploy row)) ≡ there row
     recorded = ap (deploy_at row.name (hex row.commit)) (file_shown after done.written) ∙ bytes_read row.name done.written.id bytes row refl says short
@@ -173,7 +176,7 @@ end_text {deploy = deploy} {y = y} {i = i} {a = a} {b = b} text bytes done =
     subst (λ (k : List ℕ). AtEnd (λ u w. WasPrepared deploy y k w) a b) bytes (subst (λ (t : List ℕ). AtEnd (λ u w. WasPrepared deploy t i w) a b) text done)
 
 pub readies_start : {s : State} {row : RefRow} {u : View} → Readies s row u u
-readies_start = record { opens = λ opens off. opens; prepares = prepares_start }
+readies_start = record { opens = λ opens off. opens; prepares = prepares_start; shares = shared_refl }
 
 module _ {s : State} {row : RefRow} {made : Preparation} (planned : IsPreparation s row made) where
   prepares_as : {u w : View} → Prepares made.deploy made.text u w → Prepares (row_deploy row) (hex row.commit) u w
@@ -183,7 +186,7 @@ module _ {s : State} {row : RefRow} {made : Preparation} (planned : IsPreparatio
   prepared_as {w = w} done = subst (λ (p : Elements). WasPrepared p (hex row.commit) made.bytes w) planned.deploy (subst (λ (t : List ℕ). WasPrepared made.deploy t made.bytes w) planned.text done)
 
   pub readies_as : {u w : View} → Prepares made.deploy made.text u w → Readies s row u w
-  readies_as prepares = readies planned.digits (prepares_as prepares)
+  readies_as prepares = readies planned.name planned.digits (prepares_as prepares)
 
   pub readied : {a b : Option Moments} → IsTold a → Goes a b (Prepares made.deploy made.text) (Prepares made.deploy made.text) → Goes a b (Readies s row) (Readies s row)
   readied told goes = begins told goes (λ u w t r. readies_as r) (λ u w t r e. readies_as e)

@@ -1,15 +1,16 @@
 -- A file that is written anew.
-use Rattle.std.proofs.Common.{◌≡◌, ◌≢◌, ◌⊎◌, inl, inr, ℕ, List, [], ◌∷◌, Option, Some, None, Result, Ok, refl, sym, ◌∙◌, ap, subst, Contains, ◌≤◌, arith}
+use Rattle.std.proofs.Common.{◌≡◌, ◌≢◌, ◌⊎◌, inl, inr, ℕ, List, [], ◌∷◌, ◌++◌, Option, Some, None, Result, Ok, refl, sym, ◌∙◌, ap, subst, Contains, ◌≤◌, arith}
 use Rattle.std.proofs.lemmas.Bool.{cases_eq}
 use Rattle.fp_host.specs.Paths.{Elements, Slot, absent, dir, file, link}
 use Rattle.fp_host.specs.View.{View, Inode, IsTree}
-use Rattle.fp_host.specs.Calls.{appends, creates, Step, Creates, CanCreate, HasFolder, IsFile}
+use Rattle.fp_host.specs.Calls.{appends, creates, Step, Creates, CanCreate, HasFolder, IsFile, Went, grow, grown}
 use Rattle.fp_host.specs.Outcome.{Spot, gone, Follows}
 use Rattle.fp_host.specs.Frame.{Keeps, NoPath}
 use Rattle.fp_host.specs.declared.host.HostError.{HostError}
 use Rattle.fp_host.proofs.Follow.{follows_on, follows_to, follows_call, called, no_loop}
 use Rattle.fp_host.proofs.Filed.{files_kept, empty_kept, put_call}
 use Rattle.fp_host.proofs.Keep.{names_kept, printed_kept, stood_kept}
+use Rattle.fp_host.proofs.Separate.{file_same}
 use Rattle.fp_host.specs.Frame.{Frame, AtEnd}
 use Rattle.fp_host.specs.Moments.{Moments, Goes, Makes}
 use Rattle.fp_host.proofs.Ending.{ends_call, ends_frame, ends_on, goes_known}
@@ -18,14 +19,14 @@ use Rattle.fp_host.proofs.Goes.{begins, goes_on, makes_goes}
 use Rattle.fp_small.specs.Clear.{GoneAt, AbsentAt}
 use Rattle.fp_small.specs.Files.{KeepsFiles}
 use Rattle.fp_small.proofs.Keeping as keeping
-use Rattle.fp_small.proofs.Sharing.{shares_empty}
 use Rattle.fp_small.proofs.Staging.{Written, begun_create, written_append}
 use Rattle.dep_states.specs.Zones.{IsFileOrGone}
+use Rattle.dep_states.proofs.SharedAs.{shared_empty}
 use Rattle.dep_switch.specs.Writing.{FileAt, FileName, WritesFile, HasFile, CanWrite}
 
 -- what was done until the new file gets bytes
 pub writes_keeps : {p : Elements} {u w : View} → Keeps (FileAt p) (FileName p) NoPath u w → WritesFile p u w
-writes_keeps keeps = record { follows = keeps.follows; names = keeps.names; puts = keeps.puts; files = keeping.files_kept keeps; shares = shares_empty keeps; printed = keeps.printed }
+writes_keeps keeps = record { follows = keeps.follows; names = keeps.names; puts = keeps.puts; files = keeping.files_kept keeps; shares = shared_empty keeps; printed = keeps.printed }
 
 pub gone_file : {p : Elements} (q : Elements) (spot : Spot) → GoneAt p q spot → FileAt p q spot
 gone_file q spot h = (h.0, subst IsFileOrGone (sym h.1) tt)
@@ -49,9 +50,25 @@ some_none some none = cc (sym some ∙ none)
 same_id : {i j : ℕ} {e : Slot} → e ≡ file i → e ≡ file j → i ≡ j
 same_id a b = cc (sym a ∙ b)
 
+same_mode : {f g : Inode} → Some g ≡ Some f → f.mode ≡ g.mode
+same_mode {f = f} {g = g} same = let is : g ≡ f = cc same in sym (ap (λ (x : Inode). x.mode) is)
+
+-- what gets bytes keeps its mode
+append_mode : {p : Elements} (bytes : List ℕ) {v w : View} (id : ℕ) (g f : Inode) → Went (appends p bytes) v w → v.names p ≡ file id → v.files id ≡ Some g → w.files id ≡ Some f → f.mode ≡ g.mode
+append_mode {p = p} bytes {v = v} {w = w} id g f went at row some = elim went [
+  | inl same ↦ same_mode (sym row ∙ sym (ap (λ (x : View). x.files id) same) ∙ some)
+  | inr did ↦ elim did.1 [
+    | inl is ↦ same_mode (sym row ∙ sym (ap (λ (x : View). x.files id) is) ∙ some)
+    | inr is ↦
+        let longer : w.files id ≡ Some (record { mode = g.mode; bytes = g.bytes ++ bytes }) =
+        ap (λ (x : View). x.files id) is ∙ ap (λ (e : Slot). (grow e bytes v).files id) at ∙ file_same v.files id (grown (v.files id) bytes) id refl ∙ ap (λ (r : Option Inode). grown r bytes) row in
+        same_mode {g = record { mode = g.mode; bytes = g.bytes ++ bytes }} (sym longer ∙ some)
+  ]
+]
+
 -- it gets bytes
 pub writes_append : {p : Elements} {bytes : List ℕ} {r : Result (Unit {0}) HostError} {u v w : View} → IsTree v → Keeps (FileAt p) (FileName p) NoPath u v → IsBegun p u v → Step (appends p bytes) r v w → WritesFile p u w
-writes_append {p = p} {u = u} {v = v} {w = w} tree first new step = record {
+writes_append {p = p} {bytes = bytes} {u = u} {v = v} {w = w} tree first new step = record {
   follows = follows_on first.follows (follows_to (λ q spot none. absurd none) (follows_call tree (called step)));
   names = λ q. let same = names_kept (called step) q (λ none. none) in elim (first.names q) [
     | inl was ↦ inl (same ∙ was)
@@ -65,7 +82,7 @@ writes_append {p = p} {u = u} {v = v} {w = w} tree first new step = record {
   };
   shares = record {
     each = λ id f none some. elim (cases_eq id new.written.id) [
-      | inl is ↦ inr (p, refl, stood_kept (called step) (p, file id) (subst (λ (i : ℕ). Contains v.stood (p, file i)) (sym is) new.written.stood))
+      | inl is ↦ inr (p, (refl, append_mode bytes id (record { mode = 420; bytes = [] }) f (called step).went (subst (λ (i : ℕ). v.names p ≡ file i) (sym is) new.written.name) (ap v.files is ∙ new.written.row) some), stood_kept (called step) (p, file id) (subst (λ (i : ℕ). Contains v.stood (p, file i)) (sym is) new.written.stood))
       | inr off ↦ inl (other_empty id f none some (λ fills. off (same_id fills new.written.name)))
     ];
   };

@@ -10,6 +10,7 @@ use Rattle.fp_small.specs.Replace.{IsFreeFile}
 use Rattle.fp_small.specs.declared.state.State.{State}
 use Rattle.fp_small.specs.declared.state.RefRow.{RefRow}
 use Rattle.ost_model.specs.Standing.{Stands}
+use Rattle.dep_states.specs.Lasting.{IsLasting, SharesAs}
 use Rattle.dep_states.specs.Names.{active, commit_dir, deploy}
 use Rattle.dep_states.specs.Deploy.{deploy_of}
 use Rattle.dep_states.specs.Shown.{small_most}
@@ -41,10 +42,12 @@ pub record CanStage (s : State) (row : RefRow) (v : View) : Type 0 where
 -- ---- while it is staged
 
 -- At every moment each stop leaves the state, where the ref isn't at the row's commit. No names
--- change but those of the row's `deploy`, the new link and its folders.
+-- change but those of the row's `deploy`, the new link and its folders. A new file that has bytes is
+-- that record.
 pub record Readies (s : State) (row : RefRow) (u w : View) : Type 0 where
   pub opens : Opens s u → (IsAt s row.name row.commit → ⊥) → Opens s w
   pub prepares : Prepares (row_deploy row) (hex row.commit) u w
+  pub shares : SharesAs IsLasting u w
 
 -- ---- staged
 

@@ -4,14 +4,13 @@ use Rattle.fp_host.specs.Paths.{Elements, Slot, absent, dir, file, link}
 use Rattle.fp_host.specs.View.{View}
 use Rattle.fp_host.specs.Calls.{HasFolder, IsFile}
 use Rattle.fp_host.specs.Outcome.{Spot, folder, points, Follows, IsSettled}
-use Rattle.fp_host.specs.Frame.{Only}
 use Rattle.fp_small.specs.Files.{KeepsFiles}
-use Rattle.fp_small.specs.Shares.{Shares}
 use Rattle.fp_small.specs.Folders.{ancestors, AreFree}
 use Rattle.fp_small.specs.Places.{tmp}
 use Rattle.fp_small.specs.Replace.{IsFreeFile}
 use Rattle.fp_small.specs.declared.limits.TheConstants.{FILE_MODE}
 use Rattle.fp_small.specs.declared.state.RefRow.{RefRow}
+use Rattle.dep_states.specs.Lasting.{SharesAs, SmallAt}
 use Rattle.dep_states.specs.Zones.{IsFileOrGone}
 use Rattle.dep_states.specs.declared.deploy.DeployData.{DeployData}
 
@@ -38,13 +37,13 @@ abbrev pub FileName : Elements → Elements → Slot → Type 0
 FileName p q e = (q ≡ p) × ((e ≡ absent) ⊎ IsFile e)
 
 -- Each file that was there keeps its mode and its bytes, also the one that stood at the path. A new
--- one that has bytes was put there.
+-- one that has bytes was put there, with the permission bits 0644.
 pub record WritesFile (p : Elements) (u w : View) : Type 0 where
   pub follows : Follows (FileAt p) u w
   pub names : (q : Elements) → (w.names q ≡ u.names q) ⊎ FileName p q (w.names q)
   pub puts : (x : Elements × Slot) → Contains w.stood x → Contains u.stood x ⊎ FileName p x.0 x.1
   pub files : KeepsFiles u w
-  pub shares : Shares (Only p) u w
+  pub shares : SharesAs (SmallAt p) u w
   pub printed : w.printed ≡ u.printed
 
 -- a file with these bytes and the permission bits 0644
@@ -74,14 +73,14 @@ pub data PreparesName (deploy : Elements) (text : List ℕ) (q : Elements) (e : 
   the_link : q ≡ new_link → e ≡ link text → PreparesName deploy text q e
 
 -- Each file that was there keeps its mode and its bytes, a new one that has bytes was put as the
--- `deploy`, and nothing is printed.
+-- `deploy`, with the permission bits 0644, and nothing is printed.
 pub record Prepares (deploy : Elements) (text : List ℕ) (u w : View) : Type 0 where
   pub follows : Follows (PreparesAt deploy text) u w
   pub names : (q : Elements) → (w.names q ≡ u.names q) ⊎ PreparesName deploy text q (w.names q)
   pub puts : (x : Elements × Slot) → Contains w.stood x
       → Contains u.stood x ⊎ PreparesName deploy text x.0 x.1
   pub files : KeepsFiles u w
-  pub shares : Shares (Only deploy) u w
+  pub shares : SharesAs (SmallAt deploy) u w
   pub printed : w.printed ≡ u.printed
 
 -- both are there, and every stop leaves what stands

@@ -19,7 +19,7 @@ use Rattle.fp_small.specs.Clear.{GoneBelow, AbsentBelow, IsWithin}
 use Rattle.fp_small.specs.Files.{KeepsFiles, SameFiles}
 use Rattle.fp_small.specs.Shares.{Shares}
 use Rattle.fp_small.proofs.Keeping.{files_stay, files_on, files_kept, files_synced}
-use Rattle.fp_small.proofs.Sharing.{shares_refl, shares_start, shares_on, shares_same, shares_empty}
+use Rattle.fp_small.proofs.Sharing.{shares_refl, shares_start, shares_on, shares_empty}
 use Rattle.fp_small.specs.declared.state.State.{State}
 use Rattle.fp_small.specs.declared.state.RefRow.{RefRow}
 use Rattle.ost_model.specs.Objects.{object_path, object_at}
@@ -30,7 +30,8 @@ use Rattle.dep_states.specs.Links.{Links}
 use Rattle.dep_states.specs.Names.{config, commit_dir, ref_file}
 use Rattle.dep_states.specs.Sound.{Opens, IsOld, HasConfig}
 use Rattle.dep_states.specs.Settled.{Settled}
-use Rattle.dep_states.proofs.Lasting.{lasting_ref}
+use Rattle.dep_states.proofs.Lasting.{TakesFiles, takes_ref}
+use Rattle.dep_states.proofs.SharedAs.{shared_on, shared_same}
 use Rattle.dep_states.proofs.Law.{frame_law, spares_nothing}
 use Rattle.dep_states.proofs.Linked.{links_refl, links_still, links_on, links_lasting}
 use Rattle.dep_states.proofs.Switching.{second}
@@ -60,7 +61,6 @@ use Rattle.fp_small.specs.Places.{new_name}
 use Rattle.fp_small.proofs.Emptying.{cleared_absent}
 use Rattle.fp_small.proofs.Staging.{synced}
 use Rattle.dep_states.specs.After.{IsGoodRow}
-use Rattle.dep_states.specs.Lasting.{IsLasting}
 use Rattle.dep_states.specs.Settled.{HasBytes}
 use Rattle.dep_states.specs.Sound.{is_remotes, is_pins}
 use Rattle.dep_states.proofs.Good.{shown_good as state_good}
@@ -71,12 +71,12 @@ use Rattle.dep_tidy.proofs.Pruned.{row_shown, row_by_seen}
 -- ---- files
 
 -- a file comes to a ref's name, or is work
-may_file : (s : State) (q : Elements) (id : ℕ) → MayTidy s q (file id) → IsLasting q ⊎ IsWithin tmp q
+may_file : (s : State) (q : Elements) (id : ℕ) → MayTidy s q (file id) → TakesFiles q ⊎ IsWithin tmp q
 may_file s q id (some_work above) = inr (inr above)
 may_file s q id (commit_gone name commit good digits unkept within none) = absurd (cc none)
 may_file s q id (old_gone old none) = absurd (cc none)
 may_file s q id (ref_gone origin name remote good other at none) = absurd (cc none)
-may_file s q id (ref_written row has at f) = inl (subst IsLasting (sym at) (lasting_ref (Remote row.origin row.name)))
+may_file s q id (ref_written row has at f) = inl (subst TakesFiles (sym at) (takes_ref (Remote row.origin row.name)))
 may_file s q id (ref_folder row has at is) = absurd (cc is)
 may_file s q id (object_gone d kind digits at none) = absurd (cc none)
 
@@ -433,7 +433,7 @@ pub was_tidied : {s : State} {u v w : View} → (Opens s u → Settled (shows v)
 was_tidied {v = v} {w = w} settled so_far step = record {
   settled = λ opens. subst Settled (sym (ap shows step.how.1)) (settled opens);
   lasts = synced step;
-  shares = shares_on so_far.shares (shares_same same) kept;
+  shares = shared_on so_far.shares (shared_same same) kept;
   creates = creates_on so_far.creates (creates_none NoName (λ x had. inl (puts_none step x had)) (λ q id below none. none)) so_far.files kept;
 }
   where

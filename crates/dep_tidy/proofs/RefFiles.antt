@@ -10,6 +10,7 @@ use Rattle.fp_host.specs.Moments.{Moments, Always}
 use Rattle.fp_host.specs.Reads.{is_ascending}
 use Rattle.fp_host.specs.Outcome.{Spot, shows}
 use Rattle.fp_name.specs.Grammar.{is_remote_name}
+use Rattle.fp_name.specs.Hex.{is_digest}
 use Rattle.fp_name.specs.Refs.{Ref, is_ref, ref_text}
 use Rattle.fp_small.specs.Places.{repo, tmp}
 use Rattle.fp_small.specs.Clear.{GoneAt, AbsentAt}
@@ -160,8 +161,9 @@ module _ (row : RefRow) where
     pub writes_file : {u w : View} → (ref_in (shows u (ref_file row.origin row.name)) ≡ Digest row.commit → ⊥) → Replaces (place_path root place) (ref_bytes row.commit) u w → Writes one u w
     writes_file off given = record { alters = alters_written given; idle = λ files. absurd (off (one_says files)) }
 
-    pub wrote_file : {u w : View} → Replaces (place_path root place) (ref_bytes row.commit) u w → WasReplaced (place_path root place) (ref_bytes row.commit) u w → WroteFile row u w
-    wrote_file {u = u} {w = w} given was_given =
+    pub wrote_file : is_remote_name row.origin ≡ true → is_ref row.name ≡ true → is_digest row.commit ≡ true → {u w : View}
+        → Replaces (place_path root place) (ref_bytes row.commit) u w → WasReplaced (place_path root place) (ref_bytes row.commit) u w → WroteFile row u w
+    wrote_file remote named digits {u = u} {w = w} given was_given =
         let r = subst (λ (p : Elements). Replaces p (ref_bytes row.commit) u w) path_is given in
         let was = subst (λ (p : Elements). WasReplaced p (ref_bytes row.commit) u w) path_is was_given in
         let new = was.new.each (shows w) (now_left w) in
@@ -177,7 +179,7 @@ module _ (row : RefRow) where
               ]
             ]
           ];
-          lasts = lasts_ref row.origin row.name r was;
+          lasts = lasts_ref row.origin row.name row.commit remote named digits r was;
         }
 
   pub writes_same : {u w : View} → w ≡ u → Writes one u w

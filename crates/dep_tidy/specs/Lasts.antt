@@ -2,13 +2,12 @@
 use Rattle.fp_host.specs.View.{View}
 use Rattle.fp_small.specs.Files.{KeepsFiles}
 use Rattle.fp_small.specs.Places.{repo}
-use Rattle.fp_small.specs.Shares.{Shares}
 use Rattle.ost_store.specs.Created.{Creates, NoObject}
-use Rattle.dep_states.specs.Lasting.{IsLasting}
+use Rattle.dep_states.specs.Lasting.{IsLasting, SharesAs}
 
--- Each file that was there is as it was, a new one that has bytes came to a lasting name, and no
+-- Each file that was there is as it was, a new one that has bytes came to where it lasts, and no
 -- object was made.
 pub record Lasts (u w : View) : Type 0 where
   pub files : KeepsFiles u w
-  pub shares : Shares IsLasting u w
+  pub shares : SharesAs IsLasting u w
   pub creates : Creates repo NoObject u w

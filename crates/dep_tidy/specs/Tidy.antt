@@ -22,7 +22,7 @@ use Rattle.dep_states.specs.Names.{config, remotes_conf, pins_file, overrides_fo
 use Rattle.dep_states.specs.Shown.{there, ref_seen}
 use Rattle.dep_states.specs.After.{row_at}
 use Rattle.dep_states.specs.Frames.{KeptIn}
-use Rattle.dep_states.specs.Lasting.{IsLasting}
+use Rattle.dep_states.specs.Lasting.{IsLasting, SharesAs}
 use Rattle.dep_states.specs.Links.{Links}
 use Rattle.dep_states.specs.Sound.{Keeps, Opens, IsOld}
 use Rattle.dep_states.specs.Settled.{Settled, Used, HasBytes, HasOrigin}
@@ -68,12 +68,12 @@ pub record Tidies (s : State) (u w : View) : Type 0 where
   pub links : Links u w
   pub printed : w.printed ≡ u.printed
 
--- All is settled, and every stop leaves what stands. Each new file that has bytes came to a lasting
--- name, and no object was made.
+-- All is settled, and every stop leaves what stands. Each new file that has bytes came to where it
+-- lasts, and no object was made.
 pub record WasTidied (s : State) (u w : View) : Type 0 where
   pub settled : Opens s u → Settled (shows w)
   pub lasts : IsSettled w
-  pub shares : Shares IsLasting u w
+  pub shares : SharesAs IsLasting u w
   pub creates : Creates repo NoObject u w
 
 -- Settled, but that work may be left in `repo/tmp`

@@ -2,6 +2,9 @@
 ghost use Rattle.std.specs.Prelude.{◌≡◌, ◌↔◌, ◌∷◌, [], true, IsTrue, OnOk, IfOk, IsErrOf};
 ghost use Rattle.fp_host.specs.OverHost.{AtEachMoment, AtReturn, FailsOnly};
 ghost use Rattle.fp_host.specs.Frame.{Frame, NoPath};
+ghost use Rattle.fp_name.specs.Grammar.{is_remote_name};
+ghost use Rattle.fp_name.specs.Hex.{is_digest};
+ghost use Rattle.fp_name.specs.Refs.{is_ref};
 ghost use Rattle.fp_small.specs.Places.{repo};
 ghost use Rattle.ost_refs.specs.Changes.{CanWrite};
 ghost use Rattle.ost_refs.specs.declared.place.RefFile.TheVariants.{Digest as DigestOf};
@@ -71,10 +74,15 @@ pub(crate) fn drop_others<H: Host>(
     Ok(())
 }
 
-/// Where the row's ref has its file.
+/// Where the row's ref has its file. The row's names and its commit are good.
 fn place_of(row: &RefRow) -> Result<RefPlace, AllocError>
-    ensures { IfOk result (λ place. place ≡ Remote row.now.origin row.now.name) }
+    ensures place { IfOk result (λ place. place ≡ Remote row.now.origin row.now.name) }
+    ensures remote { is_remote_name row.now.origin ≡ true }
+    ensures good { is_ref row.now.name ≡ true }
+    ensures digits { is_digest row.now.commit ≡ true }
 {
+    let (_origin, _name) = (row.origin.as_str(), row.name.as_str());
+    let _commit = row.commit.as_bytes();
     Ok(RefPlace::Remote(row.origin.copy()?, row.name.copy()?))
 }
 

@@ -3,7 +3,7 @@ use Rattle.std.proofs.Common.{◌≡◌, ◌≤◌, inl, inr, ℕ, List, [], ◌
 use Rattle.std.proofs.lemmas.Bool.{false≢true}
 use Rattle.fp_base.proofs.Lists.{in_none, in_cases}
 use Rattle.fp_host.specs.Paths.{Elements, Slot}
-use Rattle.fp_host.specs.View.{View}
+use Rattle.fp_host.specs.View.{View, Inode}
 use Rattle.fp_host.specs.Outcome.{shows}
 use Rattle.fp_name.specs.Refs.{Ref}
 use Rattle.fp_name.specs.declared.kind.RefKind.{RefKind}
@@ -13,9 +13,10 @@ use Rattle.fp_small.specs.Files.{KeepsFiles}
 use Rattle.fp_small.specs.Folders.{ancestors}
 use Rattle.fp_small.specs.Places.{repo, tmp}
 use Rattle.fp_small.specs.Replace.{ReplacesName, folders_of}
-use Rattle.fp_small.specs.Shares.{Shares}
 use Rattle.fp_small.proofs.Keeping.{files_stay, files_on}
 use Rattle.fp_small.proofs.Sharing.{shares_none, shares_refl, shares_on}
+use Rattle.dep_states.specs.Lasting.{SharesAs}
+use Rattle.dep_states.proofs.SharedAs.{shared_none}
 use Rattle.fp_small.specs.declared.state.State.{State}
 use Rattle.fp_small.specs.declared.op.Op.{Op}
 use Rattle.dep_states.specs.Effects.{Effect, Write, effect_of, is_of_config, writes_config, brings, writes, moves, leaves, sets, migrates, layers, bares}
@@ -31,6 +32,8 @@ use Rattle.dep_tidy.proofs.Left.{config_left}
 use Rattle.op_change.specs.Deploys.{DeploysName, work_goes, before_switch, at_active as link_at}
 use Rattle.op_change.specs.Bringing.{IsFolderFor, above_commit, above_object, above_head, for_work, BringsName, some_work, in_folder, a_record, at_active, an_object, a_config, a_folder}
 use Rattle.op_change.specs.Applied.{MayChange, MayWrite, ChangesName, ChangesBy}
+use Rattle.dep_states.specs.Names.{repo_config}
+use Rattle.fl_change.proofs.StoreConfig.{stays_on, tidied_stays}
 use Rattle.fl_change.specs.Answer.{sets_config}
 use Rattle.fl_change.specs.Changes.{MayHold, operated, tidied, Changes, OnlyTidied, IsStill, IsUntouched, HasText}
 
@@ -40,12 +43,13 @@ change_on {May = May} u v w first second = record {
     | inl same ↦ elim (first.names q) [ inl was ↦ inl (same ∙ was) | inr may ↦ inr (subst (MayHold May q) (sym same) may) ]
     | inr may ↦ inr may
   ];
+  config_stays = stays_on u v w first.config_stays second.config_stays;
   files = files_on first.files second.files;
   links = links_on first.links second.links second.files;
 }
 
 pub change_none : {May : Op → Type 0} {u w : View} → ((q : Elements) → w.names q ≡ u.names q) → KeepsFiles u w → Changes May u w
-change_none names files = record { names = λ q. inl (names q); files = files; links = links_still names }
+change_none names files = record { names = λ q. inl (names q); config_stays = λ there. names repo_config; files = files; links = links_still names }
 
 pub may_hold : {A B : Op → Type 0} {q : Elements} {e : Slot} → ((op : Op) → A op → B op) → MayHold A q e → MayHold B q e
 may_hold wider (operated s op v may put) = operated s op v (wider op may) put
@@ -53,7 +57,7 @@ may_hold wider (tidied s may) = tidied s may
 
 -- by more operations
 pub change_to : {A B : Op → Type 0} {u w : View} → ((op : Op) → A op → B op) → Changes A u w → Changes B u w
-change_to wider changes = record { names = λ q. elim (changes.names q) [ inl same ↦ inl same | inr may ↦ inr (may_hold wider may) ]; files = changes.files; links = changes.links }
+change_to wider changes = record { names = λ q. elim (changes.names q) [ inl same ↦ inl same | inr may ↦ inr (may_hold wider may) ]; config_stays = changes.config_stays; files = changes.files; links = changes.links }
 
 -- ---- nothing but what is printed
 
@@ -76,8 +80,8 @@ pub keeps_files : {u w : View} → IsUntouched u w → KeepsFiles u w
 keeps_files same = record { rows = λ id f some. same.files id ∙ some; stood = λ x had. subst (λ (l : List (Elements × Slot)). Contains l x) (sym same.stood) had }
 
 -- and none is made
-pub none_made : {L : Elements → Type 0} {u w : View} → IsUntouched u w → Shares L u w
-none_made same = shares_none (λ id none. same.files id ∙ none)
+pub none_made : {L : Elements → Inode → Type 0} {u w : View} → IsUntouched u w → SharesAs L u w
+none_made same = shared_none (λ id none. same.files id ∙ none)
 
 pub change_untouched : {May : Op → Type 0} {u w : View} → IsUntouched u w → Changes May u w
 change_untouched same = change_none same.names (keeps_files same)
@@ -94,6 +98,7 @@ change_same same = change_untouched (same_untouched same)
 pub applied_changes : {May : Op → Type 0} (s : State) (op : Op) (u w : View) → May op → ChangesBy s op u w → Changes May u w
 applied_changes s op u w may changes = record {
   names = λ q. elim (changes.names q) [ inl same ↦ inl same | inr put ↦ inr (operated s op u may put) ];
+  config_stays = changes.config_stays;
   files = changes.files;
   links = changes.links;
 }
@@ -101,6 +106,7 @@ applied_changes s op u w may changes = record {
 pub tidied_changes : {May : Op → Type 0} (s : State) (u w : View) → Tidies s u w → Changes May u w
 tidied_changes s u w tidies = record {
   names = λ q. elim (tidies.names q) [ inl same ↦ inl same | inr may ↦ inr (tidied s may) ];
+  config_stays = tidied_stays tidies.names;
   files = tidies.files;
   links = tidies.links;
 }
@@ -138,7 +144,7 @@ pub still_not : {v : View} → IsStill v v
 still_not = record { names = λ q. refl; unwritten = shares_refl }
 
 pub still_untouched : {u w : View} → IsUntouched u w → IsStill u w
-still_untouched same = record { names = same.names; unwritten = none_made same }
+still_untouched same = record { names = same.names; unwritten = shares_none (λ id none. same.files id ∙ none) }
 
 -- where all was settled
 pub tidies_still : {s : State} {u w : View} → Tidies s u w → Opens s u → Settled (shows u)

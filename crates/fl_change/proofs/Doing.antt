@@ -11,17 +11,16 @@ use Rattle.fp_host.proofs.Shown.{now_left}
 use Rattle.fp_small.specs.Config.{config_text}
 use Rattle.fp_small.specs.Files.{KeepsFiles}
 use Rattle.fp_small.specs.Move.{HasNew, IsNew}
-use Rattle.fp_small.specs.Shares.{Shares}
 use Rattle.fp_small.specs.Places.{repo}
 use Rattle.fp_small.proofs.Keeping.{files_stay, files_on}
-use Rattle.fp_small.proofs.Sharing.{shares_refl, shares_on}
+use Rattle.dep_states.proofs.SharedAs.{shared_refl, shared_on}
 use Rattle.fp_small.specs.declared.state.State.{State}
 use Rattle.fp_small.specs.declared.op.Op.{Op}
 use Rattle.fp_small.specs.declared.refusal.Refusal.{Refusal}
 use Rattle.ost_model.specs.Objects.{Have}
 use Rattle.ost_store.specs.Created.{Creates}
 use Rattle.ost_store.proofs.Creating.{creates_refl, creates_to, creates_on}
-use Rattle.dep_states.specs.Lasting.{IsLasting}
+use Rattle.dep_states.specs.Lasting.{IsLasting, SharesAs}
 use Rattle.dep_states.specs.Names.{config}
 use Rattle.dep_states.specs.Shown.{settings_of}
 use Rattle.dep_states.specs.Settled.{Settled}
@@ -84,7 +83,7 @@ none_done held a x v none holds settled = record {
   tidied = settled;
   text = λ some. absurd (let both : false ≡ true = ap (λ (l : List Piece). set_config (ops_in l)) (sym none) ∙ some in cc both);
   config = λ not. refl;
-  shares = λ no. shares_refl;
+  shares = λ no. shared_refl;
   creates = λ no. no_ops_created held x (ops_of a) (ap ops_in none) creates_refl;
 }
 
@@ -221,7 +220,7 @@ pub record Applied (held : Holdings) (op : Op) (s t : State) (v w : View) : Type
   pub text : sets_config op ≡ true → HasText t w
   pub config : sets_config op ≡ false → w.names config ≡ v.names config
   pub rest : IsNearlySettled op (shows w)
-  pub shares : Shares IsLasting v w
+  pub shares : SharesAs IsLasting v w
   pub creates : Creates repo (LacksFor held (world_at s v) op) v w
 
 -- one that sets `config` is one on it, and brings nothing
@@ -323,7 +322,7 @@ module _ (held : Holdings) (op : Op) (s t : State) (v : View) where
     text = λ sets. text_on (was.untouched.names config) (keeps_files was.untouched) (a.text sets);
     config = λ not. was.untouched.names config ∙ a.config not;
     rest = same_rest was.shown a.rest;
-    shares = shares_on a.shares (none_made was.untouched) (keeps_files was.untouched);
+    shares = shared_on a.shares (none_made was.untouched) (keeps_files was.untouched);
     creates = creates_on a.creates (none_created was.untouched) a.files (keeps_files was.untouched);
   }
 
@@ -366,7 +365,7 @@ module _ (held : Holdings) (op : Op) (s t : State) (v : View) where
       tidied = was.settled (subst (λ (q : State). Opens q w) (sym done.state) done.holds.opens) done.rest;
       text = λ some. text_on (config_tidied tidies) tidies.files (subst (λ (q : State). HasText q w) done.state (done.text (sets true some)));
       config = λ not. config_tidied tidies ∙ done.config (sets false not);
-      shares = λ no. shares_on done.shares was.shares tidies.files;
+      shares = λ no. shared_on done.shares was.shares tidies.files;
       creates = λ no. one_created held x op d op_is (files_on done.files tidies.files)
           (creates_on done.creates was.creates done.files tidies.files);
     },

@@ -1,6 +1,7 @@
 pub mod Same
 pub mod Worlds
 pub mod Both
+pub mod StoreConfig
 pub mod Changing
 pub mod Saying
 pub mod Stored

@@ -19,7 +19,7 @@ use Rattle.fp_small.specs.declared.state.Layout.TheVariants.{One, Two}
 use Rattle.fp_small.specs.declared.state.RemoteRow.{RemoteRow}
 use Rattle.fp_small.specs.declared.op.Op.{Op}
 use Rattle.fp_small.specs.declared.op.Op.TheVariants.{Install}
-use Rattle.fp_small.proofs.Sharing.{shares_empty}
+use Rattle.dep_states.proofs.SharedAs.{shared_empty}
 use Rattle.ost_store.proofs.Creating.{creates_frame}
 use Rattle.ost_store.proofs.Lists.{in_one}
 use Rattle.ost_store.proofs.Staying.{same_shows}
@@ -148,7 +148,7 @@ small_rest s op {v = v} {w = w} may tree next rests changes keeps =
 
 pub work_is_enough : {E : Type 0} {G : Elements → Spot → Type 0} {W : Elements → Slot → Type 0} (op : Op) (s : State) (r : Result State E) (a b : Option Moments) → keeps_commits op ≡ true → ((q : Elements) (id : ℕ) → W q (file id) → ⊥) → IsTold a → Frame G W NoPath a b
     → OnOk r (AtEnd (λ u w. SettledButWork (shows u) → Settled (shows w)) a b) → OnOk r (AtEnd (WasTidiedAfter op s) a b)
-work_is_enough {W = W} op s (Ok t) a b keeps off told frame end = ends_to (ends_both end (ends_frame told frame)) (λ u w q. record { settled = λ opens rest. q.0 (rest.kept keeps); shares = shares_empty q.1; creates = creates_frame W q.1 (λ p id below put. off p id put) })
+work_is_enough {W = W} op s (Ok t) a b keeps off told frame end = ends_to (ends_both end (ends_frame told frame)) (λ u w q. record { settled = λ opens rest. q.0 (rest.kept keeps); shares = shared_empty q.1; creates = creates_frame W q.1 (λ p id below put. off p id put) })
 work_is_enough op s (Err e) a b keeps off told frame end = end
 
 -- and, where it adds a ref, that its file comes

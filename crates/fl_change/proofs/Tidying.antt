@@ -13,12 +13,11 @@ use Rattle.fp_small.specs.declared.state.State.{State}
 use Rattle.fp_small.specs.declared.op.Op.{Op}
 use Rattle.fp_small.specs.Files.{KeepsFiles}
 use Rattle.fp_small.specs.Places.{repo}
-use Rattle.fp_small.specs.Shares.{Shares}
 use Rattle.fp_small.proofs.Keeping.{files_on}
-use Rattle.fp_small.proofs.Sharing.{shares_on}
+use Rattle.dep_states.proofs.SharedAs.{shared_on}
 use Rattle.ost_store.specs.Created.{Creates, NoObject}
 use Rattle.ost_walk.specs.Ends.{Outside}
-use Rattle.dep_states.specs.Lasting.{IsLasting}
+use Rattle.dep_states.specs.Lasting.{IsLasting, SharesAs}
 use Rattle.dep_states.specs.Sound.{Opens}
 use Rattle.dep_states.specs.Settled.{Settled}
 use Rattle.dep_tidy.specs.Tidy.{Tidies, WasTidied}
@@ -72,7 +71,7 @@ module _ (s : State) {u v : View} (tidies : Tidies s u v) (opens : Opens s u) wh
     some = performs.some;
   }
 
-  module _ (held : Holdings) (settled : Settled (shows v)) (made : Shares IsLasting u v) (creates : Creates repo NoObject u v) where
+  module _ (held : Holdings) (settled : Settled (shows v)) (made : SharesAs IsLasting u v) (creates : Creates repo NoObject u v) where
     done_moved : (a : Answer) {w : View} → KeepsFiles v w → IsDone held a (world_at s v) v w → IsDone held a (world_at s v) u w
     done_moved a kept done = record {
       only_tidied = λ idle. tidied_on (tidies_only tidies) (done.only_tidied idle);
@@ -82,7 +81,7 @@ module _ (s : State) {u v : View} (tidies : Tidies s u v) (opens : Opens s u) wh
       tidied = done.tidied;
       text = done.text;
       config = λ not. done.config not ∙ config_tidied tidies;
-      shares = λ unpulled. shares_on made (done.shares unpulled) kept;
+      shares = λ unpulled. shared_on made (done.shares unpulled) kept;
       creates = λ unpulled. created_off held (world_at s v) (ops_of a) creates (done.creates unpulled) tidies.files kept;
     }
 

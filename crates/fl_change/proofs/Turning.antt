@@ -18,7 +18,7 @@ use Rattle.fp_small.specs.declared.op.Op.TheVariants.{Install, Update, Uninstall
 use Rattle.fp_small.specs.declared.refusal.Refusal.{Refusal}
 use Rattle.fp_small.specs.Files.{KeepsFiles}
 use Rattle.fp_small.proofs.Keeping.{files_stay, files_on}
-use Rattle.fp_small.proofs.Sharing.{shares_on}
+use Rattle.dep_states.proofs.SharedAs.{shared_on}
 use Rattle.dep_states.specs.Shown.{Shows, settings_of}
 use Rattle.dep_states.specs.Sound.{Opens}
 use Rattle.dep_states.specs.After.{Done, row_at, state_after, after_all, after_op, updated, rolled_back, back}
@@ -234,7 +234,7 @@ done_onto held pieces b x y {v = v} {w = w} {z = z} is done next before kept = r
   holds = subst (λ (q : World). Holds q z) (worlds_pieces held x y pieces b.pieces is) next.holds;
   text = λ some. subst (λ (q : State). HasText q z) after_both (text_by (set_config (ops_of b)) refl (set_both some));
   config = λ not. let none = none_set not in next.config none.1 ∙ done.config none.0;
-  shares = λ unpulled. shares_on (done.shares tt) (next.shares unpulled) kept;
+  shares = λ unpulled. shared_on (done.shares tt) (next.shares unpulled) kept;
   creates = λ unpulled. created_both held x y (ops_in pieces) (ops_of b) (ops_of (continued pieces None b)) is (ops-append pieces b.pieces) (done.creates tt) (next.creates unpulled) before kept;
   tidied = next.tidied;
 }

@@ -1,6 +1,6 @@
 -- Which names a run may change, and to what, and which files.
-use Rattle.std.specs.Prelude.{◌≡◌, ◌⊎◌, ℕ, Some}
-use Rattle.fp_host.specs.Paths.{Elements, Slot, file}
+use Rattle.std.specs.Prelude.{◌≡◌, ◌≢◌, ◌⊎◌, ℕ, Some}
+use Rattle.fp_host.specs.Paths.{Elements, Slot, absent, file}
 use Rattle.fp_host.specs.View.{View}
 use Rattle.fp_host.specs.Frame.{NoPath}
 use Rattle.fp_small.specs.Files.{KeepsFiles}
@@ -9,7 +9,7 @@ use Rattle.fp_small.specs.Config.{config_text}
 use Rattle.fp_small.specs.declared.limits.TheConstants.{FILE_MODE}
 use Rattle.fp_small.specs.declared.state.State.{State}
 use Rattle.dep_states.specs.Links.{Links}
-use Rattle.dep_states.specs.Names.{config}
+use Rattle.dep_states.specs.Names.{config, repo_config}
 use Rattle.dep_states.specs.Shown.{settings_of}
 use Rattle.dep_tidy.specs.Tidy.{MayTidy}
 use Rattle.op_change.specs.Applied.{MayChange}
@@ -23,9 +23,10 @@ pub data MayHold (May : Op → Type 0) (q : Elements) (e : Slot) : Type 0 where
 
 -- Each name holds what it held, or what it may. Each file that was there keeps its mode and its
 -- bytes: what is new is in new files. What came to a commit's folder is its record, or a file of
--- the store.
+-- the store. Where something stood as the store's `config`, that stays.
 pub record Changes (May : Op → Type 0) (u w : View) : Type 0 where
   pub names : (q : Elements) → (w.names q ≡ u.names q) ⊎ MayHold May q (w.names q)
+  pub config_stays : u.names repo_config ≢ absent → w.names repo_config ≡ u.names repo_config
   pub files : KeepsFiles u w
   pub links : Links u w
 

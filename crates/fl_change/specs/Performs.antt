@@ -10,13 +10,12 @@ use Rattle.fp_name.specs.Refs.{Ref}
 use Rattle.fp_small.specs.declared.state.State.{State}
 use Rattle.fp_small.specs.Files.{KeepsFiles}
 use Rattle.fp_small.specs.Places.{repo}
-use Rattle.fp_small.specs.Shares.{Shares}
 use Rattle.fp_small.specs.declared.op.Op.{Op}
 use Rattle.fp_small.specs.declared.op.Op.TheVariants.{Install}
 use Rattle.ost_model.specs.Objects.{store}
 use Rattle.ost_store.specs.Created.{Creates, NoObject}
 use Rattle.ost_walk.specs.Ends.{IsRemotes, Outside}
-use Rattle.dep_states.specs.Lasting.{IsLasting}
+use Rattle.dep_states.specs.Lasting.{IsLasting, SharesAs}
 use Rattle.dep_states.specs.Names.{config}
 use Rattle.dep_states.specs.Shown.{Shows}
 use Rattle.dep_states.specs.Sound.{Sound, Opens}
@@ -80,7 +79,7 @@ pub record IsDone (held : Holdings) (a : Answer) (x : World) (v w : View) : Type
   pub tidied : Settled (shows w)
   pub text : set_config (ops_of a) ≡ true → HasText (after_all x.state (ops_of a)) w
   pub config : set_config (ops_of a) ≡ false → w.names config ≡ v.names config
-  pub shares : IsUnpulled a.refusal → Shares IsLasting v w
+  pub shares : IsUnpulled a.refusal → SharesAs IsLasting v w
   pub creates : IsUnpulled a.refusal → CreatesInTurn held x (ops_of a) v w
 
 -- every stop leaves the state after the acknowledged operations
@@ -201,14 +200,14 @@ pub record WasDone (held : Holdings) (op : Op) (s t : State) (v w : View) : Type
   pub text : sets_config op ≡ true → HasText t w
   pub config : sets_config op ≡ false → w.names config ≡ v.names config
   pub rest : IsNearlySettled op (shows w)
-  pub shares : Shares IsLasting v w
+  pub shares : SharesAs IsLasting v w
   pub creates : Creates repo (LacksFor held (world_at s v) op) v w
 
 -- Where that was settled, all is. Each new file that has bytes came to a lasting name, and no object
 -- was made.
 pub record WasTidiedAfter (op : Op) (s : State) (u w : View) : Type 0 where
   pub settled : Opens s u → IsNearlySettled op (shows u) → Settled (shows w)
-  pub shares : Shares IsLasting u w
+  pub shares : SharesAs IsLasting u w
   pub creates : Creates repo NoObject u w
 
 abbrev pub WasDoneBy : Holdings → Op → State → Result State RunEnd → View → View → Type 0

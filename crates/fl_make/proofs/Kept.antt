@@ -33,8 +33,7 @@ use Rattle.ost_export.specs.Storing.{IsNoWork, IsWork}
 use Rattle.ost_export.specs.Exports.{ref_path, IsExportFolder, ExportsName, Exports, ExportsSynced, IsSpared, IsExported, WasExported}
 use Rattle.ost_export.proofs.Paths.{none_below}
 use Rattle.ost_export.proofs.Spared.{not_put, off_ref, other_ref, other_object}
-use Rattle.dep_states.specs.Lasting.{IsLasting}
-use Rattle.dep_states.specs.Lasting.IsLasting.{a_made_one}
+use Rattle.dep_states.proofs.Lasting.{TakesFiles, a_made_one}
 use Rattle.dep_states.specs.Names.{config, remotes_conf, pins_file, branch_dir, active, text_dir, commit_dir, deploy, ref_file}
 use Rattle.dep_states.specs.Shown.{Shows, ref_seen}
 use Rattle.dep_states.specs.Sound.{Keeps, IsSound, Opens}
@@ -115,7 +114,7 @@ data FolderPlace (remote : List ℕ) (p : Elements) : Type 0 where
   f_work : (p ≡ repo) ⊎ (p ≡ tmp) → FolderPlace remote p
 
 -- a file comes to a name below `made`, or to work
-where_files : (remote : List ℕ) (r : Ref) (q : Elements) (id : ℕ) → MayMake remote r q (file id) → IsLasting q ⊎ IsWithin tmp q
+where_files : (remote : List ℕ) (r : Ref) (q : Elements) (id : ℕ) → MayMake remote r q (file id) → TakesFiles q ⊎ IsWithin tmp q
 where_files remote r q id (in_store within off) = inl (a_made_one (within_child remote (codes "made" ∷ []) q within))
 where_files remote r q id (in_work above) = inr (inr above)
 where_files remote r q id (above_store above is) = absurd (cc is)

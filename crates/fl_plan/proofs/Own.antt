@@ -11,8 +11,9 @@ use Rattle.fl_plan.specs.declared.offer.Offer.{Offer}
 
 pub is_own : (held : Holdings) (remote : RemoteRow) (names : List Ref) (offer : Offer) → first_of (offer_of held remote) names ≡ Some offer → remote ≡ offer.remote
 is_own held remote [] offer is = absurd (cc is)
-is_own held remote (name ∷ names) offer is = go (offered held remote name) is
+is_own held remote (name ∷ names) offer is = go (offered held remote name) (is_own held remote names offer) is
   where
-    go : (answer : Result (List ℕ) Refusal) → option_or (unless_declined remote name answer) (first_of (offer_of held remote) names) ≡ Some offer → remote ≡ offer.remote
-    go (Ok commit) first = let same : offer_with remote name commit ≡ offer = cc first in ap (λ (o : Offer). o.remote) same
-    go (Err refusal) first = is_own held remote names offer first
+    go : (answer : Result (List ℕ) Refusal) → (first_of (offer_of held remote) names ≡ Some offer → remote ≡ offer.remote)
+        → option_or (unless_declined remote name answer) (first_of (offer_of held remote) names) ≡ Some offer → remote ≡ offer.remote
+    go (Ok commit) later first = let same : offer_with remote name commit ≡ offer = cc first in ap (λ (o : Offer). o.remote) same
+    go (Err refusal) later first = later first

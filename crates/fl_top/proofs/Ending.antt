@@ -7,7 +7,7 @@ use Rattle.fp_host.specs.Paths.{Elements}
 use Rattle.fp_host.specs.Remote.{Holdings}
 use Rattle.fp_host.specs.View.{View}
 use Rattle.fp_host.specs.Outcome.{Disk, Leaves, Follows, Nothing}
-use Rattle.fp_small.proofs.Sharing.{shares_on}
+use Rattle.dep_states.proofs.SharedAs.{shared_on}
 use Rattle.fp_small.specs.declared.refusal.Refusal.{Refusal}
 use Rattle.fp_small.specs.declared.refusal.Refusal.TheVariants.{MalformedObject, MalformedValue, Limit, BadRecord, Damaged}
 use Rattle.fp_small.specs.declared.refusal.Refusal.TheVariants as refusals
@@ -182,7 +182,7 @@ answers_all held a r status {u = u} {v = v} {w = w} is status_is finished said =
   tidied = λ sound why. same_settled said.shown (done.tidied sound why);
   exports = λ some sound. exports_on said.follows (finished.exports some sound);
   text = λ some s at. text_on (said.untouched.names config) (keeps_files said.untouched) (done.text some s at);
-  shares = λ unpulled. shares_on (done.shares unpulled) (none_made said.untouched) (keeps_files said.untouched);
+  shares = λ unpulled. shared_on (done.shares unpulled) (none_made said.untouched) (keeps_files said.untouched);
   creates = λ unpulled s at. created_on held (world_at s u) (ops_of a) (done.creates unpulled s at) (none_created said.untouched) done.files (keeps_files said.untouched);
 }
   where

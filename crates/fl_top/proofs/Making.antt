@@ -1,6 +1,6 @@
 -- A command that makes a remote.
 use Rattle.std.proofs.Common.{◌≡◌, inl, inr, ℕ, List, [], ◌∷◌, ◌++◌, codes, Option, Result, Ok, Err, IsErrAnd, IsErrOf, refl, sym, ◌∙◌, ap, subst}
-use Rattle.fp_host.specs.Paths.{Elements}
+use Rattle.fp_host.specs.Paths.{Elements, Slot}
 use Rattle.fp_host.specs.View.{View}
 use Rattle.fp_host.specs.Outcome.{Disk, Leaves, shows}
 use Rattle.fp_host.specs.Frame.{AtEnd, Unchanged}
@@ -13,7 +13,7 @@ use Rattle.fp_host.proofs.Goes.{begins, goes_on}
 use Rattle.fp_host.proofs.Above.{below_child}
 use Rattle.fp_host.proofs.Shown.{now_left}
 use Rattle.fp_name.specs.Refs.{Ref}
-use Rattle.fp_small.proofs.Sharing.{shares_on, shares_to}
+use Rattle.dep_states.proofs.SharedAs.{shared_on, shared_by}
 use Rattle.fp_small.specs.declared.refusal.Refusal.TheVariants.{BadRecord}
 use Rattle.fp_small.specs.declared.state.State.{State}
 use Rattle.ost_commit.specs.Objects.{have_of}
@@ -25,7 +25,7 @@ use Rattle.dep_states.specs.Shown.{Shows}
 use Rattle.dep_states.specs.Sound.{IsSound}
 use Rattle.fl_lines.specs.Lines.{made_text}
 use Rattle.fl_words.specs.declared.command.Command.TheVariants.{Export as Exporting}
-use Rattle.fl_make.specs.Making.{remote_store, Makes, WasMade, IsMakeFault}
+use Rattle.fl_make.specs.Making.{remote_store, MayMake, in_store, in_work, above_store, of_work, Makes, WasMade, IsMakeFault}
 use Rattle.fl_make.specs.declared.end.MakeEnd.{MakeEnd}
 use Rattle.fl_make.specs.declared.end.MakeEnd.TheVariants as make
 use Rattle.fl_change.specs.World.{World, world_at}
@@ -45,7 +45,8 @@ use Rattle.fl_top.specs.Runs.{Runs, Stands, Told, IsGivenTo, IsJust}
 use Rattle.fl_top.specs.RunsOver.{RunsOn, EndedOn, Closed, Completes}
 use Rattle.fl_top.specs.declared.command_end.CommandEnd.{CommandEnd}
 use Rattle.fl_top.specs.declared.command_end.CommandEnd.TheVariants.{Fault, RemoteFault, InputFault}
-use Rattle.fl_top.proofs.Altering.{alter_on, alter_untouched, rest_none, rest_on}
+use Rattle.dep_states.specs.Names.{repo_config}
+use Rattle.fl_top.proofs.Altering.{no_tmp, alter_on, alter_untouched, rest_none, rest_on}
 use Rattle.fl_top.proofs.Ending.{just_on}
 use Rattle.fl_top.proofs.Finishing.{is_end, ByInput, read_is, given_all}
 use Rattle.fl_top.proofs.Listed.{keeping}
@@ -61,6 +62,19 @@ use Rattle.fp_small.proofs.Keeping.{files_on}
 
 abbrev pub made_in : Given → Result World Elements → List ℕ → Answer
 made_in given shown bytes = commit_made given.commit bytes
+
+-- nothing that makes a remote touches the installation's own store
+no_made : (remote : List ℕ) (r : Ref) (e : Slot) → MayMake remote r repo_config e → ⊥
+no_made remote r e (in_store (inl at) off) = cc at
+no_made remote r e (in_store (inr (inl at)) off) = cc at
+no_made remote r e (in_store (inr (inr (inl at))) off) = cc at
+no_made remote r e (in_store (inr (inr (inr none))) off) = none
+no_made remote r e (in_work above) = no_tmp above
+no_made remote r e (above_store (inl at) is) = cc at
+no_made remote r e (above_store (inr (inl at)) is) = cc at
+no_made remote r e (above_store (inr (inr none)) is) = none
+no_made remote r e (of_work (inl at) is) = cc at
+no_made remote r e (of_work (inr at) is) = cc at
 
 pub make_input : (remote : List ℕ) (r : Ref) → ByInput (Exporting remote r) made_in
 make_input remote r = record { reads = refl; is = λ given shown. refl }
@@ -97,7 +111,7 @@ module _ (remote : List ℕ) (r : Ref) (t : Told) (bytes : List ℕ) (whole : Is
       before l = let was = sound.shown disk l in record { shown = (disk, l, was.state, was.shows, was.shows); sound = sound.sound disk l }
 
   alter_made : {u w : View} → Makes remote r bytes u w → Alters (OpsBy (Exporting remote r) t.left) (MakesBy (Exporting remote r)) u w
-  alter_made makes = record { names = λ q. elim (makes.names q) [ inl same ↦ inl same | inr may ↦ inr (made_by may) ]; files = makes.files; links = makes.links }
+  alter_made makes = record { names = λ q. elim (makes.names q) [ inl same ↦ inl same | inr may ↦ inr (made_by may) ]; config_stays = λ there. elim (makes.names repo_config) [ inl same ↦ same | inr may ↦ absurd (no_made remote r _ may) ]; files = makes.files; links = makes.links }
 
   rest_made : (commit : List ℕ) (s : State) {u w : View} → Makes remote r bytes u w → OnlyRests (text_answer (made_text commit)) s u w
   rest_made commit s makes = record { names = λ q. elim (makes.names q) [ inl same ↦ inl same | inr may ↦ inr (made_at remote r (record { commit = commit; is = refl }) may) ] }
@@ -217,7 +231,7 @@ module _ (remote : List ℕ) (r : Ref) (t : Told) (bytes : List ℕ) (whole : Is
       shown = λ sound s at. same_shown said.shown (shown_made h sound s at);
       tidied = λ sound why. elim why [ inl settled ↦ same_settled said.shown (h.was.settled settled) | inr some ↦ absurd (some refl) ];
       text = λ some s at. absurd (cc some);
-      shares = λ no. shares_on (shares_to (λ q above. a_made_one (below_child remote (codes "made" ∷ []) q above)) h.was.shares) (none_made said.untouched) (keeps_files said.untouched);
+      shares = λ no. shared_on (shared_by (λ q f above. a_made_one (below_child remote (codes "made" ∷ []) q above)) h.was.shares) (none_made said.untouched) (keeps_files said.untouched);
       files = files_on h.makes.files (keeps_files said.untouched);
       creates = λ no s at. no_ops_created held (world_at s u) [] refl (creates_on h.was.creates (none_created said.untouched) h.makes.files (keeps_files said.untouched));
     }

@@ -23,7 +23,7 @@ use Rattle.fp_name.specs.Refs.{Ref}
 use Rattle.fp_name.proofs.Refs.{word_apart}
 use Rattle.fp_small.specs.Places.{repo, tmp}
 use Rattle.fp_small.specs.Clear.{IsWithin}
-use Rattle.fp_small.proofs.Sharing.{shares_on, shares_to}
+use Rattle.dep_states.proofs.SharedAs.{shared_on, shared_by}
 use Rattle.fp_small.specs.declared.op.Op.{Op}
 use Rattle.fp_small.specs.declared.refusal.Refusal.{Refusal}
 use Rattle.fp_small.specs.declared.state.State.{State}
@@ -230,7 +230,7 @@ module _ (held : Holdings) (a : Answer) (before t : State) {u v w : View} (at : 
         subst (λ (z : State). Shows (shows w) z) (after ∙ ap (λ (z : State). after_all z (ops_of a)) one) ((opens sound).shown (shows w) (now_left w));
     tidied = λ sound why. settled_refreshed tree next step was (done.tidied sound why);
     text = λ some s is. text_on (config_same step) step.files (done.text some s is);
-    shares = λ ok. shares_on (done.shares ok) (shares_to (λ q above. an_export above) was.shares) step.files;
+    shares = λ ok. shared_on (done.shares ok) (shared_by (λ q f above. an_export above) was.shares) step.files;
     files = files_on done.files step.files;
     creates = λ ok s is. created_on held (world_at s u) (ops_of a) (done.creates ok s is) was.creates done.files step.files;
   }

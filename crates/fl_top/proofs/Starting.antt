@@ -10,7 +10,8 @@ use Rattle.fp_host.proofs.Follow.{follows_refl}
 use Rattle.fp_host.proofs.Shown.{now_left}
 use Rattle.fp_small.specs.Files.{KeepsFiles}
 use Rattle.fp_small.specs.Shares.{Shares}
-use Rattle.fp_small.proofs.Sharing.{shares_refl, shares_empty, shares_on, shares_to}
+use Rattle.fp_small.proofs.Sharing.{shares_refl, shares_empty}
+use Rattle.dep_states.proofs.SharedAs.{shared_refl, shared_on, shared_by}
 use Rattle.fp_small.specs.Places.{repo}
 use Rattle.ost_model.specs.Objects.{object_path}
 use Rattle.fp_small.proofs.Keeping.{files_stay, files_kept, files_on}
@@ -185,7 +186,7 @@ completes held a s x {u = u} {w = w} same opened keeping files here is = record 
       let one : s ≡ t = one_state (shows u) s t opened.shown at in
       subst (λ (z : State). HasText (after_all z (ops_of a)) w) (same ∙ one) (is.text some);
   files = files_on keeping.files files;
-  shares = λ unpulled. shares_on (shares_to (λ q no. absurd no) keeping.empty) (is.shares unpulled) files;
+  shares = λ unpulled. shared_on (shared_by (λ q f no. absurd no) keeping.empty) (is.shares unpulled) files;
   creates = λ unpulled t at.
       let one : s ≡ t = one_state (shows u) s t opened.shown at in
       subst (λ (z : World). CreatesInTurn held z (ops_of a) u w) (sym here ∙ ap (λ (z : State). world_at z u) one)
@@ -258,7 +259,7 @@ damaged held path {u = u} keeping none = record {
   tidied = λ sound why. let is = sound.shown (shows u) (now_left u) in absurd (none is.state is.shows);
   text = λ some s at. absurd (none s at);
   files = keeping.files;
-  shares = λ unpulled. shares_to (λ q no. absurd no) keeping.empty;
+  shares = λ unpulled. shared_by (λ q f no. absurd no) keeping.empty;
   creates = λ unpulled s at. absurd (none s at);
 }
 
@@ -294,7 +295,7 @@ at_once held refusal u = record {
   tidied = λ sound why. elim why [ inl tidy ↦ tidy | inr some ↦ absurd (some refl) ];
   text = λ some s at. absurd (cc some);
   files = files_stay;
-  shares = λ unpulled. shares_refl;
+  shares = λ unpulled. shared_refl;
   creates = λ unpulled s at. no_ops_created held (world_at s u) [] refl creates_refl;
 }
 

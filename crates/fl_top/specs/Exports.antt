@@ -1,6 +1,6 @@
 -- What is exported: as it is listed, as it stands, and which names a run changes for it.
-use Rattle.std.specs.Prelude.{◌≡◌, ◌⊎◌, ℕ, Bool, true, false, List, Option, Some, None, Result, Ok, Err, flat_map}
-use Rattle.fp_host.specs.Paths.{Elements, Slot}
+use Rattle.std.specs.Prelude.{◌≡◌, ◌≢◌, ◌⊎◌, ℕ, Bool, true, false, List, Option, Some, None, Result, Ok, Err, flat_map}
+use Rattle.fp_host.specs.Paths.{Elements, Slot, absent}
 use Rattle.fp_host.specs.View.{View}
 use Rattle.fp_host.specs.Outcome.{Disk, Leaves, shows}
 use Rattle.fp_host.specs.Remote.{Holdings}
@@ -19,6 +19,7 @@ use Rattle.fl_export.specs.Placed.{ExportsAre}
 use Rattle.fl_export.specs.Steps.{MayRefresh, Refreshes, WasRefreshed}
 use Rattle.fl_export.specs.declared.rows.ExportRow.{ExportRow}
 use Rattle.fp_name.specs.Refs.{Ref}
+use Rattle.dep_states.specs.Names.{repo_config}
 use Rattle.fl_lines.specs.Lines.{export_line, made_text}
 use Rattle.fl_make.specs.Making.{MayMake}
 use Rattle.fl_change.specs.Answer.{Answer, text_answer, IsIdle}
@@ -136,9 +137,10 @@ pub data MayCome (May : Op → Type 0) (Make : Elements → Slot → Type 0) (q 
 
 -- Each name holds what it held, or what it may. Each file that was there keeps its mode and its
 -- bytes: what is new is in new files. What came to a commit's folder is its record, or a file of
--- the store.
+-- the store. Where something stood as the store's `config`, that stays.
 pub record Alters (May : Op → Type 0) (Make : Elements → Slot → Type 0) (u w : View) : Type 0 where
   pub names : (q : Elements) → (w.names q ≡ u.names q) ⊎ MayCome May Make q (w.names q)
+  pub config_stays : u.names repo_config ≢ absent → w.names repo_config ≡ u.names repo_config
   pub files : KeepsFiles u w
   pub links : Links u w
 

@@ -5,10 +5,9 @@ use Rattle.fp_host.specs.Remote.{Holdings}
 use Rattle.fp_host.specs.View.{View}
 use Rattle.fp_host.specs.Moments.{Moments, Rose}
 use Rattle.fp_host.specs.Outcome.{Disk, Leaves, shows}
-use Rattle.fp_small.specs.Shares.{Shares}
 use Rattle.fp_small.specs.declared.state.State.{State}
 use Rattle.ost_fsck.specs.declared.report.Report.{Report}
-use Rattle.dep_states.specs.Lasting.{IsLasting}
+use Rattle.dep_states.specs.Lasting.{IsLasting, SharesAs}
 use Rattle.dep_states.specs.Shown.{Shows}
 use Rattle.dep_states.specs.Sound.{Sound, IsSound}
 use Rattle.dep_states.specs.After.{Done, after_all}
@@ -90,7 +89,7 @@ pub record Answers (held : Holdings) (a : Answer) (status : ℕ) (u w : View) : 
   pub exports : ops_of a ≢ [] → IsSound u → LeavesExports w
   pub text : set_config (ops_of a) ≡ true → (s : State) → Shows (shows u) s
       → HasText (after_all s (ops_of a)) w
-  pub shares : IsUnpulled a.refusal → Shares IsLasting u w
+  pub shares : IsUnpulled a.refusal → SharesAs IsLasting u w
   pub creates : IsUnpulled a.refusal → (s : State) → Shows (shows u) s
       → CreatesInTurn held (world_at s u) (ops_of a) u w
 

@@ -6,10 +6,9 @@ use Rattle.fp_host.specs.View.{View}
 use Rattle.fp_host.specs.Moments.{Goes, Moments}
 use Rattle.fp_host.specs.Outcome.{Disk, Leaves, shows}
 use Rattle.fp_small.specs.Files.{KeepsFiles}
-use Rattle.fp_small.specs.Shares.{Shares}
 use Rattle.fp_small.specs.declared.state.State.{State}
 use Rattle.ost_fsck.specs.declared.report.Report.{Report}
-use Rattle.dep_states.specs.Lasting.{IsLasting}
+use Rattle.dep_states.specs.Lasting.{IsLasting, SharesAs}
 use Rattle.dep_states.specs.Shown.{Shows}
 use Rattle.dep_states.specs.Sound.{IsSound}
 use Rattle.dep_states.specs.After.{after_all}
@@ -68,7 +67,7 @@ pub record Completes (held : Holdings) (a : Answer) (u w : View) : Type 0 where
   pub text : set_config (ops_of a) ≡ true → (s : State) → Shows (shows u) s
       → HasText (after_all s (ops_of a)) w
   pub files : KeepsFiles u w
-  pub shares : IsUnpulled a.refusal → Shares IsLasting u w
+  pub shares : IsUnpulled a.refusal → SharesAs IsLasting u w
   pub creates : IsUnpulled a.refusal → (s : State) → Shows (shows u) s
       → CreatesInTurn held (world_at s u) (ops_of a) u w
 

@@ -19,7 +19,7 @@ use Rattle.fp_host.proofs.Framed.{IsTold}
 use Rattle.fp_host.proofs.Goes.{begins, goes_on}
 use Rattle.fp_name.specs.Refs.{Ref}
 use Rattle.fp_small.specs.Places.{repo}
-use Rattle.fp_small.proofs.Sharing.{shares_on}
+use Rattle.dep_states.proofs.SharedAs.{shared_on}
 use Rattle.fp_small.specs.declared.op.Op.{Op}
 use Rattle.fp_small.specs.declared.refusal.Refusal.{Refusal}
 use Rattle.fp_small.specs.declared.state.RefRow.{RefRow}
@@ -77,6 +77,7 @@ module _ {s : State} {op : Op} {name : Ref} {commit : List ℕ} {origin : Remote
   changes_as : {u w : View} → ChangesFor s name commit u w → ChangesBy s op u w
   changes_as {u = u} changes = record {
     names = λ q. elim (changes.names q) [ inl same ↦ inl same | inr put ↦ inr (b.may u q _ put) ];
+    config_stays = changes.config_stays;
     files = changes.files;
     links = changes.links;
     printed = changes.printed;
@@ -148,7 +149,7 @@ module _ {s : State} {op : Op} {name : Ref} {commit : List ℕ} {origin : Remote
       opens = λ held is opens. let told = is b.brings in
           subst (λ (t : State). Opens t w) (after_is (have_for s op held u) (p.answers (true_files opens) held told).1) (done.opens (p.was.stages held told opens));
       objects = λ held is opens. b.objects (have_for s op held u) u w (at_url_of (λ have. HasObjects have commit u w) held (objects_on (p.was.objects held (is b.brings) (opens b.brings))));
-      shares = λ held is opens. shares_on (p.was.shares held (is b.brings) (opens b.brings)) deploys.shares deploys.files;
+      shares = λ held is opens. shared_on (p.was.shares held (is b.brings) (opens b.brings)) deploys.shares deploys.files;
       creates = λ held is opens. b.created (have_for s op held u) u w (at_url_of (λ have. Creates repo (IsLacked repo have commit u) u w) held
           (creates_on (p.was.creates held (is b.brings) (opens b.brings)) deploys.creates (p.fetches.changes (opens b.brings)).files deploys.files));
       settled = done.settled;

@@ -21,7 +21,7 @@ use Rattle.fp_small.specs.declared.state.State.{State}
 use Rattle.fp_small.specs.declared.state.RefRow.{RefRow}
 use Rattle.fp_small.specs.declared.state.Previous.{Previous}
 use Rattle.fp_small.proofs.Keeping.{files_on, files_kept}
-use Rattle.fp_small.proofs.Sharing.{shares_empty, shares_on}
+use Rattle.dep_states.proofs.SharedAs.{shared_empty, shared_on}
 use Rattle.fp_small.proofs.Ordered.{bytes_eq-differ}
 use Rattle.fp_small.proofs.Within.{within_rest}
 use Rattle.ost_model.specs.Objects.{object_path}
@@ -188,7 +188,7 @@ module _ {s : State} {name : Ref} {commit : List ℕ} {new : RefRow} (good : is_
     opens = λ opens. subst (λ (t : State). Opens t w) (back_state b) (done.opens (can_back good between b (frame_law link_spares keeps.follows opens) cleared));
     settled = done.settled;
     objects = let backs = backs_deploys between keeps cleared deploys in same_objects (DeploysName name commit) before state_after backs.files backs.names no_object;
-    shares = shares_on (shares_empty keeps) deploys.shares deploys.files;
+    shares = shared_on (shared_empty keeps) deploys.shares deploys.files;
     creates = creates_off (creates_frame (AbsentWithin new_link) keeps (λ q id below away. cc away.1)) deploys.creates (files_kept keeps) deploys.files;
   }
 

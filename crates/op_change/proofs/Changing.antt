@@ -3,7 +3,7 @@ use Rattle.std.proofs.Common.{◌≡◌, ◌≢◌, ◌⊎◌, inl, inr, ℕ, Li
 use Rattle.fp_base.specs.declared.object.ObjKind.{ObjKind}
 use Rattle.fp_base.specs.declared.object.ObjKind.TheVariants as kinds
 use Rattle.fp_host.specs.Paths.{Elements, Slot, absent, dir, file, IsAbove}
-use Rattle.fp_host.specs.View.{View, IsTree}
+use Rattle.fp_host.specs.View.{View, Inode, IsTree}
 use Rattle.fp_host.specs.Outcome.{shows}
 use Rattle.fp_host.specs.Frame.{Keeps, NoPath}
 use Rattle.fp_host.proofs.Above.{above_longer}
@@ -12,12 +12,11 @@ use Rattle.fp_small.specs.Clear.{IsWithin}
 use Rattle.fp_small.specs.Files.{KeepsFiles}
 use Rattle.fp_small.specs.Folders.{ancestors, DirsAt}
 use Rattle.fp_small.specs.Places.{repo, tmp}
-use Rattle.fp_small.specs.Shares.{Shares}
 use Rattle.fp_small.specs.declared.state.State.{State}
 use Rattle.fp_small.specs.declared.state.RefRow.{RefRow}
 use Rattle.fp_small.proofs.Keeping.{files_stay, files_on, files_kept}
 use Rattle.fp_small.proofs.Replacement.{ancestors_above}
-use Rattle.fp_small.proofs.Sharing.{shares_empty, shares_on}
+use Rattle.dep_states.proofs.SharedAs.{shared_empty, shared_on}
 use Rattle.fp_small.proofs.Within.{within_from}
 use Rattle.ost_model.specs.Look.{Found, nothing, directory, file_at, look}
 use Rattle.ost_model.specs.Objects.{object_path, store}
@@ -25,11 +24,11 @@ use Rattle.ost_checkout.specs.Checkout.{SlotOf, ChecksOutAt, ChecksOutName, Chec
 use Rattle.ost_pull.specs.Pulls.{Pulls, PullsName}
 use Rattle.ost_pull.specs.Work.{WorksName}
 use Rattle.dep_states.specs.Frames.{KeptIn}
-use Rattle.dep_states.specs.Lasting.{IsLasting}
-use Rattle.dep_states.specs.Lasting.IsLasting.{store_config as lasts_config}
+use Rattle.dep_states.specs.Lasting.{SharesAs}
 use Rattle.dep_states.specs.Links.{WasStored, Links}
 use Rattle.dep_states.specs.Names.{commit_dir}
-use Rattle.dep_states.proofs.Lasting.{lasting_object}
+use Rattle.dep_states.proofs.Lasting.{TakesFiles, takes_object}
+use Rattle.dep_states.proofs.Lasting.TakesFiles.{store_config as takes_config}
 use Rattle.dep_states.proofs.Linked.{links_refl, links_on, links_lasting, links_no_file, object_stored, stored_on}
 use Rattle.dep_states.proofs.Work.{no_object_above}
 use Rattle.dep_switch.proofs.Sparing.{which as which_link}
@@ -39,17 +38,18 @@ use Rattle.op_change.specs.Bringing as names
 use Rattle.op_change.specs.Bringing.{BringsName, ChangesFor}
 use Rattle.op_change.specs.Furnishing.{Furnishes, readies, lays}
 use Rattle.op_change.specs.LayingOut.{MakesAbove, LaysOut, folders_come, paths_come}
-use Rattle.op_change.specs.Readying.{a_head, ReadiesName, ReadiesStore}
+use Rattle.op_change.specs.Readying.{store_config, a_head, ReadiesName, ReadiesStore}
 use Rattle.op_change.specs.Rooms.{RoomAt, RoomName}
 use Rattle.op_change.proofs.Apart.{object_off_dir, object_not_above, work_in_tmp, dir_apart, same_store, store_by}
 use Rattle.op_change.proofs.LaidOut.{object_stays}
 use Rattle.op_change.proofs.Sparing.{which_of}
+use Rattle.op_change.proofs.StoreConfig.{no_dir, no_folder, no_room, no_deployed, no_pulled}
 
 -- ---- in general
 
 module _ {s : State} {name : Ref} {commit : List ℕ} where
   pub changes_none : {u : View} → ChangesFor s name commit u u
-  changes_none = record { names = λ q. inl refl; objects = λ d kind digits there. refl; files = files_stay; links = links_refl; printed = refl }
+  changes_none = record { names = λ q. inl refl; objects = λ d kind digits there. refl; config_stays = λ there. refl; files = files_stay; links = links_refl; printed = refl }
 
   pub changes_on : {u v w : View} → ChangesFor s name commit u v → ChangesFor s name commit v w → ChangesFor s name commit u w
   changes_on {u = u} {v = v} {w = w} first second = record {
@@ -60,17 +60,19 @@ module _ {s : State} {name : Ref} {commit : List ℕ} where
     objects = λ d kind digits there.
         let before = first.objects d kind digits there in
         second.objects d kind digits (λ none. there (sym before ∙ none)) ∙ before;
+    config_stays = λ there. let before = first.config_stays there in second.config_stays (λ none. there (sym before ∙ none)) ∙ before;
     files = files_on first.files second.files;
     links = links_on first.links second.links second.files;
     printed = second.printed ∙ first.printed;
   }
 
   -- what gives no object a name changes so
-  pub changes_by : (W : Elements → Slot → Type 0) {u w : View} → ((q : Elements) (e : Slot) → W q e → BringsName s name commit q e) → ((d : List ℕ) (kind : ObjKind) (e : Slot) → W (object_path repo d kind) e → ⊥)
+  pub changes_by : (W : Elements → Slot → Type 0) {u w : View} → ((q : Elements) (e : Slot) → W q e → BringsName s name commit q e) → ((d : List ℕ) (kind : ObjKind) (e : Slot) → W (object_path repo d kind) e → ⊥) → ((e : Slot) → W store_config e → ⊥)
       → ((q : Elements) → (w.names q ≡ u.names q) ⊎ W q (w.names q)) → KeepsFiles u w → Links u w → w.printed ≡ u.printed → ChangesFor s name commit u w
-  changes_by W may off names files links printed = record {
+  changes_by W may off apart names files links printed = record {
     names = λ q. elim (names q) [ inl same ↦ inl same | inr put ↦ inr (may q _ put) ];
     objects = λ d kind digits there. elim (names (object_path repo d kind)) [ inl same ↦ same | inr put ↦ absurd (off d kind _ put) ];
+    config_stays = λ there. elim (names store_config) [ inl same ↦ same | inr put ↦ absurd (apart _ put) ];
     files = files;
     links = links;
     printed = printed;
@@ -95,7 +97,7 @@ module _ (s : State) (name : Ref) (commit : List ℕ) (kept : Bool) where
   room_no_file q id (inr folder) = cc folder.1.1
 
   pub room_changes : (kept ≡ false → KeptIn s name commit → ⊥) → {u w : View} → Keeps (RoomAt tmp (commit_dir name commit) kept) Room NoPath u w → ChangesFor s name commit u w
-  room_changes unkept keeps = changes_by Room (room_may unkept) room_off keeps.names (files_kept keeps) (links_no_file Room keeps.names room_no_file) keeps.printed
+  room_changes unkept keeps = changes_by Room (room_may unkept) room_off (no_room name commit kept) keeps.names (files_kept keeps) (links_no_file Room keeps.names room_no_file) keeps.printed
 
   pub room_store : {u w : View} → IsTree u → IsTree w → Keeps (RoomAt tmp (commit_dir name commit) kept) Room NoPath u w → store repo (shows w) ≡ store repo (shows u)
   room_store before after keeps = same_store Room before after (files_kept keeps) keeps.names room_off
@@ -149,15 +151,16 @@ module _ (s : State) (name : Ref) (commit : List ℕ) (n : List ℕ) where
   work_file q id (inr (inl above)) = absurd (cc above.1)
   work_file q id (inr (inr away)) = absurd (cc away.1)
 
-  pull_file : (u : View) (q : Elements) (id : ℕ) → PullsName repo (n ∷ tmp) u q (file id) → IsLasting q ⊎ IsWithin tmp q
+  pull_file : (u : View) (q : Elements) (id : ℕ) → PullsName repo (n ∷ tmp) u q (file id) → TakesFiles q ⊎ IsWithin tmp q
   pull_file u q id (inl work) = inr (work_file q id work)
-  pull_file u q id (inr (inl object)) = inl (subst IsLasting (sym object.at) (lasting_object object.digest object.kind))
+  pull_file u q id (inr (inl object)) = inl (subst TakesFiles (sym object.at) (takes_object object.digest object.kind))
   pull_file u q id (inr (inr above)) = absurd (cc above.1)
 
   pub pull_changes : {u w : View} → Pulls repo (n ∷ tmp) u w → ChangesFor s name commit u w
   pull_changes {u = u} pull = record {
     names = λ q. elim (pull.keeps.names q) [ inl same ↦ inl same | inr put ↦ inr (pull_may u q _ put) ];
     objects = λ d kind digits there. elim (pull.keeps.names (object_path repo d kind)) [ inl same ↦ same | inr put ↦ absurd (pull_off u d kind _ there put) ];
+    config_stays = λ there. elim (pull.keeps.names store_config) [ inl same ↦ same | inr put ↦ absurd (no_pulled n u _ put) ];
     files = pull.files;
     links = links_lasting (PullsName repo (n ∷ tmp) u) pull.keeps.names (pull_file u);
     printed = pull.keeps.printed;
@@ -183,8 +186,8 @@ module _ (s : State) (name : Ref) (commit : List ℕ) where
   folder_may q e (inr at) is = names.a_folder (names.for_work at) is
 
   -- a file comes as the store's `config`, or is work
-  ready_file : (u : View) (q : Elements) (id : ℕ) → ReadiesName u q (file id) → IsLasting q ⊎ IsWithin tmp q
-  ready_file u q id (inl (inl new)) = inl (lasts_config new.0)
+  ready_file : (u : View) (q : Elements) (id : ℕ) → ReadiesName u q (file id) → TakesFiles q ⊎ IsWithin tmp q
+  ready_file u q id (inl (inl new)) = inl (takes_config new.0)
   ready_file u q id (inl (inr (inl made))) = absurd (cc made.1)
   ready_file u q id (inl (inr (inr work))) = inr (inr (subst (IsAbove tmp) (sym work.is) (inl refl)))
   ready_file u q id (inr made) = absurd (cc made.1)
@@ -202,6 +205,7 @@ module _ (s : State) (name : Ref) (commit : List ℕ) where
       ])
     ];
     objects = λ d kind digits there. ready_object ready d kind;
+    config_stays = ready.stays;
     files = ready.files;
     links = links_lasting (ReadiesName u) ready.keeps.names (ready_file u);
     printed = ready.keeps.printed;
@@ -215,15 +219,15 @@ module _ (name : Ref) (commit : List ℕ) where
   lays_files (paths_come between tree made checks) = files_on (files_kept made) (files_kept (checks.keeps (dir_apart name commit)))
 
   -- no file that is new has bytes
-  pub lays_shares : {L : Elements → Type 0} {u w : View} → LaysOut commit (commit_dir name commit) u w → Shares L u w
-  lays_shares (folders_come made) = shares_empty made
-  lays_shares (paths_come between tree made checks) = let keeps = checks.keeps (dir_apart name commit) in shares_on (shares_empty made) (shares_empty keeps) (files_kept keeps)
+  pub lays_shares : {L : Elements → Inode → Type 0} {u w : View} → LaysOut commit (commit_dir name commit) u w → SharesAs L u w
+  lays_shares (folders_come made) = shared_empty made
+  lays_shares (paths_come between tree made checks) = let keeps = checks.keeps (dir_apart name commit) in shared_on (shared_empty made) (shared_empty keeps) (files_kept keeps)
 
 module _ (s : State) (name : Ref) (commit : List ℕ) where
   made_changes : {u w : View} → MakesAbove (commit_dir name commit) u w → ChangesFor s name commit u w
   made_changes made = changes_by (DirsAt (ancestors (commit_dir name commit)))
       (λ q e put. names.a_folder (names.above_commit (ancestors_above (commit_dir name commit) q put.0)) put.1)
-      (λ d kind e put. object_not_above name commit d kind (ancestors_above (commit_dir name commit) _ put.0)) made.names (files_kept made)
+      (λ d kind e put. object_not_above name commit d kind (ancestors_above (commit_dir name commit) _ put.0)) (no_folder name commit) made.names (files_kept made)
       (links_no_file (DirsAt (ancestors (commit_dir name commit))) made.names (λ q id put. cc put.1)) made.printed
 
   -- a file is the very one of its object, which was put at the object's name
@@ -251,7 +255,7 @@ module _ (s : State) (name : Ref) (commit : List ℕ) where
   checks_changes : {u w : View} → IsTree u → (KeptIn s name commit → ⊥) → ChecksOut repo commit (commit_dir name commit) u w → ChangesFor s name commit u w
   checks_changes {u = u} tree unkept checks =
       let keeps = checks.keeps (dir_apart name commit) in
-      changes_by (λ q e. IsWithin (commit_dir name commit) q) (λ q e within. names.in_folder unkept within) (λ d kind e within. object_off_dir name commit d kind within)
+      changes_by (λ q e. IsWithin (commit_dir name commit) q) (λ q e within. names.in_folder unkept within) (λ d kind e within. object_off_dir name commit d kind within) (λ e within. no_dir name commit within)
       (λ q. elim (keeps.names q) [ inl same ↦ inl same | inr put ↦ inr (subst (IsWithin (commit_dir name commit)) (sym put.at) (within_from (commit_dir name commit) put.rest)) ]) (files_kept keeps) (checks_links tree checks) keeps.printed
 
   pub lays_changes : {u w : View} → (KeptIn s name commit → ⊥) → LaysOut commit (commit_dir name commit) u w → ChangesFor s name commit u w
@@ -299,7 +303,7 @@ module _ (s : State) (name : Ref) (commit : List ℕ) where
   deploy_off d kind e (at_active at is) = cc at
 
   pub deploy_changes : {row : RefRow} {u w : View} → row.name ≡ name → row.commit ≡ commit → Deploys s row u w → ChangesFor s name commit u w
-  deploy_changes {row = row} {w = w} named at deploys = changes_by (DeploysName name commit) deploy_may deploy_off
+  deploy_changes {row = row} {w = w} named at deploys = changes_by (DeploysName name commit) deploy_may deploy_off (no_deployed name commit)
       (λ q. elim (deploys.names q) [ inl same ↦ inl same | inr put ↦ inr (subst (λ (n : Ref). DeploysName n commit q (w.names q)) named (subst (λ (c : List ℕ). DeploysName row.name c q (w.names q)) at put)) ])
       deploys.files deploys.links deploys.printed
 

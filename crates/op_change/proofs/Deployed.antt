@@ -14,27 +14,25 @@ use Rattle.fp_small.specs.Files.{KeepsFiles}
 use Rattle.fp_small.specs.Places.{repo, tmp}
 use Rattle.fp_small.specs.declared.state.State.{State}
 use Rattle.fp_small.specs.declared.state.RefRow.{RefRow}
-use Rattle.fp_small.specs.Shares.{Shares}
 use Rattle.fp_small.proofs.Keeping.{files_on}
-use Rattle.fp_small.proofs.Sharing.{shares_none, shares_on, shares_to}
 use Rattle.ost_model.specs.Stores.{objects_folder}
 use Rattle.ost_store.specs.Created.{Creates, NoObject}
 use Rattle.ost_store.proofs.Creating.{creates_none, creates_on}
-use Rattle.dep_states.specs.Lasting.{IsLasting}
-use Rattle.dep_states.specs.Lasting.IsLasting.{a_record}
 use Rattle.dep_states.specs.Links.{Links}
 use Rattle.dep_states.specs.Names.{commit_dir, deploy}
 use Rattle.dep_states.specs.Sound.{Opens}
 use Rattle.dep_states.specs.Switch.{OpensEither}
 use Rattle.dep_states.proofs.Elsewhere.{off_record}
+use Rattle.dep_states.proofs.Lasting.{TakesFiles, a_record}
 use Rattle.dep_states.proofs.Linked.{links_lasting}
+use Rattle.dep_states.proofs.SharedAs.{shared_none, shared_on}
 use Rattle.dep_switch.specs.Staging.{CanStage, Readies, WasStaged, LeadsTo, CanSwitch, Switches, SwitchesName, WasSwitched}
 use Rattle.dep_switch.specs.Writing.{PreparesName, new_deploy, new_folder, the_link}
 use Rattle.dep_switch.specs.declared.staged.Staged.{Staged}
 use Rattle.op_change.specs.Deploys.{DeploysName, work_goes, before_switch, at_active, Deploys, WasDeployed}
 
 -- the only file that comes to a name is the record
-pub deploys_file : (name : Ref) (commit : List ℕ) (q : Elements) (id : ℕ) → DeploysName name commit q (file id) → IsLasting q ⊎ IsWithin tmp q
+pub deploys_file : (name : Ref) (commit : List ℕ) (q : Elements) (id : ℕ) → DeploysName name commit q (file id) → TakesFiles q ⊎ IsWithin tmp q
 deploys_file name commit q id (work_goes within none) = absurd (cc none)
 deploys_file name commit q id (before_switch (new_deploy at is)) = inl (a_record name commit at)
 deploys_file name commit q id (before_switch (new_folder has is)) = absurd (cc is)
@@ -54,17 +52,13 @@ prepares_creates name commit text puts = creates_none (PreparesName (deploy (com
     off q id below (the_link at is) = cc is
 
 module _ {s : State} {row : RefRow} where
-  -- the record is one that lasts
-  record_lasts : {u w : View} → Readies s row u w → Shares IsLasting u w
-  record_lasts readies = shares_to (λ q at. a_record row.name row.commit at) readies.prepares.shares
-
   -- while it is staged
   pub deploys_readies : {u w : View} → Readies s row u w → Deploys s row u w
   deploys_readies {u = u} {w = w} readies = record {
     either = λ can. let opens = readies.opens can.opens can.moves in record { shown = λ disk left. inl (opens.shown disk left); sound = opens.sound };
     names = names;
     files = readies.prepares.files;
-    shares = record_lasts readies;
+    shares = readies.shares;
     links = deploys_links row.name row.commit names;
     creates = prepares_creates row.name row.commit (hex row.commit) readies.prepares.puts;
     printed = readies.prepares.printed;
@@ -83,7 +77,7 @@ module _ {s : State} {row : RefRow} where
       either = λ can. subst (λ (t : State). OpensEither s t w) leads.state (switches.either s row leads (was.staged can));
       names = names;
       files = files_on readies.prepares.files keeps;
-      shares = shares_on (record_lasts readies) (shares_none (λ id none. switches.files id ∙ none)) keeps;
+      shares = shared_on readies.shares (shared_none (λ id none. switches.files id ∙ none)) keeps;
       links = deploys_links row.name row.commit names;
       creates = creates_on (prepares_creates row.name row.commit (hex row.commit) readies.prepares.puts) (creates_none (SwitchesName staged v) switches.puts no_file) readies.prepares.files keeps;
       printed = switches.printed ∙ readies.prepares.printed;

@@ -45,8 +45,8 @@ use Rattle.fp_base.specs.declared.object.ObjKind.{ObjKind}
 use Rattle.dep_states.specs.Switch.{OpensEither}
 use Rattle.fp_small.proofs.Pinning.{added, dropped}
 use Rattle.fp_small.proofs.Remoting as remotes
-use Rattle.fp_small.proofs.Sharing.{shares_made}
 use Rattle.dep_states.specs.Lasting.IsLasting.{the_settings}
+use Rattle.dep_states.proofs.SharedAs.{shared_made}
 use Rattle.op_change.specs.Deploys.{Does}
 use Rattle.op_change.proofs.Objects.{same_objects}
 use Rattle.ost_store.proofs.Creating.{creates_frame}
@@ -271,7 +271,7 @@ was_applied {t = t} {u = u} {w = w} op start after_ is next reads replaces put =
     opens = λ opens. subst (λ x. Opens x w) is (opens_after next reads replaces opens put);
     settled = put.settled;
     objects = same_objects (ReplacesName config u) start after_ replaces.files replaces.keeps.names (no_object u);
-    shares = shares_made (the_settings refl) put.made;
+    shares = shared_made (λ f says. the_settings (settings_of t) refl says) put.made;
     creates = creates_frame (ReplacesName config u) replaces.keeps (no_stored u);
   };
   settings = record {

@@ -16,7 +16,6 @@ use Rattle.fp_small.specs.Places.{repo, tmp, new_name}
 use Rattle.fp_small.specs.Shares.{Shares}
 use Rattle.fp_small.specs.declared.state.State.{State}
 use Rattle.fp_small.proofs.Replacement.{ancestors_above}
-use Rattle.fp_small.proofs.Sharing.{shares_empty, shares_on, shares_to}
 use Rattle.ost_model.specs.Objects.{Have, object_path, object_at, store, supply}
 use Rattle.ost_model.specs.Order.{Agree, order, first_fault}
 use Rattle.ost_model.specs.Remotes.{remote}
@@ -27,11 +26,12 @@ use Rattle.ost_checkout.specs.Checkout.{HasReserved}
 use Rattle.ost_pull.specs.Pulls.{HasTrueFiles, Pulls, PullsName, PullsSoundly, IsLackedName, WasPulled, WasRefused}
 use Rattle.ost_pull.specs.Work.{WorksName}
 use Rattle.dep_states.specs.Frames.{KeptIn}
-use Rattle.dep_states.specs.Lasting.{IsLasting}
+use Rattle.dep_states.specs.Lasting.{IsLasting, SharesAs}
+use Rattle.dep_states.specs.Lasting.IsLasting.{an_object}
 use Rattle.dep_states.specs.Names.{commit_dir}
 use Rattle.dep_states.specs.Sound.{Opens}
 use Rattle.dep_states.proofs.Deployed.{top}
-use Rattle.dep_states.proofs.Lasting.{lasting_object}
+use Rattle.dep_states.proofs.SharedAs.{shared_empty, shared_on, shared_by}
 use Rattle.dep_states.proofs.Rows.{head_of}
 use Rattle.dep_states.proofs.Switching.{word_no_repo}
 use Rattle.dep_states.proofs.Work.{no_object_above}
@@ -170,8 +170,8 @@ dir_pulled name commit u e (inr (inl object)) = cc object.at
 dir_pulled name commit u e (inr (inr above)) = omega (arith, above_longer (commit_dir name commit) (object_path repo above.0.digest above.0.kind) above.0.above)
 
 -- what a pull made lasts
-pulled_lasts : {have : Have} {commit : List ℕ} {u v w : View} → Shares (IsLackedName repo have commit u) v w → Shares IsLasting v w
-pulled_lasts shares = shares_to (λ q is. subst IsLasting (sym is.at) (lasting_object is.digest is.kind)) shares
+pulled_lasts : {have : Have} {commit : List ℕ} {u v w : View} → Shares (IsLackedName repo have commit u) v w → SharesAs IsLasting v w
+pulled_lasts shares = shared_by (λ q f is. an_object is.digest is.kind is.digits is.at) shares
 
 -- ---- step by step
 
@@ -277,7 +277,7 @@ module _ (s : State) (name : Ref) (commit url : List ℕ) (kept : Bool) (holds :
             link_free = link_after held told opens;
             laid = λ is. furnished.laid is (dir_apart name commit);
           };
-          shares = λ held told opens. shares_on (shares_on (shares_empty p.room) (pulled_lasts (was_pulled (true_files opens) held told).shares) (pulls_of p.room p.pull opens).files) furnished.shares (furnish_files s name commit furnish);
+          shares = λ held told opens. shared_on (shared_on (shared_empty p.room) (pulled_lasts (was_pulled (true_files opens) held told).shares) (pulls_of p.room p.pull opens).files) furnished.shares (furnish_files s name commit furnish);
           creates = λ held told opens.
               let pulled = (pulls_of p.room p.pull opens).files in
               let before = files_on (files_kept p.room) pulled in

@@ -13,7 +13,7 @@ use Rattle.fp_host.proofs.Goes.{begins, goes_on}
 use Rattle.fp_name.specs.Refs.{Ref}
 use Rattle.fp_small.specs.Places.{repo}
 use Rattle.fp_small.specs.declared.refusal.Refusal.{Refusal}
-use Rattle.fp_small.proofs.Sharing.{shares_on}
+use Rattle.dep_states.proofs.SharedAs.{shared_on}
 use Rattle.ost_checkout.specs.Checkout.{HasReserved}
 use Rattle.ost_checkout.specs.declared.ends.CheckoutEnd.{CheckoutEnd}
 use Rattle.ost_checkout.specs.declared.ends.CheckoutEnd.TheVariants as checkouts
@@ -39,7 +39,7 @@ module _ {commit : List ℕ} {to : Elements} {kept : Bool} where
   end_kept is done = ends_to done (λ u w r. record { laid = λ off. absurd (false≢true (sym off ∙ is)); shares = r.shares })
 
 pub end_lays : (name : Ref) (commit : List ℕ) {kept : Bool} {a b c : Option Moments} → IsTold b → AtEnd WasReadied a b → Always (LaysOut commit (commit_dir name commit)) b c → AtEnd (WasLaidOut commit (commit_dir name commit)) b c → AtEnd (WasFurnished commit (commit_dir name commit) kept) a c
-end_lays name commit mid first second done = ends_on (ends_both (ends_goes mid second) done) first mid (λ u v w t r d. record { laid = λ off. d.1; shares = shares_on r.shares (lays_shares name commit d.0) (lays_files name commit d.0) })
+end_lays name commit mid first second done = ends_on (ends_both (ends_goes mid second) done) first mid (λ u v w t r d. record { laid = λ off. d.1; shares = shared_on r.shares (lays_shares name commit d.0) (lays_files name commit d.0) })
 
 pub reserved_after : {commit : List ℕ} {a b c : Option Moments} → IsTold a → IsTold b → Always ReadiesStore a b → AtEnd (λ u w. HasReserved repo commit w) b c → AtEnd (λ u w. HasReserved repo commit w) a c
 reserved_after told mid first reserved = ends_on reserved (ends_goes told first) mid (λ u v w t r d. d)

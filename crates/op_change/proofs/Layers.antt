@@ -32,12 +32,12 @@ use Rattle.fp_small.specs.declared.op.Op.TheVariants.{SetOverride, DropOverride}
 use Rattle.fp_small.specs.declared.state.OverrideRow.{OverrideRow}
 use Rattle.fp_small.specs.declared.state.State.{State}
 use Rattle.fp_small.proofs.Keeping.{files_kept}
-use Rattle.fp_small.proofs.Sharing.{shares_empty, shares_made}
 use Rattle.fp_small.proofs.Staging.{synced}
 use Rattle.fp_small.proofs.Replacement.{free_no_dir}
 use Rattle.ost_model.specs.Objects.{object_path}
 use Rattle.dep_states.specs.After.{state_after, plain}
 use Rattle.dep_states.specs.Lasting.IsLasting.{an_override}
+use Rattle.dep_states.proofs.SharedAs.{shared_empty, shared_made}
 use Rattle.dep_states.specs.Names.{overrides_folder, override_path, commit_dir, deploy}
 use Rattle.fp_name.specs.Grammar.{is_override}
 use Rattle.dep_states.specs.Shown.{bad, there, seen_of, read_of, if_file, named_override, override_at, override_seen, at_name, override_key, small_most, Shows}
@@ -231,7 +231,7 @@ module _ (s : State) (row : OverrideRow) (name_good : is_override row.name ≡ t
     opens = λ opens. record { shown = λ disk left. set_new replaces opens disk left (done.new.each disk left); sound = λ disk left. set_sound replaces opens disk left };
     settled = done.settled;
     objects = same_objects (ReplacesName (path_for row) u) start last replaces.files replaces.keeps.names (no_object_set u);
-    shares = shares_made (an_override row.name refl) done.made;
+    shares = shared_made (λ f says. an_override row.name row.file name_good fine refl says) done.made;
     creates = creates_frame (ReplacesName (path_for row) u) replaces.keeps (no_stored_set u);
   }
 
@@ -329,7 +329,7 @@ module _ (s : State) (name : List ℕ) (name_good : is_override name ≡ true) w
     };
     settled = synced step;
     objects = same_objects (AbsentAt (override_path name)) start last (files_kept keeps) keeps.names (λ d kind e put. cc put.0);
-    shares = shares_empty keeps;
+    shares = shared_empty keeps;
     creates = creates_frame (AbsentAt (override_path name)) keeps (λ q id below put. cc put.1);
   }
 

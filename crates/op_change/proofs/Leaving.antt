@@ -10,7 +10,7 @@ use Rattle.fp_host.proofs.Goes.{begins}
 use Rattle.fp_name.specs.Refs.{Ref}
 use Rattle.fp_small.specs.Clear.{AbsentAt}
 use Rattle.fp_small.specs.declared.state.State.{State}
-use Rattle.fp_small.proofs.Sharing.{shares_none}
+use Rattle.dep_states.proofs.SharedAs.{shared_none}
 use Rattle.ost_store.proofs.Creating.{creates_none}
 use Rattle.dep_states.specs.After.{row_at}
 use Rattle.dep_states.specs.Names.{active}
@@ -42,7 +42,7 @@ module _ {s : State} {name : Ref} {plan : RetirePlan} (planned : IsPlanOf name p
     opens = λ opens. subst (λ (n : Ref). Opens (without_row s n) w) planned.name (done.opens (its_own planned) opens);
     settled = done.settled;
     objects = same_objects (AbsentAt (active name)) before after ((leaves retires).files) ((leaves retires).names) (λ d kind e put. cc put.0);
-    shares = shares_none (λ id none. retires.files id ∙ none);
+    shares = shared_none (λ id none. retires.files id ∙ none);
     creates = creates_none (λ q e. (q ≡ plan.link) × (e ≡ absent)) retires.puts (λ q id below gone. cc gone.1);
   }
 

@@ -18,6 +18,7 @@ pub mod Cleared
 pub mod PlainBringing
 pub mod Pulling
 pub mod Folders
+pub mod StoreConfig
 pub mod Changing
 pub mod Creating
 pub mod Fetched

@@ -24,14 +24,15 @@ use Rattle.ost_model.specs.Objects.{Have}
 use Rattle.ost_walk.specs.Ends.{Outside}
 use Rattle.dep_states.specs.After.{state_after, plain}
 use Rattle.dep_states.specs.Effects.{Effect, Write, effect_of, BringsCommit, brings, writes, moves, leaves, sets, migrates, layers, bares}
-use Rattle.dep_states.specs.Lasting.{IsLasting}
-use Rattle.dep_states.specs.Lasting.IsLasting.{the_settings, an_override}
+use Rattle.dep_states.proofs.Lasting.{TakesFiles, the_settings, an_override}
 use Rattle.dep_states.specs.Links.{Links}
 use Rattle.dep_states.specs.Names.{config, override_path}
 use Rattle.dep_states.specs.Sound.{Opens}
 use Rattle.dep_states.specs.Switch.{OpensEither}
 use Rattle.dep_states.proofs.Linked.{links_lasting}
 use Rattle.op_change.specs.Deploys.{SameObjects}
+use Rattle.op_change.specs.Readying.{store_config}
+use Rattle.op_change.proofs.StoreConfig.{no_change}
 use Rattle.op_change.proofs.Deployed.{deploys_file}
 use Rattle.op_change.proofs.Brought.{same_end}
 use Rattle.ost_store.proofs.Creating.{creates_to}
@@ -68,15 +69,15 @@ same_for have op u w off same = same_by have (effect_of op) u w off same
 -- ---- files
 
 -- a file comes to the name that is replaced, or is work
-replaces_file : (p : Elements) → IsLasting p → (u : View) (q : Elements) (id : ℕ) → ReplacesName p u q (file id) → IsLasting q ⊎ IsWithin tmp q
-replaces_file p lasts u q id (inl new) = inl (subst IsLasting (sym new.0) lasts)
+replaces_file : (p : Elements) → TakesFiles p → (u : View) (q : Elements) (id : ℕ) → ReplacesName p u q (file id) → TakesFiles q ⊎ IsWithin tmp q
+replaces_file p lasts u q id (inl new) = inl (subst TakesFiles (sym new.0) lasts)
 replaces_file p lasts u q id (inr (inl made)) = absurd (cc made.1)
 replaces_file p lasts u q id (inr (inr work)) = inr (inr (subst (IsAbove tmp) (sym work.is) (inl refl)))
 
-config_file : (u : View) (q : Elements) (id : ℕ) → ReplacesName config u q (file id) → IsLasting q ⊎ IsWithin tmp q
+config_file : (u : View) (q : Elements) (id : ℕ) → ReplacesName config u q (file id) → TakesFiles q ⊎ IsWithin tmp q
 config_file = replaces_file config (the_settings refl)
 
-write_file : (write : Write) (u : View) (q : Elements) (id : ℕ) → MayWrite write u q (file id) → IsLasting q ⊎ IsWithin tmp q
+write_file : (write : Write) (u : View) (q : Elements) (id : ℕ) → MayWrite write u q (file id) → TakesFiles q ⊎ IsWithin tmp q
 write_file (moves name commit) u q id put = deploys_file name commit q id put
 write_file (leaves name) u q id put = absurd (cc put.1)
 write_file sets u q id put = config_file u q id put
@@ -84,11 +85,11 @@ write_file migrates u q id put = config_file u q id put
 write_file (layers row) u q id put = replaces_file (override_path row.name) (an_override row.name refl) u q id put
 write_file (bares name) u q id put = absurd (cc put.1)
 
-effect_file : (s : State) (e : Effect) → (BringsCommit e → ⊥) → (u : View) (q : Elements) (id : ℕ) → ChangesName s e u q (file id) → IsLasting q ⊎ IsWithin tmp q
+effect_file : (s : State) (e : Effect) → (BringsCommit e → ⊥) → (u : View) (q : Elements) (id : ℕ) → ChangesName s e u q (file id) → TakesFiles q ⊎ IsWithin tmp q
 effect_file s (brings name remote commit) off u q id put = absurd (off tt)
 effect_file s (writes write) off u q id put = write_file write u q id put
 
-may_file : (s : State) (op : Op) → (Brings op → ⊥) → (u : View) (q : Elements) (id : ℕ) → MayChange s op u q (file id) → IsLasting q ⊎ IsWithin tmp q
+may_file : (s : State) (op : Op) → (Brings op → ⊥) → (u : View) (q : Elements) (id : ℕ) → MayChange s op u q (file id) → TakesFiles q ⊎ IsWithin tmp q
 may_file s op off u q id put = effect_file s (effect_of op) off u q id put
 
 may_links : (s : State) (op : Op) → (Brings op → ⊥) → {u w : View} → ((q : Elements) → (w.names q ≡ u.names q) ⊎ MayChange s op u q (w.names q)) → Links u w
@@ -112,7 +113,7 @@ module _ (s : State) (op : Op) (off : Brings op → ⊥) where
   applies {u = u} {w = w} does = record {
     either = λ held is opens. subst (λ (t : State). OpensEither s t w) (after_is (have_for s op held u)) (does.either opens);
     refused = λ held is r refused opens. absurd (none_some (sym (none_refused (have_for s op held u) op off) ∙ refused));
-    changes = λ opens. record { names = does.names; files = does.files; links = may_links s op off does.names; printed = does.printed };
+    changes = λ opens. record { names = does.names; config_stays = λ there. elim (does.names store_config) [ inl same ↦ same | inr put ↦ absurd (no_change s op off u _ put) ]; files = does.files; links = may_links s op off does.names; printed = does.printed };
   }
 
   goes_plain : {holds : Option Holdings} {a b : Option Moments} → IsTold a → Always (DoesPlainly s op) a b → Always (Applies s op holds) a b

@@ -17,24 +17,30 @@ use Rattle.fp_host.proofs.Goes.{begins, goes_on, makes_goes}
 use Rattle.fp_small.specs.Places.{repo, tmp, new_name}
 use Rattle.fp_small.specs.Folders.{FoldersAt, DirsAt, AreFree, AreDirs}
 use Rattle.fp_small.specs.Replace.{IsStaging, ReplacesAt, ReplacesName, Replaces, WasReplaced, CanReplace, IsFreeFile}
-use Rattle.fp_small.proofs.Making.{stat_there}
+use Rattle.fp_small.proofs.Making.{stat_there, stat_gone}
 use Rattle.fp_small.proofs.Keeping.{files_same, files_on, files_kept}
-use Rattle.fp_small.proofs.Sharing.{shares_start, shares_empty, shares_on, shares_made}
+use Rattle.dep_states.proofs.SharedAs.{shared_start, shared_empty, shared_on, shared_made}
 use Rattle.dep_states.specs.Lasting.IsLasting.{store_config as lasts_config}
-use Rattle.op_change.specs.Readying.{store_config, store_text, refs_folder, heads_folder, heads_folders, ReadiesStore, ReadiesAt, ReadiesName, HasConfigured, CanReady, WasReadied}
+use Rattle.op_change.specs.Readying.{store_config, store_text, refs_folder, heads_folder, heads_folders, Configures, ReadiesStore, ReadiesAt, ReadiesName, HasConfigured, CanReady, WasReadied}
 
 -- nothing is written
-pub writes_none : {u w : View} → w ≡ u → Replaces store_config store_text u w
-writes_none same = record { keeps = keeps_same same; files = files_same same }
+configures_none : {u w : View} → w ≡ u → Configures u w
+configures_none same = record { writes = record { keeps = keeps_same same; files = files_same same }; stays = λ there. ap (λ (x : View). x.names store_config) same }
 
-pub stat_only : {a b : Option Moments} {p : Elements} {r : Result Stat HostError} → IsTold a → Makes (StatOf p r) a b → Goes a b (Replaces store_config store_text) (Replaces store_config store_text)
-stat_only told call = begins told (makes_goes call) (λ u w t s. writes_none s.same) (λ u w t s e. writes_none e.same)
+pub stat_only : {a b : Option Moments} {p : Elements} {r : Result Stat HostError} → IsTold a → Makes (StatOf p r) a b → Goes a b Configures Configures
+stat_only told call = begins told (makes_goes call) (λ u w t s. configures_none s.same) (λ u w t s e. configures_none e.same)
 
-from_same : {u v w : View} → v ≡ u → Replaces store_config store_text v w → Replaces store_config store_text u w
-from_same {w = w} same writes = subst (λ (x : View). Replaces store_config store_text x w) same writes
+-- after a look that found nothing at its name
+from_none : {u v w : View} → (v ≡ u) × (v.names store_config ≡ absent) → Replaces store_config store_text v w → Configures u w
+from_none {w = w} q writes = record {
+  writes = subst (λ (x : View). Replaces store_config store_text x w) q.0 writes;
+  stays = λ there. absurd (there (sym (ap (λ (x : View). x.names store_config) q.0) ∙ q.1));
+}
 
-pub stat_writes : {a b c : Option Moments} {p : Elements} {r : Result Stat HostError} → IsTold a → IsTold b → Makes (StatOf p r) a b → Goes b c (Replaces store_config store_text) (Replaces store_config store_text) → Goes a c (Replaces store_config store_text) (Replaces store_config store_text)
-stat_writes start told call goes = goes_on {Q = λ u v. v ≡ u} told (begins start (makes_goes call) (λ u w t s. writes_none s.same) (λ u w t s e. e.same)) goes (λ u v w t p q s. from_same q s) (λ u v w t p q s last. from_same q last)
+pub stat_writes : {a b c : Option Moments} {p : Elements} {s : Stat} → p ≡ store_config → s ≡ Absent → IsTold a → IsTold b → Makes (StatOf p (Ok s)) a b → Goes b c (Replaces store_config store_text) (Replaces store_config store_text) → Goes a c Configures Configures
+stat_writes at is start told call goes =
+    goes_on {Q = λ u v. (v ≡ u) × (v.names store_config ≡ absent)} told (begins start (makes_goes call) (λ u w t s. configures_none s.same) (λ u w t s e. (e.same, subst (λ (q : Elements). w.names q ≡ absent) at (stat_gone is e)))) goes
+    (λ u v w t p q s. from_none q s) (λ u v w t p q s last. from_none q last)
 
 -- ---- what is made first is no name of `config`, nor one of work
 
@@ -63,7 +69,7 @@ abbrev MakesFolders : View → View → Type 0
 MakesFolders u w = Keeps (FoldersAt heads_folders) (DirsAt heads_folders) NoPath u w
 
 pub readies_folders : {u w : View} → MakesFolders u w → ReadiesStore u w
-readies_folders folders = record { keeps = keeps_to (λ q spot h. inr h) (λ q e h. inr h) (λ q b. absurd b) (λ q id a h. absurd (cc h.1)) folders; files = files_kept folders }
+readies_folders folders = record { keeps = keeps_to (λ q spot h. inr h) (λ q e h. inr h) (λ q b. absurd b) (λ q id a h. absurd (cc h.1)) folders; files = files_kept folders; stays = λ there. elim (folders.names store_config) [ inl same ↦ same | inr put ↦ absurd (no_config put.0) ] }
 
 module _ {u v : View} (folders : MakesFolders u v) where
   work_same : (k : ℕ) → v.names (new_name k ∷ tmp) ≡ u.names (new_name k ∷ tmp)
@@ -95,16 +101,17 @@ module _ {u v : View} (folders : MakesFolders u v) where
   name_before : (q : Elements) (e : Slot) → ReplacesName store_config v q e → ReadiesName u q e
   name_before q e put = inl (elim put [ inl new ↦ inl new | inr other ↦ inr (elim other [ inl made ↦ inl made | inr work ↦ inr (staging_before work) ]) ])
 
-  pub readies_both : {w : View} → Replaces store_config store_text v w → ReadiesStore u w
-  readies_both writes = record {
-    keeps = keeps_on (readies_folders folders).keeps (keeps_to at_before name_before (λ q work. staging_before work) (λ q id work h. staging_after work) writes.keeps);
-    files = files_on (files_kept folders) writes.files;
+  pub readies_both : {w : View} → Configures v w → ReadiesStore u w
+  readies_both configures = record {
+    keeps = keeps_on (readies_folders folders).keeps (keeps_to at_before name_before (λ q work. staging_before work) (λ q id work h. staging_after work) configures.writes.keeps);
+    files = files_on (files_kept folders) configures.writes.files;
+    stays = λ there. let before = (readies_folders folders).stays there in configures.stays (λ none. there (sym before ∙ none)) ∙ before;
   }
 
 pub goes_folders : {a b : Option Moments} → IsTold a → Frame (FoldersAt heads_folders) (DirsAt heads_folders) NoPath a b → Goes a b ReadiesStore ReadiesStore
 goes_folders told frame = begins told frame.goes (λ u w t r. readies_folders r) (λ u w t r e. readies_folders e)
 
-pub goes_both : {a b c : Option Moments} → IsTold a → IsTold b → Frame (FoldersAt heads_folders) (DirsAt heads_folders) NoPath a b → Goes b c (Replaces store_config store_text) (Replaces store_config store_text) → Goes a c ReadiesStore ReadiesStore
+pub goes_both : {a b c : Option Moments} → IsTold a → IsTold b → Frame (FoldersAt heads_folders) (DirsAt heads_folders) NoPath a b → Goes b c Configures Configures → Goes a c ReadiesStore ReadiesStore
 goes_both start told first second = goes_on {Q = MakesFolders} told (begins start first.goes (λ u w t r. readies_folders r) (λ u w t r e. e)) second (λ u v w t p q s. readies_both q s) (λ u v w t p q s last. readies_both q last)
 
 -- ---- what stands in the end
@@ -119,11 +126,11 @@ was_there {s = s} {u = u} {w = w} at stat off free = elim free [
 ]
 
 -- a new `config` came to its name
-pub made_config : {bytes : List ℕ} {u w : View} → WasReplaced store_config bytes u w → HasConfigured u w
-made_config put = record { there = λ free. made_there put; shares = shares_made (lasts_config refl) put.made }
+pub made_config : {u w : View} → WasReplaced store_config store_text u w → HasConfigured u w
+made_config put = record { there = λ free. made_there put; shares = shared_made (λ f says. lasts_config refl says) put.made }
 
 pub config_there : {p : Elements} {s : Stat} {u w : View} → p ≡ store_config → StatOf p (Ok s) u w → (s ≡ Absent → ⊥) → HasConfigured u w
-config_there at stat off = record { there = λ free. was_there at stat off free; shares = shares_start stat.same }
+config_there at stat off = record { there = λ free. was_there at stat off free; shares = shared_start stat.same }
 
 still_dirs : {v w : View} → AreDirs heads_folders v → Replaces store_config store_text v w → AreDirs heads_folders w
 still_dirs folders writes = record {
@@ -154,10 +161,10 @@ module _ {u v : View} (folders : MakesFolders u v) where
   ready : {w : View} → (AreFree heads_folders u → AreDirs heads_folders v) → Replaces store_config store_text v w → HasConfigured v w → WasReadied u w
   ready dirs writes configured = record {
     store = λ can. record { config = configured.there (still_free can.config.entry); heads = still_dirs (dirs can.folders) writes };
-    shares = shares_on (shares_empty folders) configured.shares writes.files;
+    shares = shared_on (shared_empty folders) configured.shares writes.files;
   }
 
 pub ends_ready : {a b c : Option Moments} → IsTold a → IsTold b → Frame (FoldersAt heads_folders) (DirsAt heads_folders) NoPath a b → AtEnd (λ u w. AreFree heads_folders u → AreDirs heads_folders w) a b
-    → Goes b c (Replaces store_config store_text) (Replaces store_config store_text) → AtEnd HasConfigured b c → AtEnd WasReadied a c
+    → Goes b c Configures Configures → AtEnd HasConfigured b c → AtEnd WasReadied a c
 ends_ready start told frame dirs goes configured =
-    ends_on (ends_both (ends_goes told goes) configured) (ends_both (ends_frame start frame) dirs) told (λ u v w tree first second. ready first.0 first.1 second.0 second.1)
+    ends_on (ends_both (ends_goes told goes) configured) (ends_both (ends_frame start frame) dirs) told (λ u v w tree first second. ready first.0 first.1 second.0.writes second.1)

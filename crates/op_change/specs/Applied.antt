@@ -1,5 +1,5 @@
 -- One operation on an installation.
-use Rattle.std.specs.Prelude.{◌≡◌, ◌≤◌, ◌⊎◌, ⊤, ℕ, List, length, Option, Some, None, Result, Ok, Err, IsErrOf, option_map}
+use Rattle.std.specs.Prelude.{◌≡◌, ◌≢◌, ◌≤◌, ◌⊎◌, ⊤, ℕ, List, length, Option, Some, None, Result, Ok, Err, IsErrOf, option_map}
 use Rattle.fp_host.specs.Paths.{Elements, Slot, absent}
 use Rattle.fp_host.specs.View.{View}
 use Rattle.fp_host.specs.Outcome.{IsSettled}
@@ -10,7 +10,6 @@ use Rattle.fp_small.specs.Config.{config_text, name_of}
 use Rattle.fp_small.specs.Files.{KeepsFiles}
 use Rattle.fp_small.specs.Move.{HasNew}
 use Rattle.fp_small.specs.Replace.{IsStaging, ReplacesName}
-use Rattle.fp_small.specs.Shares.{Shares}
 use Rattle.fp_small.specs.declared.refusal.Refusal.{Refusal}
 use Rattle.fp_small.specs.declared.state.RemoteRow.{RemoteRow}
 use Rattle.fp_small.specs.declared.state.State.{State}
@@ -22,12 +21,13 @@ use Rattle.ost_pull.specs.Pulls.{IsLacked}
 use Rattle.ost_store.specs.Created.{Creates}
 use Rattle.dep_states.specs.After.{Done, state_after, plain, May, IsOnConfig, IsGood}
 use Rattle.dep_states.specs.Effects.{Effect, Write, effect_of, BringsCommit, brings, writes, moves, leaves, sets, migrates, layers, bares}
-use Rattle.dep_states.specs.Lasting.{IsLasting}
+use Rattle.dep_states.specs.Lasting.{IsLasting, SharesAs}
 use Rattle.dep_states.specs.Links.{Links}
 use Rattle.dep_states.specs.Names.{config, override_path, active}
 use Rattle.dep_states.specs.Shown.{at_name, settings_of, small_most}
 use Rattle.dep_states.specs.Sound.{Opens, HasConfig}
 use Rattle.dep_states.specs.Switch.{OpensEither}
+use Rattle.op_change.specs.Readying.{store_config}
 use Rattle.op_change.specs.Deploys.{DeploysName, SameObjects, WasDone}
 use Rattle.op_change.specs.Brought.{brought_refusal, commit_time, supply_at, HasObjects}
 use Rattle.op_change.specs.Bringing.{BringsName, AreTold}
@@ -126,10 +126,13 @@ ChangesName s (writes write) u q e = MayWrite write u q e
 abbrev pub MayChange : State → Op → View → Elements → Slot → Type 0
 MayChange s op u q e = ChangesName s (effect_of op) u q e
 
--- No name changes but these, each file that was there keeps its mode and its bytes, one that comes
+-- No name changes but these, a `config` that stands in the store stays, each file that was there
+-- keeps its mode and its bytes, one that comes
 -- to a commit's folder is a record or was put below the store's objects, and nothing is printed.
 pub record ChangesBy (s : State) (op : Op) (u w : View) : Type 0 where
   pub names : (q : Elements) → (w.names q ≡ u.names q) ⊎ MayChange s op u q (w.names q)
+  pub config_stays : u.names store_config ≢ absent
+      → w.names store_config ≡ u.names store_config
   pub files : KeepsFiles u w
   pub links : Links u w
   pub printed : w.printed ≡ u.printed
@@ -184,7 +187,7 @@ pub record WasApplied (s : State) (op : Op) (holds : Option Holdings) (u w : Vie
   pub objects : (held : Holdings) → IsHeldFor op holds held → (Brings op → Opens s u)
       → HasObjectsFor (have_for s op held u) op u w
   pub shares : (held : Holdings) → IsHeldFor op holds held → (Brings op → Opens s u)
-      → Shares IsLasting u w
+      → SharesAs IsLasting u w
   pub creates : (held : Holdings) → IsHeldFor op holds held → (Brings op → Opens s u)
       → Creates repo (IsBroughtFor (have_for s op held u) op u) u w
   pub settled : IsSettled w

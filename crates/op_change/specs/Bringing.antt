@@ -48,14 +48,16 @@ pub data BringsName (s : State) (name : Ref) (commit : List ℕ) (q : Elements) 
     a_config : q ≡ store_config → IsFile e → BringsName s name commit q e
     a_folder : IsFolderFor name commit q → e ≡ dir → BringsName s name commit q e
 
--- No other names change, an object's name that held something holds it still, each file that was
--- there keeps its mode and its bytes, one that comes to a commit's folder is a record or was put
+-- No other names change, an object's name that held something holds it still, and so does that of
+-- the store's `config`; each file that was there keeps its mode and its bytes, one that comes to a commit's folder is a record or was put
 -- below the store's objects, and nothing is printed.
 pub record ChangesFor (s : State) (name : Ref) (commit : List ℕ) (u w : View) : Type 0 where
   pub names : (q : Elements) → (w.names q ≡ u.names q) ⊎ BringsName s name commit q (w.names q)
   pub objects : (d : List ℕ) (kind : ObjKind) → is_digest d ≡ true
       → u.names (object_path repo d kind) ≢ absent
       → w.names (object_path repo d kind) ≡ u.names (object_path repo d kind)
+  pub config_stays : u.names store_config ≢ absent
+      → w.names store_config ≡ u.names store_config
   pub files : KeepsFiles u w
   pub links : Links u w
   pub printed : w.printed ≡ u.printed

@@ -8,7 +8,6 @@ use Rattle.fp_name.specs.Hex.{hex, is_digest}
 use Rattle.fp_name.specs.Refs.{Ref, is_ref, ref_text}
 use Rattle.fp_small.specs.Clear.{IsWithin}
 use Rattle.fp_small.specs.Files.{KeepsFiles}
-use Rattle.fp_small.specs.Shares.{Shares}
 use Rattle.fp_small.specs.Places.{repo}
 use Rattle.fp_small.specs.declared.state.State.{State}
 use Rattle.fp_small.specs.declared.state.Previous.{Previous}
@@ -16,7 +15,7 @@ use Rattle.fp_small.specs.declared.state.RefRow.{RefRow}
 use Rattle.ost_model.specs.Objects.{store}
 use Rattle.ost_store.specs.Created.{Creates, NoObject}
 use Rattle.dep_states.specs.After.{exchanged}
-use Rattle.dep_states.specs.Lasting.{IsLasting}
+use Rattle.dep_states.specs.Lasting.{IsLasting, SharesAs}
 use Rattle.dep_states.specs.Links.{Links}
 use Rattle.dep_states.specs.Shown.{at_name, ref_key}
 use Rattle.dep_states.specs.Names.{active, commit_dir, deploy}
@@ -47,7 +46,7 @@ pub record WasDone (s t : State) (u w : View) : Type 0 where
   pub opens : Opens s u → Opens t w
   pub settled : IsSettled w
   pub objects : SameObjects u w
-  pub shares : Shares IsLasting u w
+  pub shares : SharesAs IsLasting u w
   pub creates : Creates repo NoObject u w
 
 -- ---- a row that is deployed
@@ -68,7 +67,7 @@ pub record Deploys (s : State) (row : RefRow) (u w : View) : Type 0 where
   pub names : (q : Elements) → (w.names q ≡ u.names q)
       ⊎ DeploysName row.name row.commit q (w.names q)
   pub files : KeepsFiles u w
-  pub shares : Shares IsLasting u w
+  pub shares : SharesAs IsLasting u w
   pub links : Links u w
   pub creates : Creates repo NoObject u w
   pub printed : w.printed ≡ u.printed

@@ -8,7 +8,6 @@ use Rattle.fp_host.specs.Remote.{Holdings}
 use Rattle.fp_host.specs.View.{View}
 use Rattle.fp_name.specs.Refs.{Ref}
 use Rattle.fp_small.specs.Places.{repo}
-use Rattle.fp_small.specs.Shares.{Shares}
 use Rattle.fp_small.specs.declared.refusal.Refusal.{Refusal}
 use Rattle.fp_small.specs.declared.state.State.{State}
 use Rattle.ost_model.specs.Look.{nothing, look}
@@ -22,7 +21,7 @@ use Rattle.ost_store.specs.Created.{Creates}
 use Rattle.ost_walk.specs.Ends.{IsRemotes, Outside}
 use Rattle.ost_walk.specs.declared.pull_end.PullEnd.{PullEnd}
 use Rattle.ost_walk.specs.declared.pull_end.PullEnd.TheVariants as ends
-use Rattle.dep_states.specs.Lasting.{IsLasting}
+use Rattle.dep_states.specs.Lasting.{IsLasting, SharesAs}
 use Rattle.dep_states.specs.Names.{commit_dir}
 use Rattle.dep_states.specs.Sound.{Opens}
 use Rattle.dep_switch.specs.Writing.{new_link}
@@ -50,7 +49,7 @@ pub record WasFetched (s : State) (name : Ref) (commit : List ℕ) (kept : Bool)
     (holds : Option Holdings) (u w : View) : Type 0 where
   pub fetched : (held : Holdings) → holds ≡ Some held → Opens s u
       → IsFetched name commit kept (supply_at held (Some url) u) u w
-  pub shares : (held : Holdings) → holds ≡ Some held → Opens s u → Shares IsLasting u w
+  pub shares : (held : Holdings) → holds ≡ Some held → Opens s u → SharesAs IsLasting u w
   pub creates : (held : Holdings) → holds ≡ Some held → Opens s u
       → Creates repo (IsLacked repo (supply_at held (Some url) u) commit u) u w
 

@@ -2,8 +2,7 @@
 use Rattle.std.specs.Prelude.{◌≡◌, ℕ, List, Bool, false}
 use Rattle.fp_host.specs.Paths.{Elements}
 use Rattle.fp_host.specs.View.{View, IsTree}
-use Rattle.fp_small.specs.Shares.{Shares}
-use Rattle.dep_states.specs.Lasting.{IsLasting}
+use Rattle.dep_states.specs.Lasting.{IsLasting, SharesAs}
 use Rattle.op_change.specs.LayingOut.{LaysOut, WasLaidOut, CanLayOut}
 use Rattle.op_change.specs.Readying.{ReadiesStore, CanReady}
 
@@ -16,7 +15,7 @@ pub data Furnishes (commit : List ℕ) (to : Elements) (kept : Bool) (u w : View
 -- It is laid out where it isn't kept. A new file that has bytes came to a lasting name.
 pub record WasFurnished (commit : List ℕ) (to : Elements) (kept : Bool) (u w : View) : Type 0 where
   pub laid : kept ≡ false → WasLaidOut commit to u w
-  pub shares : Shares IsLasting u w
+  pub shares : SharesAs IsLasting u w
 
 pub record CanFurnish (commit : List ℕ) (to : Elements) (kept : Bool) (v : View) : Type 0 where
   pub store : CanReady v

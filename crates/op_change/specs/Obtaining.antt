@@ -7,7 +7,6 @@ use Rattle.fp_host.specs.Remote.{Holdings}
 use Rattle.fp_host.specs.View.{View}
 use Rattle.fp_name.specs.Refs.{Ref}
 use Rattle.fp_small.specs.Places.{repo}
-use Rattle.fp_small.specs.Shares.{Shares}
 use Rattle.fp_small.specs.declared.refusal.Refusal.{Refusal}
 use Rattle.fp_small.specs.declared.state.RefRow.{RefRow}
 use Rattle.fp_small.specs.declared.state.RemoteRow.{RemoteRow}
@@ -20,7 +19,7 @@ use Rattle.ost_walk.specs.Ends.{IsRemotes, Outside}
 use Rattle.ost_walk.specs.PullEnds.{RefusesBy}
 use Rattle.ost_walk.specs.declared.pull_end.PullEnd.{PullEnd}
 use Rattle.ost_walk.specs.declared.pull_end.PullEnd.TheVariants as ends
-use Rattle.dep_states.specs.Lasting.{IsLasting}
+use Rattle.dep_states.specs.Lasting.{IsLasting, SharesAs}
 use Rattle.dep_states.specs.Sound.{Opens}
 use Rattle.dep_switch.specs.Staging.{CanStage}
 use Rattle.op_change.specs.Bringing.{LeavesNames, WasLeft, HostFaulted}
@@ -41,7 +40,7 @@ pub record WasObtained (s : State) (origin : RemoteRow) (name : Ref) (commit : L
   pub stages : (held : Holdings) → holds ≡ Some held → Opens s u → CanStage s row w
   pub objects : (held : Holdings) → holds ≡ Some held → Opens s u
       → HasObjects (supply_at held (Some origin.url) u) commit u w
-  pub shares : (held : Holdings) → holds ≡ Some held → Opens s u → Shares IsLasting u w
+  pub shares : (held : Holdings) → holds ≡ Some held → Opens s u → SharesAs IsLasting u w
   pub creates : (held : Holdings) → holds ≡ Some held → Opens s u
       → Creates repo (IsLacked repo (supply_at held (Some origin.url) u) commit u) u w
 

@@ -3,12 +3,11 @@ use Rattle.std.specs.Prelude.{◌≡◌}
 use Rattle.fp_host.specs.View.{View}
 use Rattle.fp_host.specs.Outcome.{IsSettled}
 use Rattle.fp_small.specs.Places.{repo}
-use Rattle.fp_small.specs.Shares.{Shares}
 use Rattle.ost_store.specs.Created.{Creates, NoObject}
 use Rattle.fp_small.specs.declared.state.State.{State}
 use Rattle.fp_small.specs.declared.op.Op.{Op}
 use Rattle.dep_states.specs.After.{state_after, plain, May, IsOnConfig, IsGood}
-use Rattle.dep_states.specs.Lasting.{IsLasting}
+use Rattle.dep_states.specs.Lasting.{IsLasting, SharesAs}
 use Rattle.dep_states.specs.Sound.{Opens}
 use Rattle.op_change.specs.Deploys.{Does, SameObjects}
 use Rattle.op_change.specs.Applied.{Brings, IsShort, MayChange, HasSettings}
@@ -29,7 +28,7 @@ pub record WasDonePlainly (s : State) (op : Op) (u w : View) : Type 0 where
   pub opens : Opens s u → Opens (state_after s (plain op)) w
   pub settled : IsSettled w
   pub objects : SameObjects u w
-  pub shares : Shares IsLasting u w
+  pub shares : SharesAs IsLasting u w
   pub creates : Creates repo NoObject u w
   pub settings : IsOnConfig op → HasSettings (state_after s (plain op)) u w
 

@@ -1,8 +1,8 @@
 //! The store of an installation, made ready for its first commit.
 ghost use Rattle.std.specs.Prelude.{◌≡◌, IfOk, OnOk, IsErrOf};
 ghost use Rattle.fp_host.specs.OverHost.{AtEachMoment, AtReturn, FailsOnly};
-ghost use Rattle.fp_small.specs.Replace.{Replaces, CanReplace};
-ghost use Rattle.op_change.specs.Readying.{store_config, store_text, a_head, ReadiesStore, HasConfigured, WasReadied, CanReady};
+ghost use Rattle.fp_small.specs.Replace.{CanReplace};
+ghost use Rattle.op_change.specs.Readying.{store_config, a_head, Configures, ReadiesStore, HasConfigured, WasReadied, CanReady};
 
 use fp_host::{Host, HostEnd, Path, Stat};
 use fp_small::{make_above, replace, repo_path};
@@ -22,7 +22,7 @@ fn store_paths(alloc: Global) -> Result<(Path, Path), AllocError>
 /// Writes `config` of the store where it is absent.
 fn write_config<H: Host>(alloc: Global, host: &mut H, config: &Path) -> Result<(), HostEnd>
     requires { config.now ≡ store_config }
-    ensures any_moment { AtEachMoment H.Host host.old host.new (Replaces store_config store_text) }
+    ensures any_moment { AtEachMoment H.Host host.old host.new Configures }
     ensures on_success { OnOk result (AtReturn H.Host host.old host.new HasConfigured) }
     ensures fault_has_cause { FailsOnly H.Host host.old host.new
         (CanReplace store_config) (IsErrOf result HostEnd.Fault) }

@@ -21,11 +21,15 @@ use Rattle.fp_small.specs.Clear.{GoneWithin, AbsentWithin, IsCleared, CanClear}
 use Rattle.fp_small.specs.declared.refusal.Refusal.{Refusal}
 use Rattle.fp_name.specs.Hex.{is_digest}
 use Rattle.fp_base.specs.declared.object.ObjKind.{ObjKind}
-use Rattle.ost_model.specs.Objects.{Have, Fault, object_path, object_at, store, supply, Named as NamedAs}
+use Rattle.fp_base.specs.declared.object.ObjKind.TheVariants as kinds
+use Rattle.ost_model.specs.declared.object.Object.{Object}
+use Rattle.ost_model.specs.declared.object.Object.TheVariants as objects
+use Rattle.ost_model.specs.Objects.{Have, Fault, object_path, object_at, store, supply, name_fault, Named as NamedAs}
 use Rattle.ost_model.specs.Order.{Place, In, order, first_fault}
 use Rattle.ost_model.specs.Stores.{objects_folder}
 use Rattle.ost_model.specs.Remotes.{Supplies, remote, remote_at}
-use Rattle.ost_store.specs.Created.{MadeFile, WasMade, WasPutSince, Creates}
+use Rattle.ost_store.specs.Created.{HasBits, MadeFile, WasMade, WasPutSince, Creates}
+use Rattle.ost_store.specs.Stage.{IsFileOf, IsHeld}
 use Rattle.ost_store.proofs.Creating.{object_below}
 use Rattle.ost_store.proofs.Staying.{shown_stays}
 use Rattle.ost_store.proofs.Ready.{staged_ready}
@@ -65,6 +69,26 @@ in_named (q ∷ ps) p (inr has) = inr (in_named ps p has)
 abbrev moved : Elements → Elements → Elements
 moved t q = get_or q 0 [] ∷ (get_or q 1 [] ∷ objects_folder t)
 
+-- the file of a metadata object that is held has the permission bits 0644
+meta_bits : (path : Elements) (bytes : List ℕ) (v : View) (id : ℕ) (f : Inode) → IsFileOf path 420 bytes v → v.names path ≡ file id → v.files id ≡ Some f → f.mode ≡ 420
+meta_bits path bytes v id f held is some =
+    let here : id ≡ held.id = cc (sym is ∙ held.name) in
+    let row : Some f ≡ Some (record { mode = 420; bytes = bytes }) = sym some ∙ ap v.files here ∙ held.row in
+    let same : f ≡ record { mode = 420; bytes = bytes } = cc row in
+    ap (λ (x : Inode). x.mode) same
+
+held_bits : (d : List ℕ) (kind : ObjKind) (path : Elements) (object : Object) (v : View) (id : ℕ) (f : Inode) → IsHeld path object v → name_fault d kind (Some object) ≡ None → v.names path ≡ file id → v.files id ≡ Some f → HasBits kind f.mode
+held_bits d kinds.File path object v id f held none is some = tt
+held_bits d kinds.Commit path (objects.Meta bytes) v id f held none is some = meta_bits path bytes v id f held is some
+held_bits d kinds.Commit path (objects.File mode bytes) v id f held none is some = absurd (cc none)
+held_bits d kinds.Commit path (objects.Link text) v id f held none is some = absurd (cc (sym is ∙ held))
+held_bits d kinds.DirTree path (objects.Meta bytes) v id f held none is some = meta_bits path bytes v id f held is some
+held_bits d kinds.DirTree path (objects.File mode bytes) v id f held none is some = absurd (cc none)
+held_bits d kinds.DirTree path (objects.Link text) v id f held none is some = absurd (cc (sym is ∙ held))
+held_bits d kinds.DirMeta path (objects.Meta bytes) v id f held none is some = meta_bits path bytes v id f held is some
+held_bits d kinds.DirMeta path (objects.File mode bytes) v id f held none is some = absurd (cc none)
+held_bits d kinds.DirMeta path (objects.Link text) v id f held none is some = absurd (cc (sym is ∙ held))
+
 module _ {root t : Elements} (apart : IsApart root t) {url : List ℕ} {holds : Option Holdings} {have : Have} {commit : List ℕ} (kept : List Named) {u v w : View} (tree_u : IsTree u) (tree_v : IsTree v) (tree_w : IsTree w)
     (held : Holdings) (holdings_are : holds ≡ Some held) (have_is : have ≡ supply (store root (shows u)) (remote held (Some url)))
     (works : Works t u v) (taken : AreTaken root t url holds kept v) (gathers : GathersAnew t u v) (covers : CoversOrder root have commit kept v) (was : WasStored root t kept v w) where
@@ -100,6 +124,7 @@ module _ {root t : Elements} (apart : IsApart root t) {url : List ℕ} {holds : 
     put = subst (λ (e : Slot). Contains w.stood (object_path root o.0 o.1, e)) is (was.places.put o has);
     row = was.places.files.rows id f some;
     named = subst (NamedAs o.0 o.1) (held_file v (object_path t o.0 o.1) id f.mode f.bytes tree_v is some) named;
+    bits = let k = taken.are.each o has in held_bits o.0 o.1 (object_path t o.0 o.1) k.object v id f k.held k.named is some;
   })
 
   made_slot : (o : Named) → In kept o → (e : Slot) → v.names (object_path t o.0 o.1) ≡ e → IsLeaf e → NamedAs o.0 o.1 (shows v (object_path t o.0 o.1)) → WasMade root o u w

@@ -64,6 +64,7 @@ module _ {root : Elements} {L : List ℕ × ObjKind → Type 0} {u v w : View}
     put = after.stood (object_path root o.0 o.1, file made.id) made.put;
     row = after.rows made.id (record { mode = made.mode; bytes = made.bytes }) made.row;
     named = made.named;
+    bits = made.bits;
   })
   made_first o (inr linked) =
       inr (linked.0, after.stood (object_path root o.0 o.1, link linked.0) linked.1)
@@ -101,6 +102,7 @@ module _ {root : Elements} {L : List ℕ × ObjKind → Type 0} {u v w : View}
     put = made.put;
     row = made.row;
     named = made.named;
+    bits = made.bits;
   })
   made_second o (inr linked) = inr linked
 

@@ -4,10 +4,20 @@ use Rattle.fp_host.specs.Paths.{Elements, file, link, IsAbove}
 use Rattle.fp_host.specs.View.{View}
 use Rattle.fp_host.specs.Outcome.{holds}
 use Rattle.fp_base.specs.declared.object.ObjKind.{ObjKind}
+use Rattle.fp_base.specs.declared.object.ObjKind.TheVariants as kinds
+use Rattle.fp_small.specs.declared.limits.TheConstants.{FILE_MODE}
 use Rattle.ost_model.specs.Objects.{object_path, Named}
 use Rattle.ost_model.specs.Stores.{objects_folder}
 
--- a file that is new since u was put at the object's name, and is the object that the digest names
+-- a metadata object's file has the permission bits 0644
+abbrev pub HasBits : ObjKind → ℕ → Type 0
+HasBits kinds.File mode = Unit {0}
+HasBits kinds.Commit mode = mode ≡ FILE_MODE
+HasBits kinds.DirTree mode = mode ≡ FILE_MODE
+HasBits kinds.DirMeta mode = mode ≡ FILE_MODE
+
+-- A file that is new since u was put at the object's name, and is the object that the digest names.
+-- Where that is metadata, its permission bits are 0644.
 pub record MadeFile (root : Elements) (o : List ℕ × ObjKind) (u w : View) : Type 0 where
   pub id : ℕ
   pub mode : ℕ
@@ -16,6 +26,7 @@ pub record MadeFile (root : Elements) (o : List ℕ × ObjKind) (u w : View) : T
   pub put : Contains w.stood (object_path root o.0 o.1, file id)
   pub row : w.files id ≡ Some (record { mode = mode; bytes = bytes })
   pub named : Named o.0 o.1 (holds id mode bytes)
+  pub bits : HasBits o.1 mode
 
 -- so it was, or a link was put there
 abbrev pub WasMade : Elements → List ℕ × ObjKind → View → View → Type 0
