@@ -14,9 +14,10 @@ use Rattle.fl_change.specs.Performs.{Performs, Performed, Acted, PerformsOver, P
 use Rattle.fl_change.specs.declared.end.RunEnd.{RunEnd}
 use Rattle.fl_change.specs.declared.end.RunEnd.TheVariants.{Refused, Fault, RemoteFault, NoMemory}
 use Rattle.fl_change.proofs.Changing.{change_same}
-use Rattle.fl_change.proofs.Doing.{not_yet, halted, none_done}
+use Rattle.fl_change.proofs.Doing.{not_yet, halted, none_left, none_done}
 use Rattle.fl_change.proofs.Turning.{Both, left_rests, performs_first, failed_first, acted_first, performs_second, performed_second, acted_second, StageOver, first_stage, next_stage, stage_performs, stage_failed, stage_acted, stage_rests, last_stage, last_acted}
 use Rattle.fl_change.proofs.Working.{goes_to, IsFirst, works_as, works_err, works_stays, works_on, works_looked, Looked}
+use Rattle.dep_states.specs.Sound.{Opens}
 use Rattle.fl_change.proofs.Worlds.{holds_at}
 
 -- what is known of the answer over the installation at the entry
@@ -32,16 +33,64 @@ not_begun s f holds x = record { performs = λ held told rests. not_yet (f held 
 abbrev Firstly : (Holdings → World → Answer) → State → Option Holdings → Bool → Bool → State → View → View → Type 0
 Firstly f s holds before now t x y = PerformsOver (Rests s) holds f s x y × PerformedOver (Rests s) holds f s before now (Ok t) x y
 
+-- ---- after a look, over an installation that is ready
+
+module _ {Ready : View → Type 0} {s : State} (ready : (x : View) → Ready x → Opens s x) (f : Holdings → World → Answer) where
+  ready_yet : (holds : Option Holdings) (x y : View) → y ≡ x → PerformsOver Ready holds f s x y
+  ready_yet holds x y same = subst (PerformsOver Ready holds f s x) (sym same) (record { performs = λ held told is. not_yet (f held (world_at s x)) s (ready x is) })
+
+module _ {Ready : View → Type 0} {May : Op → Type 0} {s : State} (ready : (x : View) → Ready x → Opens s x) (f : Holdings → World → Answer) where
+  -- there is nothing to do
+  pub ready_nothing : {before : Bool} {o : Outside} → IsTold o.told → Known Ready o s (λ held x. f held (world_at s x) ≡ nothing) → Acts Ready May f s before before (Ok s) o o
+  ready_nothing {before = before} {o = o} told is = works_stays (Ok s) told (λ x first. ready_yet ready f o.holdings x x refl)
+      (λ x first. record {
+        performed = λ held known at. subst (λ (a : Answer). Performed held a (world_at s x) (Ok s) x x) (sym (is x first held known at))
+            (refl, refl, none_left held nothing (world_at s x) x refl (holds_at s x (ready x at)) (λ before. before (refl, tt)));
+        acted = λ held known at. subst (λ (a : Answer). Acted a (Ok s) before before) (sym (is x first held known at)) refl;
+      })
+      (λ x opens. opens) (λ no. cc no) (λ no. cc no)
+
+  -- out of memory
+  pub ready_halted : {before now : Bool} {o : Outside} → IsTold o.told → Acts Ready May f s before now (Err NoMemory) o o
+  ready_halted {o = o} told = works_stays (Err NoMemory) told (λ x first. ready_yet ready f o.holdings x x refl)
+      (λ x first. record { performed = λ held known at. halted (f held (world_at s x)) s (ready x at); acted = λ held known at. tt })
+      (λ x. tt) (λ no. cc no) (λ no. cc no)
+
+  pub ready_looked : {before now : Bool} {r : Result State RunEnd} {u v w : Outside} → IsTold v.told → Looked May u v → Acts Ready May f s before now r v w → Acts Ready May f s before now r u w
+  ready_looked {before = before} {now = now} {r = r} {u = u} {v = v} {w = w} told looked acts = works_looked told looked (λ x. ready_yet ready f u.holdings x x refl)
+      (subst (λ (h : Option Holdings). Works May s (PerformsOver Ready h f s) (PerformedOver Ready h f s before now r) r v w) looked.same acts)
+
+  -- where the look failed
+  pub ready_host_failed : {before now : Bool} {u v : Outside} → Looked May u v → ((m : Moments) → u.told ≡ Some m → Rose u.host_faults v.host_faults) → Acts Ready May f s before now (Err Fault) u v
+  ready_host_failed {u = u} {v = v} looked rose = record {
+    goes = goes_to looked.still.goes (λ x y r. ready_yet ready f u.holdings x y r) (λ x y q. record { performed = λ held known at. tt; acted = λ held known at. tt });
+    opens = λ known. record { goes = goes_to looked.still.goes (λ x y r. tt) (λ x y q. tt) };
+    changes = λ known. goes_to looked.still.goes (λ x y r ready. change_same r) (λ x y q ready. change_same q.0);
+    same = looked.same;
+    host = record { later = looked.host; fault = λ is m at opens. rose m at };
+    remote = record { later = looked.remote; rose = λ is. absurd (cc is) };
+    unasked = λ none. (looked.unasked none, λ is. cc is);
+  }
+
+  pub ready_remote_failed : {before now : Bool} {u v : Outside} → AsksBy May → Looked May u v → Rose u.remote_faults v.remote_faults → Acts Ready May f s before now (Err RemoteFault) u v
+  ready_remote_failed {u = u} {v = v} asks looked rose = record {
+    goes = goes_to looked.still.goes (λ x y r. ready_yet ready f u.holdings x y r) (λ x y q. record { performed = λ held known at. subst (λ (a : View). Performed held (f held (world_at s x)) (world_at s x) (Err RemoteFault) x a) (sym q.0) (halted (f held (world_at s x)) s (ready x at)); acted = λ held known at. tt });
+    opens = λ known. record { goes = goes_to looked.still.goes (λ x y r. tt) (λ x y q. tt) };
+    changes = λ known. goes_to looked.still.goes (λ x y r ready. change_same r) (λ x y q ready. change_same q.0);
+    same = looked.same;
+    host = record { later = looked.host; fault = λ is. absurd (cc is.1) };
+    remote = record { later = looked.remote; rose = λ is. rose };
+    unasked = λ none. absurd (none asks);
+  }
+
+-- over one at rest
+abbrev at_rest : (s : State) (x : View) → Rests s x → Opens s x
+at_rest s x rests = rests.opens
+
 module _ {May : Op → Type 0} {s : State} where
   -- and there is nothing to do
   pub acts_nothing : (f : Holdings → World → Answer) {before : Bool} {o : Outside} → IsTold o.told → Known (Rests s) o s (λ held x. f held (world_at s x) ≡ nothing) → Acts (Rests s) May f s before before (Ok s) o o
-  acts_nothing f {before = before} {o = o} told is = works_stays (Ok s) told (λ x first. not_begun s f o.holdings x)
-      (λ x first. record {
-        performed = λ held known rests. subst (λ (a : Answer). Performed held a (world_at s x) (Ok s) x x) (sym (is x first held known rests))
-            (refl, refl, none_done held nothing (world_at s x) x refl (holds_at s x rests.opens) rests.settled);
-        acted = λ held known rests. subst (λ (a : Answer). Acted a (Ok s) before before) (sym (is x first held known rests)) refl;
-      })
-      (λ x opens. opens) (λ no. cc no) (λ no. cc no)
+  acts_nothing f told is = ready_nothing (at_rest s) f told is
 
   -- it is refused
   pub acts_refused : (f : Holdings → World → Answer) (r : Refusal) {before : Bool} {o : Outside} → IsTold o.told → Known (Rests s) o s (λ held x. f held (world_at s x) ≡ refusal_answer r) → Acts (Rests s) May f s before before (Err (Refused r)) o o
@@ -55,9 +104,7 @@ module _ {May : Op → Type 0} {s : State} where
 
   -- out of memory
   pub acts_halted : (f : Holdings → World → Answer) {before now : Bool} {o : Outside} → IsTold o.told → Acts (Rests s) May f s before now (Err NoMemory) o o
-  acts_halted f {o = o} told = works_stays (Err NoMemory) told (λ x first. not_begun s f o.holdings x)
-      (λ x first. record { performed = λ held known rests. halted (f held (world_at s x)) s rests.opens; acted = λ held known rests. tt })
-      (λ x. tt) (λ no. cc no) (λ no. cc no)
+  acts_halted f told = ready_halted (at_rest s) f told
 
   -- ---- the same answer
 
@@ -72,41 +119,15 @@ module _ {May : Op → Type 0} {s : State} where
 
   -- ---- after a look
 
-  -- by what the remotes held then
-  pub acts_held : (f : Holdings → World → Answer) {before now : Bool} {r : Result State RunEnd} (u : Outside) {v w : Outside} → v.holdings ≡ u.holdings → Acts (Rests s) May f s before now r v w → Works May s (PerformsOver (Rests s) u.holdings f s) (PerformedOver (Rests s) u.holdings f s before now r) r v w
-  acts_held f {before = before} {now = now} {r = r} u {v = v} {w = w} same acts = subst (λ (h : Option Holdings). Works May s (PerformsOver (Rests s) h f s) (PerformedOver (Rests s) h f s before now r) r v w) same acts
-
   pub acts_looked : (f : Holdings → World → Answer) {before now : Bool} {r : Result State RunEnd} {u v w : Outside} → IsTold v.told → Looked May u v → Acts (Rests s) May f s before now r v w → Acts (Rests s) May f s before now r u w
-  acts_looked f {u = u} told looked acts = works_looked told looked (λ x. not_begun s f u.holdings x) (acts_held f u looked.same acts)
+  acts_looked f told looked acts = ready_looked (at_rest s) f told looked acts
 
   -- where the look failed
   pub acts_host_failed : (f : Holdings → World → Answer) {before now : Bool} {u v : Outside} → IsTold v.told → Looked May u v → ((m : Moments) → u.told ≡ Some m → Rose u.host_faults v.host_faults) → Acts (Rests s) May f s before now (Err Fault) u v
-  acts_host_failed f {u = u} {v = v} told looked rose = record {
-    goes = goes_to looked.still.goes (λ x y r. as_before x y r) (λ x y q. record { performed = λ held known rests. tt; acted = λ held known rests. tt });
-    opens = λ known. record { goes = goes_to looked.still.goes (λ x y r. tt) (λ x y q. tt) };
-    changes = λ known. goes_to looked.still.goes (λ x y r ready. change_same r) (λ x y q ready. change_same q.0);
-    same = looked.same;
-    host = record { later = looked.host; fault = λ is m at opens. rose m at };
-    remote = record { later = looked.remote; rose = λ is. absurd (cc is) };
-    unasked = λ none. (looked.unasked none, λ is. cc is);
-  }
-    where
-      as_before : (x y : View) → y ≡ x → PerformsOver (Rests s) u.holdings f s x y
-      as_before x y same = subst (PerformsOver (Rests s) u.holdings f s x) (sym same) (not_begun s f u.holdings x)
+  acts_host_failed f told looked rose = ready_host_failed (at_rest s) f looked rose
 
   pub acts_remote_failed : (f : Holdings → World → Answer) {before now : Bool} {u v : Outside} → AsksBy May → Looked May u v → Rose u.remote_faults v.remote_faults → Acts (Rests s) May f s before now (Err RemoteFault) u v
-  acts_remote_failed f {u = u} {v = v} asks looked rose = record {
-    goes = goes_to looked.still.goes (λ x y r. as_before x y r) (λ x y q. record { performed = λ held known rests. subst (λ (a : View). Performed held (f held (world_at s x)) (world_at s x) (Err RemoteFault) x a) (sym q.0) (halted (f held (world_at s x)) s rests.opens); acted = λ held known rests. tt });
-    opens = λ known. record { goes = goes_to looked.still.goes (λ x y r. tt) (λ x y q. tt) };
-    changes = λ known. goes_to looked.still.goes (λ x y r ready. change_same r) (λ x y q ready. change_same q.0);
-    same = looked.same;
-    host = record { later = looked.host; fault = λ is. absurd (cc is.1) };
-    remote = record { later = looked.remote; rose = λ is. rose };
-    unasked = λ none. absurd (none asks);
-  }
-    where
-      as_before : (x y : View) → y ≡ x → PerformsOver (Rests s) u.holdings f s x y
-      as_before x y same = subst (PerformsOver (Rests s) u.holdings f s x) (sym same) (not_begun s f u.holdings x)
+  acts_remote_failed f asks looked rose = ready_remote_failed (at_rest s) f asks looked rose
 
   -- ---- one after another
 
@@ -131,16 +152,16 @@ module _ {May : Op → Type 0} {s : State} where
       (λ x y z p q n. record {
         performs = λ held known rests.
             let d = q.1.performed held known rests in
-            performs_second held f g s t x y z d (q.0.performs held known rests).files (n.performs held known (left_rests held (f held (world_at s x)) s t x y d));
+            performs_second held f g s t x y z d (q.0.performs held known rests).files (n.performs held known (left_rests held (f held (world_at s x)) s t x y (d.2.tidied (λ idle. rests.settled)) d));
       })
       (λ x y z p q n l. record {
         performed = λ held known rests.
             let d = q.1.performed held known rests in
-            let at = left_rests held (f held (world_at s x)) s t x y d in
+            let at = left_rests held (f held (world_at s x)) s t x y (d.2.tidied (λ idle. rests.settled)) d in
             performed_second held f g s t r x y z d (q.0.performs held known rests).files (n.performs held known at).files (l.performed held known at);
         acted = λ held known rests.
             let d = q.1.performed held known rests in
-            acted_second held f g s t r x y before now after d (q.1.acted held known rests) (l.acted held known (left_rests held (f held (world_at s x)) s t x y d));
+            acted_second held f g s t r x y before now after d (q.1.acted held known rests) (l.acted held known (left_rests held (f held (world_at s x)) s t x y (d.2.tidied (λ idle. rests.settled)) d));
       })
 
 -- ---- each of a list, in turn

@@ -106,7 +106,7 @@ applied_changes s op u w may changes = record {
 pub tidied_changes : {May : Op → Type 0} (s : State) (u w : View) → Tidies s u w → Changes May u w
 tidied_changes s u w tidies = record {
   names = λ q. elim (tidies.names q) [ inl same ↦ inl same | inr may ↦ inr (tidied s may) ];
-  config_stays = tidied_stays tidies.names;
+  config_stays = tidied_stays u w tidies.names;
   files = tidies.files;
   links = tidies.links;
 }

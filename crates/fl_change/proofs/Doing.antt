@@ -33,7 +33,7 @@ use Rattle.op_change.specs.Bringing.{AreTold, WasLeft}
 use Rattle.op_change.specs.Applied.{Brings, have_for, op_refusal, refusal_by, done_with, AppliesWith, Applies, WasApplied}
 use Rattle.fl_lines.specs.Lines.{op_text}
 use Rattle.fl_change.specs.World.{World, world_at, world_after, worlds_after, supplied}
-use Rattle.fl_change.specs.Answer.{Answer, Piece, lines_of, pieces_text, ops_in, ops_of, done_answer, refusal_answer, unless, sets_config, set_config}
+use Rattle.fl_change.specs.Answer.{Answer, Piece, lines_of, pieces_text, ops_in, ops_of, done_answer, refusal_answer, unless, sets_config, set_config, IsIdle}
 use Rattle.fl_change.specs.Refs.{op_over}
 use Rattle.fl_change.specs.Changes.{HasText}
 use Rattle.fl_change.specs.Created.{LacksFor}
@@ -73,9 +73,9 @@ pub halted : (a : Answer) (s : State) {v : View} → Opens s v → IsHalted a s 
 halted a s opens = record { said = []; so_far = none_yet a refl; opens = opens }
 
 -- nothing is done, and so it is done
-pub none_done : (held : Holdings) (a : Answer) (x : World) (v : View) → a.pieces ≡ [] → Holds x v
-    → Settled (shows v) → IsDone held a x v v
-none_done held a x v none holds settled = record {
+pub none_left : (held : Holdings) (a : Answer) (x : World) (v : View) → a.pieces ≡ [] → Holds x v
+    → ((IsIdle a → Settled (shows v)) → Settled (shows v)) → IsDone held a x v v
+none_left held a x v none holds settled = record {
   only_tidied = λ no. tidied_not;
   still = λ no was. still_not;
   printed = sym (append-nil v.printed) ∙ ap (λ (l : List Piece). v.printed ++ pieces_text l) (sym none);
@@ -86,6 +86,10 @@ none_done held a x v none holds settled = record {
   shares = λ no. shared_refl;
   creates = λ no. no_ops_created held x (ops_of a) (ap ops_in none) creates_refl;
 }
+
+pub none_done : (held : Holdings) (a : Answer) (x : World) (v : View) → a.pieces ≡ [] → Holds x v
+    → Settled (shows v) → IsDone held a x v v
+none_done held a x v none holds settled = none_left held a x v none holds (λ before. settled)
 
 -- ---- the answer of an operation
 
@@ -163,7 +167,7 @@ module _ (holds : Option Holdings) (held : Holdings) (told : holds ≡ Some held
         only_tidied = λ idle. absurd (op_pulls here op r is idle.1);
         still = λ idle settled. absurd (op_pulls here op r is idle.1);
         holds = record { opens = was.opens known rests.opens; have = same_world s w rests (was.objects known rests.opens) };
-        tidied = was.settled known rests.opens rests.settled;
+        tidied = λ before. was.settled known rests.opens rests.settled;
         text = λ some. absurd (cc some);
         config = λ not. config_kept s op (refused_keeps here op r is) changes;
         shares = λ unpulled. absurd (op_pulls here op r is unpulled);
@@ -362,7 +366,7 @@ module _ (held : Holdings) (op : Op) (s t : State) (v : View) where
       only_tidied = λ idle. absurd (made_some d idle.0);
       still = λ idle settled. absurd (made_some d idle.0);
       holds = holds_tidied (tidies_it done tidies) done.holds;
-      tidied = was.settled (subst (λ (q : State). Opens q w) (sym done.state) done.holds.opens) done.rest;
+      tidied = λ before. was.settled (subst (λ (q : State). Opens q w) (sym done.state) done.holds.opens) done.rest;
       text = λ some. text_on (config_tidied tidies) tidies.files (subst (λ (q : State). HasText q w) done.state (done.text (sets true some)));
       config = λ not. config_tidied tidies ∙ done.config (sets false not);
       shares = λ no. shared_on done.shares was.shares tidies.files;

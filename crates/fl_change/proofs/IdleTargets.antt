@@ -26,7 +26,7 @@ use Rattle.fl_change.specs.World.{World}
 use Rattle.fl_change.specs.Answer.{Answer, nothing, refusal_answer, ops_of}
 use Rattle.fl_change.specs.Refs.{ops_over, skipped, is_no_offer, unless_skipped, updated_from, target_over}
 use Rattle.fl_change.proofs.Commands.{target_none, target_gone, target_there}
-use Rattle.fl_change.specs.Current.{IsUnoffered, IsCurrentFrom, IsCurrentRow}
+use Rattle.fl_change.specs.Current.{IsUnoffered, IsCurrentFrom, IsCurrentRow, is_commit_of, is_offered_by, is_as_offered}
 use Rattle.fl_change.proofs.Rows.{at_has_name}
 use Rattle.fl_change.proofs.Steps.{Current, Goes, goes_nowhere, bring_all}
 
@@ -145,3 +145,19 @@ module _ (held : Holdings) (x : World) where
       by_found : (found : Option RefRow) → row_at x.state name ≡ found → IsStill (target_over name held x)
       by_found None is = subst IsStill (sym (target_none held x name is)) (record { ops = refl; refusal = refl })
       by_found (Some row) is = by_remote row is (at_name name_of x.state.remotes row.origin) refl (current row is)
+
+  -- ---- a target that stands at what its remote offers
+
+  pub target_nothing : (name : Ref) (row : RefRow) → row_at x.state name ≡ Some row → row.name ≡ name → is_as_offered held x.state.remotes row ≡ true → target_over name held x ≡ nothing
+  target_nothing name row is named current = by_remote (at_name name_of x.state.remotes row.origin) refl current
+    where
+      by_offer : (remote : RemoteRow) (said : Result (List ℕ) Refusal) → offered held remote row.name ≡ said → is_commit_of row said ≡ true → updated_from remote name held x ≡ nothing
+      by_offer remote (Err refusal) offers at = absurd (cc at)
+      by_offer remote (Ok commit) offers at =
+          let deployed_is : is_at commit (row_of x.state name) ≡ true = ap (is_at commit) (deployed_row x.state name ∙ is) ∙ at in
+          let none = up_to_date held x.have x.state remote name commit (ap (offered held remote) (sym named) ∙ offers) deployed_is in
+          ap (λ (said : Result (List Op) Refusal). unless_skipped name said held x) none
+
+      by_remote : (found : Option RemoteRow) → at_name name_of x.state.remotes row.origin ≡ found → is_offered_by held row found ≡ true → target_over name held x ≡ nothing
+      by_remote None gone at = absurd (cc at)
+      by_remote (Some remote) there at = target_there held x name row remote is there ∙ by_offer remote (offered held remote row.name) refl at

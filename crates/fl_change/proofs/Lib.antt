@@ -31,4 +31,6 @@ pub mod Rows
 pub mod Steps
 pub mod IdleTargets
 pub mod Updates
+mod Offered
+mod Idling
 pub mod Refusing

@@ -1,9 +1,9 @@
 -- Rows by their names, and lists of which each element is so.
-use Rattle.std.proofs.Common.{◌≡◌, inl, inr, ℕ, List, [], ◌∷◌, ◌++◌, map, Bool, true, false, Some, refl, sym, ◌∙◌, ap}
+use Rattle.std.proofs.Common.{◌≡◌, inl, inr, ℕ, ◌+◌, List, [], ◌∷◌, ◌++◌, drop, map, Bool, true, false, ◌&&◌, Some, refl, sym, ◌∙◌, ap}
 use Rattle.std.specs.Prelude.{cond, filter, if◌then◌else◌}
-use Rattle.std.specs.List.{AllByRecursion}
+use Rattle.std.specs.List.{AllByRecursion, list_all}
 use Rattle.std.specs.Str.{bytes_eq}
-use Rattle.std.proofs.lemmas.Bool.{cases_Bool}
+use Rattle.std.proofs.lemmas.Bool.{cases_Bool, and_parts}
 use Rattle.fp_base.proofs.Texts.{bytes_eq-true}
 use Rattle.fp_small.specs.Order.{comes_before, inserted}
 use Rattle.fp_small.proofs.Ordered.{before_differs}
@@ -60,3 +60,28 @@ module _ {A : Type 0} (P : A → Type 0) where
 pub all_map : {A B : Type 0} (Q : B → Type 0) (f : A → B) (xs : List A) → AllByRecursion (λ a. Q (f a)) xs → AllByRecursion Q (map f xs)
 all_map Q f [] all = tt
 all_map Q f (x ∷ xs) all = (all.0, all_map Q f xs all.1)
+
+pub all_true : {A : Type 0} (test : A → Bool) (xs : List A) → list_all test xs ≡ true → AllByRecursion (λ a. test a ≡ true) xs
+all_true test [] is = tt
+all_true test (x ∷ xs) is = let both = and_parts (test x) (list_all test xs) is in (both.0, all_true test xs both.1)
+
+pub all_apply : {A : Type 0} (P Q : A → Type 0) (xs : List A) → AllByRecursion (λ a. P a → Q a) xs → AllByRecursion P xs → AllByRecursion Q xs
+all_apply P Q [] so all = tt
+all_apply P Q (x ∷ xs) so all = (so.0 all.0, all_apply P Q xs so.1 all.1)
+
+-- ---- a test of each, one after another
+
+module _ {A : Type 0} (test : A → Bool) (xs : List A) (i : ℕ) (rest : list_all test xs ≡ list_all test (drop i xs)) where
+  -- none is left
+  pub all_hold : drop i xs ≡ [] → list_all test xs ≡ true
+  all_hold none = rest ∙ ap (list_all test) none
+
+  module _ (x : A) (here : drop i xs ≡ x ∷ drop (i + 1) xs) where
+    one_by : (b : Bool) → test x ≡ b → list_all test xs ≡ (b && list_all test (drop (i + 1) xs))
+    one_by b is = rest ∙ ap (list_all test) here ∙ ap (λ (c : Bool). c && list_all test (drop (i + 1) xs)) is
+
+    pub one_fails : test x ≡ false → list_all test xs ≡ false
+    one_fails is = one_by false is
+
+    pub one_holds : test x ≡ true → list_all test xs ≡ list_all test (drop (i + 1) xs)
+    one_holds is = one_by true is

@@ -54,7 +54,7 @@ told held text s {x = x} {y = y} rests was = record {
   only_tidied = λ idle. tidied_none was.untouched.names;
   still = λ idle settled. still_untouched was.untouched;
   holds = holds_on (same_opens was.follows rests.opens) (same_objects x y was.shown) (holds_at s x rests.opens);
-  tidied = same_settled was.shown rests.settled;
+  tidied = λ before. same_settled was.shown rests.settled;
   text = λ some. absurd (cc some);
   config = λ not. was.untouched.names _;
   shares = λ no. none_made was.untouched;

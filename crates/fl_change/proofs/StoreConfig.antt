@@ -29,5 +29,5 @@ no_tidied s e (ref_written row has at f) = cc at
 no_tidied s e (ref_folder row has within is) = no_ref_folder row.origin row.name repo_config within refl
 no_tidied s e (object_gone d kind digits at none) = cc at
 
-pub tidied_stays : {s : State} {u w : View} → ((q : Elements) → (w.names q ≡ u.names q) ⊎ MayTidy s q (w.names q)) → u.names repo_config ≢ absent → w.names repo_config ≡ u.names repo_config
-tidied_stays {s = s} names there = elim (names repo_config) [ inl same ↦ same | inr may ↦ absurd (no_tidied s _ may) ]
+pub tidied_stays : {s : State} (u w : View) → ((q : Elements) → (w.names q ≡ u.names q) ⊎ MayTidy s q (w.names q)) → u.names repo_config ≢ absent → w.names repo_config ≡ u.names repo_config
+tidied_stays {s = s} u w names there = elim (names repo_config) [ inl same ↦ same | inr may ↦ absurd (no_tidied s _ may) ]

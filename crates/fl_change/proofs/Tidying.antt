@@ -1,13 +1,14 @@
 -- An installation that is tidied before anything else is done with it.
-use Rattle.std.proofs.Common.{◌≡◌, Bool, List, [], ◌++◌, ℕ, Option, Result, Ok, Err, OnOk, refl, ◌∙◌, ap, subst}
+use Rattle.std.proofs.Common.{◌≡◌, Bool, List, [], ◌++◌, ℕ, Option, Result, Ok, Err, IsErrAnd, OnOk, refl, sym, ◌∙◌, ap, subst}
 use Rattle.fp_host.specs.Causes.{IsCaused}
 use Rattle.fp_host.specs.Frame.{AtEnd}
-use Rattle.fp_host.specs.Moments.{Always}
+use Rattle.fp_host.specs.Moments.{Moments, Always}
 use Rattle.fp_host.specs.Remote.{Holdings}
 use Rattle.fp_host.specs.View.{View}
 use Rattle.fp_host.specs.Outcome.{shows}
 use Rattle.fp_host.specs.declared.host.HostEnd.{HostEnd}
 use Rattle.fp_host.specs.declared.host.HostEnd.TheVariants as host
+use Rattle.fp_host.proofs.Ending.{ends_on, goes_known}
 use Rattle.fp_host.proofs.Framed.{IsTold}
 use Rattle.fp_small.specs.declared.state.State.{State}
 use Rattle.fp_small.specs.declared.op.Op.{Op}
@@ -21,17 +22,18 @@ use Rattle.dep_states.specs.Lasting.{IsLasting, SharesAs}
 use Rattle.dep_states.specs.Sound.{Opens}
 use Rattle.dep_states.specs.Settled.{Settled}
 use Rattle.dep_tidy.specs.Tidy.{Tidies, WasTidied}
+use Rattle.op_change.specs.Bringing.{AreTold}
 use Rattle.fl_change.specs.World.{World, world_at}
 use Rattle.fl_change.specs.Answer.{Answer, Piece, pieces_text, ops_of}
 use Rattle.fl_change.specs.Ends.{end_of_host}
-use Rattle.fl_change.specs.Performs.{Printed, Performs, IsDone, IsHalted, Performed, Acted, PerformsOver, PerformedOver, Works, Acts, Rests}
+use Rattle.fl_change.specs.Performs.{Printed, Performs, IsDone, IsHalted, Performed, Acted, PerformsOver, PerformedOver, SettlesBy, SettlesOver, Works, Acts, Rests}
 use Rattle.fl_change.specs.declared.end.RunEnd.{RunEnd}
 use Rattle.fl_change.specs.declared.end.RunEnd.TheVariants.{Refused, Fault, RemoteFault, NoMemory}
 use Rattle.fl_change.proofs.Changing.{tidied_on, tidies_only, still_on, tidies_still, config_tidied}
 use Rattle.fl_change.proofs.Created.{created_off}
 use Rattle.fl_change.proofs.Composing.{Tidying, works_tidied, works_untidied}
 use Rattle.fl_change.proofs.Doing.{none_yet, not_done}
-use Rattle.fl_change.proofs.Working.{works_as, works_on}
+use Rattle.fl_change.proofs.Working.{is_err, goes_to, works_as, works_on}
 use Rattle.fl_change.proofs.Worlds.{holds_at, holds_tidied, world_held}
 
 -- the clauses of a tidying
@@ -78,7 +80,7 @@ module _ (s : State) {u v : View} (tidies : Tidies s u v) (opens : Opens s u) wh
       still = λ idle before. still_on (tidies_still tidies opens before) (done.still idle settled) kept;
       printed = done.printed ∙ ap (λ (p : List ℕ). p ++ pieces_text a.pieces) tidies.printed;
       holds = done.holds;
-      tidied = done.tidied;
+      tidied = λ before. done.tidied (λ idle. settled);
       text = done.text;
       config = λ not. done.config not ∙ config_tidied tidies;
       shares = λ unpulled. shared_on made (done.shares unpulled) kept;
@@ -127,3 +129,33 @@ acts_tidied_first {May = May} f s t r {before = before} {now = now} {u = u} {v =
     first : Works May s (PerformsOver (Opens s) u.holdings f s) (λ x y. Tidies s x y × WasTidied s x y) (Ok s) u v
     first = works_as (λ x y first p. first_over f s u.holdings x y p) (λ x y first p q. q)
         (subst (λ (z : State). Works May s (Tidies s) (λ x y. Tidies s x y × WasTidied s x y) (Ok z) u v) (call.state t refl) (works_tidied s t call))
+
+-- ---- and all is settled
+
+settled_by : (held : Holdings) (a : Answer) (x : World) (r : Result State RunEnd) (v w : View) → Settled (shows v) → Performed held a x r v w → SettlesBy r w
+settled_by held a x (Ok t) v w settled done = done.2.tidied (λ idle. settled)
+settled_by held a x (Err (Refused refusal)) v w settled done = done.1.tidied (λ idle. settled)
+settled_by held a x (Err Fault) v w settled done = tt
+settled_by held a x (Err RemoteFault) v w settled done = tt
+settled_by held a x (Err NoMemory) v w settled done = tt
+
+pub acts_settle : {May : Op → Type 0} (f : Holdings → World → Answer) (s : State) (r : Result State RunEnd) {before now : Bool} {v w : Outside} → Acts (Rests s) May f s before now r v w → AtEnd (λ y z. AreTold v.holdings → Rests s y → SettlesBy r z) v.told w.told
+acts_settle f s r acts = record { goes = goes_to acts.goes (λ x y p. tt) (λ x y q known rests. settled_by known.0 (f known.0 (world_at s x)) (world_at s x) r x y rests.settled (q.performed known.0 known.1 rests)) }
+
+pub settles_untidied : (holds : Option Holdings) (s : State) (e : HostEnd) {u v : Outside} → Tidying (WasTidied s) s (Err e) u v → AtEnd (SettlesOver holds s (Err (end_of_host e))) u.told v.told
+settles_untidied holds s e call = record { goes = goes_to call.moments (λ x y r. tt) (λ x y r told opens. by e y) }
+  where
+    by : (e : HostEnd) (w : View) → SettlesBy (Err (end_of_host e)) w
+    by host.Fault w = tt
+    by host.NoMemory w = tt
+
+pub settles_tidied : {May : Op → Type 0} (f : Holdings → World → Answer) (s t : State) (r : Result State RunEnd) {before now : Bool} {u v w : Outside} → IsTold v.told → Tidying (WasTidied s) s (Ok t) u v → Acts (Rests s) May f s before now r v w → AtEnd (SettlesOver u.holdings s r) u.told w.told
+settles_tidied f s t r {u = u} {v = v} {w = w} told call acts = ends_on (acts_settle f s r acts) tidying told
+    (λ x y z tree q n known opens. n (known.0, call.holdings ∙ known.1) (record { opens = q.0.opens opens; settled = q.1.settled opens }))
+  where
+    tidying : AtEnd (λ x y. Tidies s x y × WasTidied s x y) u.told v.told
+    tidying = record { goes = goes_to (goes_known call.moments call.success) (λ x y r. tt) (λ x y q. q) }
+
+-- at the exit of a `?`
+pub settles_err : (holds : Option Holdings) (s : State) (r : Result State RunEnd) (e : RunEnd) {a b : Option Moments} → IsErrAnd r (λ end. end ≡ e) → AtEnd (SettlesOver holds s (Err e)) a b → AtEnd (SettlesOver holds s r) a b
+settles_err holds s r e {a = a} {b = b} is end = subst (λ (x : Result State RunEnd). AtEnd (SettlesOver holds s x) a b) (sym (is_err r e is)) end

@@ -7,7 +7,7 @@ use Rattle.std.proofs.lemmas.List.Elements.{filter_map-append}
 use Rattle.std.proofs.lemmas.Bool.{or_parts}
 use Rattle.fp_host.specs.Remote.{Holdings}
 use Rattle.fp_host.specs.View.{View}
-use Rattle.fp_host.specs.Outcome.{Disk}
+use Rattle.fp_host.specs.Outcome.{Disk, shows}
 use Rattle.fp_small.specs.Config.{config_text}
 use Rattle.fp_small.specs.declared.config.Settings.{Settings}
 use Rattle.fp_small.specs.declared.state.State.{State}
@@ -21,6 +21,7 @@ use Rattle.fp_small.proofs.Keeping.{files_stay, files_on}
 use Rattle.dep_states.proofs.SharedAs.{shared_on}
 use Rattle.dep_states.specs.Shown.{Shows, settings_of}
 use Rattle.dep_states.specs.Sound.{Opens}
+use Rattle.dep_states.specs.Settled.{Settled}
 use Rattle.dep_states.specs.After.{Done, row_at, state_after, after_all, after_op, updated, rolled_back, back}
 use Rattle.fl_change.specs.World.{World, world_at, world_after, worlds_after}
 use Rattle.fl_change.specs.Answer.{Answer, Piece, lines_of, last_of, pieces_text, ops_in, ops_of, nothing, continued, followed, then_over, each_over, sets_config, set_config, has_acted, IsUnpulled}
@@ -182,7 +183,7 @@ performs_onto : (held : Holdings) (pieces : List Piece) (b : Answer) (x y : Worl
 performs_onto held pieces b x y {w = w} {z = z} is done kept performs = record {
   files = files_on kept performs.files;
   only_tidied = λ idle. let both = no_ops pieces b idle.0 in tidied_on (done.only_tidied (both.0, tt)) (subst (λ (s : State). OnlyTidied s w z) (same_state held pieces x y is both.0) (performs.only_tidied (both.1, idle.1)));
-  still = λ idle settled. let both = no_ops pieces b idle.0 in still_on (done.still (both.0, tt) settled) (performs.still (both.1, idle.1) done.tidied) performs.files;
+  still = λ idle settled. let both = no_ops pieces b idle.0 in still_on (done.still (both.0, tt) settled) (performs.still (both.1, idle.1) (done.tidied (λ first. settled))) performs.files;
   said = pieces ++ performs.said;
   so_far = printed_second pieces b performs.said done.printed performs.so_far;
   some = λ disk left. some_second pieces b performs.said x.state y.state (ap (λ (w : World). w.state) is ∙ worlds_state held x (ops_in pieces)) (performs.some disk left);
@@ -229,16 +230,19 @@ text_same {v = v} same text = record { id = text.id; name = text.name; row = tex
 done_onto : (held : Holdings) (pieces : List Piece) (b : Answer) (x y : World) {v w z : View} → y ≡ worlds_after held x (ops_in pieces) → IsDone held (unrefused pieces) x v w → IsDone held b y w z → KeepsFiles v w → KeepsFiles w z → IsDone held (continued pieces None b) x v z
 done_onto held pieces b x y {v = v} {w = w} {z = z} is done next before kept = record {
   only_tidied = λ idle. let both = no_ops pieces b idle.0 in tidied_on (done.only_tidied (both.0, tt)) (subst (λ (s : State). OnlyTidied s w z) (same_state held pieces x y is both.0) (next.only_tidied (both.1, idle.1)));
-  still = λ idle settled. let both = no_ops pieces b idle.0 in still_on (done.still (both.0, tt) settled) (next.still (both.1, idle.1) done.tidied) kept;
+  still = λ idle settled. let both = no_ops pieces b idle.0 in still_on (done.still (both.0, tt) settled) (next.still (both.1, idle.1) (done.tidied (λ first. settled))) kept;
   printed = next.printed ∙ ap (λ (p : List ℕ). p ++ pieces_text b.pieces) done.printed ∙ append_assoc v.printed (pieces_text pieces) (pieces_text b.pieces) ∙ ap (λ (p : List ℕ). v.printed ++ p) (sym (joined-append pieces b.pieces));
   holds = subst (λ (q : World). Holds q z) (worlds_pieces held x y pieces b.pieces is) next.holds;
   text = λ some. subst (λ (q : State). HasText q z) after_both (text_by (set_config (ops_of b)) refl (set_both some));
   config = λ not. let none = none_set not in next.config none.1 ∙ done.config none.0;
   shares = λ unpulled. shared_on (done.shares tt) (next.shares unpulled) kept;
   creates = λ unpulled. created_both held x y (ops_in pieces) (ops_of b) (ops_of (continued pieces None b)) is (ops-append pieces b.pieces) (done.creates tt) (next.creates unpulled) before kept;
-  tidied = next.tidied;
+  tidied = λ before. next.tidied (λ second. done.tidied (λ first. before (ops_none first.0 second.0, second.1)));
 }
   where
+    ops_none : ops_in pieces ≡ [] → ops_of b ≡ [] → ops_of (continued pieces None b) ≡ []
+    ops_none first second = ops-append pieces b.pieces ∙ ap (λ (l : List Done). l ++ ops_of b) first ∙ second
+
     state : y.state ≡ after_all x.state (ops_in pieces)
     state = ap (λ (q : World). q.state) is ∙ worlds_state held x (ops_in pieces)
 
@@ -295,7 +299,7 @@ done_plain held a x done none = record {
   only_tidied = λ idle. done.only_tidied (idle.0, subst IsUnpulled (sym none) tt);
   still = λ idle settled. done.still (idle.0, subst IsUnpulled (sym none) tt) settled;
   holds = done.holds;
-  tidied = done.tidied;
+  tidied = λ before. done.tidied (λ idle. before (idle.0, tt));
   text = done.text;
   config = done.config;
   shares = λ ok. done.shares (subst IsUnpulled (sym none) tt);
@@ -307,10 +311,10 @@ pub left_world : (held : Holdings) (a : Answer) (s t : State) (v w : View) → P
 left_world held a s t v w done = world_held t (done.1 ∙ sym (worlds_state held (world_at s v) (ops_of a))) done.2.holds
 
 -- and all is at rest there
-pub left_rests : (held : Holdings) (a : Answer) (s t : State) (v w : View) → Performed held a (world_at s v) (Ok t) v w → Rests t w
-left_rests held a s t v w done = record {
+pub left_rests : (held : Holdings) (a : Answer) (s t : State) (v w : View) → Settled (shows w) → Performed held a (world_at s v) (Ok t) v w → Rests t w
+left_rests held a s t v w settled done = record {
   opens = subst (λ (q : State). Opens q w) (worlds_state held (world_at s v) (ops_of a) ∙ sym done.1) done.2.holds.opens;
-  settled = done.2.tidied;
+  settled = settled;
 }
 
 -- ---- one answer after another, over an installation
@@ -362,6 +366,7 @@ module _ {A : Type 0} (item : A → Holdings → World → Answer) (held : Holdi
     pub same : each_over item all held (world_at s v) ≡ continued pieces None (each_over item left held (world_at t w))
     pub state : t ≡ after_all s (ops_in pieces)
     pub files : KeepsFiles v w
+    pub settled : Settled (shows v)
     pub done : IsDone held (unrefused pieces) (world_at s v) v w
     pub acted : now ≡ has_acted before (ops_in pieces)
 
@@ -372,6 +377,7 @@ module _ {A : Type 0} (item : A → Holdings → World → Answer) (held : Holdi
     same = refl;
     state = refl;
     files = files_stay;
+    settled = rests.settled;
     done = none_done held (unrefused []) (world_at s v) v refl (holds_at s v rests.opens) rests.settled;
     acted = refl;
   }
@@ -398,6 +404,7 @@ module _ {A : Type 0} (item : A → Holdings → World → Answer) (held : Holdi
       same = stage.same ∙ ap (continued stage.pieces None) (sym (then_is next_answer later_answer done.0)) ∙ pieces_both stage.pieces next_answer.pieces later_answer ∙ ap (λ (q : World). continued (stage.pieces ++ next_answer.pieces) None (each_over item left held q)) (sym (left_world held next_answer t t' w z done));
       state = done.1 ∙ sym (after_pieces s t stage.pieces (ops_of next_answer) stage.state) ∙ ap (after_all s) (sym (ops-append stage.pieces next_answer.pieces));
       files = files_on stage.files kept;
+      settled = stage.settled;
       done = done_onto held stage.pieces (unrefused next_answer.pieces) (world_at s v) (world_at t w) stage_world stage.done (done_plain held next_answer (world_at t w) done.2 done.0) stage.files kept;
       acted = acted_onto stage.pieces next_answer (Ok t') before now after stage.acted acted;
     }
@@ -425,7 +432,7 @@ module _ {A : Type 0} (item : A → Holdings → World → Answer) (held : Holdi
   pub stage_rests : (all left : List A) (s t : State) {before now : Bool} {v w : View} → StageOver all left s t before now v w → Rests t w
   stage_rests all left s t {v = v} {w = w} stage = record {
     opens = subst (λ (q : State). Opens q w) (worlds_state held (world_at s v) (ops_in stage.pieces) ∙ sym stage.state) stage.done.holds.opens;
-    settled = stage.done.tidied;
+    settled = stage.done.tidied (λ idle. stage.settled);
   }
 
   -- all are done
@@ -435,7 +442,7 @@ module _ {A : Type 0} (item : A → Holdings → World → Answer) (held : Holdi
       let opens = subst (λ (q : State). Opens q w) (worlds_state held (world_at s v) (ops_in stage.pieces) ∙ sym stage.state) stage.done.holds.opens in
       subst (λ (q : Answer). Performed held q (world_at s v) (Ok t) v w) (sym stage.same)
       (performed_onto held stage.pieces nothing (world_at s v) (world_at t w) (Ok t) v w w x stage.done stage.files files_stay
-      (refl, refl, none_done held nothing (world_at t w) w refl (holds_at t w opens) stage.done.tidied))
+      (refl, refl, none_done held nothing (world_at t w) w refl (holds_at t w opens) (stage.done.tidied (λ idle. stage.settled))))
 
   pub last_acted : (all : List A) (s t : State) {before now : Bool} {v w : View} → StageOver all [] s t before now v w → Acted (each_over item all held (world_at s v)) (Ok t) before now
   last_acted all s t {before = before} {now = now} {v = v} {w = w} stage =

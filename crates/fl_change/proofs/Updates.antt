@@ -26,15 +26,20 @@ use Rattle.fl_plan.specs.Targets.{is_kind, names_of, names_in, targets_of}
 use Rattle.fl_words.specs.declared.command.Change.{Change}
 use Rattle.fl_words.specs.declared.command.Change.TheVariants.{UpdateAll}
 use Rattle.fl_change.specs.World.{World, world_after, worlds_after}
-use Rattle.fl_change.specs.Answer.{Answer, Piece, IsIdle, IsUnpulled, nothing, continued, then_over, each_over, ops_in, ops_of}
+use Rattle.fl_change.specs.Answer.{Answer, Piece, IsIdle, IsUnpulled, nothing, continued, followed, then_over, each_over, ops_in, ops_of}
 use Rattle.fl_change.specs.Refs.{target_over, update_all_over}
 use Rattle.fl_change.specs.Turns.{in_turn, by_layout, changing}
 use Rattle.fl_change.proofs.Turning.{ops-append, after-append}
 use Rattle.fl_change.proofs.Worlds.{worlds_state}
-use Rattle.fl_change.specs.Current.{IsCurrent, IsCurrentRow}
-use Rattle.fl_change.proofs.Rows.{at_has_name, all_append, all_front, all_back, all_filter, all_on, all_map}
+use Rattle.fl_change.specs.Current.{IsCurrent, IsCurrentRow, updates_all, is_as_offered, are_as_offered}
+use Rattle.fl_change.proofs.Rows.{at_has_name, all_append, all_front, all_back, all_filter, all_on, all_map, all_true, all_apply}
 use Rattle.fl_change.proofs.Steps.{Current, Goes, goes_nowhere, goes_on, stays_current}
-use Rattle.fl_change.proofs.IdleTargets.{Named, IsStill, target_left, target_still}
+use Rattle.fl_change.proofs.IdleTargets.{Named, IsStill, target_left, target_still, target_nothing}
+
+-- the update of all, and nothing else
+pub all_asked : (changes : List Change) → updates_all changes ≡ true → changes ≡ UpdateAll ∷ []
+all_asked (UpdateAll ∷ []) is = refl
+all_asked _ is = absurd (cc is)
 
 -- ---- targets
 
@@ -225,3 +230,35 @@ module _ (held : Holdings) where
   second_is_idle x y good none is order =
       let left = update_leaves x good none in
       update_is_idle y (ap (λ (s : State). s.layout) is ∙ left.layout) order (subst (IsCurrent held) (sym is) left.current)
+
+  -- ---- all stand at what their remotes offer
+
+  -- a target of which nothing comes
+  abbrev ComesToNothing : World → Ref → Type 0
+  ComesToNothing y name = target_over name held y ≡ nothing
+
+  each_nothing : (names : List Ref) (y : World) → AllByRecursion (ComesToNothing y) names → each_over target_over names held y ≡ nothing
+  each_nothing [] y each = refl
+  each_nothing (name ∷ names) y each =
+      ap (λ (a : Answer). followed a (each_over target_over names held (worlds_after held y (ops_of a)))) each.0 ∙ each_nothing names y each.1
+
+  rows_nothing : (y : World) → HasOrder y.state → are_as_offered held y.state ≡ true → AllByRecursion (λ (row : RefRow). ComesToNothing y row.name) y.state.refs
+  rows_nothing y ascend current =
+      let rows = y.state.refs in
+      all_apply (λ (row : RefRow). is_as_offered held y.state.remotes row ≡ true) (λ (row : RefRow). ComesToNothing y row.name) rows
+      (each_found ref_key (λ (row : RefRow). is_as_offered held y.state.remotes row ≡ true → ComesToNothing y row.name) rows ascend (λ row here at. target_nothing held y row.name row here refl at))
+      (all_true (is_as_offered held y.state.remotes) rows current)
+
+  targets_nothing : (y : World) → HasOrder y.state → are_as_offered held y.state ≡ true → AllByRecursion (ComesToNothing y) (targets_of y.state None)
+  targets_nothing y ascend current = all_append (ComesToNothing y) (filter (is_kind Runtime) (names_of y.state.refs)) (filter (is_kind App) (names_of y.state.refs)) (of_kind Runtime) (of_kind App)
+    where
+      of_kind : (kind : RefKind) → AllByRecursion (ComesToNothing y) (filter (is_kind kind) (names_of y.state.refs))
+      of_kind kind = all_filter (ComesToNothing y) (is_kind kind) (names_of y.state.refs) (all_map (ComesToNothing y) (λ (row : RefRow). row.name) y.state.refs (rows_nothing y ascend current))
+
+  update_nothing : (y : World) → y.state.layout ≡ Two → HasOrder y.state → are_as_offered held y.state ≡ true → changing one held y ≡ nothing
+  update_nothing y two ascend current =
+      ap (λ (layout : Layout). then_over held y (by_layout layout) (in_turn one held)) two
+      ∙ ap (λ (a : Answer). followed a (in_turn [] held (worlds_after held y (ops_of a)))) (each_nothing (targets_of y.state None) y (targets_nothing y ascend current))
+
+  pub all_is_nothing : (changes : List Change) (y : World) → updates_all changes ≡ true → y.state.layout ≡ Two → HasOrder y.state → are_as_offered held y.state ≡ true → changing changes held y ≡ nothing
+  all_is_nothing changes y all two ascend current = ap (λ (l : List Change). changing l held y) (all_asked changes all) ∙ update_nothing y two ascend current

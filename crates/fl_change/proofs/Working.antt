@@ -1,7 +1,7 @@
 -- How work goes on from one part to the next, with all that is outside.
 use Rattle.std.proofs.Common.{◌≡◌, ◌≤◌, Option, Some, Result, Ok, Err, IsErrAnd, IsErrOf, refl, sym, ◌∙◌, ap, subst, arith}
 use Rattle.std.proofs.lemmas.Result.{err_from_is_err_and}
-use Rattle.fp_host.specs.Frame.{Unchanged}
+use Rattle.fp_host.specs.Frame.{AtEnd, Unchanged}
 use Rattle.fp_host.specs.Moments.{Moments, Goes}
 use Rattle.fp_host.specs.View.{View}
 use Rattle.fp_host.proofs.Cause.{Rose-later}
@@ -75,6 +75,10 @@ works_as step last works = record {
   where
     with_last : {a b : Option Moments} {R Q : View → View → Type 0} → Goes a b R Q → Goes a b R (λ x y. R x y × Q x y)
     with_last goes = record { untold = goes.untold; told = λ m is. let one = goes.told m is in (one.0, one.1, one.2, (one.2.last, one.3)) }
+
+-- more is known of its end
+pub works_known : {May : Op → Type 0} {s : State} {R Q T : View → View → Type 0} {r : Result State RunEnd} {u w : Outside} → Works May s R Q r u w → AtEnd T u.told w.told → Works May s R (λ x y. Q x y × T x y) r u w
+works_known works end = record { goes = goes_known works.goes end; opens = works.opens; changes = works.changes; same = works.same; host = works.host; remote = works.remote; unasked = works.unasked }
 
 -- the end of it, at the exit of a `?`
 pub works_err : {May : Op → Type 0} {s : State} {R : View → View → Type 0} (Q : Result State RunEnd → View → View → Type 0) {u w : Outside} (r : Result State RunEnd) (e : RunEnd) → IsErrAnd r (λ end. end ≡ e) → Works May s R (Q (Err e)) (Err e) u w → Works May s R (Q r) r u w

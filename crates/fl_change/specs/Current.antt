@@ -1,15 +1,24 @@
 -- States that an update leaves as they are.
-use Rattle.std.specs.Prelude.{◌≡◌, ◌⊎◌, ℕ, List, Option, Some, None, Ok, Err}
+use Rattle.std.specs.Prelude.{◌≡◌, ◌⊎◌, ℕ, List, [], ◌∷◌, Bool, true, false, Option, Some, None, Result, Ok, Err}
+use Rattle.std.specs.List.{list_all}
+use Rattle.std.specs.Str.{bytes_eq}
 use Rattle.fp_host.specs.Remote.{Holdings}
+use Rattle.fp_host.specs.declared.remotes.RemoteError.{RemoteError}
+use Rattle.fp_host.specs.declared.remotes.RemoteError.TheVariants.{Failed, NoMemory}
 use Rattle.fp_name.specs.Refs.{Ref}
 use Rattle.fp_small.specs.Config.{name_of}
+use Rattle.fp_small.specs.declared.refusal.Refusal.{Refusal}
 use Rattle.fp_small.specs.declared.refusal.Refusal.TheVariants.{NoSuchRef}
 use Rattle.fp_small.specs.declared.state.State.{State}
 use Rattle.fp_small.specs.declared.state.RefRow.{RefRow}
 use Rattle.fp_small.specs.declared.state.RemoteRow.{RemoteRow}
 use Rattle.ost_refs.specs.Offers.{offered}
+use Rattle.ost_walk.specs.declared.pull_end.PullEnd.{PullEnd}
+use Rattle.ost_walk.specs.declared.pull_end.PullEnd.TheVariants as pulls
 use Rattle.dep_states.specs.After.{row_at}
 use Rattle.dep_states.specs.Shown.{at_name}
+use Rattle.fl_words.specs.declared.command.Change.{Change}
+use Rattle.fl_words.specs.declared.command.Change.TheVariants.{UpdateAll}
 
 -- the remote doesn't offer the ref
 abbrev pub IsUnoffered : Holdings → RemoteRow → Ref → Type 0
@@ -30,3 +39,34 @@ IsCurrentRow held remotes row = IsCurrentFrom held row (at_name name_of remotes 
 pub record IsCurrent (held : Holdings) (s : State) : Type 0 where
   pub each : (name : Ref) (row : RefRow) → row_at s name ≡ Some row
       → IsCurrentRow held s.remotes row
+
+-- ---- what is known before an update
+
+-- the update of all is asked for, and nothing else
+abbrev pub updates_all : List Change → Bool
+updates_all (UpdateAll ∷ []) = true
+updates_all _ = false
+
+abbrev pub is_commit_of : RefRow → Result (List ℕ) Refusal → Bool
+is_commit_of row (Ok commit) = bytes_eq row.commit commit
+is_commit_of row (Err refusal) = false
+
+-- a refusal is no offer; a fault ends the question, and none is the host's
+abbrev pub declined : PullEnd → Result Bool RemoteError
+declined (pulls.Refused refusal) = Ok false
+declined pulls.RemoteFault = Err Failed
+declined pulls.HostFault = Err NoMemory
+declined pulls.NoMemory = Err NoMemory
+
+-- a deployed ref stands at what this remote offers
+abbrev pub is_offered_by : Holdings → RefRow → Option RemoteRow → Bool
+is_offered_by held row None = false
+is_offered_by held row (Some remote) = is_commit_of row (offered held remote row.name)
+
+-- it stands at what the remote that it comes from offers
+abbrev pub is_as_offered : Holdings → List RemoteRow → RefRow → Bool
+is_as_offered held remotes row = is_offered_by held row (at_name name_of remotes row.origin)
+
+-- so does each deployed ref
+abbrev pub are_as_offered : Holdings → State → Bool
+are_as_offered held s = list_all (is_as_offered held s.remotes) s.refs

@@ -2,6 +2,8 @@
 use Rattle.std.specs.Prelude.{◌≡◌, Option, Some, None, Result, Ok, Err}
 use Rattle.fp_host.specs.declared.host.HostEnd.{HostEnd}
 use Rattle.fp_host.specs.declared.host.HostEnd.TheVariants as host
+use Rattle.fp_host.specs.declared.remotes.RemoteError.{RemoteError}
+use Rattle.fp_host.specs.declared.remotes.RemoteError.TheVariants as remote
 use Rattle.fp_small.specs.declared.op.Op.{Op}
 use Rattle.ost_walk.specs.declared.pull_end.PullEnd.{PullEnd}
 use Rattle.ost_walk.specs.declared.pull_end.PullEnd.TheVariants as pulls
@@ -21,6 +23,10 @@ use Rattle.fl_change.specs.declared.end.RunEnd.TheVariants.{Refused, Fault, Remo
 abbrev pub end_of_host : HostEnd → RunEnd
 end_of_host host.Fault = Fault
 end_of_host host.NoMemory = NoMemory
+
+abbrev pub end_of_remote : RemoteError → RunEnd
+end_of_remote remote.Failed = RemoteFault
+end_of_remote remote.NoMemory = NoMemory
 
 abbrev pub end_of_apply : ApplyEnd → RunEnd
 end_of_apply (applies.Refused refusal) = Refused refusal

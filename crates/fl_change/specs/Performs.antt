@@ -68,15 +68,16 @@ pub record Holds (x : World) (v : View) : Type 0 where
   pub have : x.have ≡ used_of x.state (store repo (shows v))
 
 -- All that isn't the line of a refusal was printed, every stop leaves the state after all
--- operations, and all is settled. Where one of them set it, `config` has just its text; else it is
--- as it was. Where nothing was pulled before a refusal, each new file that has bytes came to a
--- lasting name, and each operation in turn made just the objects that it lacked.
+-- operations, and all is settled: where there are none, and nothing is pulled, if it was before.
+-- Where one of them set it, `config` has just its text; else it is as it was. Where nothing was
+-- pulled before a refusal, each new file that has bytes came to a lasting name, and each operation
+-- in turn made just the objects that it lacked.
 pub record IsDone (held : Holdings) (a : Answer) (x : World) (v w : View) : Type 0 where
   pub printed : w.printed ≡ v.printed ++ pieces_text a.pieces
   pub only_tidied : IsIdle a → OnlyTidied x.state v w
   pub still : IsIdle a → Settled (shows v) → IsStill v w
   pub holds : Holds (worlds_after held x (ops_of a)) w
-  pub tidied : Settled (shows w)
+  pub tidied : (IsIdle a → Settled (shows v)) → Settled (shows w)
   pub text : set_config (ops_of a) ≡ true → HasText (after_all x.state (ops_of a)) w
   pub config : set_config (ops_of a) ≡ false → w.names config ≡ v.names config
   pub shares : IsUnpulled a.refusal → SharesAs IsLasting v w
@@ -95,6 +96,18 @@ Performed held a x (Err (Refused refusal)) v w = (a.refusal ≡ Some refusal) ×
 Performed held a x (Err Fault) v w = Unit {0}
 Performed held a x (Err RemoteFault) v w = IsHalted a x.state v w
 Performed held a x (Err NoMemory) v w = IsHalted a x.state v w
+
+-- where the whole answer was given, all is settled
+abbrev pub SettlesBy : Result State RunEnd → View → Type 0
+SettlesBy (Ok t) w = Settled (shows w)
+SettlesBy (Err (Refused refusal)) w = Settled (shows w)
+SettlesBy (Err Fault) w = Unit {0}
+SettlesBy (Err RemoteFault) w = Unit {0}
+SettlesBy (Err NoMemory) w = Unit {0}
+
+-- so it is over an installation of this state, where the remotes tell what they hold
+abbrev pub SettlesOver : Option Holdings → State → Result State RunEnd → View → View → Type 0
+SettlesOver holds s r v w = AreTold holds → Opens s v → SettlesBy r w
 
 -- What tells whether an operation was done tells it besides of those of an answer that was given.
 abbrev pub Acted : Answer → Result State RunEnd → Bool → Bool → Type 0

@@ -1,5 +1,6 @@
 //! What changes the installation.
-ghost use Rattle.std.specs.Prelude.{◌≡◌, Option, IfOk};
+ghost use Rattle.std.specs.Prelude.{◌≡◌, Option, false, IfOk};
+ghost use Rattle.fp_host.specs.OverHost.{AtReturn};
 ghost use Rattle.fp_small.specs.declared.state.Layout.TheVariants.{Two};
 ghost use Rattle.ost_walk.specs.Ends.{around};
 ghost use Rattle.fp_small.specs.declared.refusal.Refusal.{Refusal as SomeRefusal};
@@ -9,9 +10,11 @@ ghost use Rattle.dep_states.specs.After.{IsGood};
 ghost use Rattle.dep_states.specs.Sound.{Opens};
 ghost use Rattle.fl_change.specs.Answer.{op_answer, unless};
 ghost use Rattle.fl_change.specs.Ends.{IsAsked, IsPlain};
-ghost use Rattle.fl_change.specs.Performs.{Acts, Rests, Just};
+ghost use Rattle.fl_change.specs.Current.{updates_all};
+ghost use Rattle.fl_change.specs.Performs.{Acts, Rests, Just, SettlesOver};
 ghost use Rattle.fl_change.specs.Turns.{migrating, change_over, in_turn, changing, OpsOf, OpsOfAny, MayDo};
 
+use crate::current::{is_idle, is_update_of_all};
 use crate::end::RunEnd;
 use crate::going_back::roll_back;
 use crate::installing::install;
@@ -29,7 +32,8 @@ use std::alloc::Global;
 use std::thread::Threads;
 
 /// Makes the changes on an opened installation, one after another up to the first refusal. It is
-/// tidied and migrated before. `acted` is set once an operation was done. Whatever the end but Ok,
+/// tidied and migrated before; not where they are the update of all, and this has nothing to do and
+/// finds no work that was left. `acted` is set once an operation was done. Whatever the end but Ok,
 /// the installation is opened again before anything else is done with it.
 pub fn change_all<H: Host, R: Remotes>(
     rt: &(impl Threads + Sync),
@@ -48,6 +52,36 @@ pub fn change_all<H: Host, R: Remotes>(
         opened acted.old acted.new result
         (around H.Host R.Remotes host.old remotes.old)
         (around H.Host R.Remotes host.new remotes.new) }
+    // Where they aren't the update of all, all is settled then, also where no operation was done.
+    ensures settles { updates_all changes.now ≡ false → AtReturn H.Host host.old host.new
+        (SettlesOver (R.holds remotes.old) opened result) }
+{
+    if !is_update_of_all(changes) {
+        return tidy_and_change(rt, alloc, host, remotes, acted, opened, changes);
+    }
+    if is_idle(alloc, host, remotes, opened.state())? {
+        return Ok(opened);
+    }
+    tidy_and_change(rt, alloc, host, remotes, acted, opened, changes)
+}
+
+/// Tidies and migrates the installation, and makes the changes.
+fn tidy_and_change<H: Host, R: Remotes>(
+    rt: &(impl Threads + Sync),
+    alloc: Global,
+    host: &mut H,
+    remotes: &mut R,
+    acted: &mut bool,
+    opened: Opened,
+    changes: &[Change],
+) -> Result<Opened, RunEnd>
+    requires good { IsGood opened }
+    ensures acts { Acts (Opens opened) (MayDo changes.now) (changing changes.now)
+        opened acted.old acted.new result
+        (around H.Host R.Remotes host.old remotes.old)
+        (around H.Host R.Remotes host.new remotes.new) }
+    ensures settles { AtReturn H.Host host.old host.new
+        (SettlesOver (R.holds remotes.old) opened result) }
 {
     let tidied = tidy(alloc, host, opened)?;
     let current = migrate(rt, alloc, host, remotes, acted, tidied)?;

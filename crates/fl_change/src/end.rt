@@ -2,7 +2,7 @@
 ghost use Rattle.std.specs.Prelude.{◌≡◌};
 
 use dep_open::OpenEnd;
-use fp_host::{HostEnd, HostError};
+use fp_host::{HostEnd, HostError, RemoteError};
 use fp_small::Refusal;
 use op_change::ApplyEnd;
 use ost_walk::PullEnd;
@@ -59,6 +59,20 @@ impl From<HostError> for RunEnd {
 
     fn from(error: HostError) -> RunEnd {
         RunEnd::from(HostEnd::from(error))
+    }
+}
+
+impl From<RemoteError> for RunEnd {
+    ghost use Rattle.std.specs.Prelude.{◌≡◌};
+    ghost use Rattle.fl_change.specs.Ends.{end_of_remote};
+
+    ghost from_gives = { λ error end. end ≡ end_of_remote error };
+
+    fn from(error: RemoteError) -> RunEnd {
+        match error {
+            RemoteError::Failed => RunEnd::RemoteFault,
+            RemoteError::NoMemory => RunEnd::NoMemory,
+        }
     }
 }
 

@@ -2,6 +2,7 @@
 #![tactic(auto)]
 
 mod change;
+mod current;
 mod end;
 mod finding;
 mod going_back;

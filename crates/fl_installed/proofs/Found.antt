@@ -1,5 +1,5 @@
 -- The file `metadata`, found and read.
-use Rattle.std.proofs.Common.{◌≡◌, ℕ, List, Option, Some, None, Result, Ok, Err, refl, sym, ◌∙◌, ap, subst}
+use Rattle.std.proofs.Common.{◌≡◌, ℕ, List, Option, Some, None, Result, Ok, Err, sym, ap, subst}
 use Rattle.std.specs.Prelude.{IfOk, option_and_then}
 use Rattle.fp_host.specs.Paths.{Elements}
 use Rattle.fp_host.specs.declared.host.HostEnd.{HostEnd}

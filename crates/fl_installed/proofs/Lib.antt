@@ -1,6 +1,7 @@
 pub mod Named
 pub mod Distinct
 pub mod Found
+pub mod Loaded
 pub mod Standing
 pub mod Local
 pub mod Samples

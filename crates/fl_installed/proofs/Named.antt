@@ -10,7 +10,7 @@ use Rattle.fp_keyfile.specs.declared.group.Group.{Group}
 use Rattle.fp_keyfile.specs.KeyFile.{file_of, value_at}
 use Rattle.fp_name.specs.Kinds.{kind_word}
 use Rattle.fp_name.specs.Pins.{same_kind}
-use Rattle.fp_name.specs.Refs.{Ref, ref_text}
+use Rattle.fp_name.specs.Refs.{Ref, is_ref, ref_text}
 use Rattle.fp_name.specs.declared.kind.RefKind.{RefKind}
 use Rattle.fp_name.specs.declared.kind.RefKind.TheVariants.{App, Runtime}
 use Rattle.fp_name.proofs.Refs.{ref_of-some}
@@ -50,6 +50,35 @@ file_kind file r is = said_kind (value_at file (codes "Application") (codes "run
 app_kind : (file : List Group) (said : Option Ref) (r : Ref) → runtime_said file ≡ said → runtime_in (app_of file said) ≡ Some r → r.kind ≡ Runtime
 app_kind file None r is named = absurd (cc named)
 app_kind file (Some x) r is named = file_kind file r (is ∙ named)
+
+text_good : (text : List ℕ) (r : Ref) → runtime_of text ≡ Some r → is_ref r ≡ true
+text_good text r is = (ref_of-some (kind_word Runtime ++ 47 ∷ text) r is).1
+
+value_good : (value : Option (List ℕ)) (r : Ref) → option_and_then runtime_of value ≡ Some r → is_ref r ≡ true
+value_good None r is = absurd (cc is)
+value_good (Some text) r is = text_good text r is
+
+file_good : (file : List Group) (r : Ref) → runtime_said file ≡ Some r → is_ref r ≡ true
+unfolding runtime_said
+file_good file r is = value_good (value_at file (codes "Application") (codes "runtime")) r is
+
+app_good : (file : List Group) (said : Option Ref) (r : Ref) → runtime_said file ≡ said → runtime_in (app_of file said) ≡ Some r → is_ref r ≡ true
+app_good file None r is named = absurd (cc named)
+app_good file (Some x) r is named = file_good file r (is ∙ named)
+
+-- what metadata names is a ref
+pub named_good : (kind : RefKind) (file : List Group) (r : Ref) → runtime_in (meta_of (meta_kind kind) file) ≡ Some r → is_ref r ≡ true
+unfolding meta_of
+named_good App file r is = go (has_group file (codes "Application")) is
+  where
+    go : (b : Bool) → runtime_in (if b then app_of file (runtime_said file) else Err rules.Group) ≡ Some r → is_ref r ≡ true
+    go true named = app_good file (runtime_said file) r refl named
+    go false named = absurd (cc named)
+named_good Runtime file r is = go (has_group file (codes "Runtime")) is
+  where
+    go : (b : Bool) → runtime_in (if b then Ok (runtime_meta file) else Err rules.Group) ≡ Some r → is_ref r ≡ true
+    go true named = absurd (cc named)
+    go false named = absurd (cc named)
 
 named_kinds : (kind : RefKind) (file : List Group) (r : Ref) → runtime_in (meta_of (meta_kind kind) file) ≡ Some r → (r.kind ≡ Runtime) × (kind ≡ App)
 unfolding meta_of

@@ -4,10 +4,7 @@ use Rattle.fp_host.specs.declared.host.HostEnd.{HostEnd}
 use Rattle.fp_name.specs.Refs.{Ref}
 use Rattle.fp_small.specs.declared.refusal.Refusal.{Refusal}
 use Rattle.fp_small.specs.declared.state.State.{State}
-use Rattle.fl_meta.specs.declared.meta.Meta.{Meta}
-use Rattle.fl_extension.specs.declared.point.Point.{Point}
-use Rattle.ost_model.specs.Objects.{Have}
-use Rattle.fl_installed.specs.Described.{described}
+use Rattle.fl_installed.specs.Deployed.{DeployedFiles}
 use Rattle.fl_meta.specs.declared.permission.Mention.{Mention}
 use Rattle.fl_options.specs.Options.{layer_of, last_command}
 use Rattle.fl_launch.specs.Launch.{launch_text}
@@ -16,18 +13,12 @@ use Rattle.fl_launch.specs.declared.launching.LaunchText.{LaunchText}
 use Rattle.fl_installed.specs.Launching.{grants_with, text_with, launch_of}
 use Rattle.fl_installed.specs.declared.parts.DeployedMeta.{DeployedMeta}
 use Rattle.fl_installed.specs.declared.parts.LaunchParts.{LaunchParts}
-use Rattle.fl_installed.specs.Parts.{with_points, points_at, deployed, app_in, with_app, parts_in}
+use Rattle.fl_installed.specs.Parts.{app_in, with_app, parts_in}
 
-pub deployed_from : (have : Have) (name : Ref) (commit : List ℕ) (points : List Point) (meta : Result Meta Refusal) (said : Result DeployedMeta Refusal)
-    → points ≡ points_at have name commit → meta ≡ described have name commit → said ≡ with_points points meta → said ≡ deployed have name commit
-unfolding deployed
-deployed_from have name commit points meta said first second is =
-    is ∙ ap (λ (ps : List Point). with_points ps meta) first ∙ ap (with_points (points_at have name commit)) second
-
-pub parts_from : (have : Have) (state : State) (name : Ref) (app : Result DeployedMeta Refusal) (result : Result (Result LaunchParts Refusal) HostEnd)
-    → app ≡ app_in have state name → IfOk result (λ parts. parts ≡ with_app have state name app) → IfOk result (λ parts. parts ≡ parts_in have state name)
+pub parts_from : (files : DeployedFiles) (state : State) (name : Ref) (app : Result DeployedMeta Refusal) (result : Result (Result LaunchParts Refusal) HostEnd)
+    → app ≡ app_in files state name → IfOk result (λ parts. parts ≡ with_app files state name app) → IfOk result (λ parts. parts ≡ parts_in files state name)
 unfolding parts_in
-parts_from have state name app result is h = subst (λ (a : Result DeployedMeta Refusal). IfOk result (λ parts. parts ≡ with_app have state name a)) is h
+parts_from files state name app result is h = subst (λ (a : Result DeployedMeta Refusal). IfOk result (λ parts. parts ≡ with_app files state name a)) is h
 
 pub launch_from : (state : State) (name : Ref) (options : List (List ℕ)) (parts : LaunchParts) (layer : List Mention) (command : Option (List ℕ)) (launch : LaunchText)
     → layer ≡ layer_of options → command ≡ last_command options

@@ -15,13 +15,13 @@ use Rattle.fp_small.specs.declared.state.State.{State}
 use Rattle.fl_meta.specs.declared.meta.Meta.{Meta}
 use Rattle.fl_meta.specs.Metadata.{meta_of, meta_kind}
 use Rattle.fl_extension.specs.declared.point.Point.{Point}
-use Rattle.ost_model.specs.Objects.{Have}
-use Rattle.fl_installed.specs.Described.{broken, by_rules, by_lines, by_file, described}
-use Rattle.fl_installed.specs.Files.{metadata_file}
+use Rattle.fl_installed.specs.Deployed.{DeployedFiles}
+use Rattle.fl_installed.specs.Described.{broken, by_rules, by_lines, by_file}
+use Rattle.fl_installed.specs.Metadata.{points_in}
 use Rattle.fl_extension.specs.Found.{row_of}
 use Rattle.fl_installed.specs.declared.parts.DeployedMeta.{DeployedMeta}
 use Rattle.fl_installed.specs.declared.parts.LaunchParts.{LaunchParts}
-use Rattle.fl_installed.specs.Parts.{with_points, points_at, deployed, app_in, runtime_in, runtime_of, with_runtime, with_app, parts_in}
+use Rattle.fl_installed.specs.Parts.{with_points, said_by, deployed, app_in, runtime_in, runtime_of, with_runtime, with_app, parts_in}
 use Rattle.fl_installed.specs.Launching.{launch_of, with_parts, launch_in}
 use Rattle.fl_installed.specs.Refusals.{MayRefuse, LaunchRefuses}
 
@@ -44,42 +44,38 @@ lines_may : (name : Ref) (f : Result (List Group) KeyFault) → Refuses (by_line
 lines_may name (Ok file) = rules_may name (meta_of (meta_kind name.kind) file)
 lines_may name (Err fault) = err_may (BadMetadata name fault.line (metadata_rules.Key fault.rule)) tt
 
-file_may : (name : Ref) (file : Option (List ℕ)) → Refuses (by_file name file)
+pub file_may : (name : Ref) (file : Option (List ℕ)) → Refuses (by_file name file)
 file_may name None = err_may (broken name rules.Absent) tt
 file_may name (Some bytes) = lines_may name (file_of bytes)
-
-described_may : (have : Have) (name : Ref) (commit : List ℕ) → Refuses (described have name commit)
-unfolding described
-described_may have name commit = file_may name (metadata_file have commit)
 
 points_may : (points : List Point) (m : Result Meta Refusal) → Refuses m → Refuses (with_points points m)
 points_may points (Ok meta) may = ok_may (record { meta = meta; points = points })
 points_may points (Err q) may = err_may q (may q refl)
 
-deployed_may : (have : Have) (name : Ref) (commit : List ℕ) → Refuses (deployed have name commit)
-unfolding deployed
-deployed_may have name commit = points_may (points_at have name commit) (described have name commit) (described_may have name commit)
+said_may : (name : Ref) (file : Option (List ℕ)) → Refuses (said_by name file)
+said_may name None = err_may (broken name rules.Absent) tt
+said_may name (Some bytes) = points_may (points_in name bytes) (by_lines name (file_of bytes)) (lines_may name (file_of bytes))
 
 -- ---- what a launch stands on
 
-module _ (have : Have) (state : State) where
-  row_may : (name : Ref) (missing : Refusal) (o : Option RefRow) → MayRefuse missing → Refuses (option_map_or (λ (row : RefRow). deployed have name row.commit) o (Err missing))
+module _ (files : DeployedFiles) (state : State) where
+  row_may : (name : Ref) (missing : Refusal) (o : Option RefRow) → MayRefuse missing → Refuses (option_map_or (λ (row : RefRow). deployed files name row.commit) o (Err missing))
   row_may name missing None may = err_may missing may
-  row_may name missing (Some row) may = deployed_may have name row.commit
+  row_may name missing (Some row) may = said_may name (files name row.commit)
 
-  app_may : (name : Ref) → Refuses (app_in have state name)
+  app_may : (name : Ref) → Refuses (app_in files state name)
   unfolding app_in
   app_may name = row_may name (NotInstalled name) (row_of state name) tt
 
-  runtime_may : (name : Ref) → Refuses (runtime_in have state name)
+  runtime_may : (name : Ref) → Refuses (runtime_in files state name)
   unfolding runtime_in
   runtime_may name = row_may name (RuntimeMissing name) (row_of state name) tt
 
-  named_may : (name : Ref) (o : Option Ref) → Refuses (option_map_or (runtime_in have state) o (Err (broken name rules.Runtime)))
+  named_may : (name : Ref) (o : Option Ref) → Refuses (option_map_or (runtime_in files state) o (Err (broken name rules.Runtime)))
   named_may name None = err_may (broken name rules.Runtime) tt
   named_may name (Some runtime) = runtime_may runtime
 
-  of_may : (name : Ref) (app : Meta) → Refuses (runtime_of have state name app)
+  of_may : (name : Ref) (app : Meta) → Refuses (runtime_of files state name app)
   unfolding runtime_of
   of_may name app = named_may name app.runtime
 
@@ -87,13 +83,13 @@ module _ (have : Have) (state : State) where
   both_may app (Ok runtime) may = ok_may (record { app = app; runtime = runtime })
   both_may app (Err q) may = err_may q (may q refl)
 
-  with_may : (name : Ref) (app : Result DeployedMeta Refusal) → Refuses app → Refuses (with_app have state name app)
-  with_may name (Ok app) may = both_may app (runtime_of have state name app.meta) (of_may name app.meta)
+  with_may : (name : Ref) (app : Result DeployedMeta Refusal) → Refuses app → Refuses (with_app files state name app)
+  with_may name (Ok app) may = both_may app (runtime_of files state name app.meta) (of_may name app.meta)
   with_may name (Err q) may = err_may q (may q refl)
 
-  parts_may : (name : Ref) → Refuses (parts_in have state name)
+  parts_may : (name : Ref) → Refuses (parts_in files state name)
   unfolding parts_in
-  parts_may name = with_may name (app_in have state name) (app_may name)
+  parts_may name = with_may name (app_in files state name) (app_may name)
 
 launch_may : (state : State) (name : Ref) (options : List (List ℕ)) (parts : Result LaunchParts Refusal) → Refuses parts → Refuses (with_parts state name options parts)
 launch_may state name options (Ok parts) may = ok_may (launch_of state name options parts)
@@ -101,4 +97,4 @@ launch_may state name options (Err q) may = err_may q (may q refl)
 
 pub launch_refuses : LaunchRefuses
 unfolding launch_in
-launch_refuses have state name options = launch_may state name options (parts_in have state name) (parts_may have state name)
+launch_refuses files state name options = launch_may state name options (parts_in files state name) (parts_may files state name)

@@ -1,6 +1,5 @@
 -- The worked installation. All is closed by computing.
-use Rattle.std.proofs.Common.{◌≡◌, [], ◌∷◌, map, Some, None, Ok, Err, refl}
-use Rattle.std.specs.Prelude.{codes}
+use Rattle.std.proofs.Common.{◌≡◌, [], map, Some, None, Ok, Err, refl}
 use Rattle.std.specs.Str.{is_utf8, chars}
 use lib.Utf8.{encode}
 use Rattle.sha2.specs.Sha256.{sha256, digest_bytes, hash_after, compress, rounds, schedule, first_words}
@@ -16,7 +15,8 @@ use Rattle.fl_extension.specs.Points.{points_of, point_of, candidates_of}
 use Rattle.fl_installed.specs.Metadata.{meta_said, runtime_named, points_in}
 use Rattle.fl_installed.specs.Users.{first_user, runtime_at, installed_metas, installed_points}
 use Rattle.fp_base.specs.declared.meta_rule.MetaRule.TheVariants as rules
-use Rattle.fl_installed.specs.Described.{broken, described, info_in}
+use Rattle.fl_installed.specs.Deployed.{stored_files}
+use Rattle.fl_installed.specs.Described.{broken, info_in}
 use Rattle.fl_installed.specs.Sample as sample
 
 pub first_is : metadata_file sample.have sample.first_commit ≡ Some sample.first_metadata
@@ -61,14 +61,14 @@ points_are = refl
 
 -- ---- what is told of a commit
 
-pub info_told : info_in sample.have sample.second sample.second_commit ≡ Ok (record { runtime = Some sample.platform; extensions = sample.names })
-unfolding described metadata_file metadata_digest meta_digest sha256 digest_bytes hash_after compress rounds schedule first_words is_utf8 chars encode meta_of runtime_said extensions_of command_in file_of line_says with_pair with_group value_at ref_of is_id is_arch is_branch
+pub info_told : info_in (stored_files sample.have) sample.second sample.second_commit ≡ Ok (record { runtime = Some sample.platform; extensions = sample.names })
+unfolding metadata_file metadata_digest meta_digest sha256 digest_bytes hash_after compress rounds schedule first_words is_utf8 chars encode meta_of runtime_said extensions_of command_in file_of line_says with_pair with_group value_at ref_of is_id is_arch is_branch
 info_told = refl
 
-pub info_absent : info_in sample.have sample.other [] ≡ Err (broken sample.other rules.Absent)
-unfolding described metadata_file metadata_digest meta_digest sha256 digest_bytes hash_after compress rounds schedule first_words is_utf8 chars encode
+pub info_absent : info_in (stored_files sample.have) sample.other [] ≡ Err (broken sample.other rules.Absent)
+unfolding metadata_file metadata_digest meta_digest sha256 digest_bytes hash_after compress rounds schedule first_words is_utf8 chars encode
 info_absent = refl
 
-pub info_of_kind : info_in sample.have sample.other sample.second_commit ≡ Err (broken sample.other rules.Group)
-unfolding described metadata_file metadata_digest meta_digest sha256 digest_bytes hash_after compress rounds schedule first_words is_utf8 chars encode meta_of file_of line_says with_pair with_group
+pub info_of_kind : info_in (stored_files sample.have) sample.other sample.second_commit ≡ Err (broken sample.other rules.Group)
+unfolding metadata_file metadata_digest meta_digest sha256 digest_bytes hash_after compress rounds schedule first_words is_utf8 chars encode meta_of file_of line_says with_pair with_group
 info_of_kind = refl

@@ -12,8 +12,9 @@ use Rattle.ost_model.specs.Look.{Found, nothing, directory, file_at, look, FileR
 use Rattle.ost_model.specs.Standing.{Stands, expected, is_metadata, metadata_name, deploy_name}
 use Rattle.ost_model.proofs.Looked.{file_reached, look_same, no_fault_on_path}
 use Rattle.ost_model.proofs.Places.{first_same}
+use Rattle.fl_installed.specs.Deployed.{short_file}
 use Rattle.fl_installed.specs.Files.{unless_faulty, metadata_digest, short_content, metadata_file, metadata_in}
-use Rattle.fl_installed.specs.Standing.{IsRead, StandingIsRead, MetadataIsLocal}
+use Rattle.fl_installed.specs.Standing.{IsRead, StandingIsRead, StandingIsStored, MetadataIsLocal}
 
 clean_digest : (have : Have) (commit : List ℕ) → first_fault have commit ≡ None → metadata_digest have commit ≡ file_in (look have commit metadata_name)
 unfolding metadata_digest
@@ -80,6 +81,28 @@ module _ (reads : List ℕ → Bool) (root : Elements) (disk : Disk) (commit : L
       subst (λ (spot : Spot). IsRead reads (metadata_in have commit) spot) (sym (s.paths metadata_name not_deploy))
       (subst (λ (o : Option (List ℕ)). Told o (expected root disk (look have commit metadata_name))) (sym (clean_file have commit s.whole))
       (by_found (look have commit metadata_name) s.described))
+
+  -- ---- its bytes are those of the object
+
+  same_by_spot : (spot : Spot) → is_metadata reads spot ≡ true → short_file spot ≡ short_content (object_at kinds.File spot)
+  same_by_spot gone is = absurd (cc is)
+  same_by_spot folder is = absurd (cc is)
+  same_by_spot (points text) is = absurd (cc is)
+  same_by_spot (holds id mode bytes) is = refl
+
+  same_by_found : (f : Found) → is_metadata reads (expected root disk f) ≡ true → short_file (expected root disk f) ≡ content_of have (file_in f)
+  same_by_found nothing is = absurd (cc is)
+  same_by_found (directory e) is = absurd (cc is)
+  same_by_found (file_at d) is = same_by_spot (disk (object_path root d kinds.File)) is
+
+  stands_stored : short_file (disk (metadata_name ++ dir)) ≡ metadata_file have commit
+  stands_stored =
+      ap short_file (s.paths metadata_name not_deploy)
+      ∙ same_by_found (look have commit metadata_name) s.described
+      ∙ sym (clean_file have commit s.whole)
+
+pub standing_is_stored : StandingIsStored
+standing_is_stored reads root disk commit dir s = stands_stored reads root disk commit dir s
 
 pub standing_is_read : StandingIsRead
 standing_is_read reads root disk commit dir s = stands_read reads root disk commit dir s

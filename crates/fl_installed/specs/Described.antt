@@ -13,6 +13,7 @@ use Rattle.fp_small.specs.declared.refusal.Refusal.TheVariants as refusals
 use Rattle.fl_meta.specs.declared.meta.Meta.{Meta}
 use Rattle.fl_meta.specs.Metadata.{meta_of, meta_kind}
 use Rattle.ost_model.specs.Objects.{Have}
+use Rattle.fl_installed.specs.Deployed.{DeployedFiles}
 use Rattle.fl_installed.specs.Files.{metadata_file}
 use Rattle.fl_installed.specs.declared.info.Info.{Info}
 
@@ -53,5 +54,6 @@ abbrev pub as_info : Result Meta Refusal → Result Info Refusal
 as_info (Ok meta) = Ok (info_of meta)
 as_info (Err refusal) = Err refusal
 
-abbrev pub info_in : Have → Ref → List ℕ → Result Info Refusal
-info_in have name commit = as_info (described have name commit)
+-- by the file `metadata` of the deployed commit
+abbrev pub info_in : DeployedFiles → Ref → List ℕ → Result Info Refusal
+info_in files name commit = as_info (by_file name (files name commit))

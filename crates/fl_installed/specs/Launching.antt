@@ -5,7 +5,7 @@ use Rattle.fp_small.specs.declared.refusal.Refusal.{Refusal}
 use Rattle.fp_small.specs.declared.state.State.{State}
 use Rattle.fl_meta.specs.declared.permission.Mention.{Mention}
 use Rattle.fl_options.specs.Options.{layer_of, last_command}
-use Rattle.ost_model.specs.Objects.{Have}
+use Rattle.fl_installed.specs.Deployed.{DeployedFiles}
 use Rattle.fl_launch.specs.Launch.{launch_text}
 use Rattle.fl_launch.specs.Layers.{all_mentions, granted_by}
 use Rattle.fl_launch.specs.declared.launching.LaunchText.{LaunchText}
@@ -35,5 +35,5 @@ with_parts state name options (Err refusal) = Err refusal
 
 -- The launch, or the first refusal: the application isn't installed, or its metadata doesn't read;
 -- its runtime isn't there, or that one's metadata doesn't read.
-unfoldable pub launch_in : Have → State → Ref → List (List ℕ) → Result LaunchText Refusal
-launch_in have state name options = with_parts state name options (parts_in have state name)
+unfoldable pub launch_in : DeployedFiles → State → Ref → List (List ℕ) → Result LaunchText Refusal
+launch_in files state name options = with_parts state name options (parts_in files state name)

@@ -1,5 +1,6 @@
 pub mod Metadata
 pub mod Files
+pub mod Deployed
 pub mod Users
 pub mod Described
 pub mod Standing

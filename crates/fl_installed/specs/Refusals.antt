@@ -4,7 +4,7 @@ use Rattle.fp_name.specs.Refs.{Ref}
 use Rattle.fp_small.specs.declared.refusal.Refusal.{Refusal}
 use Rattle.fp_small.specs.declared.refusal.Refusal.TheVariants.{NotInstalled, RuntimeMissing, BadMetadata}
 use Rattle.fp_small.specs.declared.state.State.{State}
-use Rattle.ost_model.specs.Objects.{Have}
+use Rattle.fl_installed.specs.Deployed.{DeployedFiles}
 use Rattle.fl_installed.specs.Launching.{launch_in}
 
 abbrev pub MayRefuse : Refusal → Type 0
@@ -15,5 +15,5 @@ MayRefuse refusal = ⊥
 
 -- a launch has no other refusals
 abbrev pub LaunchRefuses : Type 0
-LaunchRefuses = (have : Have) (state : State) (name : Ref) (options : List (List ℕ))
-    (refusal : Refusal) → launch_in have state name options ≡ Err refusal → MayRefuse refusal
+LaunchRefuses = (files : DeployedFiles) (state : State) (name : Ref) (options : List (List ℕ))
+    (refusal : Refusal) → launch_in files state name options ≡ Err refusal → MayRefuse refusal

@@ -9,6 +9,7 @@ use Rattle.ost_model.specs.Objects.{Have, store}
 use Rattle.ost_model.specs.Order.{Agree, order, first_fault}
 use Rattle.ost_model.specs.Standing.{Stands, metadata_name}
 use Rattle.fl_installed.specs.Metadata.{runtime_named}
+use Rattle.fl_installed.specs.Deployed.{short_file}
 use Rattle.fl_installed.specs.Files.{metadata_file, metadata_in}
 use Rattle.fl_installed.specs.Users.{SaySame, first_user, installed_metas, installed_points}
 
@@ -25,6 +26,13 @@ StandingIsRead =
     (reads : List ℕ → Bool) (root : Elements) (disk : Disk) (commit : List ℕ) (dir : Elements)
     → Stands reads root disk commit dir
     → IsRead reads (metadata_in (store root disk) commit) (disk (metadata_name ++ dir))
+
+-- and its bytes are those that the store's objects give, so it has at most 1 MiB
+abbrev pub StandingIsStored : Type 0
+StandingIsStored =
+    (reads : List ℕ → Bool) (root : Elements) (disk : Disk) (commit : List ℕ) (dir : Elements)
+    → Stands reads root disk commit dir
+    → short_file (disk (metadata_name ++ dir)) ≡ metadata_file (store root disk) commit
 
 -- the file of a commit without a fault depends on the objects of its order alone
 abbrev pub MetadataIsLocal : Type 0

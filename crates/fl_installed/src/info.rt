@@ -7,8 +7,10 @@ ghost use Rattle.fp_small.specs.Places.{repo};
 ghost use Rattle.fl_meta.specs.Metadata.{meta_of, meta_kind};
 ghost use Rattle.ost_model.specs.Objects.{Have};
 ghost use Rattle.ost_model.specs.Remotes.{Stores};
+ghost use Rattle.fl_installed.specs.Deployed.{DeployedFiles, Deploys};
 ghost use Rattle.fl_installed.specs.Described as spec;
 
+use crate::deployed::deployed_file;
 use crate::files::metadata_file;
 use fl_meta::{Meta, MetaError, meta_kind};
 use fp_base::{Blob, Items, MetaRule, MetadataRule, Text};
@@ -28,7 +30,7 @@ pub struct Info {
 }
 
 /// The refusal of metadata that breaks a rule.
-fn broken(name: &RefName, rule: MetaRule) -> Result<Refusal, AllocError>
+pub(crate) fn broken(name: &RefName, rule: MetaRule) -> Result<Refusal, AllocError>
     ensures { IfOk result (λ refusal. refusal ≡ spec.broken name.now rule) }
 {
     Ok(Refusal::BadMetadata {
@@ -58,7 +60,7 @@ fn by_rules(
 }
 
 /// What the bytes say as the metadata of a ref, or what is wrong with them.
-fn by_lines(
+pub(crate) fn by_lines(
     alloc: Global,
     name: &RefName,
     bytes: &Blob,
@@ -152,8 +154,9 @@ fn as_info(meta: Result<Meta, Refusal>) -> Result<Info, Refusal>
     }
 }
 
-/// What is told of the metadata of a commit of a ref, as the installation's store has it, or its
-/// refusal, which is that of `described`. Nothing changes.
+/// What is told of the metadata of a deployed commit of a ref, by the file `metadata` in the
+/// commit's folder, or `BadMetadata`: with the rule `absent` of line 0, where no file of at most
+/// 1 MiB stands there, and else as `described` says it. Nothing changes.
 pub fn info_in<H: Host>(
     alloc: Global,
     host: &mut H,
@@ -161,10 +164,11 @@ pub fn info_in<H: Host>(
     commit: &Digest,
 ) -> Result<Result<Info, Refusal>, HostEnd>
     ensures unchanged { ChangesNothing H.Host host.old host.new }
-    ensures tells { (have : Have) → Stores repo (H.moments host.old) have
-        → IfOk result (λ info. info ≡ spec.info_in have name.now commit.now) }
+    ensures tells { (files : DeployedFiles) → Deploys (H.moments host.old) files
+        → IfOk result (λ info. info ≡ spec.info_in files name.now commit.now) }
     ensures fault_has_cause { FailsAlone H.Host host.old host.new (IsErrOf result HostEnd.Fault) }
 {
-    let meta = described(alloc, host, name, commit)?;
+    let file = deployed_file(alloc, host, name, commit)?;
+    let meta = by_file(alloc, name, file)?;
     Ok(as_info(meta))
 }

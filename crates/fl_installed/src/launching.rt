@@ -2,9 +2,7 @@
 ghost use Rattle.std.specs.Prelude.{◌≡◌, IfOk, IsSome, IsErrOf};
 ghost use Rattle.std.specs.Option.{option_copied};
 ghost use Rattle.fp_host.specs.OverHost.{ChangesNothing, FailsAlone};
-ghost use Rattle.fp_small.specs.Places.{repo};
-ghost use Rattle.ost_model.specs.Objects.{Have};
-ghost use Rattle.ost_model.specs.Remotes.{Stores};
+ghost use Rattle.fl_installed.specs.Deployed.{DeployedFiles, Deploys};
 ghost use Rattle.fl_installed.specs.Launching as spec;
 ghost use Rattle.fl_installed.specs.Parts.{NamesRuntime};
 
@@ -76,9 +74,9 @@ fn with_parts(
 }
 
 /// The launch of an installed application with the options of a user, after flatpak-run(1): its
-/// text, and what it grants; or the first refusal, which is that of `parts_in`. What the two files
-/// `metadata` say is read from the installation's store, and nothing changes. A word that is no
-/// option says nothing.
+/// text, and what it grants; or the first refusal, which is that of `parts_in`. The two files
+/// `metadata` are read in the folders of the deployed commits, and nothing changes. A word that is
+/// no option says nothing.
 #[tactic(auto, unfolding(crate::specs::Launching::launch_in))]
 pub fn launch_in<H: Host>(
     alloc: Global,
@@ -88,8 +86,8 @@ pub fn launch_in<H: Host>(
     options: &[Text],
 ) -> Result<Result<LaunchText, Refusal>, HostEnd>
     ensures unchanged { ChangesNothing H.Host host.old host.new }
-    ensures tells { (have : Have) → Stores repo (H.moments host.old) have
-        → IfOk result (λ launch. launch ≡ spec.launch_in have state.now name.now options.now) }
+    ensures tells { (files : DeployedFiles) → Deploys (H.moments host.old) files
+        → IfOk result (λ launch. launch ≡ spec.launch_in files state.now name.now options.now) }
     ensures fault_has_cause { FailsAlone H.Host host.old host.new (IsErrOf result HostEnd.Fault) }
 {
     let parts = parts_in(alloc, host, state, name)?;

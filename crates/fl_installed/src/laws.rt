@@ -2,18 +2,21 @@
 //! a function that does nothing.
 ghost use Rattle.std.specs.Prelude.{◌≡◌, ◌+◌, [], ℕ, List, length, map, Some, None, Ok, Err};
 ghost use Rattle.fp_base.specs.declared.meta_rule.MetaRule.TheVariants as rules;
+ghost use Rattle.fp_host.specs.Outcome.{gone, folder, holds, points};
 ghost use Rattle.ost_model.specs.declared.limits.TheConstants.{MOST_METADATA_FILE_BYTES};
 ghost use Rattle.ost_model.specs.declared.object.Object.TheVariants as objects;
+ghost use Rattle.fl_installed.specs.Deployed.{short_file, stored_files};
 ghost use Rattle.fl_installed.specs.Described.{broken, info_in};
 ghost use Rattle.fl_installed.specs.Files.{metadata_file, short_content};
-ghost use Rattle.fl_installed.specs.Standing.{StandingIsRead, MetadataIsLocal, UserIsLocal, MetasAreLocal, PointsAreLocal, ApplicationsName};
+ghost use Rattle.fl_installed.specs.Standing.{StandingIsRead, StandingIsStored, MetadataIsLocal, UserIsLocal, MetasAreLocal, PointsAreLocal, ApplicationsName};
 ghost use Rattle.fl_installed.specs.Users.{first_user, runtime_at, installed_metas, installed_points};
 ghost use Rattle.fl_installed.specs.Sample as sample;
 
-/// What is told of the file `metadata` of a commit that stands in a folder is the file there, which
-/// reads.
+/// What the store tells of the file `metadata` of a commit that stands in a folder is the file
+/// there, which reads. So what is told by the one and by the other is the same.
 pub fn metadata_is_what_stands()
-    ensures { StandingIsRead }
+    ensures read { StandingIsRead }
+    ensures stored { StandingIsStored }
 {}
 
 /// The file `metadata` of a commit without a fault depends on the objects of its order, and what is
@@ -54,19 +57,29 @@ pub fn small_installation_is_used()
         ≡ sample.points }
 {}
 
-/// In the same installation: what is told of a commit, or what is wrong with it.
+/// In the same installation, where the deployed files are those of the store: what is told of a
+/// commit, or what is wrong with it.
 pub fn small_installation_is_described()
-    ensures info { info_in sample.have sample.second sample.second_commit
+    ensures info { info_in (stored_files sample.have) sample.second sample.second_commit
         ≡ Ok (record { runtime = Some sample.platform; extensions = sample.names }) }
-    ensures absent { info_in sample.have sample.other [] ≡ Err (broken sample.other rules.Absent) }
-    ensures kind { info_in sample.have sample.other sample.second_commit
+    ensures absent { info_in (stored_files sample.have) sample.other []
+        ≡ Err (broken sample.other rules.Absent) }
+    ensures kind { info_in (stored_files sample.have) sample.other sample.second_commit
         ≡ Err (broken sample.other rules.Group) }
 {}
 
-/// A file `metadata` has at most 1 MiB.
+/// A file `metadata` has at most 1 MiB, in the store and where it is deployed. Nothing else that may
+/// stand there is one.
 pub fn files_are_short()
     ensures most { (mode : ℕ) (bytes : List ℕ) → length bytes ≡ MOST_METADATA_FILE_BYTES
         → short_content (Some (objects.File mode bytes)) ≡ Some bytes }
     ensures more { (mode : ℕ) (bytes : List ℕ) → length bytes ≡ MOST_METADATA_FILE_BYTES + 1
         → short_content (Some (objects.File mode bytes)) ≡ None }
+    ensures most_deployed { (id mode : ℕ) (bytes : List ℕ)
+        → length bytes ≡ MOST_METADATA_FILE_BYTES → short_file (holds id mode bytes) ≡ Some bytes }
+    ensures more_deployed { (id mode : ℕ) (bytes : List ℕ)
+        → length bytes ≡ MOST_METADATA_FILE_BYTES + 1 → short_file (holds id mode bytes) ≡ None }
+    ensures gone { short_file gone ≡ None }
+    ensures folder { short_file folder ≡ None }
+    ensures link { (text : List ℕ) → short_file (points text) ≡ None }
 {}

@@ -1,6 +1,7 @@
 //! What the metadata of commits says, and what the deployed commits of an installation say.
 #![tactic(auto)]
 
+mod deployed;
 mod files;
 mod info;
 mod launching;

@@ -1,16 +1,15 @@
-//! What a launch stands on, read from the installation's store.
+//! What a launch stands on, read from the folders of deployed commits.
 ghost use Rattle.std.specs.Prelude.{◌≡◌, IfOk, IsErrOf};
 ghost use Rattle.fp_host.specs.OverHost.{ChangesNothing, FailsAlone};
-ghost use Rattle.fp_small.specs.Places.{repo};
-ghost use Rattle.ost_model.specs.Objects.{Have};
-ghost use Rattle.ost_model.specs.Remotes.{Stores};
-ghost use Rattle.fl_installed.specs.Described.{broken};
+ghost use Rattle.fl_installed.specs.Deployed.{DeployedFiles, Deploys};
 ghost use Rattle.fl_installed.specs.Parts as spec;
 
-use crate::{described, points_in, read_metadata};
+use crate::deployed::deployed_file;
+use crate::info::{broken, by_lines};
+use crate::points_in;
 use fl_extension::{Point, row_of};
 use fl_meta::Meta;
-use fp_base::{Items, MetaRule, MetadataRule};
+use fp_base::{Blob, Items, MetaRule};
 use fp_host::{Host, HostEnd};
 use fp_name::{Digest, RefName};
 use fp_small::{Refusal, State};
@@ -34,22 +33,6 @@ pub struct LaunchParts {
     pub runtime: DeployedMeta,
 }
 
-/// The extension points that a commit of a ref says.
-fn read_points<H: Host>(
-    alloc: Global,
-    host: &mut H,
-    name: &RefName,
-    commit: &Digest,
-) -> Result<Items<Point>, HostEnd>
-    ensures unchanged { ChangesNothing H.Host host.old host.new }
-    ensures tells { (have : Have) → Stores repo (H.moments host.old) have
-        → IfOk result (λ points. points ≡ spec.points_at have name.now commit.now) }
-    ensures fault_has_cause { FailsAlone H.Host host.old host.new (IsErrOf result HostEnd.Fault) }
-{
-    let metadata = read_metadata(alloc, host, commit)?;
-    Ok(points_in(alloc, name, &metadata)?)
-}
-
 /// Metadata with these extension points, unless it was refused.
 fn with_points(meta: Result<Meta, Refusal>, points: Items<Point>) -> Result<DeployedMeta, Refusal>
     ensures { result ≡ spec.with_points points meta }
@@ -60,9 +43,26 @@ fn with_points(meta: Result<Meta, Refusal>, points: Items<Point>) -> Result<Depl
     }
 }
 
-/// The metadata of a commit of a ref with the extension points that it says, or its refusal, which
-/// is that of `described`.
-#[tactic(auto, unfolding(crate::specs::Parts::deployed))]
+/// What a file says as the metadata of a ref, with the extension points that it says, or its
+/// refusal, also where there is no file.
+fn said_by(
+    alloc: Global,
+    name: &RefName,
+    file: Option<Blob>,
+) -> Result<Result<DeployedMeta, Refusal>, AllocError>
+    ensures { IfOk result (λ said. said ≡ spec.said_by name.now file) }
+{
+    match file {
+        Some(bytes) => {
+            let points = points_in(alloc, name, &bytes)?;
+            let meta = by_lines(alloc, name, &bytes)?;
+            Ok(with_points(meta, points))
+        }
+        None => Ok(Err(broken(name, MetaRule::Absent)?)),
+    }
+}
+
+/// What the file `metadata` in the folder of a deployed commit of the ref says, or its refusal.
 fn deployed<H: Host>(
     alloc: Global,
     host: &mut H,
@@ -70,13 +70,12 @@ fn deployed<H: Host>(
     commit: &Digest,
 ) -> Result<Result<DeployedMeta, Refusal>, HostEnd>
     ensures unchanged { ChangesNothing H.Host host.old host.new }
-    ensures tells { (have : Have) → Stores repo (H.moments host.old) have
-        → IfOk result (λ said. said ≡ spec.deployed have name.now commit.now) }
+    ensures tells { (files : DeployedFiles) → Deploys (H.moments host.old) files
+        → IfOk result (λ said. said ≡ spec.deployed files name.now commit.now) }
     ensures fault_has_cause { FailsAlone H.Host host.old host.new (IsErrOf result HostEnd.Fault) }
 {
-    let points = read_points(alloc, host, name, commit)?;
-    let meta = described(alloc, host, name, commit)?;
-    Ok(with_points(meta, points))
+    let file = deployed_file(alloc, host, name, commit)?;
+    Ok(said_by(alloc, name, file)?)
 }
 
 /// What the deployed commit of the application says, or `NotInstalled`.
@@ -88,8 +87,8 @@ fn app_in<H: Host>(
     name: &RefName,
 ) -> Result<Result<DeployedMeta, Refusal>, HostEnd>
     ensures unchanged { ChangesNothing H.Host host.old host.new }
-    ensures tells { (have : Have) → Stores repo (H.moments host.old) have
-        → IfOk result (λ said. said ≡ spec.app_in have state.now name.now) }
+    ensures tells { (files : DeployedFiles) → Deploys (H.moments host.old) files
+        → IfOk result (λ said. said ≡ spec.app_in files state.now name.now) }
     ensures fault_has_cause { FailsAlone H.Host host.old host.new (IsErrOf result HostEnd.Fault) }
 {
     match row_of(state, name) {
@@ -107,25 +106,14 @@ fn runtime_in<H: Host>(
     name: &RefName,
 ) -> Result<Result<DeployedMeta, Refusal>, HostEnd>
     ensures unchanged { ChangesNothing H.Host host.old host.new }
-    ensures tells { (have : Have) → Stores repo (H.moments host.old) have
-        → IfOk result (λ said. said ≡ spec.runtime_in have state.now name.now) }
+    ensures tells { (files : DeployedFiles) → Deploys (H.moments host.old) files
+        → IfOk result (λ said. said ≡ spec.runtime_in files state.now name.now) }
     ensures fault_has_cause { FailsAlone H.Host host.old host.new (IsErrOf result HostEnd.Fault) }
 {
     match row_of(state, name) {
         Some(row) => deployed(alloc, host, name, &row.commit),
         None => Ok(Err(Refusal::RuntimeMissing { name: name.copy()? })),
     }
-}
-
-/// The refusal of metadata that names no runtime.
-fn without_runtime(name: &RefName) -> Result<Refusal, AllocError>
-    ensures { IfOk result (λ refusal. refusal ≡ broken name.now MetaRule.Runtime) }
-{
-    Ok(Refusal::BadMetadata {
-        name: name.copy()?,
-        line: 0,
-        rule: MetadataRule::Meta(MetaRule::Runtime),
-    })
 }
 
 /// What the deployed commit of the runtime says that the application's metadata names.
@@ -138,14 +126,14 @@ fn runtime_of<H: Host>(
     app: &Meta,
 ) -> Result<Result<DeployedMeta, Refusal>, HostEnd>
     ensures unchanged { ChangesNothing H.Host host.old host.new }
-    ensures tells { (have : Have) → Stores repo (H.moments host.old) have
-        → IfOk result (λ said. said ≡ spec.runtime_of have state.now name.now app.now) }
+    ensures tells { (files : DeployedFiles) → Deploys (H.moments host.old) files
+        → IfOk result (λ said. said ≡ spec.runtime_of files state.now name.now app.now) }
     ensures named { IfOk result (λ said. spec.IsNamed app.now.runtime said) }
     ensures fault_has_cause { FailsAlone H.Host host.old host.new (IsErrOf result HostEnd.Fault) }
 {
     match &app.runtime {
         Some(runtime) => runtime_in(alloc, host, state, runtime),
-        None => Ok(Err(without_runtime(name)?)),
+        None => Ok(Err(broken(name, MetaRule::Runtime)?)),
     }
 }
 
@@ -173,8 +161,8 @@ fn with_app<H: Host>(
     app: Result<DeployedMeta, Refusal>,
 ) -> Result<Result<LaunchParts, Refusal>, HostEnd>
     ensures unchanged { ChangesNothing H.Host host.old host.new }
-    ensures tells { (have : Have) → Stores repo (H.moments host.old) have
-        → IfOk result (λ parts. parts ≡ spec.with_app have state.now name.now app) }
+    ensures tells { (files : DeployedFiles) → Deploys (H.moments host.old) files
+        → IfOk result (λ parts. parts ≡ spec.with_app files state.now name.now app) }
     ensures named { IfOk result spec.NamesRuntime }
     ensures fault_has_cause { FailsAlone H.Host host.old host.new (IsErrOf result HostEnd.Fault) }
 {
@@ -187,8 +175,8 @@ fn with_app<H: Host>(
     }
 }
 
-/// What a launch of the application stands on, as the state and the installation's store have it,
-/// or the first refusal of these: `NotInstalled`; `BadMetadata` of the application;
+/// What a launch of the application stands on, as the state and the files `metadata` of the deployed
+/// commits have it, or the first refusal of these: `NotInstalled`; `BadMetadata` of the application;
 /// `RuntimeMissing`, where the runtime that it names isn't installed; and `BadMetadata` of the
 /// runtime. Nothing changes.
 #[tactic(auto, unfolding(crate::specs::Parts::parts_in))]
@@ -199,8 +187,8 @@ pub fn parts_in<H: Host>(
     name: &RefName,
 ) -> Result<Result<LaunchParts, Refusal>, HostEnd>
     ensures unchanged { ChangesNothing H.Host host.old host.new }
-    ensures tells { (have : Have) → Stores repo (H.moments host.old) have
-        → IfOk result (λ parts. parts ≡ spec.parts_in have state.now name.now) }
+    ensures tells { (files : DeployedFiles) → Deploys (H.moments host.old) files
+        → IfOk result (λ parts. parts ≡ spec.parts_in files state.now name.now) }
     ensures named { IfOk result spec.NamesRuntime }
     ensures fault_has_cause { FailsAlone H.Host host.old host.new (IsErrOf result HostEnd.Fault) }
 {

@@ -2,6 +2,7 @@
 use Rattle.std.proofs.Common.{◌≡◌, Option, sym, ◌∙◌, subst}
 use Rattle.fp_host.specs.Outcome.{shows}
 use Rattle.fp_host.specs.Remote.{Holdings}
+use Rattle.fp_host.specs.View.{View}
 use Rattle.dep_states.specs.Settled.{Settled}
 use Rattle.dep_states.proofs.Sparing.{settled_same}
 use Rattle.fl_top.specs.Exports.{HasExports, LeavesExports, IsAtRest, IsInStep}
@@ -26,5 +27,5 @@ whole_at_rest = record { settled = subst Settled (sym whole_shown) whole_settled
 whole_leaves : LeavesExports whole_view
 whole_leaves disk left = subst HasExports (sym (settled_same whole_tree whole_quiet disk left ∙ whole_shown)) whole_exports
 
-pub whole_in_step : (holds : Option Holdings) → IsInStep holds whole_view
-whole_in_step holds = record { exports = whole_leaves; rests = λ held is. whole_at_rest }
+pub whole_in_step : (holds : Option Holdings) (u : View) → IsInStep ⊥ holds u whole_view
+whole_in_step holds u = record { exports = whole_leaves; rests = λ held is before. whole_at_rest }

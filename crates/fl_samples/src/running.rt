@@ -29,5 +29,5 @@ pub fn sound_installations_are_fit()
 pub fn all_is_at_rest()
     ensures exports { HasExports whole_disk }
     ensures rests { IsAtRest whole_view }
-    ensures in_step { (holds : Option Holdings) → IsInStep holds whole_view }
+    ensures in_step { (holds : Option Holdings) (u : View) → IsInStep ⊥ holds u whole_view }
 {}

@@ -33,8 +33,8 @@ no_refreshed e (some_work above) = no_tmp above
 no_refreshed e (store_folder at is) = cc at
 no_refreshed e (work_folder at is) = cc at
 
-refreshed_stays : {u w : View} → ((q : Elements) → (w.names q ≡ u.names q) ⊎ MayRefresh q (w.names q)) → u.names repo_config ≢ absent → w.names repo_config ≡ u.names repo_config
-refreshed_stays names there = elim (names repo_config) [ inl same ↦ same | inr may ↦ absurd (no_refreshed _ may) ]
+refreshed_stays : (u w : View) → ((q : Elements) → (w.names q ≡ u.names q) ⊎ MayRefresh q (w.names q)) → u.names repo_config ≢ absent → w.names repo_config ≡ u.names repo_config
+refreshed_stays u w names there = elim (names repo_config) [ inl same ↦ same | inr may ↦ absurd (no_refreshed _ may) ]
 
 pub alter_none : {May : Op → Type 0} {Make : Elements → Slot → Type 0} {u w : View} → ((q : Elements) → w.names q ≡ u.names q) → KeepsFiles u w → Alters May Make u w
 alter_none names files = record { names = λ q. inl (names q); config_stays = λ there. names repo_config; files = files; links = links_still names }
@@ -70,10 +70,10 @@ pub alter_changes : {May : Op → Type 0} {Make : Elements → Slot → Type 0} 
 alter_changes changes = record { names = λ q. elim (changes.names q) [ inl same ↦ inl same | inr may ↦ inr (changed may) ]; config_stays = changes.config_stays; files = changes.files; links = changes.links }
 
 pub alter_refreshes : {May : Op → Type 0} {Make : Elements → Slot → Type 0} {s : State} {u w : View} → Refreshes s u w → Alters May Make u w
-alter_refreshes refreshes = record { names = λ q. elim (refreshes.names q) [ inl same ↦ inl same | inr may ↦ inr (refreshed may) ]; config_stays = refreshed_stays refreshes.names; files = refreshes.files; links = refreshes.links }
+alter_refreshes {u = u} {w = w} refreshes = record { names = λ q. elim (refreshes.names q) [ inl same ↦ inl same | inr may ↦ inr (refreshed may) ]; config_stays = refreshed_stays u w refreshes.names; files = refreshes.files; links = refreshes.links }
 
 pub alter_refreshed : {May : Op → Type 0} {Make : Elements → Slot → Type 0} {u w : View} → RefreshesShown u w → Alters May Make u w
-alter_refreshed step = record { names = λ q. elim (step.names q) [ inl same ↦ inl same | inr may ↦ inr (refreshed may) ]; config_stays = refreshed_stays step.names; files = step.files; links = step.links }
+alter_refreshed {u = u} {w = w} step = record { names = λ q. elim (step.names q) [ inl same ↦ inl same | inr may ↦ inr (refreshed may) ]; config_stays = refreshed_stays u w step.names; files = step.files; links = step.links }
 
 -- ---- where no operation is done
 

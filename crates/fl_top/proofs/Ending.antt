@@ -42,6 +42,7 @@ use Rattle.fl_change.specs.Answer.{Answer, Piece, lines_of, last_of, pieces_text
 use Rattle.fl_export.specs.Exported.{exported}
 use Rattle.fl_top.specs.Fsck.{report_text}
 use Rattle.fl_top.specs.Exports.{exports_text, HasExports, LeavesExports}
+use Rattle.fl_installed.specs.Deployed.{DeployedFiles}
 use Rattle.fl_top.specs.Answer.{Given, listing_answer, override_text, shown_by, shown_answer, of_batch, How, how, by_changes, by_batch, by_exercise, by_world, by_input, answer_by, answer_over, by_read, by_value, by_type, commit_shown, tree_shown, meta_shown, value_shown, over_input, launch_over, of_launch, on_session, on_system, rules_over, by_rules, of_recording, filtered_by, filter_by, of_description, commit_made}
 use Rattle.fl_change.specs.Turns.{changing}
 use Rattle.fl_top.specs.Objects.{commit_lines, tree_lines, meta_lines}
@@ -302,14 +303,14 @@ shown_plain things.DirTree bytes = dirtree_plain bytes
 shown_plain things.DirMeta bytes = dirmeta_plain bytes
 shown_plain (things.Value of) bytes = value_plain of bytes
 
-listed_plain : (listing : Listing) (x : World) → IsPlain (listing_answer listing x)
-listed_plain listings.Refs x = told_plain (refs_text x.state.refs)
-listed_plain listings.Pins x = told_plain (pins_text x.state.pins)
-listed_plain listings.Remotes x = told_plain (remotes_text x.state.remotes)
-listed_plain listings.Exports x = told_plain (exports_text (exported x.have x.state))
-listed_plain (listings.Info name) x = λ r is. has_status_one r (known_later name x r is)
-listed_plain (listings.Launch name options) x = λ r is. has_status_one r (launch_later name options x r is)
-listed_plain (listings.OverrideShow name) x = told_plain (override_text x.state name)
+listed_plain : (files : DeployedFiles) (listing : Listing) (x : World) → IsPlain (listing_answer files listing x)
+listed_plain files listings.Refs x = told_plain (refs_text x.state.refs)
+listed_plain files listings.Pins x = told_plain (pins_text x.state.pins)
+listed_plain files listings.Remotes x = told_plain (remotes_text x.state.remotes)
+listed_plain files listings.Exports x = told_plain (exports_text (exported x.have x.state))
+listed_plain files (listings.Info name) x = λ r is. has_status_one r (known_later files name x r is)
+listed_plain files (listings.Launch name options) x = λ r is. has_status_one r (launch_later files name options x r is)
+listed_plain files (listings.OverrideShow name) x = told_plain (override_text x.state name)
 
 end_plain : (end : Option End) → IsPlain (record { pieces = []; refusal = option_map broken end })
 end_plain None r is = absurd (cc is)
@@ -350,18 +351,18 @@ may_plain (refusals.NoPrevious name) may = absurd may
 err_plain : {A : Type 0} (read : Result A Refusal) (q r : Refusal) → 1 ≡ status_of q → read ≡ Err q → read ≡ Err r → 1 ≡ status_of r
 err_plain read q r one first second = let both : Err q ≡ Err r = sym first ∙ second in let same : q ≡ r = cc both in subst (λ (x : Refusal). 1 ≡ status_of x) same one
 
-launch_plain : (name : Ref) (shown : Result World Elements) → IsLaunchPlain (launch_over name shown)
-launch_plain name (Err path) r is = err_plain (launch_over name (Err path)) (Damaged path) r refl refl is
-launch_plain name (Ok x) r is = may_plain r (launch_refuses x.have x.state name [] r is)
+launch_plain : (files : DeployedFiles) (name : Ref) (shown : Result World Elements) → IsLaunchPlain (launch_over files name shown)
+launch_plain files name (Err path) r is = err_plain (launch_over files name (Err path)) (Damaged path) r refl refl is
+launch_plain files name (Ok x) r is = may_plain r (launch_refuses files x.state name [] r is)
 
 of_launch_plain : (rules : LaunchText → List PolicyRule) (launch : Result LaunchText Refusal) → IsLaunchPlain launch → IsLaunchPlain (of_launch rules launch)
 of_launch_plain rules (Err q) plain r is = err_plain (of_launch rules (Err q)) q r (plain q refl) refl is
 of_launch_plain rules (Ok launch) plain r is = absurd (cc is)
 
-rules_plain : (source : PolicySource) (shown : Result World Elements) → IsLaunchPlain (rules_over source shown)
-rules_plain (sources.Rules words) shown r is = absurd (cc is)
-rules_plain (sources.Session name) shown r is = of_launch_plain (on_session name) (launch_over name shown) (launch_plain name shown) r is
-rules_plain (sources.System name) shown r is = of_launch_plain on_system (launch_over name shown) (launch_plain name shown) r is
+rules_plain : (files : DeployedFiles) (source : PolicySource) (shown : Result World Elements) → IsLaunchPlain (rules_over files source shown)
+rules_plain files (sources.Rules words) shown r is = absurd (cc is)
+rules_plain files (sources.Session name) shown r is = of_launch_plain (on_session name) (launch_over files name shown) (launch_plain files name shown) r is
+rules_plain files (sources.System name) shown r is = of_launch_plain on_system (launch_over files name shown) (launch_plain files name shown) r is
 
 by_rules_plain : (recording : Recording) (rules : Result (List PolicyRule) Refusal) → IsLaunchPlain rules → IsPlain (by_rules recording rules)
 by_rules_plain recording (Err q) plain r is = one_of_some q r is (plain q refl)
@@ -375,8 +376,8 @@ filtered_plain : (rules : Result (List PolicyRule) Refusal) (bytes : List ℕ) �
 unfolding filtered_by
 filtered_plain rules bytes plain = recording_plain rules (recording_of bytes) plain
 
-filter_plain : (source : PolicySource) (shown : Result World Elements) (bytes : List ℕ) → IsPlain (filter_by source shown bytes)
-filter_plain source shown bytes = filtered_plain (rules_over source shown) bytes (rules_plain source shown)
+filter_plain : (files : DeployedFiles) (source : PolicySource) (shown : Result World Elements) (bytes : List ℕ) → IsPlain (filter_by files source shown bytes)
+filter_plain files source shown bytes = filtered_plain (rules_over files source shown) bytes (rules_plain files source shown)
 
 description_plain : (commit : List ℕ) (read : Result Description ℕ) → IsPlain (of_description commit read)
 description_plain commit (Err line) r is = one_of_some (BadRecord line) r is refl
@@ -393,9 +394,9 @@ IsPlainly (by_input f) = (given : Given) (shown : Result World Elements) (bytes 
 IsPlainly _ = Unit {0}
 
 plainly : (command : Command) → IsPlainly (how command)
-plainly (Listed listing) = λ given. listed_plain listing
+plainly (Listed listing) = λ given. listed_plain given.files listing
 plainly (Showing thing) = λ given shown. shown_plain thing
-plainly (Filtering source) = λ given. filter_plain source
+plainly (Filtering source) = λ given. filter_plain given.files source
 plainly Fsck = λ given x. told_plain (report_text given.report)
 plainly (Exporting remote name) = λ given shown. made_plain given.commit
 plainly _ = tt

@@ -23,6 +23,7 @@ use Rattle.fl_export.specs.declared.rows.ExportRow.{ExportRow}
 use Rattle.fl_export.proofs.Samples.{stable_exported}
 use Rattle.fl_change.specs.Answer.{text_answer}
 use Rattle.fl_change.proofs.Same.{same_settled}
+use Rattle.fl_installed.specs.Deployed.{DeployedFiles}
 use Rattle.fl_top.specs.Answer.{listing_answer}
 use Rattle.fl_top.specs.Exports.{exports_text, LeavesExports, IsInStep}
 use Rattle.fl_top.specs.ExportSample.{desktop_text, desktop_place, icon_place, placed_rows, placed_disk, stale_place, stale_disk, listed_text}
@@ -52,10 +53,10 @@ bare_exports v tree settled none disk left = record {
     gone_at (x ∷ up) within leaf = subst IsLeafSpot (settled_disk v tree settled disk left (x ∷ up) ∙ ap (spot_of v.files) (none x up)) leaf
 
 -- and nothing stands there that isn't settled
-pub bare_in_step : (holds : Option Holdings) (v : View) → IsTree v → IsSettled v → ((x : List ℕ) (up : Elements) → v.names (x ∷ up) ≡ absent) → IsInStep holds v
-bare_in_step holds v tree settled none = record {
+pub bare_in_step : (holds : Option Holdings) (u v : View) → IsTree v → IsSettled v → ((x : List ℕ) (up : Elements) → v.names (x ∷ up) ≡ absent) → IsInStep ⊥ holds u v
+bare_in_step holds u v tree settled none = record {
   exports = bare_exports v tree settled none;
-  rests = λ held is. record { settled = same_settled stands empty_settled; exports = bare_exports v tree settled none (shows v) (now_left v) };
+  rests = λ held is before. record { settled = same_settled stands empty_settled; exports = bare_exports v tree settled none (shows v) (now_left v) };
 }
   where
     stands : (q : Elements) → shows v q ≡ empty_disk q
@@ -104,5 +105,5 @@ stale_are_not are = are.only stale_place (inr (inr (inr (inr (inr (inr (inl refl
 
 -- ---- and as they are listed
 
-pub exports_listed : listing_answer listings.Exports (record { state = sample.state (sample.row sample.stable ∷ []); have = sample.have }) ≡ text_answer listed_text
-exports_listed = ap (λ (found : List ExportRow). text_answer (exports_text found)) stable_exported
+pub exports_listed : (files : DeployedFiles) → listing_answer files listings.Exports (record { state = sample.state (sample.row sample.stable ∷ []); have = sample.have }) ≡ text_answer listed_text
+exports_listed files = ap (λ (found : List ExportRow). text_answer (exports_text found)) stable_exported

@@ -17,18 +17,20 @@ use Rattle.fp_base.specs.declared.what.What.TheVariants.{Input}
 use Rattle.fl_lines.specs.Lines.{refusal_text}
 use Rattle.fl_words.specs.Forms.{command_of, bad_index}
 use Rattle.fl_words.specs.declared.command.Command.{Command}
-use Rattle.fl_words.specs.declared.command.Command.TheVariants.{Change as Changing, Batch, Exercise as Exercising}
+use Rattle.fl_words.specs.declared.command.Command.TheVariants.{Change as Changing, List as Listed, Batch, Exercise as Exercising}
 use Rattle.fl_words.specs.declared.command.Change.{Change}
+use Rattle.fl_words.specs.declared.command.Listing.{Listing}
+use Rattle.fl_installed.specs.Deployed.{DeployedFiles}
 use Rattle.fl_words.specs.declared.batch.BatchError.{BatchError}
 use Rattle.fl_words.specs.declared.batch.BatchError.TheVariants as batch
 use Rattle.fl_words.specs.Batch.{batch_of, IsBadBatch}
 use Rattle.fl_change.specs.World.{World}
 use Rattle.fl_change.specs.Answer.{Answer, refusal_answer}
-use Rattle.fl_top.specs.Answer.{Given, answer, answer_to, answer_over, shown_answer, over_input, of_batch, IsOver, IsAtOnce}
+use Rattle.fl_top.specs.Answer.{Given, answer, answer_to, answer_over, listing_answer, shown_answer, over_input, of_batch, IsOver, IsAtOnce}
 use Rattle.fl_change.specs.Turns.{changing, MayDo}
 use Rattle.fl_top.specs.Asked.{OpsBy, OpsFor}
 use Rattle.fp_small.specs.declared.op.Op.{Op}
-use Rattle.fl_top.specs.Runs.{Runs, Ran, Told, RunsBy, RanBy, IsGiven, IsGivenTo, Looks, MakesNone, IsChange, IsKnown, IsReady, Serves, HasCauses, MayAnswer, WasTaken}
+use Rattle.fl_top.specs.Runs.{Runs, Ran, Told, RunsBy, RanBy, IsGiven, IsGivenTo, Looks, MakesNone, IsChange, IsKnown, IsReady, Serves, HasCauses, MayAnswer, WasTaken, files_at}
 use Rattle.fl_top.specs.RunsOver.{RunsOver, LooksOver, EndedOver, LookedOver, RunsOn, EndedOn, RanOn, Ended, Closed, IsGivenBy, IsClosedBy, MadeWhere, Takes, TakenBy}
 use Rattle.fl_change.specs.Says.{Says, Refuses}
 use Rattle.fl_top.specs.Status.{only_looks, changes_state, reads_input, IsAnswered, IsOfWords}
@@ -182,33 +184,44 @@ goes_not_changed {a = a} {b = b} command t May f e r known is goes err =
     (begins known goes (λ u w tree p. runs_change command t May f u w is p) (λ u w tree p q. ended_change command t May f (Err e) (Err (end_of_run e)) u w is (λ held a x. closed held a e u w x) (given_by e) q))
 
 -- the answer of a command that looks is this over the world
-abbrev pub IsLook : Command → (World → Answer) → Type 0
-IsLook command f = (given : Given) (shown : Result World Elements) → shown_answer f shown ≡ answer_over command given shown
+abbrev pub IsLook : Command → Told → (World → Answer) → Type 0
+IsLook command t f = (given : Given) → IsGivenTo command t given → (shown : Result World Elements) → shown_answer f shown ≡ answer_over command given shown
 
-runs_look : (command : Command) (t : Told) (f : World → Answer) (u w : View) → IsLook command f → LooksOver f u w → RunsOn command t u w
+-- a command that only looks is given the deployed files
+pub given_files : (command : Command) (t : Told) (given : Given) → only_looks command ≡ true → IsGivenTo command t given → given.files ≡ files_at t.moments
+given_files command t given looks gave = elim gave.files [
+  | inl none ↦ absurd (let both : true ≡ false = sym looks ∙ none in cc both)
+  | inr is ↦ is
+]
+
+-- so is a listing
+pub listing_look : (listing : Listing) (t : Told) → IsLook (Listed listing) t (listing_answer (files_at t.moments) listing)
+listing_look listing t given gave shown = sym (ap (λ (files : DeployedFiles). shown_answer (listing_answer files listing) shown) (given_files (Listed listing) t given refl gave))
+
+runs_look : (command : Command) (t : Told) (f : World → Answer) (u w : View) → IsLook command t f → LooksOver f u w → RunsOn command t u w
 runs_look command t f u w is p = record {
-  runs = λ given gave shown counts may. subst (λ (x : Answer). Runs x u w) (is given shown) (p.runs shown (counts_for command f given u shown (is given) counts));
+  runs = λ given gave shown counts may. subst (λ (x : Answer). Runs x u w) (is given gave shown) (p.runs shown (counts_for command f given u shown (is given gave) counts));
   changes = λ known. alter_untouched p.untouched;
   rests = λ change given gave shown counts may rest idle. still_untouched p.untouched;
   untouched = λ why. p.untouched;
 }
 
-ended_look : (command : Command) (t : Told) (f : World → Answer) (r : Result (Unit {0}) RunEnd) (s : Result (Unit {0}) CommandEnd) (u w : View) → only_looks command ≡ true → IsLook command f
+ended_look : (command : Command) (t : Told) (f : World → Answer) (r : Result (Unit {0}) RunEnd) (s : Result (Unit {0}) CommandEnd) (u w : View) → only_looks command ≡ true → IsLook command t f
     → ((held : Holdings) (a : Answer) → Ended held a r u w → Closed held a s u w) → (IsClosedBy s → IsGivenBy r) → LookedOver f r u w → EndedOn command t s u w
 ended_look command t f r s u w looks is close give q = record {
-  ended = λ given gave shown counts may. subst (λ (x : Answer). Closed given.held x s u w) (is given shown) (close given.held (shown_answer f shown) (q.ended shown (counts_for command f given u shown (is given) counts) given.held));
-  given = λ given gave by. counts_same (answer_over command given) (shown_answer f) (shows u) (λ r. sym (is given r)) (q.given (give by));
+  ended = λ given gave shown counts may. subst (λ (x : Answer). Closed given.held x s u w) (is given gave shown) (close given.held (shown_answer f shown) (q.ended shown (counts_for command f given u shown (is given gave) counts) given.held));
+  given = λ given gave by. counts_same (answer_over command given) (shown_answer f) (shows u) (λ r. sym (is given gave r)) (q.given (give by));
   made = made_where s command t.left u w (look_made command t.left u w looks);
 }
 
 -- one that looks
-pub goes_look : {a b : Option Moments} (command : Command) (t : Told) (f : World → Answer) → IsTold a → only_looks command ≡ true → IsLook command f
+pub goes_look : {a b : Option Moments} (command : Command) (t : Told) (f : World → Answer) → IsTold a → only_looks command ≡ true → IsLook command t f
     → Goes a b (LooksOver f) (LookedOver f (Ok tt)) → Goes a b (RunsOn command t) (EndedOn command t (Ok tt))
 goes_look command t f known looks is goes = begins known goes
     (λ u w tree p. runs_look command t f u w is p)
     (λ u w tree p q. ended_look command t f (Ok tt) (Ok tt) u w looks is (λ held a e. e) (λ by. by) q)
 
-pub goes_not_looked : {a b : Option Moments} (command : Command) (t : Told) (f : World → Answer) (e : RunEnd) (r : Result (Unit {0}) CommandEnd) → IsTold a → only_looks command ≡ true → IsLook command f
+pub goes_not_looked : {a b : Option Moments} (command : Command) (t : Told) (f : World → Answer) (e : RunEnd) (r : Result (Unit {0}) CommandEnd) → IsTold a → only_looks command ≡ true → IsLook command t f
     → Goes a b (LooksOver f) (LookedOver f (Err e)) → IsErrAnd r (λ end. end ≡ end_of_run e) → Goes a b (RunsOn command t) (EndedOn command t r)
 goes_not_looked {a = a} {b = b} command t f e r known looks is goes err =
     subst (λ (x : Result (Unit {0}) CommandEnd). Goes a b (RunsOn command t) (EndedOn command t x)) (sym (is_end r (end_of_run e) err))

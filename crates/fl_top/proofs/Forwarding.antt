@@ -35,17 +35,18 @@ use Rattle.fl_change.proofs.Changing.{none_made, same_untouched, still_untouched
 use Rattle.fl_top.proofs.Altering.{alter_untouched, rest_none}
 use Rattle.fl_change.proofs.Same.{same_shown, same_settled}
 use Rattle.fl_change.proofs.Working.{is_err}
+use Rattle.fl_installed.specs.Deployed.{DeployedFiles}
 use Rattle.fl_top.specs.Status.{only_looks}
 use Rattle.fl_top.specs.Answer.{Given, piece_of, forwarding, rules_over, by_rules, of_recording, filtered_by, filter_by, answer_over, IsOver}
 use Rattle.fl_top.specs.Ends.{end_of_run}
 use Rattle.fl_top.specs.Input.{IsWhole}
-use Rattle.fl_top.specs.Runs.{IsPrefix, IsJust, Runs, Stands, Told, IsGivenTo}
+use Rattle.fl_top.specs.Runs.{IsPrefix, IsJust, Runs, Stands, Told, IsGivenTo, files_at}
 use Rattle.fl_top.specs.RunsOver.{Completes, Ended, RunsOn, EndedOn, Closed, IsGivenBy, IsClosedBy, EndsAnyway}
 use Rattle.fl_top.specs.Telling.{Tells, IsRecording, IsFound, Finds, LooksBy, LookedBy, end_of_filter}
 use Rattle.fl_top.specs.declared.command_end.CommandEnd.{CommandEnd}
 use Rattle.fl_top.proofs.Over.{Counts, counts_constant, over_given, over_same, counts_same}
 use Rattle.fl_top.proofs.Starting.{begun, unchanged, stood, finishes_none, refused_at_once, shows_before}
-use Rattle.fl_top.proofs.Finishing.{is_end, closed, given_by, ByInput, read_is, made_where, look_made}
+use Rattle.fl_top.proofs.Finishing.{is_end, closed, given_by, ByInput, given_files, read_is, made_where, look_made}
 use Rattle.fp_host.specs.Remote.{Holdings}
 use Rattle.fl_change.proofs.Created.{none_created, no_ops_created}
 
@@ -170,32 +171,32 @@ refused by refusal u is counts = record {
 
 -- ---- the recording isn't one
 
-abbrev pub answers : PolicySource → List ℕ → Result World Elements → Answer
-answers source bytes shown = filter_by source shown bytes
+abbrev pub answers : DeployedFiles → PolicySource → List ℕ → Result World Elements → Answer
+answers files source bytes shown = filter_by files source shown bytes
 
-unread_is : (source : PolicySource) (bytes : List ℕ) (refusal : Refusal) → IsRecording (recording_of bytes) (Err (run.Refused refusal)) → (shown : Result World Elements) → answers source bytes shown ≡ refusal_answer refusal
+unread_is : (files : DeployedFiles) (source : PolicySource) (bytes : List ℕ) (refusal : Refusal) → IsRecording (recording_of bytes) (Err (run.Refused refusal)) → (shown : Result World Elements) → answers files source bytes shown ≡ refusal_answer refusal
 unfolding filtered_by
-unread_is source bytes refusal read shown = ap (of_recording (rules_over source shown)) read.1 ∙ ap refusal_answer (sym read.2)
+unread_is files source bytes refusal read shown = ap (of_recording (rules_over files source shown)) read.1 ∙ ap refusal_answer (sym read.2)
 
-unread : (source : PolicySource) (bytes : List ℕ) (e : RunEnd) → IsRecording (recording_of bytes) (Err e) → (u : View) → LookedBy (answers source bytes) (Err e) u u
-unread source bytes (run.Refused refusal) read u =
-    let all = unread_is source bytes refusal read in
-    refused (answers source bytes) refusal u (λ shown over. all shown) (counts_constant (answers source bytes) (shows u) (λ shown other. all other ∙ sym (all shown)))
-unread source bytes run.Fault read u = absurd read
-unread source bytes run.RemoteFault read u = absurd read
-unread source bytes run.NoMemory read u = halted (answers source bytes) u
+unread : (files : DeployedFiles) (source : PolicySource) (bytes : List ℕ) (e : RunEnd) → IsRecording (recording_of bytes) (Err e) → (u : View) → LookedBy (answers files source bytes) (Err e) u u
+unread files source bytes (run.Refused refusal) read u =
+    let all = unread_is files source bytes refusal read in
+    refused (answers files source bytes) refusal u (λ shown over. all shown) (counts_constant (answers files source bytes) (shows u) (λ shown other. all other ∙ sym (all shown)))
+unread files source bytes run.Fault read u = absurd read
+unread files source bytes run.RemoteFault read u = absurd read
+unread files source bytes run.NoMemory read u = halted (answers files source bytes) u
 
-pub goes_unread : {m : Option Moments} (source : PolicySource) (bytes : List ℕ) (e : RunEnd) (r : Result (Unit {0}) RunEnd) → IsTold m → IsRecording (recording_of bytes) (Err e) → IsErrAnd r (λ x. x ≡ e)
-    → Goes m m (LooksBy (answers source bytes)) (LookedBy (answers source bytes) r)
-goes_unread {m = m} source bytes e r told read err =
-    subst (λ (x : Result (Unit {0}) RunEnd). Goes m m (LooksBy (answers source bytes)) (LookedBy (answers source bytes) x)) (sym (is_err r e err))
-    (stays told (λ u. looks_none (answers source bytes) u) (λ u t. unread source bytes e read u))
+pub goes_unread : {m : Option Moments} (files : DeployedFiles) (source : PolicySource) (bytes : List ℕ) (e : RunEnd) (r : Result (Unit {0}) RunEnd) → IsTold m → IsRecording (recording_of bytes) (Err e) → IsErrAnd r (λ x. x ≡ e)
+    → Goes m m (LooksBy (answers files source bytes)) (LookedBy (answers files source bytes) r)
+goes_unread {m = m} files source bytes e r told read err =
+    subst (λ (x : Result (Unit {0}) RunEnd). Goes m m (LooksBy (answers files source bytes)) (LookedBy (answers files source bytes) x)) (sym (is_err r e err))
+    (stays told (λ u. looks_none (answers files source bytes) u) (λ u t. unread files source bytes e read u))
 
 -- ---- it is one
 
-module _ (source : PolicySource) (bytes : List ℕ) (recording : Recording) (read : recording_of bytes ≡ Ok recording) where
+module _ (files : DeployedFiles) (source : PolicySource) (bytes : List ℕ) (recording : Recording) (read : recording_of bytes ≡ Ok recording) where
   abbrev by : Result World Elements → Answer
-  by = answers source bytes
+  by = answers files source bytes
 
   abbrev to : Result (List PolicyRule) Refusal → Answer
   to rules = filtered_by rules bytes
@@ -205,15 +206,15 @@ module _ (source : PolicySource) (bytes : List ℕ) (recording : Recording) (rea
   to_is rules = ap (of_recording rules) read
 
   -- the rules weren't found
-  no_rules : (e : RunEnd) {u w : View} → w ≡ u → Finds (rules_over source) (Err e) (shows u) → LookedBy by (Err e) u w
+  no_rules : (e : RunEnd) {u w : View} → w ≡ u → Finds (rules_over files source) (Err e) (shows u) → LookedBy by (Err e) u w
   no_rules (run.Refused refusal) {u = u} same found =
       subst (LookedBy by (Err (run.Refused refusal)) u) (sym same)
-      (refused by refusal u (λ shown over. found_is (rules_over source) to (Err refusal) (shows u) shown found over ∙ to_is (Err refusal)) (found_counts (rules_over source) to (Err refusal) (shows u) found))
+      (refused by refusal u (λ shown over. found_is (rules_over files source) to (Err refusal) (shows u) shown found over ∙ to_is (Err refusal)) (found_counts (rules_over files source) to (Err refusal) (shows u) found))
   no_rules run.Fault same found = record { ended = λ shown counts held. tt; given = λ why. absurd why }
   no_rules run.RemoteFault same found = absurd found
   no_rules run.NoMemory {u = u} same found = subst (LookedBy by (Err run.NoMemory) u) (sym same) (halted by u)
 
-  pub goes_unfound : {a b : Option Moments} (e : RunEnd) (r : Result (Unit {0}) RunEnd) → IsTold a → Looking (rules_over source) (Err e) a b → IsErrAnd r (λ x. x ≡ e) → Goes a b (LooksBy by) (LookedBy by r)
+  pub goes_unfound : {a b : Option Moments} (e : RunEnd) (r : Result (Unit {0}) RunEnd) → IsTold a → Looking (rules_over files source) (Err e) a b → IsErrAnd r (λ x. x ≡ e) → Goes a b (LooksBy by) (LookedBy by r)
   goes_unfound {a = a} {b = b} e r told looking err =
       subst (λ (x : Result (Unit {0}) RunEnd). Goes a b (LooksBy by) (LookedBy by x)) (sym (is_err r e err))
       (begins told looking.goes (λ u w t same. looks_same by same) (λ u w t same q. no_rules e q.0 q.1))
@@ -223,10 +224,10 @@ module _ (source : PolicySource) (bytes : List ℕ) (recording : Recording) (rea
     abbrev given : Answer
     given = forwarding (filtered rules recording)
 
-    answer_is : (u : View) (shown : Result World Elements) → IsFound (rules_over source) (Ok rules) (shows u) → IsOver by (shows u) shown → by shown ≡ given
-    answer_is u shown found counts = found_is (rules_over source) to (Ok rules) (shows u) shown found counts ∙ to_is (Ok rules)
+    answer_is : (u : View) (shown : Result World Elements) → IsFound (rules_over files source) (Ok rules) (shows u) → IsOver by (shows u) shown → by shown ≡ given
+    answer_is u shown found counts = found_is (rules_over files source) to (Ok rules) (shows u) shown found counts ∙ to_is (Ok rules)
 
-    looks_on : {u v w : View} → v ≡ u → IsFound (rules_over source) (Ok rules) (shows u) → Tells given v w → LooksBy by u w
+    looks_on : {u v w : View} → v ≡ u → IsFound (rules_over files source) (Ok rules) (shows u) → Tells given v w → LooksBy by u w
     looks_on {u = u} {w = w} same found told =
         let from : Tells given u w = subst (λ (x : View). Tells given x w) same told in
         record {
@@ -234,15 +235,15 @@ module _ (source : PolicySource) (bytes : List ℕ) (recording : Recording) (rea
           untouched = from.untouched;
         }
 
-    looked_on : (r : Result (Unit {0}) RunEnd) {u v w : View} → v ≡ u → IsFound (rules_over source) (Ok rules) (shows u) → EndsAnyway given r v w → LookedBy by r u w
+    looked_on : (r : Result (Unit {0}) RunEnd) {u v w : View} → v ≡ u → IsFound (rules_over files source) (Ok rules) (shows u) → EndsAnyway given r v w → LookedBy by r u w
     looked_on r {u = u} {w = w} same found ended =
         let from : EndsAnyway given r u w = subst (λ (x : View). EndsAnyway given r x w) same ended in
         record {
           ended = λ shown counts. subst (λ (x : Answer). EndsAnyway x r u w) (sym (answer_is u shown found counts)) from;
-          given = λ why. found_counts (rules_over source) to (Ok rules) (shows u) found;
+          given = λ why. found_counts (rules_over files source) to (Ok rules) (shows u) found;
         }
 
-    pub goes_found : {a b c : Option Moments} (r : Result (Unit {0}) RunEnd) → IsTold a → IsTold b → Looking (rules_over source) (Ok rules) a b → Goes b c (Tells given) (EndsAnyway given r) → Goes a c (LooksBy by) (LookedBy by r)
+    pub goes_found : {a b c : Option Moments} (r : Result (Unit {0}) RunEnd) → IsTold a → IsTold b → Looking (rules_over files source) (Ok rules) a b → Goes b c (Tells given) (EndsAnyway given r) → Goes a c (LooksBy by) (LookedBy by r)
     goes_found r told told_b looking goes =
         goes_on told_b (begins told looking.goes (λ u w t same. looks_same by same) (λ u w t same q. q)) goes (λ u v w t p q s. looks_on q.0 q.1 s) (λ u v w t p q s last. looked_on r q.0 q.1 last)
 
@@ -262,7 +263,7 @@ read_no_remote_fault bytes run.NoMemory read is = cc is
 -- ---- the command
 
 abbrev pub by_source : PolicySource → Given → Result World Elements → List ℕ → Answer
-by_source source given shown bytes = filter_by source shown bytes
+by_source source given shown bytes = filter_by given.files source shown bytes
 
 pub source_input : (source : PolicySource) → ByInput (Filtering source) (by_source source)
 source_input source = record { reads = refl; is = λ given shown. refl }
@@ -271,8 +272,10 @@ source_input source = record { reads = refl; is = λ given shown. refl }
 abbrev pub IsAnswerTo : Command → Told → (Result World Elements → Answer) → Type 0
 IsAnswerTo command t by = (given : Given) → IsGivenTo command t given → (shown : Result World Elements) → by shown ≡ answer_over command given shown
 
-pub source_answer : (source : PolicySource) (t : Told) (bytes : List ℕ) → IsWhole t.left bytes → IsAnswerTo (Filtering source) t (answers source bytes)
-source_answer source t bytes whole given gave shown = read_is (Filtering source) (by_source source) (source_input source) t bytes whole given gave shown
+pub source_answer : (source : PolicySource) (t : Told) (bytes : List ℕ) → IsWhole t.left bytes → IsAnswerTo (Filtering source) t (answers (files_at t.moments) source bytes)
+source_answer source t bytes whole given gave shown =
+    sym (ap (λ (files : DeployedFiles). filter_by files source shown bytes) (given_files (Filtering source) t given refl gave))
+    ∙ read_is (Filtering source) (by_source source) (source_input source) t bytes whole given gave shown
 
 runs_told : (command : Command) (t : Told) (by : Result World Elements → Answer) → IsAnswerTo command t by → (u w : View) → LooksBy by u w → RunsOn command t u w
 runs_told command t by is u w looks = record {

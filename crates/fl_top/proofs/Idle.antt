@@ -23,7 +23,7 @@ use Rattle.fl_change.specs.Turns.{changing}
 use Rattle.fl_change.specs.World.{World, world_in}
 use Rattle.fl_change.proofs.Updates.{second_is_idle}
 use Rattle.fl_top.specs.Answer.{Given, answer, answer_to, shown_answer, IsOver}
-use Rattle.fl_top.specs.Exports.{IsInStep}
+use Rattle.fl_top.specs.Exports.{IsAtRest}
 use Rattle.fl_top.specs.Runs.{Answers, Ran, Told, IsGiven, IsGivenTo, IsChange, RunsBy, RanBy}
 use Rattle.fl_top.specs.Status.{status_of, status_by, status_at}
 use Rattle.fl_top.proofs.Ending.{command_plain}
@@ -77,7 +77,7 @@ module _ (words : List (List ℕ)) (is : command_of words ≡ Some (Changing Upd
 
   is_given : (t : Told) (given : Given) → t.holds ≡ Some given.held → IsGiven t (command_of words) given
   is_given t given told =
-      let gave : IsGivenTo (Changing UpdateAll) t given = record { input = inl refl; held = inr told; report = inl refl; commit = tt } in
+      let gave : IsGivenTo (Changing UpdateAll) t given = record { input = inl refl; held = inr told; files = inl refl; report = inl refl; commit = tt } in
       subst (λ (o : Option Command). IsGiven t o given) (sym is) gave
 
   plainly : (given : Given) (shown : Result World Elements) → HasPlain (answer words given shown)
@@ -85,7 +85,7 @@ module _ (words : List (List ℕ)) (is : command_of words ≡ Some (Changing Upd
 
   -- given no input
   abbrev given_of : Holdings → Given
-  given_of held = record { input = []; held = held; report = record { findings = []; objects = 0 }; commit = [] }
+  given_of held = record { input = []; held = held; files = λ name commit. None; report = record { findings = []; objects = 0 }; commit = [] }
 
   module _ (first : Told) (held : Holdings) {u v : View} (sound : IsSound u) (told : first.holds ≡ Some held) (ran : RanBy words first 0 u v) where
     left : IsLeft held v
@@ -103,13 +103,13 @@ module _ (words : List (List ℕ)) (is : command_of words ≡ Some (Changing Upd
         answers_world given (shows v) shown left.state left.shown counts ∙ ap (λ (h : Holdings). changing all h (world_in left.state (shows v))) same in
         (subst (λ (z : Answer). ops_of z ≡ []) (sym there) left.idle.0, subst (λ (z : Answer). z.refusal ≡ None) (sym there) left.unrefused)
 
-    pub second_writes_nothing : (second : Told) {w : View} → second.holds ≡ Some held → IsInStep first.holds v → RunsBy words second v w → IsStill v w × KeepsFiles v w
-    second_writes_nothing second again step runs =
+    pub second_writes_nothing : (second : Told) {w : View} → second.holds ≡ Some held → IsAtRest v → RunsBy words second v w → IsStill v w × KeepsFiles v w
+    second_writes_nothing second again rest runs =
         let shown : Result World Elements = Ok (world_in left.state (shows v)) in
         let counts : IsOver (answer words (given_of held)) (shows v) shown = inl (gives_world (shows v) left.state left.shown) in
         let there = answers_world (given_of held) (shows v) shown left.state left.shown counts in
         let idle : IsIdle (answer words (given_of held) shown) = subst IsIdle (sym there) left.idle in
         let change : IsChange (command_of words) = subst IsChange (sym is) refl in (
-          runs.rests change (given_of held) (is_given second (given_of held) again) shown counts (inl (inr (inl left.sound))) (step.rests held told) idle,
+          runs.rests change (given_of held) (is_given second (given_of held) again) shown counts (inl (inr (inl left.sound))) rest idle,
           (runs.changes (λ asks. (held, again), λ asks. inl left.sound)).files,
         )

@@ -3,6 +3,7 @@ pub mod Altering
 pub mod Starting
 pub mod Opening
 pub mod Described
+pub mod Stored
 pub mod Listed
 pub mod Asked
 pub mod Finishing

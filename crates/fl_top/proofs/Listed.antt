@@ -1,5 +1,5 @@
 -- A command that only looks, and prints.
-use Rattle.std.proofs.Common.{◌≡◌, inl, inr, ℕ, List, [], ◌∷◌, Option, Result, Ok, Err, IsErrAnd, refl, sym, ◌∙◌, subst}
+use Rattle.std.proofs.Common.{◌≡◌, inl, inr, ℕ, List, [], ◌∷◌, Option, Result, Ok, Err, IsErrAnd, refl, sym, ◌∙◌, ap, subst}
 use Rattle.fp_host.specs.View.{View}
 use Rattle.fp_host.specs.Outcome.{shows}
 use Rattle.fp_host.specs.Calls.{says, Step}
@@ -20,6 +20,7 @@ use Rattle.dep_open.specs.Open.{Opened, Reads}
 use Rattle.dep_open.specs.declared.open_end.OpenEnd.{OpenEnd}
 use Rattle.dep_open.specs.declared.open_end.OpenEnd.TheVariants as open_end
 use Rattle.fl_change.specs.World.{World, world_in, world_at}
+use Rattle.fl_installed.specs.Deployed.{DeployedFiles, Deploys, deployed_files}
 use Rattle.fl_words.specs.declared.command.Listing.{Listing}
 use Rattle.fl_change.specs.Answer.{Answer, text_answer, refusal_answer}
 use Rattle.fl_top.specs.Answer.{shown_answer, listing_answer}
@@ -32,10 +33,11 @@ use Rattle.fl_change.specs.declared.end.RunEnd.{RunEnd}
 use Rattle.fl_change.specs.declared.end.RunEnd.TheVariants as run
 use Rattle.fl_change.proofs.Saying.{says_step, was_said}
 use Rattle.fl_change.proofs.Same.{same_shown, same_settled}
-use Rattle.fl_change.proofs.Changing.{keeps_files, none_made, same_untouched}
+use Rattle.fl_change.proofs.Changing.{keeps_files, none_made, same_untouched, still_untouched}
 use Rattle.fl_top.proofs.Altering.{rest_none}
 use Rattle.fl_top.proofs.Starting.{Keeping, begun, unchanged, look_not_open, halted_look, shows_before, finishes_none, refused_at_once}
 use Rattle.fl_top.proofs.Described.{listed_world}
+use Rattle.fl_top.proofs.Stored.{HasFiles}
 use Rattle.fl_top.proofs.Over.{over_is, counts_shown}
 use Rattle.fl_change.proofs.Working.{is_err}
 use Rattle.fp_host.specs.Remote.{Holdings}
@@ -46,7 +48,7 @@ use Rattle.fl_change.proofs.Skipping.{piece_of, said_text}
 
 pub telling : (text : List ℕ) {u w : View} → Says text u w → Runs (text_answer text) u w
 telling text {u = u} {w = w} says_it = elim (says_it.printed) [
-  | inl none ↦ begun (text_answer text) (record { printed = none; follows = says_it.follows; names = says_it.untouched.names; files = keeps_files says_it.untouched; empty = none_made says_it.untouched; creates = none_created says_it.untouched }) (λ why. says_it.untouched)
+  | inl none ↦ begun (text_answer text) (record { printed = none; follows = says_it.follows; names = says_it.untouched.names; files = keeps_files says_it.untouched; empty = (still_untouched says_it.untouched).unwritten; creates = none_created says_it.untouched }) (λ why. says_it.untouched)
   | inr more ↦ record {
     said = piece_of text ∷ [];
     so_far = said_text text u w more;
@@ -93,41 +95,41 @@ goes_not_read {a = a} {b = b} f e r known still tell is =
 -- ---- what is listed of the state that was read
 
 -- the state was read, and this is said of it
-record HasTold (listing : Listing) (s : State) (r : Result (List ℕ) RunEnd) (u w : View) : Type 0 where
+record HasTold (files : DeployedFiles) (listing : Listing) (s : State) (r : Result (List ℕ) RunEnd) (u w : View) : Type 0 where
   same : w ≡ u
   shown : Shows (shows u) s
-  tells : PrintsOf (listing_answer listing (world_in s (shows u))) r
+  tells : PrintsOf (listing_answer files listing (world_in s (shows u))) r
 
--- what is known of it over what each host stores
+-- what is known of it over what each host has deployed and stores
 abbrev pub TellsOver : Listing → State → Option Moments → Result (List ℕ) RunEnd → Type 0
-TellsOver listing s told r = (have : Have) → Stores repo told have → PrintsOf (listing_answer listing (record { state = s; have = have })) r
+TellsOver listing s told r = (files : DeployedFiles) → Deploys told files → (have : Have) → Stores repo told have → PrintsOf (listing_answer files listing (record { state = s; have = have })) r
 
-module _ (listing : Listing) (s : State) where
+module _ (files : DeployedFiles) (listing : Listing) (s : State) where
   abbrev f : World → Answer
-  f = listing_answer listing
+  f = listing_answer files listing
 
   abbrev over_store : Result (List ℕ) RunEnd → View → Type 0
-  over_store r v = PrintsOf (listing_answer listing (record { state = s; have = store repo (shows v) })) r
+  over_store r v = PrintsOf (listing_answer (deployed_files (shows v)) listing (record { state = s; have = store repo (shows v) })) r
 
-  read : {a b : Option Moments} → IsTold a → Unchanged a b → AtEnd (λ u w. Reads u (Ok s)) a b → Goes a b (LooksOver f) (λ u w. (w ≡ u) × Shows (shows u) s)
-  read known still tell = begins known (goes_known still.goes tell) (λ u w t same. looks f same) (λ u w t same q. (q.0.0, q.1))
+  read : {a b : Option Moments} → HasFiles a files → Unchanged a b → AtEnd (λ u w. Reads u (Ok s)) a b → Goes a b (LooksOver f) (λ u w. (w ≡ u) × (Shows (shows u) s × (files ≡ deployed_files (shows u))))
+  read has still tell = knowing {P = λ v. files ≡ deployed_files (shows v)} has (goes_known still.goes tell) (λ u w k same. looks f same) (λ u w k q. (q.0.0, (q.1, k)))
 
   text_of : {b c : Option Moments} (r : Result (List ℕ) RunEnd) → Unchanged b c → TellsOver listing s b r → Goes b c (λ v w. w ≡ v) (λ v w. (w ≡ v) × over_store r v)
-  text_of r still tells = knowing {P = over_store r} (λ m is. tells (store repo (shows m.now)) (record { moments = m; told_is = is; is = refl })) still.goes (λ v w k same. same) (λ v w k q. (q.0, k))
+  text_of r still tells = knowing {P = over_store r} (λ m is. tells (deployed_files (shows m.now)) (record { moments = m; told_is = is; is = refl }) (store repo (shows m.now)) (record { moments = m; told_is = is; is = refl })) still.goes (λ v w k same. same) (λ v w k q. (q.0, k))
 
-  told : {u v w : View} (r : Result (List ℕ) RunEnd) → v ≡ u → Shows (shows u) s → w ≡ v → over_store r v → HasTold listing s r u w
-  told {u = u} r first shown second tells = record {
+  told : {u v w : View} (r : Result (List ℕ) RunEnd) → v ≡ u → Shows (shows u) s → files ≡ deployed_files (shows u) → w ≡ v → over_store r v → HasTold files listing s r u w
+  told {u = u} r first shown known second tells = record {
     same = second ∙ first;
     shown = shown;
-    tells = subst (λ (a : Answer). PrintsOf a r) (sym (listed_world listing s (shows u))) (subst (over_store r) first tells);
+    tells = subst (λ (a : Answer). PrintsOf a r) (sym (ap (λ (x : DeployedFiles). listing_answer x listing (world_in s (shows u))) known ∙ listed_world (deployed_files (shows u)) listing s (shows u))) (subst (over_store r) first tells);
   }
 
-  read_told : {a b c : Option Moments} (r : Result (List ℕ) RunEnd) → IsTold a → IsTold b → Unchanged a b → AtEnd (λ u w. Reads u (Ok s)) a b → Unchanged b c → TellsOver listing s b r → Goes a c (LooksOver f) (HasTold listing s r)
-  read_told r known known_b still tell quiet tells =
-      goes_on known_b (read known still tell) (text_of r quiet tells) (λ u v w t p q n. looks f (n ∙ q.0)) (λ u v w t p q n l. told r q.0 q.1 l.0 l.1)
+  read_told : {a b c : Option Moments} (r : Result (List ℕ) RunEnd) → HasFiles a files → IsTold b → Unchanged a b → AtEnd (λ u w. Reads u (Ok s)) a b → Unchanged b c → TellsOver listing s b r → Goes a c (LooksOver f) (HasTold files listing s r)
+  read_told r has known_b still tell quiet tells =
+      goes_on known_b (read has still tell) (text_of r quiet tells) (λ u v w t p q n. looks f (n ∙ q.0)) (λ u v w t p q n l. told r q.0 q.1.0 q.1.1 l.0 l.1)
 
   -- it is refused, or comes to no end
-  no_text : (e : RunEnd) {u w : View} → HasTold listing s (Err e) u w → LookedOver f (Err e) u w
+  no_text : (e : RunEnd) {u w : View} → HasTold files listing s (Err e) u w → LookedOver f (Err e) u w
   no_text (run.Refused refusal) {u = u} {w = w} q = record {
     ended = λ shown counts held. subst (λ (a : Answer). Ended held a (Err (run.Refused refusal)) u w) (sym q.tells ∙ sym (over_is f (shows u) shown s q.shown counts))
         (refl, subst (Finishes held (refusal_answer refusal) u) (sym q.same) (refused_at_once held refusal u));
@@ -137,15 +139,15 @@ module _ (listing : Listing) (s : State) where
   no_text run.RemoteFault q = absurd q.tells
   no_text run.NoMemory q = halted_look f (keeping q.same)
 
-  pub goes_not_listed : {a b c : Option Moments} (e : RunEnd) (r : Result (Unit {0}) RunEnd) → IsTold a → IsTold b → Unchanged a b → AtEnd (λ u w. Reads u (Ok s)) a b → Unchanged b c → TellsOver listing s b (Err e) → IsErrAnd r (λ end. end ≡ e) → Goes a c (LooksOver f) (LookedOver f r)
-  goes_not_listed {a = a} {c = c} e r known known_b still tell quiet tells is =
+  pub goes_not_listed : {a b c : Option Moments} (e : RunEnd) (r : Result (Unit {0}) RunEnd) → IsTold a → HasFiles a files → IsTold b → Unchanged a b → AtEnd (λ u w. Reads u (Ok s)) a b → Unchanged b c → TellsOver listing s b (Err e) → IsErrAnd r (λ end. end ≡ e) → Goes a c (LooksOver f) (LookedOver f r)
+  goes_not_listed {a = a} {c = c} e r known has known_b still tell quiet tells is =
       subst (λ (x : Result (Unit {0}) RunEnd). Goes a c (LooksOver f) (LookedOver f x)) (sym (is_err r e is))
-      (begins known (read_told (Err e) known known_b still tell quiet tells) (λ u w t p. p) (λ u w t p q. no_text e q))
+      (begins known (read_told (Err e) has known_b still tell quiet tells) (λ u w t p. p) (λ u w t p q. no_text e q))
 
   -- ---- and it is printed
 
   module _ (text : List ℕ) where
-    is_told : {u v w : View} → HasTold listing s (Ok text) u v → Says text v w → LooksOver f u w
+    is_told : {u v w : View} → HasTold files listing s (Ok text) u v → Says text v w → LooksOver f u w
     is_told {u = u} {w = w} q says_it =
         let from : Says text u w = subst (λ (x : View). Says text x w) q.same says_it in
         record {
@@ -153,7 +155,7 @@ module _ (listing : Listing) (s : State) where
           untouched = from.untouched;
         }
 
-    was_told : {u v w : View} → HasTold listing s (Ok text) u v → WasSaid text v w → LookedOver f (Ok tt) u w
+    was_told : {u v w : View} → HasTold files listing s (Ok text) u v → WasSaid text v w → LookedOver f (Ok tt) u w
     was_told {u = u} {w = w} q said_it = record {
       ended = λ shown counts held. subst (λ (a : Answer). Ended held a (Ok tt) u w) (sym q.tells ∙ sym (over_is f (shows u) shown s q.shown counts)) (refl, tells held text (subst (λ (x : View). WasSaid text x w) q.same said_it));
       given = λ by. counts_shown (shown_answer f) (shows u) s q.shown;
@@ -164,13 +166,13 @@ module _ (listing : Listing) (s : State) where
     not_told error.Clash u v w step = record { ended = λ shown counts held. tt; given = λ by. absurd by }
     not_told error.NoMemory u v w step = absurd step.how
 
-    pub goes_not_told : {a b c d : Option Moments} (e : HostError) (r : Result (Unit {0}) RunEnd) → IsTold a → IsTold b → IsTold c → Unchanged a b → AtEnd (λ u w. Reads u (Ok s)) a b → Unchanged b c → TellsOver listing s b (Ok text)
+    pub goes_not_told : {a b c d : Option Moments} (e : HostError) (r : Result (Unit {0}) RunEnd) → HasFiles a files → IsTold b → IsTold c → Unchanged a b → AtEnd (λ u w. Reads u (Ok s)) a b → Unchanged b c → TellsOver listing s b (Ok text)
         → Makes (Step (says text) (Err e)) c d → IsErrAnd r (λ end. end ≡ end_of_host (end_of e)) → Goes a d (LooksOver f) (LookedOver f r)
-    goes_not_told {a = a} {d = d} e r known known_b known_c still tell quiet tells call err =
+    goes_not_told {a = a} {d = d} e r has known_b known_c still tell quiet tells call err =
         subst (λ (x : Result (Unit {0}) RunEnd). Goes a d (LooksOver f) (LookedOver f x)) (sym (is_err r (end_of_host (end_of e)) err))
-        (goes_on known_c (read_told (Ok text) known known_b still tell quiet tells) (makes_goes call) (λ u v w t p q step. is_told q (says_step step)) (λ u v w t p q step last. not_told e u v w last))
+        (goes_on known_c (read_told (Ok text) has known_b still tell quiet tells) (makes_goes call) (λ u v w t p q step. is_told q (says_step step)) (λ u v w t p q step last. not_told e u v w last))
 
-    pub goes_told : {a b c d : Option Moments} → IsTold a → IsTold b → IsTold c → Unchanged a b → AtEnd (λ u w. Reads u (Ok s)) a b → Unchanged b c → TellsOver listing s b (Ok text)
+    pub goes_told : {a b c d : Option Moments} → HasFiles a files → IsTold b → IsTold c → Unchanged a b → AtEnd (λ u w. Reads u (Ok s)) a b → Unchanged b c → TellsOver listing s b (Ok text)
         → Makes (Step (says text) (Ok tt)) c d → Goes a d (LooksOver f) (LookedOver f (Ok tt))
-    goes_told known known_b known_c still tell quiet tells call =
-        goes_on known_c (read_told (Ok text) known known_b still tell quiet tells) (makes_goes call) (λ u v w t p q step. is_told q (says_step step)) (λ u v w t p q step last. was_told q (was_said last))
+    goes_told has known_b known_c still tell quiet tells call =
+        goes_on known_c (read_told (Ok text) has known_b still tell quiet tells) (makes_goes call) (λ u v w t p q step. is_told q (says_step step)) (λ u v w t p q step last. was_told q (was_said last))

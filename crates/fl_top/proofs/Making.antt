@@ -1,5 +1,6 @@
 -- A command that makes a remote.
 use Rattle.std.proofs.Common.{◌≡◌, inl, inr, ℕ, List, [], ◌∷◌, ◌++◌, codes, Option, Result, Ok, Err, IsErrAnd, IsErrOf, refl, sym, ◌∙◌, ap, subst}
+use Rattle.fp_base.proofs.Texts.{bytes_eq-false}
 use Rattle.fp_host.specs.Paths.{Elements, Slot}
 use Rattle.fp_host.specs.View.{View}
 use Rattle.fp_host.specs.Outcome.{Disk, Leaves, shows}
@@ -63,9 +64,22 @@ use Rattle.fp_small.proofs.Keeping.{files_on}
 abbrev pub made_in : Given → Result World Elements → List ℕ → Answer
 made_in given shown bytes = commit_made given.commit bytes
 
+-- the name at the top of a path, and what is above it
+abbrev top : Elements → List ℕ
+top [] = []
+top (x ∷ up) = x
+
+abbrev above : Elements → Elements
+above [] = []
+above (x ∷ up) = up
+
+-- the store of a remote is not the installation's own
+not_made : (remote : List ℕ) → repo_config ≡ remote_store remote → ⊥
+not_made remote at = bytes_eq-false (codes "repo") (codes "made") refl (ap (λ (q : Elements). top (above q)) at)
+
 -- nothing that makes a remote touches the installation's own store
 no_made : (remote : List ℕ) (r : Ref) (e : Slot) → MayMake remote r repo_config e → ⊥
-no_made remote r e (in_store (inl at) off) = cc at
+no_made remote r e (in_store (inl at) off) = not_made remote at
 no_made remote r e (in_store (inr (inl at)) off) = cc at
 no_made remote r e (in_store (inr (inr (inl at))) off) = cc at
 no_made remote r e (in_store (inr (inr (inr none))) off) = none
@@ -74,7 +88,7 @@ no_made remote r e (above_store (inl at) is) = cc at
 no_made remote r e (above_store (inr (inl at)) is) = cc at
 no_made remote r e (above_store (inr (inr none)) is) = none
 no_made remote r e (of_work (inl at) is) = cc at
-no_made remote r e (of_work (inr at) is) = cc at
+no_made remote r e (of_work (inr at) is) = bytes_eq-false (codes "config") (codes "tmp") refl (ap top at)
 
 pub make_input : (remote : List ℕ) (r : Ref) → ByInput (Exporting remote r) made_in
 make_input remote r = record { reads = refl; is = λ given shown. refl }

@@ -1,5 +1,5 @@
 -- An installation that is opened, and what goes on from there.
-use Rattle.std.proofs.Common.{◌≡◌, ℕ, Bool, false, List, [], ◌∷◌, Option, Some, None, Result, Ok, Err, IsErrAnd, IsErrOf, refl, sym, ◌∙◌, ap, subst}
+use Rattle.std.proofs.Common.{◌≡◌, ℕ, Bool, true, false, List, [], ◌∷◌, Option, Some, None, Result, Ok, Err, IsErrAnd, IsErrOf, refl, sym, ◌∙◌, ap, subst}
 use Rattle.std.specs.List.{AllByRecursion}
 use Rattle.std.proofs.lemmas.List.{append_cancel_right}
 use Rattle.fp_host.specs.Causes.{IsCaused}
@@ -25,14 +25,15 @@ use Rattle.dep_open.specs.declared.open_end.OpenEnd.TheVariants as open_ends
 use Rattle.fl_change.specs.World.{World}
 use Rattle.fl_change.specs.Answer.{Answer, ops_of, has_acted}
 use Rattle.fl_change.specs.Ends.{end_of_open}
-use Rattle.fl_change.specs.Performs.{PerformsOver, PerformedOver, ChangesFrom, OpensBy, Acts, AreToldFor}
+use Rattle.fl_change.specs.Performs.{PerformsOver, PerformedOver, SettlesOver, ChangesFrom, OpensBy, Acts, AreToldFor}
 use Rattle.fl_change.specs.declared.end.RunEnd.{RunEnd}
 use Rattle.fl_change.specs.declared.end.RunEnd.TheVariants as run
 use Rattle.fl_change.proofs.Both.{goes_both}
+use Rattle.fl_change.proofs.Same.{same_settled}
 use Rattle.fl_change.proofs.Working.{is_err}
 use Rattle.fl_top.specs.Runs.{IsReady}
 use Rattle.fl_top.specs.RunsOver.{OverView, RunsOver, Completes, EndedOver}
-use Rattle.fl_top.proofs.Starting.{Keeping, kept, IsLate, IsNoRefusal, Begun, Working, begun_over, begun_world, ready_sound, runs_over, done_over, refused_over, failed_over, ended_open}
+use Rattle.fl_top.proofs.Starting.{Keeping, kept, IsLate, IsNoRefusal, Begun, Working, begun_over, begun_seen, begun_world, ready_sound, runs_over, done_over, refused_over, failed_over, ended_open}
 use Rattle.fl_top.proofs.Over.{over_is}
 
 -- it was looked at, and perhaps synced
@@ -118,15 +119,15 @@ goes_failed May f s e {u = u} other late known known_b frame unread tells works 
 
 -- The changes were made: over an image that showed one state another is left, which is that state
 -- after the operations of each answer that counts. Where the remotes tell what they hold, all is
--- settled.
-pub record Changed (holds : Option Holdings) (May : Op → Type 0) (f : Holdings → World → Answer) (t : State) (u w : View) : Type 0 where
+-- settled: where this spares tidying, if it was before.
+pub record Changed (spares : Bool) (holds : Option Holdings) (May : Op → Type 0) (f : Holdings → World → Answer) (t : State) (u w : View) : Type 0 where
   pub before : State
   pub at : Shows (shows u) before
   pub done : IsReady u → (held : Holdings) → holds ≡ Some held → OverView (f held) u (λ a. (a.refusal ≡ None) × Completes held a u w)
   pub after : IsReady u → (held : Holdings) → holds ≡ Some held → OverView (f held) u (λ a. t ≡ after_all before (ops_of a))
   pub opens : AreToldFor May holds → IsSound u → Opens t w
   pub tree : IsTree u
-  pub settled : IsReady u → (held : Holdings) → holds ≡ Some held → Settled (shows w)
+  pub settled : IsReady u → (held : Holdings) → holds ≡ Some held → (spares ≡ true → Settled (shows u)) → Settled (shows w)
 
 ends_where : {a b : Option Moments} {R Q T : View → View → Type 0} (F : Type 0) → Goes a b R Q → (F → AtEnd T a b) → Goes a b R (λ u w. Q u w × (F → T u w))
 ends_where {T = T} F one two = record {
@@ -146,9 +147,15 @@ ends_where {T = T} F one two = record {
       );
 }
 
-changed_over : (holds : Option Holdings) (May : Op → Type 0) (f : Holdings → World → Answer) (s t : State) {before now : Bool} {u v : View} (w : View) → Begun s u v → IsTree v → PerformsOver (Opens s) holds f s v w → PerformedOver (Opens s) holds f s before now (Ok t) v w
-    → (AreToldFor May holds → OpensBy s (Ok t) v w) → Changed holds May f t u w
-changed_over holds May f s t {u = u} {v = v} w begun tree work is opens = record {
+-- the end of changes on an opened installation is settled
+settled_over : (spares : Bool) (holds : Option Holdings) (f : Holdings → World → Answer) (s t : State) {before now : Bool} {u v : View} (w : View) → Begun s u v → IsTree v → Opens s v → PerformedOver (Opens s) holds f s before now (Ok t) v w
+    → (spares ≡ false → SettlesOver holds s (Ok t) v w) → (held : Holdings) → holds ≡ Some held → (spares ≡ true → Settled (shows u)) → Settled (shows w)
+settled_over true holds f s t w begun tree opens is settles held told was = (is.performed held told opens).2.tidied (λ idle. same_settled (begun_seen begun tree) (was refl))
+settled_over false holds f s t w begun tree opens is settles held told was = settles refl (held, told) opens
+
+changed_over : (spares : Bool) (holds : Option Holdings) (May : Op → Type 0) (f : Holdings → World → Answer) (s t : State) {before now : Bool} {u v : View} (w : View) → Begun s u v → IsTree v → PerformsOver (Opens s) holds f s v w → PerformedOver (Opens s) holds f s before now (Ok t) v w
+    → (AreToldFor May holds → OpensBy s (Ok t) v w) → (spares ≡ false → SettlesOver holds s (Ok t) v w) → Changed spares holds May f t u w
+changed_over spares holds May f s t {u = u} {v = v} w begun tree work is opens settles = record {
   before = s;
   at = begun.opened.shown;
   done = done_over holds f s t w begun tree work is;
@@ -157,15 +164,15 @@ changed_over holds May f s t {u = u} {v = v} w begun tree work is opens = record
       subst (λ (a : Answer). t ≡ after_all s (ops_of a)) (ap (f held) (begun_world s begun tree) ∙ sym (over_is (f held) (shows u) shown s begun.opened.shown counts)) (is.performed held told opened).1;
   opens = λ told sound. opens told (begun.opened.opens sound);
   tree = begun.before;
-  settled = λ ready held told. (is.performed held told (begun.opened.opens (ready_sound begun.opened.shown ready))).2.tidied;
+  settled = λ ready held told was. settled_over spares holds f s t w begun tree (begun.opened.opens (ready_sound begun.opened.shown ready)) is settles held told was;
 }
 
-pub goes_changed : {a : Option Moments} (May : Op → Type 0) (f : Holdings → World → Answer) (s t : State) {before now : Bool} {u w : Outside} → IsLate f → IsTold a → IsTold u.told → Frame Nothing NoName NoPath a u.told → Goes a u.told StaysUnread StaysUnread → AtEnd (IsOpened s) a u.told
-    → Acts (Opens s) May f s before now (Ok t) u w → Goes a w.told (RunsOver u.holdings May f) (Changed u.holdings May f t)
-goes_changed May f s t {u = u} late known known_b frame unread tells works =
-    goes_on known_b (opening u.holdings May f late known frame unread tells) (ends_where (AreToldFor May u.holdings) (worked May f s works) works.opens)
+pub goes_changed : {a : Option Moments} (spares : Bool) (May : Op → Type 0) (f : Holdings → World → Answer) (s t : State) {before now : Bool} {u w : Outside} → IsLate f → IsTold a → IsTold u.told → Frame Nothing NoName NoPath a u.told → Goes a u.told StaysUnread StaysUnread → AtEnd (IsOpened s) a u.told
+    → Acts (Opens s) May f s before now (Ok t) u w → (spares ≡ false → AtEnd (SettlesOver u.holdings s (Ok t)) u.told w.told) → Goes a w.told (RunsOver u.holdings May f) (Changed spares u.holdings May f t)
+goes_changed spares May f s t {u = u} late known known_b frame unread tells works settles =
+    goes_on known_b (opening u.holdings May f late known frame unread tells) (ends_where (spares ≡ false) (ends_where (AreToldFor May u.holdings) (worked May f s works) works.opens) settles)
     (λ x y z tree p q step. runs_over u.holdings May f s late (begun q) tree step)
-    (λ x y z tree p q step last. changed_over u.holdings May f s t z (begun q) tree step.performs last.0.0 last.1)
+    (λ x y z tree p q step last. changed_over spares u.holdings May f s t z (begun q) tree step.performs last.0.0.0 last.0.1 last.1)
 
 -- ---- what they left up to a refusal
 

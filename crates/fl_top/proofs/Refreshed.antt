@@ -10,7 +10,7 @@ use Rattle.fp_host.specs.Remote.{Holdings}
 use Rattle.fp_host.specs.declared.host.HostEnd.{HostEnd}
 use Rattle.fp_host.specs.declared.host.HostEnd.TheVariants as host
 use Rattle.fp_host.proofs.Cause.{Rose-later}
-use Rattle.fp_host.proofs.Ending.{ends_goes, ends_on, goes_known}
+use Rattle.fp_host.proofs.Ending.{ends_goes, ends_on, ends_to, goes_known}
 use Rattle.fp_host.proofs.Framed.{IsTold}
 use Rattle.fp_host.proofs.Goes.{goes_on, ends_tree}
 use Rattle.fp_host.proofs.Settled.{settled_disk}
@@ -52,7 +52,7 @@ use Rattle.fl_change.specs.World.{World, world_at}
 use Rattle.fl_change.specs.Answer.{Answer, ops_of, has_acted, IsIdle}
 use Rattle.fl_change.specs.Changes.{IsStill}
 use Rattle.fl_change.specs.Ends.{end_of_host}
-use Rattle.fl_change.specs.Performs.{OpensBy, Acts, AreToldFor}
+use Rattle.fl_change.specs.Performs.{OpensBy, SettlesOver, Acts, AreToldFor}
 use Rattle.fl_change.specs.declared.end.RunEnd.{RunEnd}
 use Rattle.fl_change.specs.declared.end.RunEnd.TheVariants as run
 use Rattle.fl_change.proofs.Changing.{text_on, still_on}
@@ -172,17 +172,21 @@ exports_left {t = t} {w = w} tree opens was disk left = subst HasExports (λ k q
     one q = settled_disk w tree was.lasts disk left q ∙ sym (settled_disk w tree was.lasts (shows w) (now_left w) q)
 
 -- where the remotes tell what they hold, all is settled before
-in_step : {t : State} {v w : View} (holds : Option Holdings) → IsTree v → IsTree w → Opens t w → Refreshes t v w → WasRefreshed t v w → ((held : Holdings) → holds ≡ Some held → Settled (shows v)) → IsInStep holds w
+in_step : {Spares : Type 0} {t : State} {u v w : View} (holds : Option Holdings) → IsTree v → IsTree w → Opens t w → Refreshes t v w → WasRefreshed t v w → ((held : Holdings) → holds ≡ Some held → (Spares → Settled (shows u)) → Settled (shows v)) → IsInStep Spares holds u w
 in_step {w = w} holds tree next opens step was settled =
     let left : LeavesExports w = exports_left next opens was in
     record {
       exports = left;
-      rests = λ held is. record { settled = settled_refreshed tree next step was (settled held is); exports = left (shows w) (now_left w) };
+      rests = λ held is before. record { settled = settled_refreshed tree next step was (settled held is before); exports = left (shows w) (now_left w) };
     }
 
 -- and whatever other remotes hold
-pub step_anyhow : {held : Holdings} {given : Option Holdings} {w : View} → given ≡ Some held → IsInStep given w → (holds : Option Holdings) → IsInStep holds w
-step_anyhow {held = held} told step holds = record { exports = step.exports; rests = λ other is. step.rests held told }
+pub step_anyhow : {Spares : Type 0} {held : Holdings} {given : Option Holdings} {u w : View} → given ≡ Some held → IsInStep Spares given u w → (holds : Option Holdings) → IsInStep Spares holds u w
+step_anyhow {held = held} told step holds = record { exports = step.exports; rests = λ other is before. step.rests held told before }
+
+-- and where more spares tidying
+pub step_as : {S T : Type 0} {holds : Option Holdings} {u w : View} → (S → T) → IsInStep S holds u w → IsInStep T holds u w
+step_as more step = record { exports = step.exports; rests = λ held is before. step.rests held is (λ spares. before (more spares)) }
 
 -- ---- where all is at rest
 
@@ -237,7 +241,7 @@ module _ (held : Holdings) (a : Answer) (before t : State) {u v w : View} (at : 
 
 -- ---- over each answer that counts
 
-module _ (holds : Option Holdings) (May : Op → Type 0) (f : Holdings → World → Answer) (t : State) {u v w : View} (changed : Changed holds May f t u v) (step : Refreshes t v w) where
+module _ {spares : Bool} (holds : Option Holdings) (May : Op → Type 0) (f : Holdings → World → Answer) (t : State) {u v w : View} (changed : Changed spares holds May f t u v) (step : Refreshes t v w) where
   opened : (held : Holdings) → holds ≡ Some held → IsSound u → Opens t w
   opened held is sound = step.opens (changed.opens (λ asks. (held, is)) sound)
 
@@ -385,8 +389,8 @@ module _ {a b c : Option Moments} (holds : Option Holdings) (May : Op → Type 0
 
 -- ---- the refresh as the last part of a change
 
-module _ {a b c : Option Moments} (holds : Option Holdings) (May : Op → Type 0) (f : Holdings → World → Answer) (t : State) (known_b : IsTold b) (known_c : IsTold c)
-    (first : Goes a b (RunsOver holds May f) (Changed holds May f t)) (second : Always (Refreshes t) b c) where
+module _ {spares : Bool} {a b c : Option Moments} (holds : Option Holdings) (May : Op → Type 0) (f : Holdings → World → Answer) (t : State) (known_b : IsTold b) (known_c : IsTold c)
+    (first : Goes a b (RunsOver holds May f) (Changed spares holds May f t)) (second : Always (Refreshes t) b c) where
   in_trees : AtEnd (WasRefreshed t) b c → Goes b c (Refreshes t) (λ v w. IsTree w × (Refreshes t v w × WasRefreshed t v w))
   in_trees end = ends_tree known_c (goes_known second end) (λ v w tree q. (tree, q))
 
@@ -396,7 +400,7 @@ module _ {a b c : Option Moments} (holds : Option Holdings) (May : Op → Type 0
   goes_not_refreshed : (e : HostEnd) → Goes a c (RunsOver holds May f) (EndedOver holds f (Err (end_of_host e)))
   goes_not_refreshed e = goes_on known_b first second (λ u v w tree q k step. runs_on holds May f t k step tree q) (λ u v w tree q k step last. halted_on holds May f t k step e)
 
-  exports_stand : IsTold a → AtEnd (WasRefreshed t) b c → AreToldFor May holds → AtEnd (λ u w. IsSound u → IsInStep holds w) a c
+  exports_stand : IsTold a → AtEnd (WasRefreshed t) b c → AreToldFor May holds → AtEnd (λ u w. IsSound u → IsInStep (spares ≡ true) holds u w) a c
   exports_stand known_a end told = ends_on (ends_goes known_b (in_trees end)) (ends_goes known_a first) known_b
       (λ u v w tree q last sound. in_step holds tree last.0 (last.1.0.opens (q.opens told sound)) last.1.0 last.1.1 (q.settled (inl sound)))
 
@@ -407,10 +411,10 @@ abbrev Whole : Option Moments → Option Moments → Option Holdings → (Op →
 Whole a c holds May f x = Goes a c (RunsOver holds May f) (EndedOver holds f x)
 
 -- what is exported stands, where all was done
-abbrev Stand : Option Moments → Option Moments → Option Holdings → (Op → Type 0) → Result (Unit {0}) RunEnd → Type 0
-Stand a c holds May x = OnOk x (AreToldFor May holds → AtEnd (λ u w. IsSound u → IsInStep holds w) a c)
+abbrev Stand : Bool → Option Moments → Option Moments → Option Holdings → (Op → Type 0) → Result (Unit {0}) RunEnd → Type 0
+Stand spares a c holds May x = OnOk x (AreToldFor May holds → AtEnd (λ u w. IsSound u → IsInStep (spares ≡ true) holds u w) a c)
 
-module _ {a c : Option Moments} (May : Op → Type 0) (f : Holdings → World → Answer) (s : State) (result : Result (Unit {0}) RunEnd) {u w : Outside}
+module _ {a c : Option Moments} (May : Op → Type 0) (f : Holdings → World → Answer) (s : State) (result : Result (Unit {0}) RunEnd) {u w : Outside} (spares : Bool)
     (late : IsLate f) (known : IsTold a) (known_u : IsTold u.told) (known_w : IsTold w.told) (known_c : IsTold c)
     (frame : Frame Nothing NoName NoPath a u.told) (unread : Goes a u.told StaysUnread StaysUnread) (tells : AtEnd (IsOpened s) a u.told) where
   goes_passed : (e : RunEnd) {before now : Bool} → IsNoRefusal e → Acts (Opens s) May f s before now (Err e) u w → Always (λ x y. y ≡ x) w.told c → Whole a c u.holdings May f (Err e)
@@ -418,9 +422,9 @@ module _ {a c : Option Moments} (May : Op → Type 0) (f : Holdings → World �
       (λ x y z tree p q is. subst (RunsOver u.holdings May f x) (sym is) p)
       (λ x y z tree p q is last. subst (EndedOver u.holdings f (Err e) x) (sym last) q)
 
-  pub goes_in_step : (r : Result State RunEnd) (acted : Bool) → Acts (Opens s) May f s false acted r u w → Always (StepsAfter r acted) w.told c → (IsGivenBy result → AtEnd (InStepAfter r acted) w.told c) → PassesOn r result → Whole a c u.holdings May f result
-  goes_in_step (Ok t) acted works steps end passes =
-      let first = goes_changed May f s t late known known_u frame unread tells works in
+  pub goes_in_step : (r : Result State RunEnd) (acted : Bool) → Acts (Opens s) May f s false acted r u w → (spares ≡ false → AtEnd (SettlesOver u.holdings s r) u.told w.told) → Always (StepsAfter r acted) w.told c → (IsGivenBy result → AtEnd (InStepAfter r acted) w.told c) → PassesOn r result → Whole a c u.holdings May f result
+  goes_in_step (Ok t) acted works settles steps end passes =
+      let first = goes_changed spares May f s t late known known_u frame unread tells works settles in
       elim passes [
         | inl is ↦ subst (Whole a c u.holdings May f) (sym is) (goes_refreshed u.holdings May f t known_w known_c first steps (end (subst IsGivenBy (sym is) tt)))
         | inr failed ↦ elim failed [
@@ -428,7 +432,7 @@ module _ {a c : Option Moments} (May : Op → Type 0) (f : Holdings → World �
           | inr is ↦ subst (Whole a c u.holdings May f) (sym is) (goes_not_refreshed u.holdings May f t known_w known_c first steps host.NoMemory)
         ]
       ]
-  goes_in_step (Err (run.Refused refusal)) true works steps end passes =
+  goes_in_step (Err (run.Refused refusal)) true works settles steps end passes =
       let first = goes_refused May f s refusal true late known known_u frame unread tells works in
       elim passes [
         | inl is ↦ subst (Whole a c u.holdings May f) (sym is) (goes_refused_on u.holdings May f late refusal known_w known_c first steps (end (subst IsGivenBy (sym is) tt)))
@@ -437,7 +441,7 @@ module _ {a c : Option Moments} (May : Op → Type 0) (f : Holdings → World �
           | inr is ↦ subst (Whole a c u.holdings May f) (sym is) (goes_refused_off u.holdings May f late refusal known_w known_c first steps host.NoMemory)
         ]
       ]
-  goes_in_step (Err (run.Refused refusal)) false works steps end passes =
+  goes_in_step (Err (run.Refused refusal)) false works settles steps end passes =
       let first = goes_refused May f s refusal false late known known_u frame unread tells works in
       elim passes [
         | inl is ↦ subst (Whole a c u.holdings May f) (sym is) (goes_unacted_on u.holdings May f refusal known_w first steps)
@@ -446,24 +450,30 @@ module _ {a c : Option Moments} (May : Op → Type 0) (f : Holdings → World �
           | inr is ↦ subst (Whole a c u.holdings May f) (sym is) (goes_unacted_off u.holdings May f refusal known_w first steps host.NoMemory)
         ]
       ]
-  goes_in_step (Err run.Fault) acted works steps end passes = subst (Whole a c u.holdings May f) (sym passes) (goes_passed run.Fault (λ refusal is. cc is) works steps)
-  goes_in_step (Err run.RemoteFault) acted works steps end passes = subst (Whole a c u.holdings May f) (sym passes) (goes_passed run.RemoteFault (λ refusal is. cc is) works steps)
-  goes_in_step (Err run.NoMemory) acted works steps end passes = subst (Whole a c u.holdings May f) (sym passes) (goes_passed run.NoMemory (λ refusal is. cc is) works steps)
+  goes_in_step (Err run.Fault) acted works settles steps end passes = subst (Whole a c u.holdings May f) (sym passes) (goes_passed run.Fault (λ refusal is. cc is) works steps)
+  goes_in_step (Err run.RemoteFault) acted works settles steps end passes = subst (Whole a c u.holdings May f) (sym passes) (goes_passed run.RemoteFault (λ refusal is. cc is) works steps)
+  goes_in_step (Err run.NoMemory) acted works settles steps end passes = subst (Whole a c u.holdings May f) (sym passes) (goes_passed run.NoMemory (λ refusal is. cc is) works steps)
 
-  pub exports_in_step : (r : Result State RunEnd) (acted : Bool) → Acts (Opens s) May f s false acted r u w → Always (StepsAfter r acted) w.told c → (IsGivenBy result → AtEnd (InStepAfter r acted) w.told c) → PassesOn r result → Stand a c u.holdings May result
-  exports_in_step (Ok t) acted works steps end passes =
-      let first = goes_changed May f s t late known known_u frame unread tells works in
+  pub exports_in_step : (r : Result State RunEnd) (acted : Bool) → Acts (Opens s) May f s false acted r u w → (spares ≡ false → AtEnd (SettlesOver u.holdings s r) u.told w.told) → Always (StepsAfter r acted) w.told c → (IsGivenBy result → AtEnd (InStepAfter r acted) w.told c) → PassesOn r result → Stand spares a c u.holdings May result
+  exports_in_step (Ok t) acted works settles steps end passes =
+      let first = goes_changed spares May f s t late known known_u frame unread tells works settles in
       elim passes [
-        | inl is ↦ subst (Stand a c u.holdings May) (sym is) (exports_stand u.holdings May f t known_w known_c first steps known (end (subst IsGivenBy (sym is) tt)))
-        | inr failed ↦ elim failed [ inl is ↦ subst (Stand a c u.holdings May) (sym is) tt | inr is ↦ subst (Stand a c u.holdings May) (sym is) tt ]
+        | inl is ↦ subst (Stand spares a c u.holdings May) (sym is) (exports_stand u.holdings May f t known_w known_c first steps known (end (subst IsGivenBy (sym is) tt)))
+        | inr failed ↦ elim failed [ inl is ↦ subst (Stand spares a c u.holdings May) (sym is) tt | inr is ↦ subst (Stand spares a c u.holdings May) (sym is) tt ]
       ]
-  exports_in_step (Err (run.Refused refusal)) acted works steps end passes = elim passes [
-    | inl is ↦ subst (Stand a c u.holdings May) (sym is) tt
-    | inr failed ↦ elim failed [ inl is ↦ subst (Stand a c u.holdings May) (sym is) tt | inr is ↦ subst (Stand a c u.holdings May) (sym is) tt ]
+  exports_in_step (Err (run.Refused refusal)) acted works settles steps end passes = elim passes [
+    | inl is ↦ subst (Stand spares a c u.holdings May) (sym is) tt
+    | inr failed ↦ elim failed [ inl is ↦ subst (Stand spares a c u.holdings May) (sym is) tt | inr is ↦ subst (Stand spares a c u.holdings May) (sym is) tt ]
   ]
-  exports_in_step (Err run.Fault) acted works steps end passes = subst (Stand a c u.holdings May) (sym passes) tt
-  exports_in_step (Err run.RemoteFault) acted works steps end passes = subst (Stand a c u.holdings May) (sym passes) tt
-  exports_in_step (Err run.NoMemory) acted works steps end passes = subst (Stand a c u.holdings May) (sym passes) tt
+  exports_in_step (Err run.Fault) acted works settles steps end passes = subst (Stand spares a c u.holdings May) (sym passes) tt
+  exports_in_step (Err run.RemoteFault) acted works settles steps end passes = subst (Stand spares a c u.holdings May) (sym passes) tt
+  exports_in_step (Err run.NoMemory) acted works settles steps end passes = subst (Stand spares a c u.holdings May) (sym passes) tt
+
+-- where more spares tidying
+pub stands_spared : (a c : Option Moments) (holds : Option Holdings) (May : Op → Type 0) (S T : Type 0) (x : Result (Unit {0}) RunEnd) → (S → T)
+    → OnOk x (AreToldFor May holds → AtEnd (λ u w. IsSound u → IsInStep S holds u w) a c) → OnOk x (AreToldFor May holds → AtEnd (λ u w. IsSound u → IsInStep T holds u w) a c)
+stands_spared a c holds May S T (Ok t) more stand = λ told. ends_to (stand told) (λ u w step sound. step_as more (step sound))
+stands_spared a c holds May S T (Err e) more stand = tt
 
 -- ---- the cause of a fault
 

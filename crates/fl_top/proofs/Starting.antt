@@ -124,7 +124,7 @@ pub ready_sound : {s : State} {u : View} → Shows (shows u) s → IsReady u →
 ready_sound {s = s} shown ready = elim ready [ inl sound ↦ sound | inr none ↦ absurd (none s shown) ]
 
 -- what stands was seen before
-begun_seen : {s : State} {u v : View} → Begun s u v → IsTree v → (q : Elements) → shows v q ≡ shows u q
+pub begun_seen : {s : State} {u v : View} → Begun s u v → IsTree v → (q : Elements) → shows v q ≡ shows u q
 begun_seen {u = u} {v = v} begun tree q = shows_same u v begun.before tree begun.keeping.files q (begun.keeping.names q)
 
 -- the world that is worked on is the one that the image shows
@@ -174,14 +174,14 @@ runs_over holds May f s {u = u} {v = v} {w = w} late begun tree work = record {
   untouched = λ none. absurd (none s begun.opened.shown);
 }
 
-pub completes : (held : Holdings) (a : Answer) (s : State) (x : World) {u v w : View} → x.state ≡ s → IsOpened s u v → Keeping u v → KeepsFiles v w → world_at s u ≡ x → IsDone held a x v w → Completes held a u w
-completes held a s x {u = u} {w = w} same opened keeping files here is = record {
+pub completes : (held : Holdings) (a : Answer) (s : State) (x : World) {u v w : View} → x.state ≡ s → IsOpened s u v → Keeping u v → ((q : Elements) → shows v q ≡ shows u q) → KeepsFiles v w → world_at s u ≡ x → IsDone held a x v w → Completes held a u w
+completes held a s x {u = u} {w = w} same opened keeping seen files here is = record {
   printed = is.printed ∙ ap (λ (p : List ℕ). p ++ pieces_text a.pieces) keeping.printed;
   just = λ sound disk left. record { shown = shown_after u s (ops_of a) disk opened.shown (opens.shown disk left); sound = opens.sound disk left };
   shown = λ sound t at.
       let one : s ≡ t = one_state (shows u) s t opened.shown at in
       subst (λ (z : State). Shows (shows w) (after_all z (ops_of a))) one (opens.shown (shows w) (now_left w));
-  tidied = λ sound why. is.tidied;
+  tidied = λ sound why. is.tidied (λ idle. elim why [ inl settled ↦ same_settled seen settled | inr some ↦ absurd (some idle.0) ]);
   text = λ some t at.
       let one : s ≡ t = one_state (shows u) s t opened.shown at in
       subst (λ (z : State). HasText (after_all z (ops_of a)) w) (same ∙ one) (is.text some);
@@ -229,7 +229,7 @@ done_over holds f s t {u = u} {v = v} w begun tree work is ready held told shown
     let opens = begun.opened.opens (ready_sound begun.opened.shown ready) in
     let done = is.performed held told opens in
     subst (λ (a : Answer). (a.refusal ≡ None) × Completes held a u w) (ap (f held) (begun_world s begun tree) ∙ sym (over_is (f held) (shows u) shown s begun.opened.shown counts))
-    (done.0, completes held (f held (world_at s v)) s (world_at s v) refl begun.opened begun.keeping (work.performs held told opens).files (sym (begun_world s begun tree)) done.2)
+    (done.0, completes held (f held (world_at s v)) s (world_at s v) refl begun.opened begun.keeping (begun_seen begun tree) (work.performs held told opens).files (sym (begun_world s begun tree)) done.2)
 
 -- they were made up to a refusal
 pub refused_over : (holds : Option Holdings) (f : Holdings → World → Answer) (s : State) (refusal : Refusal) (acted : Bool) {u v : View} (w : View) → Begun s u v → IsTree v → PerformsOver (Opens s) holds f s v w → PerformedOver (Opens s) holds f s false acted (Err (Refused refusal)) v w
@@ -240,7 +240,7 @@ refused_over holds f s refusal acted {u = u} {v = v} w begun tree work is ready 
     let a = f held (world_at s v) in
     subst (λ (a : Answer). (a.refusal ≡ Some refusal) × Completes held a u w × Opens (after_all s (ops_of a)) w × (acted ≡ has_acted false (ops_of a))) (ap (f held) (begun_world s begun tree) ∙ sym (over_is (f held) (shows u) shown s begun.opened.shown counts)) (
       done.0,
-      completes held a s (world_at s v) refl begun.opened begun.keeping (work.performs held told opens).files (sym (begun_world s begun tree)) done.1,
+      completes held a s (world_at s v) refl begun.opened begun.keeping (begun_seen begun tree) (work.performs held told opens).files (sym (begun_world s begun tree)) done.1,
       subst (λ (z : State). Opens z w) (worlds_state held (world_at s v) (ops_of a)) done.1.holds.opens,
       is.acted held told opens,
     )

@@ -19,6 +19,7 @@ use Rattle.dep_states.specs.Shown.{at_name, override_key}
 use Rattle.fp_keyfile.specs.KeyFile.{text_of}
 use Rattle.fp_name.specs.Refs.{Ref}
 use Rattle.fp_small.specs.declared.state.RefRow.{RefRow}
+use Rattle.fl_installed.specs.Deployed.{DeployedFiles}
 use Rattle.fl_installed.specs.Described.{info_in}
 use Rattle.fl_installed.specs.declared.info.Info.{Info}
 use Rattle.fl_words.specs.declared.command.Command.{Command}
@@ -61,11 +62,13 @@ use Rattle.fl_change.specs.Turns.{changing}
 use Rattle.fl_top.specs.Exercising.{exercising}
 use Rattle.fl_change.specs.Answer.{Answer, Piece, refusal_answer, text_answer}
 
--- What a run is given beside the installation's state: its input, what the remotes hold, what is
--- found in the installation's store, and the digest of the commit that the input describes.
+-- What a run is given beside the installation's state: its input, what the remotes hold, the files
+-- `metadata` in the folders of deployed commits, what is found in the installation's store, and the
+-- digest of the commit that the input describes.
 pub record Given : Type 0 where
   pub input : List ℕ
   pub held : Holdings
+  pub files : DeployedFiles
   pub report : Report
   pub commit : List ℕ
 
@@ -76,16 +79,15 @@ abbrev pub override_text : State → List ℕ → List ℕ
 override_text s name =
     option_map_or (λ row. text_of row.file) (at_name override_key s.overrides name) []
 
--- what is known of a deployed ref, or what is wrong with the metadata of its commit
+-- what is known of a deployed ref, or what is wrong with its metadata
 abbrev pub told_of : RefRow → Result Info Refusal → Answer
 told_of row (Ok info) = text_answer (info_text row info.runtime info.extensions)
 told_of row (Err refusal) = refusal_answer refusal
 
--- The deployed commit's metadata is read as the world's objects have it. (Those that it stands on
--- are of the commit's order, so the installation's store has them as the world does, whether it is
--- sound or not.)
-abbrev pub known_of : Ref → World → Answer
-known_of name x = option_map_or (λ row. told_of row (info_in x.have name row.commit))
+-- The metadata is that of the file in the deployed commit's folder. (Over a sound installation it is
+-- the one that the store's objects give.)
+abbrev pub known_of : DeployedFiles → Ref → World → Answer
+known_of files name x = option_map_or (λ row. told_of row (info_in files name row.commit))
     (row_at x.state name) (refusal_answer (NotInstalled name))
 
 -- the text of a launch, or the first thing that speaks against it
@@ -93,15 +95,15 @@ abbrev pub launched_of : Result LaunchText Refusal → Answer
 launched_of (Ok launch) = text_answer launch.text
 launched_of (Err refusal) = refusal_answer refusal
 
-abbrev pub listing_answer : Listing → World → Answer
-listing_answer listings.Refs x = text_answer (refs_text x.state.refs)
-listing_answer listings.Pins x = text_answer (pins_text x.state.pins)
-listing_answer listings.Remotes x = text_answer (remotes_text x.state.remotes)
-listing_answer listings.Exports x = text_answer (exports_text (exported x.have x.state))
-listing_answer (listings.Info name) x = known_of name x
-listing_answer (listings.Launch name options) x =
-    launched_of (launch_in x.have x.state name options)
-listing_answer (listings.OverrideShow name) x = text_answer (override_text x.state name)
+abbrev pub listing_answer : DeployedFiles → Listing → World → Answer
+listing_answer files listings.Refs x = text_answer (refs_text x.state.refs)
+listing_answer files listings.Pins x = text_answer (pins_text x.state.pins)
+listing_answer files listings.Remotes x = text_answer (remotes_text x.state.remotes)
+listing_answer files listings.Exports x = text_answer (exports_text (exported x.have x.state))
+listing_answer files (listings.Info name) x = known_of files name x
+listing_answer files (listings.Launch name options) x =
+    launched_of (launch_in files x.state name options)
+listing_answer files (listings.OverrideShow name) x = text_answer (override_text x.state name)
 
 -- what is found in the store, whatever the world
 abbrev pub checked : Report → World → Answer
@@ -152,9 +154,9 @@ abbrev pub forwarding : Filtered → Answer
 forwarding f = record { pieces = map piece_of f.lines; refusal = f.refusal }
 
 -- the launch of an application with no options over what the image gives, or what speaks against it
-abbrev pub launch_over : Ref → Result World Elements → Result LaunchText Refusal
-launch_over name (Err path) = Err (Damaged path)
-launch_over name (Ok x) = launch_in x.have x.state name []
+abbrev pub launch_over : DeployedFiles → Ref → Result World Elements → Result LaunchText Refusal
+launch_over files name (Err path) = Err (Damaged path)
+launch_over files name (Ok x) = launch_in files x.state name []
 
 abbrev pub of_launch : (LaunchText → List PolicyRule) → Result LaunchText Refusal
     → Result (List PolicyRule) Refusal
@@ -169,10 +171,12 @@ abbrev pub on_system : LaunchText → List PolicyRule
 on_system launch = system_rules launch.grants
 
 -- the rules of a source: those of the words, whatever the image; or those of the launch
-abbrev pub rules_over : PolicySource → Result World Elements → Result (List PolicyRule) Refusal
-rules_over (sources.Rules words) shown = Ok (policy_of words)
-rules_over (sources.Session name) shown = of_launch (on_session name) (launch_over name shown)
-rules_over (sources.System name) shown = of_launch on_system (launch_over name shown)
+abbrev pub rules_over : DeployedFiles → PolicySource → Result World Elements
+    → Result (List PolicyRule) Refusal
+rules_over files (sources.Rules words) shown = Ok (policy_of words)
+rules_over files (sources.Session name) shown =
+    of_launch (on_session name) (launch_over files name shown)
+rules_over files (sources.System name) shown = of_launch on_system (launch_over files name shown)
 
 abbrev pub by_rules : Recording → Result (List PolicyRule) Refusal → Answer
 by_rules recording (Err refusal) = refusal_answer refusal
@@ -187,8 +191,8 @@ unfoldable pub filtered_by : Result (List PolicyRule) Refusal → List ℕ → A
 filtered_by rules bytes = of_recording rules (recording_of bytes)
 
 -- by where the rules come from
-abbrev pub filter_by : PolicySource → Result World Elements → List ℕ → Answer
-filter_by source shown bytes = filtered_by (rules_over source shown) bytes
+abbrev pub filter_by : DeployedFiles → PolicySource → Result World Elements → List ℕ → Answer
+filter_by files source shown bytes = filtered_by (rules_over files source shown) bytes
 
 -- ---- what is made of a description
 
@@ -236,9 +240,9 @@ pub data How : Type 0 where
 
 abbrev pub how : Command → How
 how (Changing change) = by_changes (change ∷ [])
-how (Listed listing) = by_world (λ given. listing_answer listing)
+how (Listed listing) = by_world (λ given. listing_answer given.files listing)
 how (Showing thing) = by_input (λ given shown. shown_by thing)
-how (Filtering source) = by_input (λ given shown. filter_by source shown)
+how (Filtering source) = by_input (λ given shown. filter_by given.files source shown)
 how Batch = by_batch
 how Fsck = by_world (λ given. checked given.report)
 how (Exporting remote name) = by_input (λ given shown. commit_made given.commit)

@@ -1,5 +1,5 @@
 -- The operations that a command may do, and what it asks of the remotes.
-use Rattle.std.specs.Prelude.{◌≡◌, ◌≤◌, ℕ, List, Option, Some, None, Ok}
+use Rattle.std.specs.Prelude.{◌≡◌, ◌≤◌, ℕ, List, true, Option, Some, None, Ok}
 use Rattle.fp_host.specs.Moments.{Rose}
 use Rattle.fp_host.specs.Remote.{Holdings}
 use Rattle.fp_small.specs.declared.op.Op.{Op}
@@ -8,6 +8,7 @@ use Rattle.fl_words.specs.declared.command.Command.TheVariants.{Exercise as Exer
 use Rattle.fl_words.specs.declared.command.Change.{Change}
 use Rattle.fl_words.specs.Batch.{batch_of}
 use Rattle.fl_gen.specs.Exercise.{exercise_changes}
+use Rattle.fl_change.specs.Current.{updates_all}
 use Rattle.fl_change.specs.Performs.{AsksBy}
 use Rattle.fl_change.specs.Turns.{MayDo}
 use Rattle.fl_top.specs.Answer.{How, how, by_changes, by_batch, by_exercise, by_world, by_input}
@@ -34,6 +35,22 @@ OpsBy command left op = OpsAs (how command) left op
 abbrev pub OpsFor : Option Command → Option (List ℕ) → Op → Type 0
 OpsFor None left op = ⊥
 OpsFor (Some command) left op = OpsBy command left op
+
+-- a command that is the update of all, and nothing else
+abbrev pub UpdatesAs : How → Option (List ℕ) → Type 0
+UpdatesAs (by_changes changes) left = updates_all changes ≡ true
+UpdatesAs by_batch left =
+    (changes : List Change) × IsBatch left changes × (updates_all changes ≡ true)
+UpdatesAs (by_exercise apps) left = ⊥
+UpdatesAs (by_world f) left = ⊥
+UpdatesAs (by_input f) left = ⊥
+
+abbrev pub UpdatesBy : Command → Option (List ℕ) → Type 0
+UpdatesBy command left = UpdatesAs (how command) left
+
+abbrev pub UpdatesFor : Option Command → Option (List ℕ) → Type 0
+UpdatesFor None left = ⊥
+UpdatesFor (Some command) left = UpdatesBy command left
 
 -- Those for which it may ask the remotes of the run. An exercise does its own over remotes that are
 -- made for it.

@@ -55,10 +55,10 @@ pub record IsAtRest (v : View) : Type 0 where
   pub exports : HasExports (shows v)
 
 -- Every stop leaves the exported files and links of the state; and where the remotes tell what they
--- hold, all is at rest.
-pub record IsInStep (holds : Option Holdings) (v : View) : Type 0 where
+-- hold, all is at rest: where this spares tidying, if all was settled before.
+pub record IsInStep (Spares : Type 0) (holds : Option Holdings) (u v : View) : Type 0 where
   pub exports : LeavesExports v
-  pub rests : (held : Holdings) → holds ≡ Some held → IsAtRest v
+  pub rests : (held : Holdings) → holds ≡ Some held → (Spares → Settled (shows u)) → IsAtRest v
 
 -- Where all is at rest and nothing is done or pulled, no name changes and no new file has a byte.
 abbrev pub StaysAtRest : Answer → View → View → Type 0

@@ -6,6 +6,7 @@ pub mod Kinds
 pub mod Status
 pub mod Asked
 pub mod Runs
+pub mod Stored
 pub mod RunsOver
 pub mod Ends
 pub mod History

@@ -13,6 +13,7 @@ use Rattle.dep_states.specs.Sound.{Sound, IsSound}
 use Rattle.dep_states.specs.After.{Done, after_all}
 use Rattle.dep_open.specs.Open.{NotShown}
 use Rattle.dep_states.specs.Settled.{Settled}
+use Rattle.fl_installed.specs.Deployed.{DeployedFiles, deployed_files}
 use Rattle.fl_words.specs.declared.command.Command.{Command}
 use Rattle.fl_words.specs.Forms.{command_of}
 use Rattle.fl_change.specs.World.{World, world_at}
@@ -141,6 +142,12 @@ told_start left holds moments = record { left = left; holds = holds; moments = m
 abbrev pub IsFoundAt : Option Moments → Report → Type 0
 IsFoundAt moments report = (m : Moments) → moments ≡ Some m → Finds (shows m.now) report
 
+-- the files `metadata` in the folders of deployed commits, as they stand at the start; none where
+-- the host doesn't tell its content
+abbrev pub files_at : Option Moments → DeployedFiles
+files_at None = λ name commit. None
+files_at (Some m) = deployed_files (shows m.now)
+
 -- each commit of what the bytes describe has this digest
 pub record IsCommitOf (name : Ref) (bytes digest : List ℕ) : Type 0 where
   pub each : (built : Built) → IsDescribed bytes name built → built.commit ≡ digest
@@ -154,12 +161,13 @@ abbrev pub IsMadeOf : Command → Option (List ℕ) → List ℕ → Type 0
 IsMadeOf command left digest = IsMadeAs (work_of command) left digest
 
 -- The command is given this: as its input all that is left, where it reads the input; what the
--- remotes hold, where it may change the state; what is found in the store, where it looks at that;
--- and the digest of the commit that the input describes, where it makes one. Else it may be given
--- any.
+-- remotes hold, where it may change the state; the deployed files, where it only looks; what is
+-- found in the store, where it looks at that; and the digest of the commit that the input describes,
+-- where it makes one. Else it may be given any.
 pub record IsGivenTo (command : Command) (t : Told) (given : Given) : Type 0 where
   pub input : (reads_input command ≡ false) ⊎ (t.left ≡ Some given.input)
   pub held : (changes_state command ≡ false) ⊎ (t.holds ≡ Some given.held)
+  pub files : (only_looks command ≡ false) ⊎ (given.files ≡ files_at t.moments)
   pub report : (checks_store command ≡ false) ⊎ IsFoundAt t.moments given.report
   pub commit : IsMadeOf command t.left given.commit
 

@@ -61,7 +61,7 @@ pub(crate) fn run_exercise<T: Threads + Sync, H: Host, I: Source, G: Gate + Sync
     ensures fault_has_cause { FailsOnly H.Host host.old host.new
         (HasCauses (Some (Exercising apps))) (result ≡ 3) }
     ensures exports { (holds : Option Holdings) → result ≡ 0
-        → AtReturn H.Host host.old host.new (λ u w. IsSound u → IsInStep holds w) }
+        → AtReturn H.Host host.old host.new (λ u w. IsSound u → IsInStep ⊥ holds u w) }
     ensures no_remote_fault { result ≡ 4 → ⊥ }
     ensures left { I.left input.new ≡ I.left input.old }
     ensures later { I.faults input.old ≤ I.faults input.new }
@@ -90,7 +90,8 @@ pub(crate) fn exercise<T: Threads + Sync, H: Host, R: Remotes>(
         (EndedOver (R.holds remotes.old) (exercising apps.now) result) }
     ensures exports { OnOk result
         (AreToldFor (MayDo (exercise_changes apps.now)) (R.holds remotes.old)
-        → AtReturn H.Host host.old host.new (λ u w. IsSound u → IsInStep (R.holds remotes.old) w)) }
+        → AtReturn H.Host host.old host.new (λ u w. IsSound u
+        → IsInStep ⊥ (R.holds remotes.old) u w)) }
     ensures fault_has_cause { FailsOnly H.Host host.old host.new
         IsReady (AreToldFor (MayDo (exercise_changes apps.now)) (R.holds remotes.old)
         × IsErrOf result RunEnd.Fault) }

@@ -10,6 +10,7 @@ ghost use Rattle.bus_stream.specs.Recordings.{recording_of as recording_in};
 ghost use Rattle.fl_filter.specs.Filtered.{filtered};
 ghost use Rattle.fl_words.specs.declared.command.PolicySource.TheVariants as sources;
 ghost use Rattle.fl_top.specs.Answer.{launch_over, rules_over, filter_by, forwarding};
+ghost use Rattle.fl_top.specs.Runs.{files_at};
 ghost use Rattle.fl_top.specs.RunsOver.{EndsAnyway};
 ghost use Rattle.fl_top.specs.Telling.{Tells, IsRecording, Finds, LooksBy, LookedBy, end_of_filter as run_end_of};
 
@@ -35,8 +36,10 @@ pub(crate) fn filter_bytes<H: Host>(
     bytes: &[u8],
 ) -> Result<(), RunEnd>
     ensures any_moment { Goes (H.moments host.old) (H.moments host.new)
-        (LooksBy (λ shown. filter_by source.now shown bytes.now))
-        (LookedBy (λ shown. filter_by source.now shown bytes.now) result) }
+        (LooksBy (λ shown. filter_by (files_at (H.moments host.old)) source.now shown
+        bytes.now))
+        (LookedBy (λ shown. filter_by (files_at (H.moments host.old)) source.now shown
+        bytes.now) result) }
     ensures fault_has_cause { FailsAlone H.Host host.old host.new (IsErrOf result RunEnd.Fault) }
     ensures no_remote_fault { IsErrOf result RunEnd.RemoteFault → ⊥ }
 {
@@ -64,7 +67,8 @@ fn find_policy<H: Host>(
     host: &mut H,
     source: &PolicySource,
 ) -> Result<Policy, RunEnd>
-    ensures finds { Observes (λ v. Finds (rules_over source.now) result (shows v))
+    ensures finds { Observes (λ v. Finds
+        (rules_over (files_at (H.moments host.old)) source.now) result (shows v))
         (H.moments host.old) (H.moments host.new) }
     ensures fault_has_cause { FailsAlone H.Host host.old host.new (IsErrOf result RunEnd.Fault) }
     ensures no_remote_fault { IsErrOf result RunEnd.RemoteFault → ⊥ }
@@ -78,7 +82,8 @@ fn find_policy<H: Host>(
 
 /// What an application is granted on the session bus.
 fn session_policy<H: Host>(alloc: Global, host: &mut H, name: &RefName) -> Result<Policy, RunEnd>
-    ensures finds { Observes (λ v. Finds (rules_over (sources.Session name.now)) result (shows v))
+    ensures finds { Observes (λ v. Finds
+        (rules_over (files_at (H.moments host.old)) (sources.Session name.now)) result (shows v))
         (H.moments host.old) (H.moments host.new) }
     ensures fault_has_cause { FailsAlone H.Host host.old host.new (IsErrOf result RunEnd.Fault) }
     ensures no_remote_fault { IsErrOf result RunEnd.RemoteFault → ⊥ }
@@ -90,7 +95,8 @@ fn session_policy<H: Host>(alloc: Global, host: &mut H, name: &RefName) -> Resul
 
 /// What an application is granted on the system bus.
 fn system_policy<H: Host>(alloc: Global, host: &mut H, name: &RefName) -> Result<Policy, RunEnd>
-    ensures finds { Observes (λ v. Finds (rules_over (sources.System name.now)) result (shows v))
+    ensures finds { Observes (λ v. Finds
+        (rules_over (files_at (H.moments host.old)) (sources.System name.now)) result (shows v))
         (H.moments host.old) (H.moments host.new) }
     ensures fault_has_cause { FailsAlone H.Host host.old host.new (IsErrOf result RunEnd.Fault) }
     ensures no_remote_fault { IsErrOf result RunEnd.RemoteFault → ⊥ }
@@ -101,7 +107,8 @@ fn system_policy<H: Host>(alloc: Global, host: &mut H, name: &RefName) -> Result
 
 /// The launch of an application with no options.
 fn find_launch<H: Host>(alloc: Global, host: &mut H, name: &RefName) -> Result<LaunchText, RunEnd>
-    ensures finds { Observes (λ v. Finds (launch_over name.now) result (shows v))
+    ensures finds { Observes (λ v. Finds
+        (launch_over (files_at (H.moments host.old)) name.now) result (shows v))
         (H.moments host.old) (H.moments host.new) }
     ensures fault_has_cause { FailsAlone H.Host host.old host.new (IsErrOf result RunEnd.Fault) }
     ensures no_remote_fault { IsErrOf result RunEnd.RemoteFault → ⊥ }

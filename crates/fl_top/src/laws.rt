@@ -12,15 +12,17 @@ ghost use Rattle.fl_words.specs.Forms.{command_of};
 ghost use Rattle.fl_words.specs.declared.command.Listing.TheVariants as listings;
 ghost use Rattle.fl_export.specs.Placed.{ExportsAre};
 ghost use Rattle.fl_export.specs.Sample as sample;
+ghost use Rattle.fl_installed.specs.Deployed.{DeployedFiles};
 ghost use Rattle.fl_change.specs.Answer.{text_answer};
 ghost use Rattle.fl_change.specs.Changes.{IsStill};
 ghost use Rattle.fl_top.specs.declared.input.TheConstants.{MOST_INPUT};
 ghost use Rattle.fl_top.specs.Answer.{answer, listing_answer, Given, IsOver};
-ghost use Rattle.fl_top.specs.Exports.{IsInStep};
+ghost use Rattle.fl_top.specs.Exports.{IsAtRest, IsInStep};
 ghost use Rattle.fl_top.specs.ExportSample.{desktop_text, placed_disk, stale_disk, listed_text};
 ghost use Rattle.fl_change.specs.World.{World};
 ghost use Rattle.fl_top.specs.History.{Stretch, History, Reopens, IsReached};
 ghost use Rattle.fl_top.specs.Runs.{Told, RunsBy};
+ghost use Rattle.fl_top.specs.Stored.{FilesAreStored, KnownIsStored, LaunchIsStored};
 ghost use Rattle.fl_top.specs.Updated.{HasNothingToDo, WasUpdated};
 
 /// The answers to words that count are the same. There is one over a view that is sound; and to
@@ -58,15 +60,15 @@ pub fn settled_views_reopen()
 /// and nothing stands there. The files and links of a small application may stand just so; with a
 /// link of another application they don't.
 pub fn exports_can_stand()
-    ensures bare { (holds : Option Holdings) (v : View) → IsTree v → IsSettled v
-        → ((x : List ℕ) (up : Elements) → v.names (x ∷ up) ≡ absent) → IsInStep holds v }
+    ensures bare { (holds : Option Holdings) (u v : View) → IsTree v → IsSettled v
+        → ((x : List ℕ) (up : Elements) → v.names (x ∷ up) ≡ absent) → IsInStep ⊥ holds u v }
     ensures placed { ExportsAre (sample.exports sample.stable desktop_text) placed_disk }
     ensures stale { ExportsAre (sample.exports sample.stable desktop_text) stale_disk → ⊥ }
 {}
 
 /// An update of all that was done leaves nothing to do: another one, over what it left and with the
-/// same remotes, has no operation and is not refused; at every moment no name has changed, each
-/// file keeps its mode and its bytes, and no new file has a byte.
+/// same remotes, has no operation and is not refused; and where all is at rest, at every moment no
+/// name has changed, each file keeps its mode and its bytes, and no new file has a byte.
 pub fn idle_updates_write_nothing()
     ensures answer { (words : List (List ℕ)) (first : Told) (given : Given) (held : Holdings)
         (u v : View) (shown : Result World Elements) → WasUpdated words first held u v
@@ -74,12 +76,21 @@ pub fn idle_updates_write_nothing()
         → HasNothingToDo (answer words given shown) }
     ensures unwritten { (words : List (List ℕ)) (first second : Told) (held : Holdings)
         (u v w : View) → WasUpdated words first held u v → second.holds ≡ Some held
-        → IsInStep first.holds v → RunsBy words second v w → IsStill v w × KeepsFiles v w }
+        → IsAtRest v → RunsBy words second v w → IsStill v w × KeepsFiles v w }
+{}
+
+/// Over a sound installation each deployed file `metadata` is the one that the store's objects give.
+/// So what is known of a deployed ref is the same by both, and so is a launch, with the rules of its
+/// filter.
+pub fn deployed_files_are_stored()
+    ensures files { FilesAreStored }
+    ensures known { KnownIsStored }
+    ensures launch { LaunchIsStored }
 {}
 
 /// What `list --exports` prints of a small application.
 pub fn exports_are_listed()
-    ensures { listing_answer listings.Exports (record {
+    ensures { (files : DeployedFiles) → listing_answer files listings.Exports (record {
       state = sample.state (sample.row sample.stable ∷ []);
       have = sample.have;
     }) ≡ text_answer listed_text }

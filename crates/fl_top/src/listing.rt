@@ -7,11 +7,13 @@ ghost use Rattle.ost_model.specs.Objects.{Have};
 ghost use Rattle.ost_model.specs.Remotes.{Stores};
 ghost use Rattle.dep_states.specs.After.{row_at};
 ghost use Rattle.fl_export.specs.Exported.{exported};
+ghost use Rattle.fl_installed.specs.Deployed.{DeployedFiles, Deploys};
 ghost use Rattle.fl_installed.specs.Described.{info_in as info_of};
 ghost use Rattle.fl_installed.specs.Launching.{launch_in as launch_over};
 ghost use Rattle.fl_top.specs.Answer.{listing_answer, known_of, told_of, launched_of, override_text as text_of_override};
 ghost use Rattle.fl_top.specs.Ends.{PrintsOf};
 ghost use Rattle.fl_top.specs.Exports.{exports_text as text_of_exports, row_line as line_of_row};
+ghost use Rattle.fl_top.specs.Runs.{files_at};
 ghost use Rattle.fl_top.specs.RunsOver.{LooksOver, LookedOver};
 
 use dep_open::read_state;
@@ -31,7 +33,8 @@ use std::alloc::{AllocError, Global};
 /// Prints what is listed.
 pub(crate) fn list<H: Host>(alloc: Global, host: &mut H, listing: Listing) -> Result<(), RunEnd>
     ensures any_moment { Goes (H.moments host.old) (H.moments host.new)
-        (LooksOver (listing_answer listing)) (LookedOver (listing_answer listing) result) }
+        (LooksOver (listing_answer (files_at (H.moments host.old)) listing))
+        (LookedOver (listing_answer (files_at (H.moments host.old)) listing) result) }
     ensures fault_has_cause { FailsAlone H.Host host.old host.new (IsErrOf result RunEnd.Fault) }
     ensures no_remote_fault { IsErrOf result RunEnd.RemoteFault → ⊥ }
 {
@@ -49,8 +52,10 @@ fn listed_text<H: Host>(
     state: &State,
 ) -> Result<Text, RunEnd>
     ensures unchanged { ChangesNothing H.Host host.old host.new }
-    ensures tells { (have : Have) → Stores repo (H.moments host.old) have
-        → PrintsOf (listing_answer listing (record { state = state.now; have = have })) result }
+    ensures tells { (files : DeployedFiles) → Deploys (H.moments host.old) files
+        → (have : Have) → Stores repo (H.moments host.old) have
+        → PrintsOf (listing_answer files listing (record { state = state.now; have = have }))
+        result }
     ensures fault_has_cause { FailsAlone H.Host host.old host.new (IsErrOf result RunEnd.Fault) }
     ensures no_remote_fault { IsErrOf result RunEnd.RemoteFault → ⊥ }
 {
@@ -105,8 +110,8 @@ fn known_text<H: Host>(
     name: &RefName,
 ) -> Result<Text, RunEnd>
     ensures unchanged { ChangesNothing H.Host host.old host.new }
-    ensures tells { (have : Have) → Stores repo (H.moments host.old) have
-        → PrintsOf (known_of name.now (record { state = state.now; have = have })) result }
+    ensures tells { (files : DeployedFiles) → Deploys (H.moments host.old) files → (have : Have)
+        → PrintsOf (known_of files name.now (record { state = state.now; have = have })) result }
     ensures fault_has_cause { FailsAlone H.Host host.old host.new (IsErrOf result RunEnd.Fault) }
     ensures no_remote_fault { IsErrOf result RunEnd.RemoteFault → ⊥ }
 {
@@ -124,8 +129,8 @@ fn row_text<H: Host>(
     row: &RefRow,
 ) -> Result<Text, RunEnd>
     ensures unchanged { ChangesNothing H.Host host.old host.new }
-    ensures tells { (have : Have) → Stores repo (H.moments host.old) have
-        → PrintsOf (told_of row.now (info_of have name.now row.now.commit)) result }
+    ensures tells { (files : DeployedFiles) → Deploys (H.moments host.old) files
+        → PrintsOf (told_of row.now (info_of files name.now row.now.commit)) result }
     ensures fault_has_cause { FailsAlone H.Host host.old host.new (IsErrOf result RunEnd.Fault) }
     ensures no_remote_fault { IsErrOf result RunEnd.RemoteFault → ⊥ }
 {
@@ -133,7 +138,7 @@ fn row_text<H: Host>(
     told_text(alloc, row, info)
 }
 
-/// What is said of a row and of what was read of its commit.
+/// What is said of a row and of what was read of its metadata.
 fn told_text(alloc: Global, row: &RefRow, info: Result<Info, Refusal>) -> Result<Text, RunEnd>
     ensures tells { PrintsOf (told_of row.now info) result }
     ensures no_fault { IsErrOf result RunEnd.Fault → ⊥ }
@@ -158,8 +163,8 @@ fn launch_text<H: Host>(
     options: &[Text],
 ) -> Result<Text, RunEnd>
     ensures unchanged { ChangesNothing H.Host host.old host.new }
-    ensures tells { (have : Have) → Stores repo (H.moments host.old) have
-        → PrintsOf (launched_of (launch_over have state.now name.now options.now)) result }
+    ensures tells { (files : DeployedFiles) → Deploys (H.moments host.old) files
+        → PrintsOf (launched_of (launch_over files state.now name.now options.now)) result }
     ensures fault_has_cause { FailsAlone H.Host host.old host.new (IsErrOf result RunEnd.Fault) }
     ensures no_remote_fault { IsErrOf result RunEnd.RemoteFault → ⊥ }
 {

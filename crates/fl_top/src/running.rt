@@ -13,10 +13,12 @@ ghost use Rattle.fp_host.specs.Outcome.{shows};
 ghost use Rattle.dep_states.specs.Sound.{IsSound};
 ghost use Rattle.fl_top.specs.Fsck.{HasReport};
 ghost use Rattle.fl_top.specs.Exports.{IsInStep};
-ghost use Rattle.fl_top.specs.Asked.{OpsBy, AsksFor, AsksRemotes};
+ghost use Rattle.fl_top.specs.Asked.{OpsBy, AsksFor, AsksRemotes, UpdatesBy};
+ghost use Rattle.fl_change.specs.Current.{updates_all};
 ghost use Rattle.fl_change.specs.Performs.{AreToldFor};
 ghost use Rattle.fl_top.specs.Exercises.{IsRun};
 ghost use Rattle.fl_top.specs.RunsOver.{GoesOn, RunsOver, EndedOver, RunsOn, EndedOn, RanOn, Takes, TakenBy, IsClosedBy};
+ghost use Rattle.fl_top.specs.Updated.{EndsInStep, WhereDone};
 ghost use Rattle.fl_top.specs.Runs.{Checks, IsChange, told_start, WasTaken, ReadsInput, IsReady, HasCauses};
 ghost use Rattle.fl_top.specs.Status.{IsStatus, IsAnswered, IsOfWords, IsOfCommand, reads_input};
 
@@ -71,11 +73,11 @@ pub fn run<H: Host, R: Remotes, I: Source>(
         (λ u w. HasReport (shows u)) }
     // Where a command that changes something was done, every stop leaves as the files and links at
     // or below `exports` exactly those that the applications of its state export; and all is
-    // settled, where the remotes tell what they hold.
-    ensures exports { IsChange (command_of (map string_bytes words.now)) → result ≡ 0
-        → AreToldFor (AsksFor (command_of (map string_bytes words.now)) (I.left input.old))
-        (R.holds remotes.old) → AtReturn H.Host host.old host.new
-        (λ u w. IsSound u → IsInStep (R.holds remotes.old) w) }
+    // settled, where the remotes tell what they hold: after the update of all, if it was before.
+    ensures exports { WhereDone (command_of (map string_bytes words.now)) (I.left input.old) result
+        (R.holds remotes.old) (AtReturn H.Host host.old host.new
+        (EndsInStep (command_of (map string_bytes words.now)) (I.left input.old)
+        (R.holds remotes.old))) }
     // The remotes stay as they are. For an exercise, and where the command brings no commit, they
     // aren't asked, and the status isn't 4; else it comes only where their count rose.
     ensures remotes { AsksRemotes
@@ -114,10 +116,10 @@ pub fn run_gated<H: Host, R: Remotes, I: Source, G: Gate + Sync>(
     ensures found { Checks (command_of (map string_bytes words.now)) → IsAnswered result
         → AtReturn H.Host host.old host.new
         (λ u w. HasReport (shows u)) }
-    ensures exports { IsChange (command_of (map string_bytes words.now)) → result ≡ 0
-        → AreToldFor (AsksFor (command_of (map string_bytes words.now)) (I.left input.old))
-        (R.holds remotes.old) → AtReturn H.Host host.old host.new
-        (λ u w. IsSound u → IsInStep (R.holds remotes.old) w) }
+    ensures exports { WhereDone (command_of (map string_bytes words.now)) (I.left input.old) result
+        (R.holds remotes.old) (AtReturn H.Host host.old host.new
+        (EndsInStep (command_of (map string_bytes words.now)) (I.left input.old)
+        (R.holds remotes.old))) }
     ensures remotes { AsksRemotes
         (AsksFor (command_of (map string_bytes words.now)) (I.left input.old))
         (result ≡ 4) (R.holds remotes.old) (R.holds remotes.new)
@@ -158,7 +160,8 @@ pub(crate) fn run_command<T: Threads + Sync, H: Host, R: Remotes, I: Source, G: 
         (λ u w. HasReport (shows u)) }
     ensures exports { IsChange (Some command) → result ≡ 0 → AreToldFor
         (OpsBy command (I.left input.old)) (R.holds remotes.old) → AtReturn H.Host host.old host.new
-        (λ u w. IsSound u → IsInStep (R.holds remotes.old) w) }
+        (λ u w. IsSound u → IsInStep (UpdatesBy command (I.left input.old))
+        (R.holds remotes.old) u w) }
     ensures remotes { AsksRemotes (OpsBy command (I.left input.old)) (result ≡ 4)
         (R.holds remotes.old) (R.holds remotes.new) (R.faults remotes.old) (R.faults remotes.new) }
     ensures input { ReadsInput (Some command) result (ChangesNothing H.Host host.old host.new)
@@ -195,7 +198,8 @@ fn perform<T: Threads + Sync, H: Host, R: Remotes, I: Source, G: Gate + Sync>(
         (λ u w. HasReport (shows u)) }
     ensures exports { IsChange (Some command) → OnOk result (AreToldFor
         (OpsBy command (I.left input.old)) (R.holds remotes.old) → AtReturn H.Host host.old host.new
-        (λ u w. IsSound u → IsInStep (R.holds remotes.old) w)) }
+        (λ u w. IsSound u → IsInStep (UpdatesBy command (I.left input.old))
+        (R.holds remotes.old) u w)) }
     ensures remotes { AsksRemotes (OpsBy command (I.left input.old))
         (IsErrOf result CommandEnd.RemoteFault) (R.holds remotes.old) (R.holds remotes.new)
         (R.faults remotes.old) (R.faults remotes.new) }
@@ -273,7 +277,8 @@ fn batch<T: Threads + Sync, H: Host, R: Remotes, I: Source>(
         result) }
     ensures exports { OnOk result (AreToldFor (OpsBy Batch (I.left input.old))
         (R.holds remotes.old) → AtReturn H.Host host.old host.new
-        (λ u w. IsSound u → IsInStep (R.holds remotes.old) w)) }
+        (λ u w. IsSound u → IsInStep (UpdatesBy Batch (I.left input.old))
+        (R.holds remotes.old) u w)) }
     ensures fault_has_cause { FailsOnly H.Host host.old host.new
         IsReady (AreToldFor (OpsBy Batch (I.left input.old))
         (R.holds remotes.old) × IsErrOf result CommandEnd.Fault) }
@@ -304,7 +309,8 @@ fn make_changes<T: Threads + Sync, H: Host, R: Remotes>(
         (RunsOver (R.holds remotes.old) (MayDo changes.now) (changing changes.now))
         (EndedOver (R.holds remotes.old) (changing changes.now) result) }
     ensures exports { OnOk result (AreToldFor (MayDo changes.now) (R.holds remotes.old)
-        → AtReturn H.Host host.old host.new (λ u w. IsSound u → IsInStep (R.holds remotes.old) w)) }
+        → AtReturn H.Host host.old host.new (λ u w. IsSound u
+        → IsInStep (updates_all changes.now ≡ true) (R.holds remotes.old) u w)) }
     ensures fault_has_cause { FailsOnly H.Host host.old host.new
         IsReady (AreToldFor (MayDo changes.now) (R.holds remotes.old)
         × IsErrOf result RunEnd.Fault) }

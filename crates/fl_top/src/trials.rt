@@ -1,11 +1,12 @@
 //! The changes of an exercise, and its last line.
 ghost use Rattle.std.specs.Prelude.{◌≡◌, Bool, IfOk, count_by};
+ghost use Rattle.fp_host.specs.OverHost.{AtReturn};
 ghost use Rattle.fp_name.specs.Pins.{same_kind};
 ghost use Rattle.ost_walk.specs.Ends.{around};
 ghost use Rattle.dep_states.specs.After.{IsGood};
 ghost use Rattle.dep_states.specs.Sound.{Opens};
 ghost use Rattle.fl_gen.specs.Exercise.{exercise_changes};
-ghost use Rattle.fl_change.specs.Performs.{Acts, Rests};
+ghost use Rattle.fl_change.specs.Performs.{Acts, Rests, SettlesOver};
 ghost use Rattle.fl_change.specs.Turns.{MayDo};
 ghost use Rattle.fl_top.specs.Exercising.{is_of, end_text, end_answer, exercising};
 
@@ -23,7 +24,7 @@ use std::thread::Threads;
 
 /// Makes the changes of an exercise on an opened installation, one after another up to the first
 /// refusal, over these remotes. Where none is refused, it prints how many applications and runtimes
-/// are deployed then. `acted` is set once an operation was done.
+/// are deployed then. `acted` is set once an operation was done. All is settled then.
 pub fn make_exercise<H: Host, R: Remotes>(
     rt: &(impl Threads + Sync),
     alloc: Global,
@@ -38,6 +39,8 @@ pub fn make_exercise<H: Host, R: Remotes>(
         (exercising apps.now) opened acted.old acted.new result
         (around H.Host R.Remotes host.old remotes.old)
         (around H.Host R.Remotes host.new remotes.new) }
+    ensures settles { AtReturn H.Host host.old host.new
+        (SettlesOver (R.holds remotes.old) opened result) }
 {
     let changes = exercise_commands(alloc, apps.number())?;
     let changed = change_all(rt, alloc, host, remotes, acted, opened, changes.as_slice())?;

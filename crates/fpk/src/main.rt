@@ -168,7 +168,8 @@ fn run_over<R: System + Print + Input + Clock + Threads + Sync>(
     if asked.access == Access::Look && host.is_absent() {
         tell_absence(rt, alloc, asked.installation);
     }
-    if asked.access == Access::Change && status < 2 && !progress.has_listed_objects() {
+    let is_idle = asked.is_update_of_all() && !printed.has_printed();
+    if asked.access == Access::Change && status < 2 && !is_idle && !progress.has_listed_objects() {
         tell_damage(rt, alloc, host);
     }
     match status {

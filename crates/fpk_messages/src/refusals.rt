@@ -1,15 +1,17 @@
-//! The standard output, which keeps what was refused.
+//! The standard output, which keeps what was refused, and whether a line was printed.
 use fp_realhost::Screen;
 use std::alloc::Global;
 use std::cell::Cell;
 use std::fmt::Display;
 use std::{io, str};
 
-/// A screen that keeps the line of the last refusal that was printed on it.
+/// A screen that keeps the line of the last refusal that was printed on it, and whether there was a
+/// line at all.
 pub struct Refusals<'a, R> {
     screen: Screen<'a, R>,
     alloc: Global,
     last: Cell<Option<String>>,
+    has_printed: Cell<bool>,
 }
 
 impl<R> Drop for Refusals<'_, R> {
@@ -18,6 +20,7 @@ impl<R> Drop for Refusals<'_, R> {
             screen: _,
             alloc: _,
             last: _,
+            has_printed: _,
         } = self;
     }
 }
@@ -29,6 +32,7 @@ impl<'a, R> Refusals<'a, R> {
             screen,
             alloc,
             last: Cell::new(None),
+            has_printed: Cell::new(false),
         }
     }
 
@@ -36,6 +40,11 @@ impl<'a, R> Refusals<'a, R> {
     /// there was none, or no memory for it.
     pub fn take_last(&self) -> Option<String> {
         self.last.replace(None)
+    }
+
+    /// Whether a line was printed.
+    pub fn has_printed(&self) -> bool {
+        self.has_printed.get()
     }
 }
 
@@ -49,6 +58,7 @@ impl<R: Print> Print for Refusals<'_, R> {
     }
 
     fn write_all(&self, bytes: &[u8]) -> io::Result<()> {
+        self.has_printed.set(true);
         if bytes.starts_with(b"error: ") {
             self.last.set(text_of(self.alloc, bytes));
         }

@@ -8,8 +8,13 @@ use std::io::{self, ErrorKind};
 const OUT_OF_MEMORY: &str = "fpk: out of memory\n";
 
 /// What is said of a store that lacks what a commit of the installation needs.
-pub const STORE_DAMAGED: &str = "fpk: an object of the store is missing or damaged, \
+const STORE_DAMAGED: &str = "fpk: an object of the store is missing or damaged, \
                              `fpk fsck` and `ostree fsck` look for it\n";
+
+/// What is said of an installed ref whose file `metadata` is gone.
+pub const METADATA_LOST: &str = "fpk: an install leaves this file in the folder of the ref, below \
+                             `active`, and has it no longer than 1 MiB; uninstall the ref and \
+                             install it again\n";
 
 /// Says lines on standard error.
 pub fn say(rt: &impl Eprint, lines: &str) {

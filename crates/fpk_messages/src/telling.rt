@@ -1,6 +1,6 @@
 //! What is told on standard error of a command that was done or refused: what the line of a refusal
 //! means and what helps, and what the folders and the input show of it.
-use crate::saying::{STORE_DAMAGED, say, say_batch_reason, say_no_memory, say_notes};
+use crate::saying::{METADATA_LOST, say, say_batch_reason, say_no_memory, say_notes};
 use crate::showing::{bad_line, is_absent, mode_at, push_list, refs_below, remote_folder};
 use fl_lines::{advice_on, escape, frame_rule, key_rule, meta_rule, object_rule};
 use fp_realsync::Access;
@@ -37,6 +37,14 @@ struct Refused<'a> {
 }
 
 impl Asked<'_> {
+    /// Whether it is the update of all.
+    pub fn is_update_of_all(&self) -> bool {
+        match self.words {
+            [word] => word.as_str() == "update",
+            _ => false,
+        }
+    }
+
     /// Whether the first word is this.
     fn is_of(&self, word: &str) -> bool {
         match self.words {
@@ -171,7 +179,9 @@ impl Refused<'_> {
 
     /// Whether the metadata of an installed ref is gone, which no install leaves so.
     fn is_of_lost_metadata(&self) -> bool {
-        let looks = self.asked.is_of("info") || self.asked.is_of("launch");
+        let looks = self.asked.is_of("info")
+            || self.asked.is_of("launch")
+            || self.asked.is_of("filter");
         match self.after("error: metadata ") {
             Some(rest) => looks && rest.ends_with(" 0 absent"),
             None => false,
@@ -206,7 +216,7 @@ fn told(
     }
     push_rule(&mut text, refused)?;
     if refused.is_of_lost_metadata() {
-        text.push_str(STORE_DAMAGED)?;
+        text.push_str(METADATA_LOST)?;
     }
     push_refs(rt, alloc, &mut text, refused)?;
     push_line(rt, alloc, &mut text, refused)?;

@@ -1,54 +1,33 @@
-use Rattle.std.proofs.Common.{◌≡◌, inl, inr, refl, subst, Result, Ok, Err, IfOk}
-use Rattle.fp_host.specs.declared.host.HostEnd.{HostEnd}
+use Rattle.std.proofs.Common.{◌≡◌, Bool, true, Result, sym, ◌∙◌, subst}
 use Rattle.fp_small.specs.declared.state.State.{State}
 use Rattle.ost_walk.specs.Ends.{outside}
-use Rattle.dep_tidy.specs.Tidy.{WasTidied}
-use Rattle.fl_change.specs.Ends.{end_of_host}
-use Rattle.fl_change.specs.Performs.{Acts, Rests}
-use Rattle.fl_change.specs.Turns.{changing, migrating, in_turn, MayDo}
-use Rattle.fl_change.proofs.Acting.{acts_err, acts_first, acts_second}
-use Rattle.fl_change.proofs.Composing.{Tidying}
-use Rattle.fl_change.proofs.Tidying.{tidying_of, acts_untidied_first, acts_tidied_first}
-use Rattle.fl_change.proofs.Working.{works_to}
+use Rattle.fp_small.specs.declared.state.Layout.TheVariants.{Two}
+use Rattle.fl_change.specs.Current.{are_as_offered}
+use Rattle.fl_change.specs.declared.end.RunEnd.{RunEnd}
+use Rattle.fl_change.proofs.Acting.{acts_err}
+use Rattle.fl_change.proofs.Idling.{Peeks, idle_fails, idle_stays, idle_goes_on}
 use Rattle.fl_change.proofs.change.change_all.Goals as goal
 
-pub returns-in_err-tidied : goal.returns-in_err-tidied
-returns-in_err-tidied g c =
-    let s = c.args.opened in
+pub returns-in_err-is_idle-clause-acts : goal.returns-in_err-is_idle-clause-acts
+returns-in_err-is_idle-clause-acts g c =
     let u = outside (g.H.Host.moments c.args.host.now) (g.H.Host.faults c.args.host.now) (g.R.Remotes.holds c.args.remotes.now) (g.R.Remotes.faults c.args.remotes.now) in
-    let v = outside (g.H.Host.moments c.tidy.new.host) (g.H.Host.faults c.tidy.new.host) (g.R.Remotes.holds c.args.remotes.now) (g.R.Remotes.faults c.args.remotes.now) in
-    let t = g.met.H.Host.is_tree in
-    let tidying : Tidying (WasTidied s) s c.tidy.result u v = tidying_of s c.tidy.result c.tidy.ensures.any_moment c.tidy.ensures.on_success (λ x is. subst (λ (r : Result State HostEnd). IfOk r (λ o. o ≡ s)) is c.tidy.ensures.state) c.tidy.ensures.fault_has_cause refl refl in
-    record {
-      acts = acts_err c.from_residual.result (end_of_host c.in_err-tidied.field-0.0) c.from_residual.ensures.1
-          (acts_untidied_first (changing c.args.changes.now) s c.in_err-tidied.field-0.0 (subst (λ (r : Result State HostEnd). Tidying (WasTidied s) s r u v) c.in_err-tidied.was tidying));
-    }
+    let v = outside (g.H.Host.moments c.is_idle.new.host) (g.H.Host.faults c.is_idle.new.host) (g.R.Remotes.holds c.is_idle.new.remotes) (g.R.Remotes.faults c.is_idle.new.remotes) in
+    let peeks : Peeks c.is_idle.result u v = record { still = c.is_idle.ensures.unchanged; same = c.is_idle.ensures.same; unrefused = c.is_idle.ensures.unrefused; host = c.is_idle.ensures.host; remote = c.is_idle.ensures.remote } in
+    acts_err c.from_residual.result c.in_err-is_idle.field-0.0 c.from_residual.ensures.1
+    (idle_fails c.args.changes.now c.args.opened (sym c.is_update_of_all.ensures ∙ c.if-not-is_update_of_all.false) c.in_err-is_idle.field-0.0 (g.met.H.Host.is_tree c.is_idle.new.host)
+    (subst (λ (r : Result Bool RunEnd). Peeks r u v) c.in_err-is_idle.was peeks))
 
-pub returns-in_err-current : goal.returns-in_err-current
-returns-in_err-current g c =
-    let s = c.args.opened in
+pub returns-then-branch-clause-acts : goal.returns-then-branch-clause-acts
+returns-then-branch-clause-acts g c =
     let u = outside (g.H.Host.moments c.args.host.now) (g.H.Host.faults c.args.host.now) (g.R.Remotes.holds c.args.remotes.now) (g.R.Remotes.faults c.args.remotes.now) in
-    let v = outside (g.H.Host.moments c.tidy.new.host) (g.H.Host.faults c.tidy.new.host) (g.R.Remotes.holds c.args.remotes.now) (g.R.Remotes.faults c.args.remotes.now) in
-    let t = g.met.H.Host.is_tree in
-    let tidying : Tidying (WasTidied s) s c.tidy.result u v = tidying_of s c.tidy.result c.tidy.ensures.any_moment c.tidy.ensures.on_success (λ x is. subst (λ (r : Result State HostEnd). IfOk r (λ o. o ≡ s)) is c.tidy.ensures.state) c.tidy.ensures.fault_has_cause refl refl in
-    let w = outside (g.H.Host.moments c.migrate.new.host) (g.H.Host.faults c.migrate.new.host) (g.R.Remotes.holds c.migrate.new.remotes) (g.R.Remotes.faults c.migrate.new.remotes) in
-    let migrated : Acts (Rests s) (MayDo c.args.changes.now) migrating s c.args.acted.now c.migrate.new.acted (Err c.in_err-current.field-0.0) v w = works_to (λ op is. inl is) (subst (λ (x : State). Acts (Rests x) _ migrating x c.args.acted.now c.migrate.new.acted (Err c.in_err-current.field-0.0) v w) c.in_ok-tidied.ensures.state c.in_err-current.ensures.acts) in
-    record {
-      acts = acts_err c.from_residual-in_err-current.result c.in_err-current.field-0.0 c.from_residual-in_err-current.ensures.1
-          (acts_tidied_first (changing c.args.changes.now) s c.in_ok-tidied.tidied (Err c.in_err-current.field-0.0) (t c.tidy.new.host) (subst (λ (r : Result State HostEnd). Tidying (WasTidied s) s r u v) c.in_ok-tidied.was tidying)
-          (acts_first migrating (in_turn c.args.changes.now) c.in_err-current.field-0.0 migrated));
-    }
+    let v = outside (g.H.Host.moments c.is_idle.new.host) (g.H.Host.faults c.is_idle.new.host) (g.R.Remotes.holds c.is_idle.new.remotes) (g.R.Remotes.faults c.is_idle.new.remotes) in
+    let peeks : Peeks c.is_idle.result u v = record { still = c.is_idle.ensures.unchanged; same = c.is_idle.ensures.same; unrefused = c.is_idle.ensures.unrefused; host = c.is_idle.ensures.host; remote = c.is_idle.ensures.remote } in
+    idle_stays c.args.changes.now c.args.opened (sym c.is_update_of_all.ensures ∙ c.if-not-is_update_of_all.false) c.requires.good.refs_ascend (g.met.H.Host.is_tree c.is_idle.new.host) peeks
+    (λ held known. subst (λ (x : State). (x.layout ≡ Two) × (are_as_offered held x ≡ true)) c.state.ensures (c.in_ok-is_idle.ensures.idle held known c.if-branch.true))
 
-pub returns : goal.returns
-returns g c =
-    let s = c.args.opened in
+pub returns-clause-acts : goal.returns-clause-acts
+returns-clause-acts g c =
     let u = outside (g.H.Host.moments c.args.host.now) (g.H.Host.faults c.args.host.now) (g.R.Remotes.holds c.args.remotes.now) (g.R.Remotes.faults c.args.remotes.now) in
-    let v = outside (g.H.Host.moments c.tidy.new.host) (g.H.Host.faults c.tidy.new.host) (g.R.Remotes.holds c.args.remotes.now) (g.R.Remotes.faults c.args.remotes.now) in
-    let t = g.met.H.Host.is_tree in
-    let tidying : Tidying (WasTidied s) s c.tidy.result u v = tidying_of s c.tidy.result c.tidy.ensures.any_moment c.tidy.ensures.on_success (λ x is. subst (λ (r : Result State HostEnd). IfOk r (λ o. o ≡ s)) is c.tidy.ensures.state) c.tidy.ensures.fault_has_cause refl refl in
-    let w = outside (g.H.Host.moments c.migrate.new.host) (g.H.Host.faults c.migrate.new.host) (g.R.Remotes.holds c.migrate.new.remotes) (g.R.Remotes.faults c.migrate.new.remotes) in
-    let migrated : Acts (Rests s) (MayDo c.args.changes.now) migrating s c.args.acted.now c.migrate.new.acted (Ok c.in_ok-current.current) v w = works_to (λ op is. inl is) (subst (λ (x : State). Acts (Rests x) _ migrating x c.args.acted.now c.migrate.new.acted (Ok c.in_ok-current.current) v w) c.in_ok-tidied.ensures.state c.in_ok-current.ensures.acts) in
-    record {
-      acts = acts_tidied_first (changing c.args.changes.now) s c.in_ok-tidied.tidied c.do_each.result (t c.tidy.new.host) (subst (λ (r : Result State HostEnd). Tidying (WasTidied s) s r u v) c.in_ok-tidied.was tidying)
-          (acts_second migrating (in_turn c.args.changes.now) c.in_ok-current.current c.do_each.result (t c.migrate.new.host) migrated (works_to (λ op may. inr may) c.do_each.ensures.acts));
-    }
+    let v = outside (g.H.Host.moments c.is_idle.new.host) (g.H.Host.faults c.is_idle.new.host) (g.R.Remotes.holds c.is_idle.new.remotes) (g.R.Remotes.faults c.is_idle.new.remotes) in
+    let peeks : Peeks c.is_idle.result u v = record { still = c.is_idle.ensures.unchanged; same = c.is_idle.ensures.same; unrefused = c.is_idle.ensures.unrefused; host = c.is_idle.ensures.host; remote = c.is_idle.ensures.remote } in
+    idle_goes_on c.args.changes.now c.args.opened (sym c.is_update_of_all.ensures ∙ c.if-not-is_update_of_all.false) (g.met.H.Host.is_tree c.is_idle.new.host) peeks c.tidy_and_change-2.ensures.acts

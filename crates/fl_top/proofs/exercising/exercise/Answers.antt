@@ -1,10 +1,10 @@
-use Rattle.std.proofs.Common.{IsErrOf}
+use Rattle.std.proofs.Common.{◌≡◌, false, true, IsErrOf}
 use Rattle.fl_gen.specs.Exercise.{exercise_changes}
 use Rattle.fl_change.specs.Turns.{MayDo}
 use Rattle.fl_top.specs.Exercising.{exercising}
 use Rattle.fl_change.specs.declared.end.RunEnd.TheVariants as run
 use Rattle.fl_top.proofs.Asked.{not_asked, asks_work}
-use Rattle.fl_top.proofs.Refreshed.{goes_in_step, exports_in_step, caused_in_step, remote_passed}
+use Rattle.fl_top.proofs.Refreshed.{goes_in_step, exports_in_step, stands_spared, caused_in_step, remote_passed}
 use Rattle.fl_top.proofs.Opening.{goes_not_opened, caused_open, open_fault, open_remote}
 use Rattle.fl_top.proofs.Refusing.{exercising_late}
 use Rattle.fl_top.proofs.exercising.exercise.Goals as goal
@@ -26,15 +26,16 @@ pub returns-clause-any_moment : goal.returns-clause-any_moment
 returns-clause-any_moment g c =
     let t = g.met.H.Host.is_tree in
     let step = c.bring_in_step.ensures in
-    goes_in_step (MayDo (exercise_changes c.args.apps.now)) (exercising c.args.apps.now) c.in_ok-opened.opened c.bring_in_step.result (exercising_late c.args.apps.now) (t c.args.host.now) (t c.open.new.host) (t c.make_exercise-changed.new.host) (t c.bring_in_step.new.host) c.open.ensures.frame c.open.ensures.unread c.in_ok-opened.ensures.tells
-    c.make_exercise-changed.result c.make_exercise-changed.new.acted c.make_exercise-changed.ensures.acts step.any_moment step.in_step step.passes
+    goes_in_step (MayDo (exercise_changes c.args.apps.now)) (exercising c.args.apps.now) c.in_ok-opened.opened c.bring_in_step.result false (exercising_late c.args.apps.now) (t c.args.host.now) (t c.open.new.host) (t c.make_exercise-changed.new.host) (t c.bring_in_step.new.host) c.open.ensures.frame c.open.ensures.unread c.in_ok-opened.ensures.tells
+    c.make_exercise-changed.result c.make_exercise-changed.new.acted c.make_exercise-changed.ensures.acts (λ no. c.make_exercise-changed.ensures.settles) step.any_moment step.in_step step.passes
 
 pub returns-clause-exports : goal.returns-clause-exports
 returns-clause-exports g c =
     let t = g.met.H.Host.is_tree in
     let step = c.bring_in_step.ensures in
-    exports_in_step (MayDo (exercise_changes c.args.apps.now)) (exercising c.args.apps.now) c.in_ok-opened.opened c.bring_in_step.result (exercising_late c.args.apps.now) (t c.args.host.now) (t c.open.new.host) (t c.make_exercise-changed.new.host) (t c.bring_in_step.new.host) c.open.ensures.frame c.open.ensures.unread c.in_ok-opened.ensures.tells
-    c.make_exercise-changed.result c.make_exercise-changed.new.acted c.make_exercise-changed.ensures.acts step.any_moment step.in_step step.passes
+    stands_spared (g.H.Host.moments c.args.host.now) (g.H.Host.moments c.bring_in_step.new.host) (g.R.Remotes.holds c.args.remotes.now) (MayDo (exercise_changes c.args.apps.now)) (false ≡ true) ⊥ c.bring_in_step.result (λ is. cc is)
+    (exports_in_step (MayDo (exercise_changes c.args.apps.now)) (exercising c.args.apps.now) c.in_ok-opened.opened c.bring_in_step.result false (exercising_late c.args.apps.now) (t c.args.host.now) (t c.open.new.host) (t c.make_exercise-changed.new.host) (t c.bring_in_step.new.host) c.open.ensures.frame c.open.ensures.unread c.in_ok-opened.ensures.tells
+    c.make_exercise-changed.result c.make_exercise-changed.new.acted c.make_exercise-changed.ensures.acts (λ no. c.make_exercise-changed.ensures.settles) step.any_moment step.in_step step.passes)
 
 pub returns-clause-fault_has_cause : goal.returns-clause-fault_has_cause
 returns-clause-fault_has_cause g c =

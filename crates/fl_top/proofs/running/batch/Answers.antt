@@ -1,12 +1,14 @@
-use Rattle.std.proofs.Common.{◌≡◌, subst, List, ℕ, Ok, Err, IsErrOf}
+use Rattle.std.proofs.Common.{◌≡◌, subst, List, ℕ, true, Ok, Err, IsErrOf}
 use Rattle.fp_host.specs.Causes.{IsCaused}
 use Rattle.fp_host.specs.Frame.{AtEnd}
 use Rattle.fp_host.specs.Moments.{Goes}
+use Rattle.fp_host.proofs.Ending.{ends_to}
 use Rattle.dep_states.specs.Sound.{IsSound}
 use Rattle.fl_top.specs.Exports.{IsInStep}
 use Rattle.fl_words.specs.Batch.{IsBadBatch, batch_of}
 use Rattle.fl_words.specs.declared.command.Change.{Change}
 use Rattle.fl_words.specs.declared.command.Command.TheVariants.{Batch}
+use Rattle.fl_change.specs.Current.{updates_all}
 use Rattle.fl_change.specs.Turns.{changing, MayDo}
 use Rattle.fl_change.specs.declared.end.RunEnd.TheVariants as run
 use Rattle.fl_top.specs.Asked.{OpsBy, AsksRemotes}
@@ -18,6 +20,7 @@ use Rattle.fl_top.specs.declared.command_end.CommandEnd.TheVariants.{RemoteFault
 use Rattle.fl_change.proofs.Working.{asks_to}
 use Rattle.fl_top.proofs.Asked.{not_asked, asks_more}
 use Rattle.fl_top.proofs.Finishing.{IsChanging, goes_none, input_failed, input_ends, batch_by, batch_input, batch_ends, batch_changes, goes_change, goes_not_changed, run_fault, run_remote, input_remote, batch_remote, drained_by, not_taken}
+use Rattle.fl_top.proofs.Refreshed.{step_as}
 use Rattle.fl_top.proofs.running.batch.Goals as goal
 
 pub returns-in_err-bytes-clause-any_moment : goal.returns-in_err-bytes-clause-any_moment
@@ -106,5 +109,5 @@ returns-clause-exports g c tells =
     let t = told_start (g.I.Source.left c.args.input.now) holds (g.H.Host.moments c.args.host.now) in
     let read : batch_of c.in_ok-bytes.bytes ≡ Ok c.in_ok-changes.changes = subst (λ (b : List ℕ). batch_of b ≡ Ok c.in_ok-changes.changes) c.as_slice.ensures c.in_ok-changes.ensures.ok in
     let known : IsChanging Batch t (MayDo c.in_ok-changes.changes) (changing c.in_ok-changes.changes) = batch_changes t c.in_ok-bytes.bytes c.in_ok-changes.changes c.in_ok-bytes.ensures.ok read in
-    let stand = subst (λ (l : List Change). AreToldFor (MayDo l) holds → AtEnd (λ u w. IsSound u → IsInStep holds w) (g.H.Host.moments c.args.host.now) (g.H.Host.moments c.make_changes.new.host)) c.as_slice-2.ensures c.in_ok-make_changes.ensures.exports in
-    stand (λ asks. tells (asks_to known.may asks))
+    let stand = subst (λ (l : List Change). AreToldFor (MayDo l) holds → AtEnd (λ u w. IsSound u → IsInStep (updates_all l ≡ true) holds u w) (g.H.Host.moments c.args.host.now) (g.H.Host.moments c.make_changes.new.host)) c.as_slice-2.ensures c.in_ok-make_changes.ensures.exports in
+    ends_to (stand (λ asks. tells (asks_to known.may asks))) (λ u w step sound. step_as (λ all. (c.in_ok-changes.changes, record { bytes = c.in_ok-bytes.bytes; whole = c.in_ok-bytes.ensures.ok; read = read }, all)) (step sound))

@@ -1,4 +1,5 @@
 use Rattle.std.proofs.Common.{IsErrOf}
+use Rattle.fl_change.specs.Current.{updates_all}
 use Rattle.fl_change.specs.Turns.{changing, MayDo}
 use Rattle.fl_change.specs.declared.end.RunEnd.TheVariants as run
 use Rattle.fl_top.proofs.Asked.{not_asked, asks_work}
@@ -24,15 +25,15 @@ pub returns-clause-any_moment : goal.returns-clause-any_moment
 returns-clause-any_moment g c =
     let t = g.met.H.Host.is_tree in
     let step = c.bring_in_step.ensures in
-    goes_in_step (MayDo c.args.changes.now) (changing c.args.changes.now) c.in_ok-opened.opened c.bring_in_step.result (changing_late c.args.changes.now) (t c.args.host.now) (t c.open.new.host) (t c.change_all-changed.new.host) (t c.bring_in_step.new.host) c.open.ensures.frame c.open.ensures.unread c.in_ok-opened.ensures.tells
-    c.change_all-changed.result c.change_all-changed.new.acted c.change_all-changed.ensures.acts step.any_moment step.in_step step.passes
+    goes_in_step (MayDo c.args.changes.now) (changing c.args.changes.now) c.in_ok-opened.opened c.bring_in_step.result (updates_all c.args.changes.now) (changing_late c.args.changes.now) (t c.args.host.now) (t c.open.new.host) (t c.change_all-changed.new.host) (t c.bring_in_step.new.host) c.open.ensures.frame c.open.ensures.unread c.in_ok-opened.ensures.tells
+    c.change_all-changed.result c.change_all-changed.new.acted c.change_all-changed.ensures.acts c.change_all-changed.ensures.settles step.any_moment step.in_step step.passes
 
 pub returns-clause-exports : goal.returns-clause-exports
 returns-clause-exports g c =
     let t = g.met.H.Host.is_tree in
     let step = c.bring_in_step.ensures in
-    exports_in_step (MayDo c.args.changes.now) (changing c.args.changes.now) c.in_ok-opened.opened c.bring_in_step.result (changing_late c.args.changes.now) (t c.args.host.now) (t c.open.new.host) (t c.change_all-changed.new.host) (t c.bring_in_step.new.host) c.open.ensures.frame c.open.ensures.unread c.in_ok-opened.ensures.tells
-    c.change_all-changed.result c.change_all-changed.new.acted c.change_all-changed.ensures.acts step.any_moment step.in_step step.passes
+    exports_in_step (MayDo c.args.changes.now) (changing c.args.changes.now) c.in_ok-opened.opened c.bring_in_step.result (updates_all c.args.changes.now) (changing_late c.args.changes.now) (t c.args.host.now) (t c.open.new.host) (t c.change_all-changed.new.host) (t c.bring_in_step.new.host) c.open.ensures.frame c.open.ensures.unread c.in_ok-opened.ensures.tells
+    c.change_all-changed.result c.change_all-changed.new.acted c.change_all-changed.ensures.acts c.change_all-changed.ensures.settles step.any_moment step.in_step step.passes
 
 pub returns-clause-fault_has_cause : goal.returns-clause-fault_has_cause
 returns-clause-fault_has_cause g c =

@@ -7,9 +7,9 @@ use Rattle.dep_states.specs.Sound.{IsSound}
 use Rattle.fl_top.specs.Exports.{IsInStep}
 use Rattle.fl_words.specs.declared.command.Command.{Command}
 use Rattle.fl_words.specs.declared.command.Command.TheVariants.{Change as Changing, List as Listed, Show as Showing, Filter as Filtering, Batch, Fsck, Export as Exporting, Exercise as Exercising}
-use Rattle.fl_top.specs.Asked.{OpsBy, AsksRemotes}
+use Rattle.fl_top.specs.Asked.{OpsBy, AsksRemotes, UpdatesBy}
 use Rattle.fl_change.specs.Performs.{AreToldFor}
-use Rattle.fl_top.specs.Runs.{told_start, HasCauses, IsFreeFor}
+use Rattle.fl_top.specs.Runs.{told_start, files_at, HasCauses, IsFreeFor}
 use Rattle.fl_gen.specs.Exercise.{exercise_changes}
 use Rattle.fl_change.specs.Turns.{changing, MayDo}
 use Rattle.fl_top.specs.Exercising.{exercising}
@@ -19,7 +19,7 @@ use Rattle.fl_top.specs.Status.{checks_store}
 use Rattle.fl_top.specs.Ends.{end_of_run}
 use Rattle.fl_top.specs.declared.command_end.CommandEnd.TheVariants.{Fault, RemoteFault}
 use Rattle.fl_top.proofs.Asked.{asks_more}
-use Rattle.fl_top.proofs.Finishing.{goes_look, goes_not_looked, change_changes, exercise_changing, goes_change, goes_not_changed, caused_change, run_fault, run_remote}
+use Rattle.fl_top.proofs.Finishing.{goes_look, listing_look, goes_not_looked, change_changes, exercise_changing, goes_change, goes_not_changed, caused_change, run_fault, run_remote}
 use Rattle.fp_host.proofs.Ending.{ends_goes, ends_to}
 use Rattle.fl_top.specs.RunsOver.{IsClosedBy}
 use Rattle.fl_top.proofs.Finishing.{given_by, is_end}
@@ -75,7 +75,7 @@ returns-in_err-list-in-List-clause-any_moment g c =
     let b = g.H.Host.moments c.list.new.host in
     let r = c.from_residual-in_err-list-in-List.result in
     subst (λ (k : Command). Goes a b (RunsOn k t) (EndedOn k t r)) (sym c.in-List.is)
-    (goes_not_looked (Listed c.in-List.listing) t (listing_answer c.in-List.listing) c.in_err-list-in-List.field-0.0 r (g.met.H.Host.is_tree c.args.host.now) refl (λ given u. refl) c.in_err-list-in-List.ensures.any_moment c.from_residual-in_err-list-in-List.ensures.1)
+    (goes_not_looked (Listed c.in-List.listing) t (listing_answer (files_at a) c.in-List.listing) c.in_err-list-in-List.field-0.0 r (g.met.H.Host.is_tree c.args.host.now) refl (listing_look c.in-List.listing t) c.in_err-list-in-List.ensures.any_moment c.from_residual-in_err-list-in-List.ensures.1)
 
 pub returns-in_ok-list-in-List-clause-any_moment : goal.returns-in_ok-list-in-List-clause-any_moment
 returns-in_ok-list-in-List-clause-any_moment g c =
@@ -83,7 +83,7 @@ returns-in_ok-list-in-List-clause-any_moment g c =
     let a = g.H.Host.moments c.args.host.now in
     let b = g.H.Host.moments c.list.new.host in
     subst (λ (k : Command). Goes a b (RunsOn k t) (EndedOn k t (Ok tt))) (sym c.in-List.is)
-    (goes_look (Listed c.in-List.listing) t (listing_answer c.in-List.listing) (g.met.H.Host.is_tree c.args.host.now) refl (λ given u. refl) c.in_ok-list-in-List.ensures.any_moment)
+    (goes_look (Listed c.in-List.listing) t (listing_answer (files_at a) c.in-List.listing) (g.met.H.Host.is_tree c.args.host.now) refl (listing_look c.in-List.listing t) c.in_ok-list-in-List.ensures.any_moment)
 
 pub returns-in-Batch-clause-fault_has_cause : goal.returns-in-Batch-clause-fault_has_cause
 returns-in-Batch-clause-fault_has_cause g c =
@@ -163,7 +163,7 @@ pub returns-in_ok-make_changes-in-Change-clause-exports : goal.returns-in_ok-mak
 returns-in_ok-make_changes-in-Change-clause-exports g c change =
     let left = g.I.Source.left c.args.input.now in
     let holds = g.R.Remotes.holds c.args.remotes.now in
-    subst (λ (k : Command). AreToldFor (OpsBy k left) holds → AtEnd (λ u w. IsSound u → IsInStep holds w) (g.H.Host.moments c.args.host.now) (g.H.Host.moments c.make_changes.new.host)) (sym c.in-Change.is) c.in_ok-make_changes-in-Change.ensures.exports
+    subst (λ (k : Command). AreToldFor (OpsBy k left) holds → AtEnd (λ u w. IsSound u → IsInStep (UpdatesBy k left) holds u w) (g.H.Host.moments c.args.host.now) (g.H.Host.moments c.make_changes.new.host)) (sym c.in-Change.is) c.in_ok-make_changes-in-Change.ensures.exports
 
 pub returns-in_ok-list-in-List-clause-exports : goal.returns-in_ok-list-in-List-clause-exports
 returns-in_ok-list-in-List-clause-exports g c change = absurd (not_changes c.args.command (Listed c.in-List.listing) c.in-List.is refl change)
@@ -181,7 +181,7 @@ pub returns-in-Batch-clause-exports : goal.returns-in-Batch-clause-exports
 returns-in-Batch-clause-exports g c change =
     let left = g.I.Source.left c.args.input.now in
     let holds = g.R.Remotes.holds c.args.remotes.now in
-    subst (λ (k : Command). OnOk c.batch.result (AreToldFor (OpsBy k left) holds → AtEnd (λ u w. IsSound u → IsInStep holds w) (g.H.Host.moments c.args.host.now) (g.H.Host.moments c.batch.new.host))) (sym c.in-Batch.is) c.batch.ensures.exports
+    subst (λ (k : Command). OnOk c.batch.result (AreToldFor (OpsBy k left) holds → AtEnd (λ u w. IsSound u → IsInStep (UpdatesBy k left) holds u w) (g.H.Host.moments c.args.host.now) (g.H.Host.moments c.batch.new.host))) (sym c.in-Batch.is) c.batch.ensures.exports
 
 -- ---- a remote is made
 
@@ -262,4 +262,4 @@ pub returns-in_ok-exercise-in-Exercise-clause-exports : goal.returns-in_ok-exerc
 returns-in_ok-exercise-in-Exercise-clause-exports g c change =
     let left = g.I.Source.left c.args.input.now in
     let holds = g.R.Remotes.holds c.args.remotes.now in
-    subst (λ (k : Command). AreToldFor (OpsBy k left) holds → AtEnd (λ u w. IsSound u → IsInStep holds w) (g.H.Host.moments c.args.host.now) (g.H.Host.moments c.exercise.new.host)) (sym c.in-Exercise.is) c.in_ok-exercise-in-Exercise.ensures.exports
+    subst (λ (k : Command). AreToldFor (OpsBy k left) holds → AtEnd (λ u w. IsSound u → IsInStep (UpdatesBy k left) holds u w) (g.H.Host.moments c.args.host.now) (g.H.Host.moments c.exercise.new.host)) (sym c.in-Exercise.is) c.in_ok-exercise-in-Exercise.ensures.exports

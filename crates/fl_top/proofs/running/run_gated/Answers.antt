@@ -5,13 +5,15 @@ use Rattle.fl_words.specs.declared.command.Command.{Command}
 use Rattle.fl_top.specs.Runs.{WasTaken, ReadsInput, Checks, IsChange, told_start}
 use Rattle.fp_host.specs.Frame.{AtEnd, Unchanged}
 use Rattle.fp_host.specs.Outcome.{shows}
+use Rattle.fp_host.proofs.Ending.{ends_to}
 use Rattle.fl_top.specs.Fsck.{HasReport}
 use Rattle.fl_top.specs.Status.{IsAnswered}
 use Rattle.fl_top.proofs.Ending.{not_answered}
-use Rattle.fl_top.specs.Asked.{AsksFor}
+use Rattle.fl_top.specs.Asked.{AsksFor, UpdatesFor}
 use Rattle.fl_top.proofs.Asked.{not_asked}
 use Rattle.fl_top.proofs.Finishing.{goes_no_command, took_nothing, starves}
 use Rattle.fl_top.proofs.Exercises.{no_exercise, given_runs, given_cause, given_asks, given_told, exercised_runs, exercised_words, exercised_cause, exercised_found, exercised_input, exercised_taken, no_command_runs, unread_runs}
+use Rattle.fl_top.proofs.Refreshed.{step_as}
 use Rattle.fl_top.proofs.running.run_gated.Goals as goal
 
 pub returns-in-Ok-exercise_in-clause-runs : goal.returns-in-Ok-exercise_in-clause-runs
@@ -31,7 +33,7 @@ returns-in-Ok-exercise_in-clause-found g c =
     exercised_found (map string_bytes c.args.words.now) c.in-Ok-exercise_in.apps (g.I.Source.left c.args.input.now) (g.R.Remotes.holds c.args.remotes.now) c.run_exercise.result (c.in-Ok.ensures.ok ∙ ap (λ (k : Command). Some k) c.in-Ok-exercise_in.ensures.exercise)
 
 pub returns-in-Ok-exercise_in-clause-exports : goal.returns-in-Ok-exercise_in-clause-exports
-returns-in-Ok-exercise_in-clause-exports g c change done tells = c.run_exercise.ensures.exports (g.R.Remotes.holds c.args.remotes.now) done
+returns-in-Ok-exercise_in-clause-exports g c change done tells = ends_to (c.run_exercise.ensures.exports (g.R.Remotes.holds c.args.remotes.now) done) (λ u w step sound. step_as (λ no. absurd no) (step sound))
 
 pub returns-in-Ok-exercise_in-clause-remotes : goal.returns-in-Ok-exercise_in-clause-remotes
 returns-in-Ok-exercise_in-clause-remotes g c = not_asked (AsksFor (command_of (map string_bytes c.args.words.now)) (g.I.Source.left c.args.input.now)) (c.run_exercise.result ≡ 4) (g.R.Remotes.holds c.args.remotes.now) (g.R.Remotes.faults c.args.remotes.now) c.run_exercise.ensures.no_remote_fault
@@ -57,8 +59,10 @@ returns-in-Err-clause-remotes g c =
 
 pub returns-in-Err-clause-exports : goal.returns-in-Err-clause-exports
 returns-in-Err-clause-exports g c change done tells =
-    c.run_command.ensures.exports (subst IsChange (c.in-Ok.ensures.ok ∙ ap (λ (k : Command). Some k) (sym c.in-Err.ensures.other)) change) done
-    (given_told (map string_bytes c.args.words.now) c.in-Err.command (g.I.Source.left c.args.input.now) (g.R.Remotes.holds c.args.remotes.now) c.run_command.result (c.in-Ok.ensures.ok ∙ ap (λ (k : Command). Some k) (sym c.in-Err.ensures.other)) (no_exercise c.in-Err.command c.in-Err.ensures.none) tells)
+    let is = c.in-Ok.ensures.ok ∙ ap (λ (k : Command). Some k) (sym c.in-Err.ensures.other) in
+    ends_to (c.run_command.ensures.exports (subst IsChange is change) done
+    (given_told (map string_bytes c.args.words.now) c.in-Err.command (g.I.Source.left c.args.input.now) (g.R.Remotes.holds c.args.remotes.now) c.run_command.result is (no_exercise c.in-Err.command c.in-Err.ensures.none) tells))
+    (λ u w step sound. step_as (λ by. subst (λ (o : Option Command). UpdatesFor o (g.I.Source.left c.args.input.now)) (sym is) by) (step sound))
 
 pub returns-in-Err-BadWords-clause-runs : goal.returns-in-Err-BadWords-clause-runs
 returns-in-Err-BadWords-clause-runs g c =

@@ -1,0 +1,149 @@
+//! Whether an update of all has nothing to do.
+ghost use Rattle.std.specs.Prelude.{◌≡◌, true, IfOk, IsErrOf, Some, Err};
+ghost use Rattle.std.specs.List.{list_all};
+ghost use Rattle.std.specs.Str.{bytes_eq};
+ghost use Rattle.fp_host.specs.OverHost.{ChangesNothing, FailsAlone};
+ghost use Rattle.fp_host.specs.Remote.{Holdings};
+ghost use Rattle.fp_small.specs.declared.refusal.Refusal.{Refusal as SomeRefusal};
+ghost use Rattle.fp_small.specs.declared.state.Layout.TheVariants.{Two};
+ghost use Rattle.ost_refs.specs.Offers.{offered};
+ghost use Rattle.ost_walk.specs.Ends.{IsRemotes};
+ghost use Rattle.fl_change.specs.Current as spec;
+ghost use Rattle.fl_change.specs.Current.{updates_all, is_commit_of, is_as_offered, are_as_offered};
+
+use crate::end::RunEnd;
+use dep_switch::find_remote;
+use fl_words::Change;
+use fp_host::{Host, HostEnd, RemoteError, Remotes};
+use fp_name::Digest;
+use fp_small::{Layout, RefRow, RemoteRow, State, names_in, tmp_path};
+use ost_head::offer;
+use ost_walk::PullEnd;
+use std::alloc::Global;
+
+/// Whether the update of all is asked for, and nothing else.
+pub(crate) fn is_update_of_all(changes: &[Change]) -> bool
+    ensures { result ≡ updates_all changes.now }
+{
+    match changes.first() {
+        Some(Change::UpdateAll) => changes.len() == 1,
+        _ => false,
+    }
+}
+
+/// Whether this commit of a ref is deployed.
+fn is_commit(row: &RefRow, commit: &Digest) -> bool
+    ensures { result ≡ bytes_eq row.now.commit commit.now }
+{
+    row.commit == *commit
+}
+
+/// What is refused isn't offered; a fault ends the question.
+fn declined(end: PullEnd) -> Result<bool, RemoteError>
+    ensures { result ≡ spec.declined end }
+{
+    match end {
+        PullEnd::Refused(_) => Ok(false),
+        PullEnd::RemoteFault => Err(RemoteError::Failed),
+        PullEnd::HostFault | PullEnd::NoMemory => Err(RemoteError::NoMemory),
+    }
+}
+
+/// Whether a deployed ref stands at what this remote offers.
+fn is_offered<R: Remotes>(
+    alloc: Global,
+    remotes: &mut R,
+    remote: &RemoteRow,
+    row: &RefRow,
+) -> Result<bool, RemoteError>
+    ensures same { R.holds remotes.new ≡ R.holds remotes.old }
+    ensures tells { (held : Holdings) → R.holds remotes.old ≡ Some held
+        → IfOk result (λ b. b ≡ is_commit_of row.now (offered held remote.now row.now.name)) }
+    ensures fault_has_cause { IsRemotes (IsErrOf result RemoteError.Failed)
+        (R.faults remotes.old) (R.faults remotes.new) }
+{
+    match offer(alloc, remotes, remote, &row.name) {
+        Ok(commit) => Ok(is_commit(row, &commit)),
+        Err(end) => declined(end),
+    }
+}
+
+/// Whether a deployed ref stands at what the remote that it comes from offers.
+fn is_current<R: Remotes>(
+    alloc: Global,
+    remotes: &mut R,
+    known: &[RemoteRow],
+    row: &RefRow,
+) -> Result<bool, RemoteError>
+    ensures same { R.holds remotes.new ≡ R.holds remotes.old }
+    ensures tells { (held : Holdings) → R.holds remotes.old ≡ Some held
+        → IfOk result (λ b. b ≡ is_as_offered held known.now row.now) }
+    ensures fault_has_cause { IsRemotes (IsErrOf result RemoteError.Failed)
+        (R.faults remotes.old) (R.faults remotes.new) }
+{
+    match find_remote(known, &row.origin) {
+        Some(remote) => is_offered(alloc, remotes, remote, row),
+        None => Ok(false),
+    }
+}
+
+/// Whether each deployed ref stands at what the remote that it comes from offers.
+fn are_current<R: Remotes>(
+    alloc: Global,
+    remotes: &mut R,
+    known: &[RemoteRow],
+    rows: &[RefRow],
+) -> Result<bool, RemoteError>
+    ensures same { R.holds remotes.new ≡ R.holds remotes.old }
+    ensures tells { (held : Holdings) → R.holds remotes.old ≡ Some held
+        → IfOk result (λ b. b ≡ list_all (is_as_offered held known.now) rows.now) }
+    ensures fault_has_cause { IsRemotes (IsErrOf result RemoteError.Failed)
+        (R.faults remotes.old) (R.faults remotes.new) }
+{
+    for row in rows {
+        if !is_current(alloc, remotes, known, row)? {
+            return Ok(false);
+        }
+    }
+    Ok(true)
+}
+
+/// Whether no work was left in `repo/tmp`.
+fn has_no_work<H: Host>(alloc: Global, host: &mut H) -> Result<bool, HostEnd>
+    ensures unchanged { ChangesNothing H.Host host.old host.new }
+    ensures fault_has_cause { FailsAlone H.Host host.old host.new (IsErrOf result HostEnd.Fault) }
+{
+    let work = tmp_path(alloc)?;
+    Ok(names_in(alloc, host, &work)?.as_slice().is_empty())
+}
+
+/// Whether an update of all has nothing to do, and finds no work that was left. Nothing else of the
+/// store is looked at.
+pub(crate) fn is_idle<H: Host, R: Remotes>(
+    alloc: Global,
+    host: &mut H,
+    remotes: &mut R,
+    state: &State,
+) -> Result<bool, RunEnd>
+    ensures unchanged { ChangesNothing H.Host host.old host.new }
+    ensures same { R.holds remotes.new ≡ R.holds remotes.old }
+    ensures idle { (held : Holdings) → R.holds remotes.old ≡ Some held
+        → IfOk result (λ b. b ≡ true
+        → (state.now.layout ≡ Two) × (are_as_offered held state.now ≡ true)) }
+    ensures unrefused { (refusal : SomeRefusal) → result ≡ Err (RunEnd.Refused refusal) → ⊥ }
+    ensures host { FailsAlone H.Host host.old host.new (IsErrOf result RunEnd.Fault) }
+    ensures remote { IsRemotes (IsErrOf result RunEnd.RemoteFault)
+        (R.faults remotes.old) (R.faults remotes.new) }
+{
+    match state.layout {
+        Layout::One => Ok(false),
+        Layout::Two => {
+            if has_no_work(alloc, host)? {
+                let known = state.remotes.as_slice();
+                Ok(are_current(alloc, remotes, known, state.refs.as_slice())?)
+            } else {
+                Ok(false)
+            }
+        }
+    }
+}
