@@ -15,7 +15,7 @@ use fp_host::Host;
 use fp_small::{OverrideRow, RefRow, State};
 use std::alloc::Global;
 
-/// Reads the state that the present view shows, and changes nothing. `Damaged` comes exactly where
+/// Reads the state that the present view shows, and changes nothing. `Damaged` comes only where
 /// it shows none, with the first path by its bytes that doesn't read.
 pub fn read_state<H: Host>(alloc: Global, host: &mut H) -> Result<State, OpenEnd>
     ensures unchanged { ChangesNothing H.Host host.old host.new }

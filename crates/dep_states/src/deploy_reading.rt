@@ -1,5 +1,5 @@
 //! What the value of a `deploy` says.
-ghost use Rattle.std.specs.Prelude.{◌≡◌, option_copied, IfOk};
+ghost use Rattle.std.specs.Prelude.{◌≡◌, ◌≢◌, None, option_copied, IfOk, IsErrOf};
 ghost use Rattle.gv_value.specs.Reading.{value_of};
 ghost use Rattle.gv_value.specs.Tree.{tuple, just};
 ghost use Rattle.gv_value.specs.Views.{shape_of, plain, plains};
@@ -54,24 +54,24 @@ fn data_of(alloc: Global, members: &[GvValue]) -> Result<DeployData, DeployError
         [origin, commit, time, previous] => {
             let data = DeployData {
                 origin: origin_in(alloc, origin)?,
-                commit: digest_in(commit)?,
-                timestamp: time_in(time)?,
-                previous: previous_in(previous)?,
+                commit: digest_in(commit).ok_or(DeployError::Bad)?,
+                timestamp: time_in(time).ok_or(DeployError::Bad)?,
+                previous: previous_in(previous).ok_or(DeployError::Bad)?,
             };
-            if_moves(data)
+            if_moves(data).ok_or(DeployError::Bad)
         }
         _ => Err(DeployError::Bad),
     }
 }
 
 /// The data, where the previous commit is another one.
-fn if_moves(read: DeployData) -> Result<DeployData, DeployError>
-    ensures { Says result (if_moves read) }
+fn if_moves(read: DeployData) -> Option<DeployData>
+    ensures { result ≡ if_moves read }
 {
     if goes_back_to(&read.commit, &read.previous) {
-        return Err(DeployError::Bad);
+        return None;
     }
-    Ok(read)
+    Some(read)
 }
 
 /// Whether the previous commit is this one.
@@ -96,7 +96,9 @@ fn text_in(value: &GvValue) -> Option<&str>
 
 /// The remote's name that a value is.
 fn origin_in(alloc: Global, value: &GvValue) -> Result<RemoteName, DeployError>
-    ensures { Says result (origin_in (plain value.now)) }
+    ensures said { Says result (origin_in (plain value.now)) }
+    // What is no name takes no memory.
+    ensures error { IsErrOf result DeployError.NoMemory → origin_in (plain value.now) ≢ None }
 {
     let Some(text) = text_in(value) else {
         return Err(DeployError::Bad);
@@ -109,58 +111,56 @@ fn origin_in(alloc: Global, value: &GvValue) -> Result<RemoteName, DeployError>
 }
 
 /// The digest whose digits a value is.
-fn digest_in(value: &GvValue) -> Result<Digest, DeployError>
-    ensures { Says result (digest_in (plain value.now)) }
+fn digest_in(value: &GvValue) -> Option<Digest>
+    ensures { result ≡ digest_in (plain value.now) }
 {
-    let Some(text) = text_in(value) else {
-        return Err(DeployError::Bad);
-    };
+    let text = text_in(value)?;
     match Digest::parse(text.as_bytes()) {
-        Ok(digest) => Ok(digest),
-        Err(_) => Err(DeployError::Bad),
+        Ok(digest) => Some(digest),
+        Err(_) => None,
     }
 }
 
 /// The timestamp that a value is, little endian.
-fn time_in(value: &GvValue) -> Result<u64, DeployError>
-    ensures { Says result (time_in (plain value.now)) }
+fn time_in(value: &GvValue) -> Option<u64>
+    ensures { result ≡ time_in (plain value.now) }
 {
     match value {
-        GvValue::Uint64(time) => Ok(*time),
-        _ => Err(DeployError::Bad),
+        GvValue::Uint64(time) => Some(*time),
+        _ => None,
     }
 }
 
 /// The commit before, where there is one.
-fn previous_in(value: &GvValue) -> Result<Option<Previous>, DeployError>
-    ensures { Says result (previous_in (plain value.now)) }
+fn previous_in(value: &GvValue) -> Option<Option<Previous>>
+    ensures { result ≡ previous_in (plain value.now) }
 {
     match value {
-        GvValue::Maybe(None) => Ok(None),
+        GvValue::Maybe(None) => Some(None),
         GvValue::Maybe(Some(inner)) => previous_inside(inner),
-        _ => Err(DeployError::Bad),
+        _ => None,
     }
 }
 
 /// The same where there is a value.
-fn previous_inside(value: &GvValue) -> Result<Option<Previous>, DeployError>
-    ensures { Says result (previous_in (just (plain value.now))) }
+fn previous_inside(value: &GvValue) -> Option<Option<Previous>>
+    ensures { result ≡ previous_in (just (plain value.now)) }
 {
     match value {
         GvValue::Tuple(members) => previous_of(members),
-        _ => Err(DeployError::Bad),
+        _ => None,
     }
 }
 
 /// The same by the value's members.
-fn previous_of(members: &[GvValue]) -> Result<Option<Previous>, DeployError>
-    ensures { Says result (previous_in (just (tuple (plains members.now)))) }
+fn previous_of(members: &[GvValue]) -> Option<Option<Previous>>
+    ensures { result ≡ previous_in (just (tuple (plains members.now))) }
 {
     match members {
-        [commit, time] => Ok(Some(Previous {
+        [commit, time] => Some(Some(Previous {
             commit: digest_in(commit)?,
             timestamp: time_in(time)?,
         })),
-        _ => Err(DeployError::Bad),
+        _ => None,
     }
 }

@@ -62,6 +62,8 @@ impl RetirePlan {
         ensures there { OnOk result (row_at state.now name.now ≢ None) }
         ensures not_there { IsErrOf result RetireError.NotThere
             → row_at state.now name.now ≡ None }
+        ensures error { IsErrOf result RetireError.NoMemory
+            → row_at state.now name.now ≢ None }
     {
         if find_ref(state.refs.as_slice(), name).is_none() {
             return Err(RetireError::NotThere);

@@ -1,3 +1,4 @@
 pub mod Seen
 pub mod Sorting
 pub mod Groups
+pub mod Having

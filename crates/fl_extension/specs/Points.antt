@@ -80,6 +80,11 @@ point_named g r name = if is_id name && not (is_on g (codes "subdirectories"))
 unfoldable pub point_of : Ref → Group → List Point
 point_of r g = flat_map (point_named g r) (extension_of g)
 
+-- there is a point
+abbrev pub HasPoint : List Point → Type 0
+HasPoint [] = ⊥
+HasPoint (point ∷ points) = Unit {0}
+
 abbrev pub name_of : Point → List ℕ
 name_of point = point.name
 

@@ -1,6 +1,6 @@
 //! The refs that an extension point may have.
 
-ghost use Rattle.std.specs.Prelude.{◌≡◌, ◌++◌, ◌||◌, true, ℕ, List, IfOk, OnOk};
+ghost use Rattle.std.specs.Prelude.{◌≡◌, ◌++◌, ◌||◌, true, ℕ, List, IfOk, OnOk, OnErr};
 ghost use Rattle.std.specs.List.{flat_map};
 ghost use Rattle.std.specs.Str.{bytes_eq};
 ghost use Rattle.fl_meta.specs.Separators.{entries_of};
@@ -23,8 +23,10 @@ fn push_candidate(
 ) -> Result<(), AllocError>
     requires name { grammar.is_id name.now ≡ true }
     requires arch { grammar.is_arch arch.now ≡ true }
-    ensures { OnOk result (out.new.items ≡ out.old.items ++ spec.candidate_of name.now arch.now
+    ensures refs { OnOk result (out.new.items ≡ out.old.items ++ spec.candidate_of name.now arch.now
         version.now) }
+    // What is no branch takes no memory.
+    ensures error { OnErr result (grammar.is_branch version.now ≡ true) }
 {
     match RefName::new(*out.allocator(), RefKind::Runtime, name, arch, version) {
         Ok(candidate) => {

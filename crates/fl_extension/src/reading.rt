@@ -1,6 +1,6 @@
 //! The extension points of a key file.
 
-ghost use Rattle.std.specs.Prelude.{◌≡◌, ◌++◌, true, map, IfOk, OnOk};
+ghost use Rattle.std.specs.Prelude.{◌≡◌, ◌++◌, true, map, IfOk, OnOk, OnErr};
 ghost use Rattle.std.specs.List.{flat_map};
 ghost use Rattle.fp_keyfile.specs.KeyFile.{are_distinct};
 ghost use Rattle.fp_name.specs.Grammar as grammar;
@@ -43,8 +43,9 @@ fn push_named(
     of: &RefName,
     name: &str,
 ) -> Result<(), AllocError>
-    ensures { OnOk result (out.new.items ≡ out.old.items ++ spec.point_named group.now of.now
+    ensures points { OnOk result (out.new.items ≡ out.old.items ++ spec.point_named group.now of.now
         name.now) }
+    ensures error { OnErr result (spec.HasPoint (spec.point_named group.now of.now name.now)) }
 {
     if !is_id(name) || is_on(group, "subdirectories") {
         return Ok(());
@@ -60,9 +61,10 @@ fn push_named(
 }
 
 /// Adds the point that a group says, where it says one.
-#[tactic(auto, unfolding(crate::specs::Points::point_of))]
+#[tactic(auto, using(crate::proofs::Having::has_more), unfolding(crate::specs::Points::point_of))]
 fn push_point(out: &mut Vec<Point>, group: &Group, of: &RefName) -> Result<(), AllocError>
-    ensures { OnOk result (out.new.items ≡ out.old.items ++ spec.point_of of.now group.now) }
+    ensures points { OnOk result (out.new.items ≡ out.old.items ++ spec.point_of of.now group.now) }
+    ensures error { OnErr result (spec.HasPoint (spec.point_of of.now group.now)) }
 {
     match extension_name(group) {
         Some(name) => push_named(out, group, of, name),
@@ -72,7 +74,9 @@ fn push_point(out: &mut Vec<Point>, group: &Group, of: &RefName) -> Result<(), A
 
 /// The points of the groups, in the order of the groups.
 fn points_in(alloc: Global, groups: &[Group], of: &RefName) -> Result<Vec<Point>, AllocError>
-    ensures { IfOk result (λ points. points.items ≡ flat_map (spec.point_of of.now) groups.now) }
+    ensures points { IfOk result (λ points. points.items ≡ flat_map (spec.point_of of.now)
+        groups.now) }
+    ensures error { OnErr result (spec.HasPoint (flat_map (spec.point_of of.now) groups.now)) }
 {
     let mut points = Vec::new(alloc);
     for group in groups {
@@ -100,7 +104,9 @@ fn sort_by_name(points: &mut Vec<Point>)
 /// list of permissions. The point is automatic unless `no-autodownload` is `true`.
 #[tactic(auto, unfolding(crate::specs::Points::points_of))]
 pub fn points(alloc: Global, file: &KeyFile, of: &RefName) -> Result<Items<Point>, AllocError>
-    ensures { IfOk result (λ points. points ≡ spec.points_of file.now of.now) }
+    ensures points { IfOk result (λ points. points ≡ spec.points_of file.now of.now) }
+    // Memory runs out only where there is a point.
+    ensures error { OnErr result (spec.HasPoint (flat_map (spec.point_of of.now) file.now)) }
 {
     let mut points = points_in(alloc, file.groups().as_slice(), of)?;
     sort_by_name(&mut points);

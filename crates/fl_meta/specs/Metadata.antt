@@ -1,5 +1,5 @@
 -- Metadata files of applications and runtimes: flatpak-metadata(5).
-use Rattle.std.specs.Prelude.{◌≡◌, ℕ, Bool, List, [], ◌∷◌, ◌++◌, drop, Option, Some, None, option_and_then, Result, Ok, Err, codes, nat_eq, if◌then◌else◌}
+use Rattle.std.specs.Prelude.{◌≢◌, ◌≡◌, ℕ, Bool, List, [], ◌∷◌, ◌++◌, drop, Option, Some, None, option_and_then, Result, Ok, Err, codes, nat_eq, if◌then◌else◌}
 use Rattle.std.specs.List.{flat_map, list_any, starts_with}
 use Rattle.std.specs.Str.{bytes_eq}
 use Rattle.fp_keyfile.specs.declared.group.Group.{Group}
@@ -78,9 +78,14 @@ meta_in kinds.Runtime file = Ok (runtime_meta file)
 unfoldable pub meta_of : MetaKind → List Group → Result Meta MetaRule
 meta_of kind file = if has_group file (kind_group kind) then meta_in kind file else Err rules.Group
 
--- What a call answered is that, unless memory ran out.
+-- no rule is broken
+abbrev pub IsGood : Result Meta MetaRule → Type 0
+IsGood (Ok meta) = Unit {0}
+IsGood (Err rule) = ⊥
+
+-- What a call answered is that. Memory runs out only where no rule is broken.
 abbrev pub Fails : MetaError → Result Meta MetaRule → Type 0
-Fails errors.NoMemory read = Unit {0}
+Fails errors.NoMemory read = IsGood read
 Fails (errors.Rule rule) read = read ≡ Err rule
 
 abbrev pub Gives : Result Meta MetaError → Result Meta MetaRule → Type 0
@@ -88,7 +93,7 @@ Gives (Ok meta) read = read ≡ Ok meta
 Gives (Err e) read = Fails e read
 
 abbrev pub NoRuntime : MetaError → Option Ref → Type 0
-NoRuntime errors.NoMemory read = Unit {0}
+NoRuntime errors.NoMemory read = read ≢ None
 NoRuntime (errors.Rule rules.Runtime) read = read ≡ None
 NoRuntime (errors.Rule rules.Group) read = ⊥
 NoRuntime (errors.Rule rules.Absent) read = ⊥

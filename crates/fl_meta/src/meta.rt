@@ -159,7 +159,7 @@ impl Meta {
     }
 
     /// Reads a key file as the metadata of an application or a runtime. The error is the first rule
-    /// that it breaks.
+    /// that it breaks; memory runs out only where it breaks none.
     #[tactic(auto, unfolding(crate::specs::Metadata::meta_of))]
     pub fn read(alloc: Global, file: &KeyFile, kind: MetaKind) -> Result<Self, MetaError>
         ensures { metadata.Gives result (metadata.meta_of kind file.now) }

@@ -1,5 +1,6 @@
 //! The place that a path names.
-ghost use Rattle.std.specs.Prelude.{◌≡◌, ◌≢◌, ◌∷◌, ◌≤◌, [], length, drop, IfOk};
+ghost use Rattle.std.specs.Prelude.{◌≡◌, ◌≢◌, ◌∷◌, ◌≤◌, [], length, drop, true, None, IfOk, OnErr};
+ghost use Rattle.fp_name.specs.Grammar.{is_remote_name};
 ghost use Rattle.ost_refs.specs.Found.{ref_named, remote_named, place_named};
 
 use crate::place::RefPlace;
@@ -26,7 +27,9 @@ fn ref_named(
     arch: &str,
     branch: &str,
 ) -> Result<Option<RefName>, AllocError>
-    ensures { IfOk result (λ name. name ≡ ref_named kind.now id.now arch.now branch.now) }
+    ensures named { IfOk result (λ name. name ≡ ref_named kind.now id.now arch.now branch.now) }
+    // What is no ref takes no memory.
+    ensures error { OnErr result (ref_named kind.now id.now arch.now branch.now ≢ None) }
 {
     let Some(kind) = RefKind::of_word(kind) else {
         return Ok(None);
@@ -44,7 +47,8 @@ fn remote_named(
     origin: &str,
     name: Option<RefName>,
 ) -> Result<Option<RefPlace>, AllocError>
-    ensures { IfOk result (λ place. place ≡ remote_named origin.now name) }
+    ensures named { IfOk result (λ place. place ≡ remote_named origin.now name) }
+    ensures error { OnErr result (is_remote_name origin.now ≡ true) }
 {
     match RemoteName::parse(alloc, origin.as_bytes()) {
         Ok(origin) => match name {
@@ -58,7 +62,9 @@ fn remote_named(
 
 /// The place whose file has this path in some store, as far as its last six elements say.
 pub(crate) fn place_named(alloc: Global, path: &Path) -> Result<Option<RefPlace>, AllocError>
-    ensures { IfOk result (λ place. place ≡ place_named path.now) }
+    ensures named { IfOk result (λ place. place ≡ place_named path.now) }
+    // A path with fewer elements takes no memory.
+    ensures error { OnErr result (6 ≤ length path.now) }
 {
     if path.len() < FEWEST_ELEMENTS {
         return Ok(None);

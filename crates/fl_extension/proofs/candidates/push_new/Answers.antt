@@ -10,7 +10,7 @@ use Rattle.fl_extension.proofs.candidates.push_new.Goals as goal
 pub returns-in_ok-push_candidate-clause-refs : goal.returns-in_ok-push_candidate-clause-refs
 returns-in_ok-push_candidate-clause-refs c =
     let new : has_seen c.args.seen.now c.args.version.now ≡ false = sym (contains_is c.args.seen.now.keys c.args.version) ∙ not-true _ (sym c.in_ok-insert.ensures.added ∙ c.if-branch.true) in
-    rw new c.in_ok-push_candidate.ensures
+    rw new c.in_ok-push_candidate.ensures.refs
 
 pub returns-in_ok-push_candidate-clause-seen : goal.returns-in_ok-push_candidate-clause-seen
 returns-in_ok-push_candidate-clause-seen c text =
