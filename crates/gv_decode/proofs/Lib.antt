@@ -2,7 +2,6 @@ pub mod Bounds
 pub mod Basics
 pub mod Contained
 pub mod Exactly
-pub mod Items
 pub mod Marks
 pub mod OneByOne
 pub mod Partings
@@ -10,5 +9,6 @@ pub mod Passing
 pub mod Rooms
 pub mod Rows
 pub mod Short
+pub mod Nexts
 pub mod Runs
 pub mod Tables

@@ -1,6 +1,6 @@
 -- Children that are read one by one, or passed.
 use denote.Ref.{Bor}
-use Rattle.std.proofs.Common.{◌≡◌, ℕ, zero, suc, ◌+◌, ◌<◌, ◌≤◌, Bool, true, List, [], ◌∷◌, ◌++◌, length, drop, get_or, Option, Some, None, option_map, option_and_then, refl, sym, ap, ap₂, ◌∙◌, subst, arith, IsTrue}
+use Rattle.std.proofs.Common.{◌≡◌, ℕ, zero, suc, ◌+◌, ◌<◌, ◌≤◌, Bool, true, false, List, [], ◌∷◌, ◌++◌, length, drop, get_or, Option, Some, None, option_map, option_and_then, refl, sym, ap, ap₂, ◌∙◌, subst, arith, IsTrue}
 use Rattle.std.proofs.lemmas.Bool.{and_parts}
 use Rattle.std.proofs.lemmas.List.{drop_more, drop_all}
 use Rattle.std.specs.Option.{is_some, IsSome}
@@ -12,7 +12,9 @@ use Rattle.gv_value.specs.Plans.{is_plan, plan_shape, are_plans, plan_shapes}
 use Rattle.gv_value.specs.Views.{plain, plains}
 use Rattle.gv_value.specs.declared.plan.Plan.{Plan}
 use Rattle.gv_value.specs.declared.value.GvValue.{GvValue}
-use Rattle.gv_decode.specs.Decoded.{AreShort, slices}
+use Rattle.gv_decode.specs.declared.error.DecodeError.{DecodeError}
+use Rattle.gv_decode.specs.Decoded.{Fails, AreShort, slices}
+use Rattle.gv_decode.proofs.Runs.{fails-more}
 
 -- ---- values that are read, before others
 
@@ -67,6 +69,10 @@ each-read one t ts child others v e = ap (option_and_then (λ x. option_map (tre
 
 -- ---- a child that passes
 
+none-of : {A : Type 0} (o : Option A) → is_some o ≡ false → o ≡ None
+none-of None h = refl
+none-of (Some x) h = absurd (cc h)
+
 is_some-map : {A B : Type 0} (f : A → B) (o : Option A) → is_some (option_map f o) ≡ is_some o
 is_some-map f None = refl
 is_some-map f (Some x) = refl
@@ -84,6 +90,36 @@ each-passes one t ts child others h = some-then (λ v. option_map (tree v) (read
 
 pub passes-map : {A B : Type 0} (f : A → B) (o : Option A) → IsSome o → IsSome (option_map f o)
 passes-map f o h = is_some-map f o ∙ h
+
+-- ---- the first of those that are left
+
+module _ (one : Reader) (child : List ℕ) (left others : Option (List (List ℕ))) (e : left ≡ option_map (λ cs. child ∷ cs) others) where
+  pub left-passes : IsSome (one child) → is_some (option_and_then (read_all one) left) ≡ is_some (option_and_then (read_all one) others)
+  left-passes h = ap (λ (o : Option (List (List ℕ))). is_some (option_and_then (read_all one) o)) e ∙ by others
+    where
+      by : (o : Option (List (List ℕ))) → is_some (option_and_then (read_all one) (option_map (λ cs. child ∷ cs) o)) ≡ is_some (option_and_then (read_all one) o)
+      by None = refl
+      by (Some cs) = all-passes one child cs h
+
+  left-unread : one child ≡ None → option_and_then (read_all one) left ≡ None
+  left-unread none = ap (option_and_then (read_all one)) e ∙ by others
+    where
+      by : (o : Option (List (List ℕ))) → option_and_then (read_all one) (option_map (λ cs. child ∷ cs) o) ≡ None
+      by None = refl
+      by (Some cs) = all-unread one child cs none
+
+  -- it isn't read, nor is the whole
+  pub child-fails : (x : DecodeError) (whole : Option Trees) → is_some (option_and_then (read_all one) left) ≡ is_some whole → Fails x (one child) → Fails x whole
+  child-fails x whole same f = fails-more x (one child) whole (λ none. none-of whole (sym same ∙ ap is_some (left-unread none))) f
+
+-- those that are left don't stand so
+pub left-fails : (one : Reader) (left : Option (List (List ℕ))) (x : DecodeError) (whole : Option Trees) → is_some (option_and_then (read_all one) left) ≡ is_some whole → Fails x left → Fails x whole
+left-fails one left x whole same f =
+    fails-more x left whole (λ none. none-of whole (sym same ∙ ap (λ (o : Option (List (List ℕ))). is_some (option_and_then (read_all one) o)) none)) f
+
+-- none is left
+pub left-ended : (one : Reader) (left : Option (List (List ℕ))) (whole : Option Trees) → is_some (option_and_then (read_all one) left) ≡ is_some whole → left ≡ Some [] → IsSome whole
+left-ended one left whole same e = sym same ∙ ap (λ (o : Option (List (List ℕ))). is_some (option_and_then (read_all one) o)) e
 
 -- ---- children by their places
 

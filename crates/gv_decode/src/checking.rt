@@ -8,10 +8,12 @@ ghost use Rattle.gv_value.specs.Plans.{is_plan, plan_shape, are_plans, plan_shap
 ghost use Rattle.gv_value.specs.Reading.{value_at, variant_at, maybe_at, read_all, read_each};
 ghost use Rattle.gv_value.specs.Shape.{tuple};
 ghost use Rattle.gv_decode.specs.Decoded.{Passes, slices, AreShort};
+ghost use Rattle.gv_decode.specs.Stepped.{elements_left, IsOpen};
 
 use crate::contents::check_basic;
-use crate::cutting::{elements, inside, is_byte, members};
+use crate::cutting::{inside, is_byte, members};
 use crate::error::DecodeError;
+use crate::stepping::{Elements, elements_in, next_element};
 use crate::variants::{type_in, variant_parts};
 use gv_value::{Extent, Plan, plan_of};
 use std::alloc::Global;
@@ -78,25 +80,27 @@ fn check_array(alloc: Global, element: &Plan, bytes: &[u8], room: u32) -> Result
     if is_byte(element) {
         return Ok(());
     }
-    let children = elements(alloc, element, bytes)?;
-    check_items(alloc, element, &children, room)
+    let elements = elements_in(element, bytes)?;
+    check_items(alloc, element, elements, room)
 }
 
-/// Whether each child is a value of this type.
+/// Whether each element is a value of this type. They are cut one after another, and none is kept.
 #[cycle(check)]
 fn check_items(
     alloc: Global,
     element: &Plan,
-    children: &[&[u8]],
+    elements: Elements<'_>,
     room: u32,
 ) -> Result<(), DecodeError>
     requires planned { IsTrue (is_plan element.now) }
-    requires short { AreShort (slices children.now) }
-    ensures { Passes result (read_all (value_at room (plan_shape element.now))
-        (slices children.now)) }
+    requires ready { IsOpen elements }
+    ensures { Passes result (option_and_then (read_all (value_at room (plan_shape element.now)))
+        (elements_left elements.entry)) }
 {
-    for child in children {
+    let mut left = elements;
+    while let Some((child, others)) = next_element(left)? {
         check(alloc, element, child, room)?;
+        left = others;
     }
     Ok(())
 }

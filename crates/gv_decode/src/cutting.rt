@@ -1,19 +1,18 @@
 //! The bytes of a container's children, cut from the container's.
-ghost use Rattle.std.specs.Prelude.{◌≡◌, ◌↔◌, ◌≤◌, ◌<◌, ◌/◌, length, map, IsTrue};
+ghost use Rattle.std.specs.Prelude.{◌≡◌, ◌↔◌, ◌≤◌, length, IsTrue};
 ghost use Rattle.gv_value.specs.declared.limits.TheConstants.{MOST_BYTES};
 ghost use Rattle.gv_value.specs.Capped.{IsRun};
-ghost use Rattle.gv_value.specs.Framing.{array_children, framed_children, tuple_children, cut, steps, marks};
+ghost use Rattle.gv_value.specs.Framing.{array_children, tuple_children, cut, marks};
 ghost use Rattle.gv_value.specs.Layout.{align_of, size_of, greatest_align, end_of};
 ghost use Rattle.gv_value.specs.Plans.{is_plan, plan_shape, are_plans, plan_shapes};
 ghost use Rattle.gv_value.specs.Shape.{basic, tuple};
-ghost use Rattle.gv_decode.specs.Decoded.{Gives, slices, IsWhole, offsets_of, offsets_left, child_bytes};
+ghost use Rattle.gv_decode.specs.Decoded.{Gives, slices, IsWhole, offsets_left, child_bytes};
+ghost use Rattle.gv_decode.specs.Stepped.{elements_left, IsOpen};
 
 use crate::contents::before_zero;
 use crate::error::DecodeError;
-use crate::framing::{
-    Frame, child_at, filled_frame, member_end, offset_at, offset_width, open_frame, take_apart,
-};
-use crate::numbers::number;
+use crate::framing::{Frame, child_at, filled_frame, member_end, open_frame};
+use crate::stepping::{Elements, elements_in, next_element};
 use gv_value::{Basic, Extent, Plan};
 use std::alloc::Global;
 
@@ -29,72 +28,22 @@ pub fn elements<'a>(
         (array_children (align_of (plan_shape element.now))
         (size_of (plan_shape element.now)) bytes.now) }
 {
-    let extent = element.extent();
-    match extent.size {
-        Some(size) => row(alloc, size as usize, bytes),
-        None => framed(alloc, extent.align, bytes),
-    }
+    let elements = elements_in(element, bytes)?;
+    gathered(alloc, elements)
 }
 
-/// Elements of one size, one after the other.
-fn row<'a>(alloc: Global, size: usize, bytes: &'a [u8]) -> Result<Vec<&'a [u8]>, DecodeError>
-    requires { 0 < size }
-    ensures { Gives (λ children. slices children.items) result
-        (cut bytes.now 0 (steps size 0 (length bytes.now / size))) }
+/// Elements, gathered one by one.
+fn gathered(alloc: Global, elements: Elements<'_>) -> Result<Vec<&[u8]>, DecodeError>
+    requires { IsOpen elements }
+    ensures { Gives (λ children. slices children.items) result (elements_left elements.entry) }
 {
-    let mut children = Vec::with_capacity(alloc, bytes.len() / size)?;
-    let mut left = bytes;
-    while left.len() >= size {
-        let (child, others) = left.split_at(size);
+    let mut children = Vec::with_capacity(alloc, elements.left)?;
+    let mut left = elements;
+    while let Some((child, others)) = next_element(left)? {
         children.push(child)?;
         left = others;
     }
-    if left.is_empty() {
-        Ok(children)
-    } else {
-        Err(DecodeError::NotNormal)
-    }
-}
-
-/// Elements of variable size. The last offset, where the last element ends, says where the offsets
-/// begin.
-fn framed<'a>(alloc: Global, align: u64, bytes: &'a [u8]) -> Result<Vec<&'a [u8]>, DecodeError>
-    requires pos { 0 < align }
-    requires small { align ≤ 8 }
-    requires short { length bytes.now ≤ MOST_BYTES }
-    ensures { Gives (λ children. slices children.items) result (framed_children align bytes.now) }
-{
-    if bytes.is_empty() {
-        return Ok(Vec::new(alloc));
-    }
-    let width = offset_width(bytes);
-    let before = number(&bytes[bytes.len() - width..]) as usize;
-    let count = bytes.len().saturating_sub(before) / width;
-    let frame = take_apart(bytes, before, count)?;
-    framed_elements(alloc, align, frame)
-}
-
-/// The elements before their offsets.
-fn framed_elements(alloc: Global, align: u64, frame: Frame<'_>) -> Result<Vec<&[u8]>, DecodeError>
-    requires pos { 0 < align }
-    requires small { align ≤ 8 }
-    requires whole { IsWhole frame }
-    ensures { Gives (λ children. slices children.items) result
-        (cut frame.entry.body.now 0 (map (λ e. (align, e)) (offsets_of frame.entry))) }
-{
-    let mut children = Vec::with_capacity(alloc, frame.count)?;
-    let mut at = 0;
-    for i in 0..frame.count {
-        let end = offset_at(frame, i);
-        let child = child_at(frame.body, at, align, end)?;
-        children.push(child)?;
-        at = end;
-    }
-    if at == frame.body.len() {
-        Ok(children)
-    } else {
-        Err(DecodeError::NotNormal)
-    }
+    Ok(children)
 }
 
 /// The members of a tuple.

@@ -7,11 +7,13 @@ ghost use Rattle.gv_value.specs.Spelled.{Spelled};
 ghost use Rattle.gv_value.specs.Tree.{Tree};
 ghost use Rattle.gv_value.specs.Views.{shape_of, plain};
 ghost use Rattle.gv_decode.specs.Decoded.{Gives, Passes, slices, children_of};
+ghost use Rattle.gv_decode.specs.Stepped.{elements_of, IsOpen, Opens};
 
 use crate::checking::check;
 use crate::cutting::{elements, members};
 use crate::error::DecodeError;
 use crate::reading::read;
+use crate::stepping::{Elements, elements_in};
 use gv_value::{GvType, GvValue, MOST_BYTES, MOST_DEPTH, Plan, is_type, plan_of};
 use std::alloc::Global;
 
@@ -39,8 +41,8 @@ pub fn decode(alloc: Global, of: &GvType, bytes: &[u8]) -> Result<GvValue, Decod
 }
 
 /// Whether bytes are some value of a type, in the normal form of the GVariant specification:
-/// `decode` without the value. Its memory is at most 24 bytes for each byte, and what the greatest
-/// type in a variant takes.
+/// `decode` without the value. No element of an array is kept: its memory is what the types take
+/// that stand in each other at a place, and 16 bytes for each member of their tuples.
 pub fn check_normal(alloc: Global, of: &GvType, bytes: &[u8]) -> Result<(), DecodeError>
     ensures too_long { (result ≡ Err DecodeError.TooLong) ↔ (MOST_BYTES < length bytes.now) }
     ensures normal { IfOk result (λ _. (v : Tree) × Spelled (shape_of of.now) v bytes.now) }
@@ -94,6 +96,43 @@ fn children_by<'a>(
         Plan::Array(_, element) => elements(alloc, element, bytes),
         Plan::Tuple(run, plans) => members(alloc, *run, plans, bytes),
         Plan::Entry(run, plans) => members(alloc, *run, plans, bytes),
+        Plan::Maybe(_, _) => Err(DecodeError::NotNormal),
+        Plan::Variant => Err(DecodeError::NotNormal),
+        Plan::Basic(_) => Err(DecodeError::NotNormal),
+    }
+}
+
+/// The elements of an array, for `next_element` to cut one after another. What stands in them isn't
+/// looked at. `NotNormal` comes where the type is another, or there are no such elements; where the
+/// others don't stand in these bytes so, a later step says it.
+pub fn array_elements<'a>(
+    alloc: Global,
+    of: &GvType,
+    bytes: &'a [u8],
+) -> Result<Elements<'a>, DecodeError>
+    ensures too_long { (result ≡ Err DecodeError.TooLong) ↔ (MOST_BYTES < length bytes.now) }
+    ensures found { length bytes.now ≤ MOST_BYTES → Opens result
+        (elements_of (shape_of of.now) bytes.now) }
+    ensures ready { IfOk result IsOpen }
+{
+    if bytes.len() > MOST_BYTES as usize {
+        return Err(DecodeError::TooLong);
+    }
+    let plan = plan_of(alloc, of)?;
+    elements_by(&plan, bytes)
+}
+
+/// The same by a plan.
+fn elements_by<'a>(plan: &Plan, bytes: &'a [u8]) -> Result<Elements<'a>, DecodeError>
+    requires planned { IsTrue (is_plan plan.now) }
+    requires short { length bytes.now ≤ MOST_BYTES }
+    ensures found { Opens result (elements_of (plan_shape plan.now) bytes.now) }
+    ensures ready { IfOk result IsOpen }
+{
+    match plan {
+        Plan::Array(_, element) => elements_in(element, bytes),
+        Plan::Tuple(_, _) => Err(DecodeError::NotNormal),
+        Plan::Entry(_, _) => Err(DecodeError::NotNormal),
         Plan::Maybe(_, _) => Err(DecodeError::NotNormal),
         Plan::Variant => Err(DecodeError::NotNormal),
         Plan::Basic(_) => Err(DecodeError::NotNormal),

@@ -10,8 +10,10 @@ mod error;
 mod framing;
 mod numbers;
 mod reading;
+mod stepping;
 mod variants;
 
-pub use decoding::{check_normal, children, decode};
+pub use decoding::{array_elements, check_normal, children, decode};
 pub use error::DecodeError;
+pub use stepping::{Elements, next_element};
 pub use variants::variant_parts;

@@ -14,6 +14,8 @@ mod long;
 #[cfg(test)]
 mod rows;
 #[cfg(test)]
+mod stepping;
+#[cfg(test)]
 mod value;
 #[cfg(test)]
 mod vectors;

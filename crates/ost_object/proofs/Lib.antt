@@ -1,4 +1,5 @@
 pub mod Bound
+pub mod ByParts
 pub mod Divided
 pub mod Judging
 pub mod Kept
@@ -10,7 +11,7 @@ pub mod OneTree
 pub mod OneValue
 pub mod Parts
 pub mod Rows
-pub mod Shapes
 pub mod Trees
 pub mod Written
 pub mod Roots
+pub mod ReadTrees

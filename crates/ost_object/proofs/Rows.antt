@@ -1,10 +1,10 @@
 -- Lists of values, read one by one.
-use Rattle.std.proofs.Common.{◌≡◌, ℕ, List, [], ◌∷◌, ◌++◌, Option, Some, None, refl, sym, ap, ◌∙◌, append_assoc, length, ◌≤◌, arith}
+use Rattle.std.proofs.Common.{◌≡◌, ℕ, List, [], ◌∷◌, ◌++◌, Option, Some, None, refl, sym, ap, ◌∙◌, append_assoc}
 use Rattle.std.specs.Prelude.{option_map, option_and_then}
 use Rattle.gv_value.specs.declared.value.GvValue.{GvValue}
 use Rattle.gv_value.specs.Tree.{Tree, byte_trees}
 use Rattle.gv_value.specs.Views.{plain, plains}
-use Rattle.ost_model.specs.Fields.{byte_in, file_in, dir_in, each_of}
+use Rattle.ost_model.specs.Fields.{byte_in, each_of}
 
 -- after what was read before
 abbrev pub remainder : {A : Type 0} → List A → Option (List A) → Option (List A)
@@ -21,7 +21,7 @@ remainder_all before = ap Some (append_nil_of before)
     append_nil_of [] = refl
     append_nil_of (x ∷ xs) = ap (λ l. x ∷ l) (append_nil_of xs)
 
-remainder_one : {A : Type 0} (before : List A) (a : A) (rest : Option (List A)) → remainder before (option_map (λ others. a ∷ others) rest) ≡ remainder (before ++ a ∷ []) rest
+pub remainder_one : {A : Type 0} (before : List A) (a : A) (rest : Option (List A)) → remainder before (option_map (λ others. a ∷ others) rest) ≡ remainder (before ++ a ∷ []) rest
 remainder_one before a None = refl
 remainder_one before a (Some others) = ap Some (sym (append_assoc before (a ∷ []) others))
 
@@ -39,12 +39,3 @@ read_no_more one before v vs is = ap (λ r. remainder before (option_and_then (�
 pub bytes_back : (bytes : List ℕ) → each_of byte_in (byte_trees bytes) ≡ Some bytes
 bytes_back [] = refl
 bytes_back (b ∷ bytes) = ap (option_map (λ others. b ∷ others)) (bytes_back bytes)
-
--- a byte is neither a file nor a directory
-pub no_files_in : (bytes : List ℕ) → 1 ≤ length bytes → each_of file_in (byte_trees bytes) ≡ None
-no_files_in [] h = absurd (omega (arith, h))
-no_files_in (b ∷ bytes) h = refl
-
-pub no_dirs_in : (bytes : List ℕ) → 1 ≤ length bytes → each_of dir_in (byte_trees bytes) ≡ None
-no_dirs_in [] h = absurd (omega (arith, h))
-no_dirs_in (b ∷ bytes) h = refl

@@ -15,8 +15,6 @@ use Rattle.ost_object.specs.declared.dirtree.FileEntry.{FileEntry}
 use Rattle.ost_object.specs.declared.dirtree.DirEntry.{DirEntry}
 use Rattle.ost_object.specs.declared.dirtree.DirTree.{DirTree}
 use Rattle.ost_object.specs.declared.dirmeta.DirMeta.{DirMeta}
-use Rattle.ost_object.specs.declared.fields.FileFields.{FileFields}
-use Rattle.ost_object.specs.declared.fields.DirFields.{DirFields}
 use Rattle.ost_object.specs.declared.fields.MetaFields.{MetaFields}
 
 -- ---- bytes that are kept
@@ -106,19 +104,6 @@ abbrev pub meta_view : DirMeta → MetaView
 meta_view m = record { uid = 0; gid = 0; mode = m.mode; bare = true }
 
 -- ---- fields as they were read
-
-abbrev pub file_fields : FileFields → FileRow
-file_fields f = record { name = f.name; digest = f.digest }
-
-abbrev pub dir_fields : DirFields → DirRow
-dir_fields d = record { name = d.name; tree = d.tree; meta = d.meta }
-
-abbrev pub tree_fields : List FileFields → List DirFields → TreeView
-tree_fields files dirs = record { files = map file_fields files; dirs = map dir_fields dirs }
-
--- files that are judged, and directories as they were read
-abbrev pub half_read : List FileEntry → List DirFields → TreeView
-half_read files dirs = record { files = map file_row files; dirs = map dir_fields dirs }
 
 abbrev pub meta_fields : MetaFields → MetaView
 meta_fields m = record { uid = m.uid; gid = m.gid; mode = m.mode; bare = m.bare }

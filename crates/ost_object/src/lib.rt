@@ -3,6 +3,7 @@
 #![tactic(auto)]
 
 mod bindings;
+mod checked;
 mod commit;
 mod commit_parts;
 mod digests;

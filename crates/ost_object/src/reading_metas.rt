@@ -1,86 +1,66 @@
 //! Dirmetas, as they are read.
-ghost use Rattle.std.specs.Prelude.{◌≡◌};
-ghost use Rattle.gv_value.specs.Tree.{tuple, byte_trees};
-ghost use Rattle.gv_value.specs.Views.{plain, plains};
+ghost use Rattle.std.specs.Prelude.{◌≡◌, IfOk, Some};
+ghost use Rattle.std.specs.Option.{IsSome, option_map};
+ghost use Rattle.gv_value.specs.Reading.{value_of};
+ghost use Rattle.gv_value.specs.Tree.{tuple};
+ghost use Rattle.gv_decode.specs.Decoded.{slices};
+ghost use Rattle.ost_model.specs.Contents.{attributes_shape};
 ghost use Rattle.ost_model.specs.Fields.{meta_in, are_none, items_in};
-ghost use Rattle.std.specs.Option.{option_map};
 ghost use Rattle.ost_model.specs.Readers.{kept, meta_breaks, meta_read};
-ghost use Rattle.ost_object.specs.Answers.{Finds, Reads, as_is};
-ghost use Rattle.ost_object.specs.Views.{meta_fields, meta_view};
+ghost use Rattle.ost_object.specs.Answers.{Finds, Reads};
+ghost use Rattle.ost_object.specs.Parts.{meta_shapes, each_tree, AreEach};
+ghost use Rattle.ost_object.specs.Views.{meta_fields, meta_view, tree_at};
 
+use crate::checked::{members_of, next_row, rows_of};
 use crate::dirmeta::DirMeta;
 use crate::error::ObjectError;
 use crate::fields::MetaFields;
-use crate::types::meta_type;
-use crate::values::{number_of, value_of};
+use crate::types::{attributes_type, meta_type};
+use crate::values::{check, number_in_bytes};
 use fp_base::Rule;
-use gv_value::{GvValue, Parts};
 use ost_model::{DIRECTORY_TYPE, LOWEST_TYPE_BIT};
-use std::alloc::Global;
+use std::alloc::{AllocError, Global};
 
-/// The dirmeta that bytes are, or the first rule that they break.
+/// The dirmeta that bytes are, or the first rule that they break. Extended attributes are checked
+/// and not kept.
 pub fn read_dirmeta(alloc: Global, bytes: &[u8]) -> Result<DirMeta, ObjectError>
     ensures { Reads meta_view result (meta_read bytes.now) }
 {
     let of = meta_type(alloc)?;
-    let value = value_of(alloc, &of, bytes)?;
-    let fields = fields_of(&value)?;
+    check(alloc, &of, bytes)?;
+    let members = members_of(alloc, &of, bytes)?;
+    let fields = fields_of(alloc, &members)?;
     meta_of_fields(fields)
 }
 
-/// The fields of a value.
-fn fields_of(value: &GvValue) -> Result<MetaFields, ObjectError>
-    ensures { Finds meta_fields result (meta_in (plain value.now)) }
-{
-    match value {
-        GvValue::Tuple(members) => field_members(members),
-        _ => Err(ObjectError::Malformed(Rule::Value)),
-    }
-}
-
-/// The same by the value's members.
-fn field_members(members: &[GvValue]) -> Result<MetaFields, ObjectError>
-    ensures { Finds meta_fields result (meta_in (tuple (plains members.now))) }
+/// The fields of these members.
+fn fields_of(alloc: Global, members: &[&[u8]]) -> Result<MetaFields, ObjectError>
+    requires { AreEach meta_shapes (slices members.now) }
+    ensures { Finds meta_fields result (meta_in
+        (tuple (each_tree meta_shapes (slices members.now)))) }
 {
     match members {
         [uid, gid, mode, xattrs] => Ok(MetaFields {
-            uid: number_of(uid)?,
-            gid: number_of(gid)?,
-            mode: number_of(mode)?,
-            bare: is_bare(xattrs)?,
+            uid: number_in_bytes(alloc, uid)?,
+            gid: number_in_bytes(alloc, gid)?,
+            mode: number_in_bytes(alloc, mode)?,
+            bare: is_bare(alloc, xattrs)?,
         }),
-        _ => Err(ObjectError::Malformed(Rule::Value)),
+        _ => unreachable!(),
     }
 }
 
-/// Whether an array is empty.
-fn is_bare(value: &GvValue) -> Result<bool, ObjectError>
-    ensures { Finds as_is result (option_map are_none (items_in (plain value.now))) }
+/// Whether an array of extended attributes is empty.
+fn is_bare(alloc: Global, bytes: &[u8]) -> Result<bool, AllocError>
+    requires { IsSome (value_of attributes_shape bytes.now) }
+    ensures { IfOk result (λ bare. option_map are_none
+        (items_in (tree_at attributes_shape bytes.now)) ≡ Some bare) }
 {
-    match value.parts() {
-        Parts::Array(items) => Ok(is_bare_of_items(items)),
-        Parts::Bytes(bytes) => Ok(is_bare_of_bytes(bytes)),
-        _ => Err(ObjectError::Malformed(Rule::Value)),
-    }
-}
-
-/// Whether there are no items.
-fn is_bare_of_items(items: &[GvValue]) -> bool
-    ensures { result ≡ are_none (plains items.now) }
-{
-    match items {
-        [] => true,
-        [_, ..] => false,
-    }
-}
-
-/// Whether there are no bytes.
-fn is_bare_of_bytes(bytes: &[u8]) -> bool
-    ensures { result ≡ are_none (byte_trees bytes.now) }
-{
-    match bytes {
-        [] => true,
-        [_, ..] => false,
+    let of = attributes_type(alloc)?;
+    let rows = rows_of(alloc, &of, bytes)?;
+    match next_row(rows)? {
+        Some(_step) => Ok(false),
+        None => Ok(true),
     }
 }
 

@@ -1,181 +1,162 @@
-//! The rows of a dirtree, as they are read.
-ghost use Rattle.std.specs.Prelude.{◌≡◌, map, option_and_then};
-ghost use Rattle.gv_value.specs.Tree.{tuple, byte_trees};
-ghost use Rattle.gv_value.specs.Views.{plain, plains};
-ghost use Rattle.ost_model.specs.Fields.{file_in, dir_in, items_in, each_of};
+//! The rows of a dirtree, as they are read: cut one after another from bytes that were checked.
+ghost use Rattle.std.specs.Prelude.{◌≡◌, ◌∷◌, [], map, option_and_then};
+ghost use Rattle.std.specs.Option.{IsSome};
+ghost use Rattle.gv_value.specs.Reading.{value_of};
+ghost use Rattle.gv_value.specs.Shape.{tuple as tuple_shape};
+ghost use Rattle.gv_value.specs.Tree.{tuple};
+ghost use Rattle.gv_value.specs.Views.{shape_of};
+ghost use Rattle.gv_decode.specs.Decoded.{slices};
+ghost use Rattle.gv_decode.specs.Stepped.{elements_left, IsOpen};
+ghost use Rattle.ost_model.specs.Contents.{bytes_shape};
+ghost use Rattle.ost_model.specs.Fields.{file_in, dir_in};
 ghost use Rattle.ost_model.specs.Readers.{has_long, has_both_long};
-ghost use Rattle.ost_object.specs.Answers.{Finds, Tries, passing, only};
-ghost use Rattle.ost_object.specs.Views.{file_fields, dir_fields, file_row, dir_row};
+ghost use Rattle.ost_model.specs.Types.{text_shape, related_shape, dirs_shape};
+ghost use Rattle.ost_object.specs.Answers.{Tries, passing, only};
+ghost use Rattle.ost_object.specs.Parts.{file_shapes, dir_shapes, each_tree, AreEach, AreLeft, files_in, dirs_in, rows_passing};
+ghost use Rattle.ost_object.specs.Views.{file_row, dir_row, tree_at};
 
+use crate::checked::{members_of, next_row, rows_of};
 use crate::digests::digest_of;
 use crate::dirtree::{DirEntry, FileEntry};
 use crate::error::ObjectError;
-use crate::fields::{DirFields, FileFields};
-use crate::values::{bytes_of, text_of};
-use fp_base::{Rule, Text};
-use gv_value::GvValue;
+use crate::types::{dir_type, dirs_type, file_type, related_type};
+use crate::values::text_of_bytes;
+use fp_base::Rule;
+use gv_decode::Elements;
+use gv_value::GvType;
 use std::alloc::Global;
 
-/// A file: its name and its digest.
-fn file_of(alloc: Global, value: &GvValue) -> Result<FileFields, ObjectError>
-    ensures { Finds file_fields result (file_in (plain value.now)) }
+/// The files of an array, where each digest has 32 bytes.
+pub fn files_of(alloc: Global, bytes: &[u8]) -> Result<Vec<FileEntry>, ObjectError>
+    requires { IsSome (value_of related_shape bytes.now) }
+    ensures { Tries Rule.Digest (λ files. map file_row files.items) result
+        (option_and_then (only has_long) (files_in (tree_at related_shape bytes.now))) }
 {
-    match value {
-        GvValue::Tuple(members) => file_members(alloc, members),
-        _ => Err(ObjectError::Malformed(Rule::Value)),
-    }
+    let of = related_type(alloc)?;
+    let row = file_type(alloc)?;
+    let rows = rows_of(alloc, &of, bytes)?;
+    file_rows(alloc, &row, rows)
 }
 
-/// The same by its members.
-fn file_members(alloc: Global, members: &[GvValue]) -> Result<FileFields, ObjectError>
-    ensures { Finds file_fields result (file_in (tuple (plains members.now))) }
+/// The directories of an array, where each digest has 32 bytes.
+pub fn dirs_of(alloc: Global, bytes: &[u8]) -> Result<Vec<DirEntry>, ObjectError>
+    requires { IsSome (value_of dirs_shape bytes.now) }
+    ensures { Tries Rule.Digest (λ dirs. map dir_row dirs.items) result
+        (option_and_then (only has_both_long) (dirs_in (tree_at dirs_shape bytes.now))) }
 {
-    match members {
-        [name, digest] => {
-            let name = text_of(alloc, name)?;
-            let digest = bytes_of(alloc, digest)?;
-            Ok(FileFields { name, digest })
-        }
-        _ => Err(ObjectError::Malformed(Rule::Value)),
-    }
-}
-
-/// A directory: its name and its two digests.
-fn dir_of(alloc: Global, value: &GvValue) -> Result<DirFields, ObjectError>
-    ensures { Finds dir_fields result (dir_in (plain value.now)) }
-{
-    match value {
-        GvValue::Tuple(members) => dir_members(alloc, members),
-        _ => Err(ObjectError::Malformed(Rule::Value)),
-    }
-}
-
-/// The same by its members.
-fn dir_members(alloc: Global, members: &[GvValue]) -> Result<DirFields, ObjectError>
-    ensures { Finds dir_fields result (dir_in (tuple (plains members.now))) }
-{
-    match members {
-        [name, tree, meta] => {
-            let name = text_of(alloc, name)?;
-            let tree = bytes_of(alloc, tree)?;
-            let meta = bytes_of(alloc, meta)?;
-            Ok(DirFields { name, tree, meta })
-        }
-        _ => Err(ObjectError::Malformed(Rule::Value)),
-    }
-}
-
-/// The files of an array.
-pub fn files_of(alloc: Global, value: &GvValue) -> Result<Vec<FileFields>, ObjectError>
-    ensures { Finds (λ rows. map file_fields rows.items) result
-        (option_and_then (each_of file_in) (items_in (plain value.now))) }
-{
-    match value {
-        GvValue::Array(items) => file_rows(alloc, items),
-        GvValue::Bytes(bytes) => no_files(alloc, bytes.as_slice()),
-        _ => Err(ObjectError::Malformed(Rule::Value)),
-    }
-}
-
-/// The directories of an array.
-pub fn dirs_of(alloc: Global, value: &GvValue) -> Result<Vec<DirFields>, ObjectError>
-    ensures { Finds (λ rows. map dir_fields rows.items) result
-        (option_and_then (each_of dir_in) (items_in (plain value.now))) }
-{
-    match value {
-        GvValue::Array(items) => dir_rows(alloc, items),
-        GvValue::Bytes(bytes) => no_dirs(alloc, bytes.as_slice()),
-        _ => Err(ObjectError::Malformed(Rule::Value)),
-    }
-}
-
-/// No files, where there are no bytes: a byte is no file.
-fn no_files(alloc: Global, bytes: &[u8]) -> Result<Vec<FileFields>, ObjectError>
-    ensures { Finds (λ rows. map file_fields rows.items) result
-        (each_of file_in (byte_trees bytes.now)) }
-{
-    match bytes {
-        [] => Ok(Vec::new(alloc)),
-        [_, ..] => Err(ObjectError::Malformed(Rule::Value)),
-    }
-}
-
-/// No directories, where there are no bytes.
-fn no_dirs(alloc: Global, bytes: &[u8]) -> Result<Vec<DirFields>, ObjectError>
-    ensures { Finds (λ rows. map dir_fields rows.items) result
-        (each_of dir_in (byte_trees bytes.now)) }
-{
-    match bytes {
-        [] => Ok(Vec::new(alloc)),
-        [_, ..] => Err(ObjectError::Malformed(Rule::Value)),
-    }
+    let of = dirs_type(alloc)?;
+    let row = dir_type(alloc)?;
+    let rows = rows_of(alloc, &of, bytes)?;
+    dir_rows(alloc, &row, rows)
 }
 
 /// Files, one by one.
-fn file_rows(alloc: Global, values: &[GvValue]) -> Result<Vec<FileFields>, ObjectError>
-    ensures { Finds (λ rows. map file_fields rows.items) result
-        (each_of file_in (plains values.now)) }
-{
-    let mut rows = Vec::with_capacity(alloc, values.len())?;
-    for value in values {
-        rows.push(file_of(alloc, value)?)?;
-    }
-    Ok(rows)
-}
-
-/// Directories, one by one.
-fn dir_rows(alloc: Global, values: &[GvValue]) -> Result<Vec<DirFields>, ObjectError>
-    ensures { Finds (λ rows. map dir_fields rows.items) result
-        (each_of dir_in (plains values.now)) }
-{
-    let mut rows = Vec::with_capacity(alloc, values.len())?;
-    for value in values {
-        rows.push(dir_of(alloc, value)?)?;
-    }
-    Ok(rows)
-}
-
-/// The files, where each digest has 32 bytes.
-pub fn file_entries(alloc: Global, rows: &[FileFields]) -> Result<Vec<FileEntry>, ObjectError>
+fn file_rows(alloc: Global, of: &GvType, rows: Elements<'_>) -> Result<Vec<FileEntry>, ObjectError>
+    requires ready { IsOpen rows }
+    requires of { shape_of of.now ≡ tuple_shape file_shapes }
+    requires values { AreLeft (tuple_shape file_shapes) (elements_left rows) }
     ensures { Tries Rule.Digest (λ files. map file_row files.items) result
-        (only has_long (map file_fields rows.now)) }
+        (rows_passing has_long file_in (tuple_shape file_shapes) (elements_left rows.entry)) }
 {
-    let mut files = Vec::with_capacity(alloc, rows.len())?;
-    for row in rows {
-        files.push(file_entry(alloc, row)?)?;
+    let mut files = Vec::new(alloc);
+    let mut left = rows;
+    while let Some((row, others)) = next_row(left)? {
+        files.push(file_entry(alloc, of, row)?)?;
+        left = others;
     }
     Ok(files)
 }
 
-/// The directories, where each digest has 32 bytes.
-pub fn dir_entries(alloc: Global, rows: &[DirFields]) -> Result<Vec<DirEntry>, ObjectError>
+/// Directories, one by one.
+fn dir_rows(alloc: Global, of: &GvType, rows: Elements<'_>) -> Result<Vec<DirEntry>, ObjectError>
+    requires ready { IsOpen rows }
+    requires of { shape_of of.now ≡ tuple_shape dir_shapes }
+    requires values { AreLeft (tuple_shape dir_shapes) (elements_left rows) }
     ensures { Tries Rule.Digest (λ dirs. map dir_row dirs.items) result
-        (only has_both_long (map dir_fields rows.now)) }
+        (rows_passing has_both_long dir_in (tuple_shape dir_shapes) (elements_left rows.entry)) }
 {
-    let mut dirs = Vec::with_capacity(alloc, rows.len())?;
-    for row in rows {
-        dirs.push(dir_entry(alloc, row)?)?;
+    let mut dirs = Vec::new(alloc);
+    let mut left = rows;
+    while let Some((row, others)) = next_row(left)? {
+        dirs.push(dir_entry(alloc, of, row)?)?;
+        left = others;
     }
     Ok(dirs)
 }
 
 /// A file, where its digest has 32 bytes.
-#[tactic(auto, unfolding(crate::specs::Answers::passing))]
-fn file_entry(alloc: Global, row: &FileFields) -> Result<FileEntry, ObjectError>
-    ensures { Tries Rule.Digest file_row result (passing has_long (file_fields row.now)) }
+fn file_entry(alloc: Global, of: &GvType, bytes: &[u8]) -> Result<FileEntry, ObjectError>
+    requires of { shape_of of.now ≡ tuple_shape file_shapes }
+    requires value { IsSome (value_of (tuple_shape file_shapes) bytes.now) }
+    ensures { Tries Rule.Digest file_row result (option_and_then (passing has_long)
+        (file_in (tree_at (tuple_shape file_shapes) bytes.now))) }
 {
-    let digest = digest_of(row.digest.as_slice(), Rule::Digest)?;
-    let name = Text::from_string(String::from_str(alloc, row.name.as_str())?);
+    let members = members_of(alloc, of, bytes)?;
+    file_of_members(alloc, &members)
+}
+
+/// The same by its members.
+fn file_of_members(alloc: Global, members: &[&[u8]]) -> Result<FileEntry, ObjectError>
+    requires { AreEach file_shapes (slices members.now) }
+    ensures { Tries Rule.Digest file_row result (option_and_then (passing has_long)
+        (file_in (tuple (each_tree file_shapes (slices members.now))))) }
+{
+    match members {
+        [name, digest] => file_of_parts(alloc, name, digest),
+        _ => unreachable!(),
+    }
+}
+
+/// The same by its name and its digest.
+fn file_of_parts(alloc: Global, name: &[u8], digest: &[u8]) -> Result<FileEntry, ObjectError>
+    requires name { IsSome (value_of text_shape name.now) }
+    requires digest { IsSome (value_of bytes_shape digest.now) }
+    ensures { Tries Rule.Digest file_row result (option_and_then (passing has_long)
+        (file_in (tuple (each_tree file_shapes (name.now ∷ digest.now ∷ []))))) }
+{
+    let digest = digest_of(digest, Rule::Digest)?;
+    let name = text_of_bytes(alloc, name)?;
     Ok(FileEntry { name, digest })
 }
 
 /// A directory, where its digests have 32 bytes.
-#[tactic(auto, unfolding(crate::specs::Answers::passing))]
-fn dir_entry(alloc: Global, row: &DirFields) -> Result<DirEntry, ObjectError>
-    ensures { Tries Rule.Digest dir_row result (passing has_both_long (dir_fields row.now)) }
+fn dir_entry(alloc: Global, of: &GvType, bytes: &[u8]) -> Result<DirEntry, ObjectError>
+    requires of { shape_of of.now ≡ tuple_shape dir_shapes }
+    requires value { IsSome (value_of (tuple_shape dir_shapes) bytes.now) }
+    ensures { Tries Rule.Digest dir_row result (option_and_then (passing has_both_long)
+        (dir_in (tree_at (tuple_shape dir_shapes) bytes.now))) }
 {
-    let tree = digest_of(row.tree.as_slice(), Rule::Digest)?;
-    let meta = digest_of(row.meta.as_slice(), Rule::Digest)?;
-    let name = Text::from_string(String::from_str(alloc, row.name.as_str())?);
+    let members = members_of(alloc, of, bytes)?;
+    dir_of_members(alloc, &members)
+}
+
+/// The same by its members.
+fn dir_of_members(alloc: Global, members: &[&[u8]]) -> Result<DirEntry, ObjectError>
+    requires { AreEach dir_shapes (slices members.now) }
+    ensures { Tries Rule.Digest dir_row result (option_and_then (passing has_both_long)
+        (dir_in (tuple (each_tree dir_shapes (slices members.now))))) }
+{
+    match members {
+        [name, tree, meta] => dir_of_parts(alloc, name, tree, meta),
+        _ => unreachable!(),
+    }
+}
+
+/// The same by its name and its digests.
+fn dir_of_parts(
+    alloc: Global,
+    name: &[u8],
+    tree: &[u8],
+    meta: &[u8],
+) -> Result<DirEntry, ObjectError>
+    requires name { IsSome (value_of text_shape name.now) }
+    requires tree { IsSome (value_of bytes_shape tree.now) }
+    requires meta { IsSome (value_of bytes_shape meta.now) }
+    ensures { Tries Rule.Digest dir_row result (option_and_then (passing has_both_long)
+        (dir_in (tuple (each_tree dir_shapes (name.now ∷ tree.now ∷ meta.now ∷ []))))) }
+{
+    let tree = digest_of(tree, Rule::Digest)?;
+    let meta = digest_of(meta, Rule::Digest)?;
+    let name = text_of_bytes(alloc, name)?;
     Ok(DirEntry { name, tree, meta })
 }

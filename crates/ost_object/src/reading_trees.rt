@@ -1,95 +1,59 @@
 //! Dirtrees, as they are read.
-ghost use Rattle.std.specs.Prelude.{◌≡◌, true, map};
-ghost use Rattle.std.specs.List.{list_all};
+ghost use Rattle.std.specs.Prelude.{◌≡◌, ◌∷◌, []};
+ghost use Rattle.std.specs.Option.{IsSome};
+ghost use Rattle.gv_value.specs.Reading.{value_of};
 ghost use Rattle.gv_value.specs.Tree.{tuple};
-ghost use Rattle.gv_value.specs.Views.{plain, plains};
+ghost use Rattle.gv_decode.specs.Decoded.{slices};
 ghost use Rattle.ost_model.specs.Fields.{tree_in};
-ghost use Rattle.ost_model.specs.Readers.{kept, has_long, first_broken, name_tests, tree_breaks, tree_read};
-ghost use Rattle.ost_object.specs.Answers.{Finds, Reads};
-ghost use Rattle.ost_object.specs.Views.{file_row, rows_view, half_read, tree_fields, tree_view};
+ghost use Rattle.ost_model.specs.Readers.{kept, judged, first_broken, name_tests, tree_breaks, tree_read};
+ghost use Rattle.ost_model.specs.Types.{related_shape, dirs_shape};
+ghost use Rattle.ost_object.specs.Answers.{Reads};
+ghost use Rattle.ost_object.specs.Parts.{rows_shapes, each_tree, AreEach};
+ghost use Rattle.ost_object.specs.Views.{rows_view, tree_view};
 
+use crate::checked::members_of;
 use crate::dirtree::{DirEntry, DirTree, FileEntry};
 use crate::error::ObjectError;
-use crate::fields::{DirFields, FileFields};
-use crate::reading_rows::{dir_entries, dirs_of, file_entries, files_of};
+use crate::reading_rows::{dirs_of, files_of};
 use crate::tree_rules::broken_name;
 use crate::types::tree_type;
-use crate::values::value_of;
-use fp_base::{Items, Rule};
-use gv_value::GvValue;
+use crate::values::check;
+use fp_base::Items;
 use std::alloc::Global;
 
-/// The dirtree that bytes are, or the first rule that they break.
+/// The dirtree that bytes are, or the first rule that they break. The bytes are checked before
+/// anything is kept of them, and then cut row by row.
 pub fn read_dirtree(alloc: Global, bytes: &[u8]) -> Result<DirTree, ObjectError>
     ensures { Reads tree_view result (tree_read bytes.now) }
 {
     let of = tree_type(alloc)?;
-    let value = value_of(alloc, &of, bytes)?;
-    let (files, dirs) = tree_rows(alloc, &value)?;
-    tree_of_rows(alloc, &files, &dirs)
+    check(alloc, &of, bytes)?;
+    let members = members_of(alloc, &of, bytes)?;
+    tree_of_members(alloc, &members)
 }
 
-/// The rows of a value.
-fn tree_rows(
-    alloc: Global,
-    value: &GvValue,
-) -> Result<(Vec<FileFields>, Vec<DirFields>), ObjectError>
-    ensures { Finds (λ rows. tree_fields rows.0.items rows.1.items) result
-        (tree_in (plain value.now)) }
-{
-    match value {
-        GvValue::Tuple(members) => row_members(alloc, members),
-        _ => Err(ObjectError::Malformed(Rule::Value)),
-    }
-}
-
-/// The same by the value's members.
-fn row_members(
-    alloc: Global,
-    members: &[GvValue],
-) -> Result<(Vec<FileFields>, Vec<DirFields>), ObjectError>
-    ensures { Finds (λ rows. tree_fields rows.0.items rows.1.items) result
-        (tree_in (tuple (plains members.now))) }
+/// The dirtree of these members, or the first rule after `Value` that they break.
+fn tree_of_members(alloc: Global, members: &[&[u8]]) -> Result<DirTree, ObjectError>
+    requires { AreEach rows_shapes (slices members.now) }
+    ensures { Reads tree_view result (judged tree_breaks
+        (tree_in (tuple (each_tree rows_shapes (slices members.now))))) }
 {
     match members {
-        [files, dirs] => {
-            let files = files_of(alloc, files)?;
-            let dirs = dirs_of(alloc, dirs)?;
-            Ok((files, dirs))
-        }
-        _ => Err(ObjectError::Malformed(Rule::Value)),
+        [files, dirs] => tree_of_rows(alloc, files, dirs),
+        _ => unreachable!(),
     }
 }
 
-/// The dirtree of these rows, or the first rule after `Value` that they break.
-fn tree_of_rows(
-    alloc: Global,
-    files: &[FileFields],
-    dirs: &[DirFields],
-) -> Result<DirTree, ObjectError>
-    ensures { Reads tree_view result (kept (tree_breaks (tree_fields files.now dirs.now))
-        (tree_fields files.now dirs.now)) }
+/// The same by the bytes of both arrays.
+fn tree_of_rows(alloc: Global, files: &[u8], dirs: &[u8]) -> Result<DirTree, ObjectError>
+    requires files { IsSome (value_of related_shape files.now) }
+    requires dirs { IsSome (value_of dirs_shape dirs.now) }
+    ensures { Reads tree_view result (judged tree_breaks
+        (tree_in (tuple (each_tree rows_shapes (files.now ∷ dirs.now ∷ []))))) }
 {
-    match file_entries(alloc, files) {
-        Ok(files) => judged_dirs(alloc, files, dirs),
-        Err(error) => Err(error),
-    }
-}
-
-/// The same where the digests of the files have 32 bytes.
-fn judged_dirs(
-    alloc: Global,
-    files: Vec<FileEntry>,
-    dirs: &[DirFields],
-) -> Result<DirTree, ObjectError>
-    requires { list_all has_long (map file_row files.items) ≡ true }
-    ensures { Reads tree_view result (kept (tree_breaks (half_read files.items dirs.now))
-        (half_read files.items dirs.now)) }
-{
-    match dir_entries(alloc, dirs) {
-        Ok(dirs) => named(files, dirs),
-        Err(error) => Err(error),
-    }
+    let files = files_of(alloc, files)?;
+    let dirs = dirs_of(alloc, dirs)?;
+    named(files, dirs)
 }
 
 /// The dirtree, or the first rule after `Digest` that it breaks.

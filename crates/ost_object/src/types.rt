@@ -1,8 +1,10 @@
 //! The types of metadata objects.
 ghost use Rattle.std.specs.Prelude.{◌≡◌, IfOk, IsErr};
-ghost use Rattle.gv_value.specs.Shape.{variant};
+ghost use Rattle.gv_value.specs.Shape.{variant, tuple};
 ghost use Rattle.gv_value.specs.Views.{shape_of};
-ghost use Rattle.ost_model.specs.Types.{commit_shape, dictionary_shape, related_shape, tree_shape, meta_shape};
+ghost use Rattle.ost_model.specs.Types.{commit_shape, dictionary_shape, related_shape, dirs_shape, tree_shape, meta_shape};
+ghost use Rattle.ost_model.specs.Contents.{attributes_shape};
+ghost use Rattle.ost_object.specs.Parts.{file_shapes, dir_shapes};
 ghost use Rattle.ost_object.specs.Entries.{entry_shape};
 
 use gv_value::{GvType, TypeError};
@@ -74,11 +76,55 @@ pub fn variant_type(alloc: Global) -> Result<GvType, AllocError>
     }
 }
 
-/// The type of what a commit is related to.
+/// The type of what a commit is related to, and of a dirtree's files.
 pub fn related_type(alloc: Global) -> Result<GvType, AllocError>
     ensures { IfOk result (λ of. shape_of of ≡ related_shape) }
 {
     match GvType::parse(alloc, b"a(say)") {
+        Ok(of) => Ok(of),
+        Err(TypeError::NoMemory) => Err(AllocError),
+        Err(TypeError::Bad) => unreachable!(),
+    }
+}
+
+/// The type of a dirtree's directories.
+pub fn dirs_type(alloc: Global) -> Result<GvType, AllocError>
+    ensures { IfOk result (λ of. shape_of of ≡ dirs_shape) }
+{
+    match GvType::parse(alloc, b"a(sayay)") {
+        Ok(of) => Ok(of),
+        Err(TypeError::NoMemory) => Err(AllocError),
+        Err(TypeError::Bad) => unreachable!(),
+    }
+}
+
+/// The type of a file in a dirtree.
+pub fn file_type(alloc: Global) -> Result<GvType, AllocError>
+    ensures { IfOk result (λ of. shape_of of ≡ tuple file_shapes) }
+{
+    match GvType::parse(alloc, b"(say)") {
+        Ok(of) => Ok(of),
+        Err(TypeError::NoMemory) => Err(AllocError),
+        Err(TypeError::Bad) => unreachable!(),
+    }
+}
+
+/// The type of a directory in a dirtree.
+pub fn dir_type(alloc: Global) -> Result<GvType, AllocError>
+    ensures { IfOk result (λ of. shape_of of ≡ tuple dir_shapes) }
+{
+    match GvType::parse(alloc, b"(sayay)") {
+        Ok(of) => Ok(of),
+        Err(TypeError::NoMemory) => Err(AllocError),
+        Err(TypeError::Bad) => unreachable!(),
+    }
+}
+
+/// The type of a dirmeta's extended attributes.
+pub fn attributes_type(alloc: Global) -> Result<GvType, AllocError>
+    ensures { IfOk result (λ of. shape_of of ≡ attributes_shape) }
+{
+    match GvType::parse(alloc, b"a(ayay)") {
         Ok(of) => Ok(of),
         Err(TypeError::NoMemory) => Err(AllocError),
         Err(TypeError::Bad) => unreachable!(),

@@ -2,20 +2,20 @@
 ghost use Rattle.std.specs.Prelude.{◌≡◌, ◌≤◌, length, IfOk, option_and_then};
 ghost use Rattle.gv_value.specs.declared.limits.TheConstants.{MOST_BYTES};
 ghost use Rattle.gv_value.specs.Reading.{value_of};
-ghost use Rattle.gv_value.specs.Tree.{byte_trees};
-ghost use Rattle.gv_value.specs.Views.{shape_of, plain, plains};
-ghost use Rattle.ost_model.specs.Fields.{byte_in, text_in, bytes_in, number_in, time_in, each_of};
+ghost use Rattle.gv_value.specs.Views.{shape_of, plain};
+ghost use Rattle.ost_model.specs.Fields.{text_in, number_in, time_in};
 ghost use Rattle.gv_decode.specs.Decoded.{slices, children_of as children_in};
 ghost use Rattle.ost_model.specs.Types.{text_shape};
 ghost use Rattle.ost_object.specs.Answers.{Finds, Holds, as_is};
-ghost use Rattle.ost_object.specs.Views.{text_at, time_at};
+ghost use Rattle.ost_object.specs.Views.{text_at, time_at, tree_at};
+ghost use Rattle.ost_model.specs.Contents.{number_shape};
 ghost use Rattle.ost_model.specs.Types.{time_shape};
 
 use crate::error::ObjectError;
 use crate::numbers::{turned_u32, turned_u64};
-use fp_base::{Blob, Rule, Text};
+use fp_base::{Rule, Text};
 use gv_decode::{DecodeError, check_normal, children, decode};
-use gv_value::{Basic, GvType, GvValue, Parts};
+use gv_value::{Basic, GvType, GvValue};
 use std::alloc::{AllocError, Global};
 
 /// The value of a type that bytes are.
@@ -97,6 +97,14 @@ fn time_in_bytes(alloc: Global, bytes: &[u8]) -> Result<u64, ObjectError>
     time_of(&value)
 }
 
+/// The number that bytes of type `u` are, which is kept big endian.
+pub fn number_in_bytes(alloc: Global, bytes: &[u8]) -> Result<u32, ObjectError>
+    ensures { Finds as_is result (number_in (tree_at number_shape bytes.now)) }
+{
+    let value = value_of(alloc, &GvType::from_basic(Basic::Uint32), bytes)?;
+    number_of(&value)
+}
+
 /// The text of a value of type `s`.
 pub fn text_of(alloc: Global, value: &GvValue) -> Result<Text, ObjectError>
     ensures { Finds as_is result (text_in (plain value.now)) }
@@ -108,7 +116,7 @@ pub fn text_of(alloc: Global, value: &GvValue) -> Result<Text, ObjectError>
 }
 
 /// The number of a value of type `u`, which is kept big endian.
-pub fn number_of(value: &GvValue) -> Result<u32, ObjectError>
+fn number_of(value: &GvValue) -> Result<u32, ObjectError>
     ensures { Finds as_is result (number_in (plain value.now)) }
 {
     match value {
@@ -118,50 +126,11 @@ pub fn number_of(value: &GvValue) -> Result<u32, ObjectError>
 }
 
 /// The number of a value of type `t`, which is kept big endian.
-pub fn time_of(value: &GvValue) -> Result<u64, ObjectError>
+fn time_of(value: &GvValue) -> Result<u64, ObjectError>
     ensures { Finds as_is result (time_in (plain value.now)) }
 {
     match value {
         GvValue::Uint64(number) => Ok(turned_u64(*number)),
-        _ => Err(ObjectError::Malformed(Rule::Value)),
-    }
-}
-
-/// The bytes of a value of type `ay`.
-pub fn bytes_of(alloc: Global, value: &GvValue) -> Result<Blob, ObjectError>
-    ensures { Finds as_is result (bytes_in (plain value.now)) }
-{
-    match value.parts() {
-        Parts::Bytes(bytes) => copied(alloc, bytes),
-        Parts::Array(items) => gathered(alloc, items),
-        _ => Err(ObjectError::Malformed(Rule::Value)),
-    }
-}
-
-/// The bytes that bytes are as values.
-fn copied(alloc: Global, bytes: &[u8]) -> Result<Blob, ObjectError>
-    ensures { Finds as_is result (each_of byte_in (byte_trees bytes.now)) }
-{
-    Ok(Blob::from_vec(Vec::from_slice(alloc, bytes)?))
-}
-
-/// The bytes that these values are, one by one.
-fn gathered(alloc: Global, items: &[GvValue]) -> Result<Blob, ObjectError>
-    ensures { Finds as_is result (each_of byte_in (plains items.now)) }
-{
-    let mut bytes = Vec::new(alloc);
-    for item in items {
-        bytes.push(byte_of(item)?)?;
-    }
-    Ok(Blob::from_vec(bytes))
-}
-
-/// A value of type `y`.
-fn byte_of(value: &GvValue) -> Result<u8, ObjectError>
-    ensures { Finds as_is result (byte_in (plain value.now)) }
-{
-    match value {
-        GvValue::Byte(byte) => Ok(*byte),
         _ => Err(ObjectError::Malformed(Rule::Value)),
     }
 }

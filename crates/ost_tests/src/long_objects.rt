@@ -12,9 +12,11 @@ pub enum Piece {
     Times(u8, usize),
     /// Rows: each a letter, its number in four digits, and these bytes.
     Rows(&'static str, &'static [u8]),
-    /// Where rows end: how many bytes each has, and how many bytes the number of an end has, the
-    /// lowest first.
-    Ends(u32, usize),
+    /// These bytes, and how often they come.
+    Alike(&'static [u8], usize),
+    /// Where rows end: how many there are, how many bytes each has, and how many bytes the number
+    /// of an end has, the lowest first.
+    Ends(u32, u32, usize),
 }
 
 /// How many rows there are.
@@ -31,12 +33,12 @@ pub const COMMIT_PIECES: &[Piece] = &[
     Piece::Times(7, 100 << 10),
     Piece::Bytes(b"\0ay\x02\0\0\0\0ostree.ref-binding\0\0\0\0\0\0"),
     Piece::Rows("r", b"\0"),
-    Piece::Ends(6, 2),
+    Piece::Ends(ROWS, 6, 2),
     // the lengths of both keys, and where both entries end
     Piece::Bytes(b"\0as\x13\0\x0f\x90\x01\0\x8d\xb2\x01\0"),
     Piece::Times(2, 32),
     Piece::Rows("o", ONE_DIGEST),
-    Piece::Ends(39, 2),
+    Piece::Ends(ROWS, 39, 2),
     Piece::Times(b't', 100 << 10),
     Piece::Bytes(b"\0"),
     Piece::Times(b't', 100 << 10),
@@ -63,10 +65,25 @@ pub const TREE: &str = "e7e48ebee378fd66087e8333d4611cdcd3cd4307c180900e28f10878
 /// What the dirtree is made of.
 pub const TREE_PIECES: &[Piece] = &[
     Piece::Rows("f", ONE_DIGEST),
-    Piece::Ends(39, 2),
+    Piece::Ends(ROWS, 39, 2),
     Piece::Rows("d", TWO_DIGESTS),
-    Piece::Ends(72, 4),
+    Piece::Ends(ROWS, 72, 4),
     Piece::Bytes(b"\x2c\xb0\0\0"),
+];
+
+/// A dirtree of 16 MiB whose files have neither names nor digests.
+pub const EMPTY_FILES: &[Piece] = &[
+    Piece::Alike(b"\0\x01", 2_796_202),
+    Piece::Ends(2_796_202, 2, 4),
+    Piece::Bytes(b"\xfc\xff\xff\0"),
+];
+
+/// A dirmeta of 16 MiB, of user and group 0, whose extended attributes have neither names nor
+/// values.
+pub const EMPTY_ATTRIBUTES: &[Piece] = &[
+    Piece::Times(0, 12),
+    Piece::Alike(b"\0", 3_355_440),
+    Piece::Ends(3_355_440, 1, 4),
 ];
 
 fn push(rt: &impl Abort, bytes: &mut Vec<u8>, piece: &[u8]) {
@@ -86,9 +103,14 @@ fn push_rows(rt: &impl Abort, alloc: Global, bytes: &mut Vec<u8>, letter: &str, 
     }
 }
 
-fn push_ends(rt: &impl Abort, bytes: &mut Vec<u8>, size: u32, width: usize) {
+fn push_alike(rt: &impl Abort, alloc: Global, bytes: &mut Vec<u8>, row: &[u8], count: usize) {
+    let rows = row.repeat(alloc, count).expect(rt, "memory");
+    push(rt, bytes, &rows);
+}
+
+fn push_ends(rt: &impl Abort, bytes: &mut Vec<u8>, count: u32, size: u32, width: usize) {
     let mut at: u32 = 0;
-    for _row in 0..ROWS {
+    for _row in 0..count {
         at = at.wrapping_add(size);
         let end = at.to_le_bytes();
         let (low, _) = end.split_at(width.min(4));
@@ -101,7 +123,8 @@ fn push_piece(rt: &impl Abort, alloc: Global, bytes: &mut Vec<u8>, piece: &Piece
         Piece::Bytes(piece) => push(rt, bytes, piece),
         Piece::Times(byte, count) => push_times(rt, alloc, bytes, *byte, *count),
         Piece::Rows(letter, end) => push_rows(rt, alloc, bytes, letter, end),
-        Piece::Ends(size, width) => push_ends(rt, bytes, *size, *width),
+        Piece::Alike(row, count) => push_alike(rt, alloc, bytes, row, *count),
+        Piece::Ends(count, size, width) => push_ends(rt, bytes, *count, *size, *width),
     }
 }
 

@@ -2,7 +2,9 @@
 //! written.
 
 use crate::long_objects;
-use crate::long_objects::{COMMIT_PIECES, ROWS, TREE_PIECES, bytes_of_pieces};
+use crate::long_objects::{
+    COMMIT_PIECES, EMPTY_ATTRIBUTES, EMPTY_FILES, Piece, ROWS, TREE_PIECES, bytes_of_pieces,
+};
 use crate::made_objects::OBJECTS;
 use crate::parsed::{bytes_of_digits, digest_of, kind_of};
 use crate::rows::{agree, agree_at};
@@ -467,4 +469,18 @@ fn a_long_dirtree_is_written_back(rt: HostRuntime) {
 fn a_long_dirmeta_is_refused(rt: HostRuntime) {
     let bytes = vec![in rt.alloc(); b'\0'; 100 << 10].expect(&rt, "memory");
     assert!(rt; rule_of(&rt, read_dirmeta(rt.alloc(), &bytes)).is_some());
+}
+
+/// Whether an object of these pieces breaks the rule first.
+fn breaks(rt: &impl Abort, alloc: Global, kind: ObjKind, pieces: &[Piece], rule: Rule) -> bool {
+    let bytes = bytes_of_pieces(rt, alloc, pieces);
+    rule_of_bytes(rt, alloc, kind, &bytes) == Some(rule)
+}
+
+/// 16 MiB of rows without a byte of a name are refused by the first rule after `Value`.
+#[test]
+fn millions_of_empty_rows_are_refused(rt: HostRuntime) {
+    let alloc = rt.alloc();
+    assert!(rt; breaks(&rt, alloc, ObjKind::DirTree, EMPTY_FILES, Rule::Digest));
+    assert!(rt; breaks(&rt, alloc, ObjKind::DirMeta, EMPTY_ATTRIBUTES, Rule::Xattrs));
 }

@@ -9,11 +9,13 @@ use Rattle.gv_value.specs.Shape.{Shape, Shapes, tuple}
 use Rattle.gv_value.specs.Tree.{Tree}
 use Rattle.gv_value.specs.declared.plan.Plan.{Plan}
 use Rattle.gv_decode.specs.Decoded.{Passes, slices}
-use Rattle.gv_decode.proofs.OneByOne.{each-passes, short-at, good-at, each-next, each-count}
+use Rattle.gv_decode.proofs.OneByOne.{left-passes, each-passes, short-at, good-at, each-next, each-count}
 use Rattle.gv_decode.proofs.Partings.{parted-short}
 use Rattle.gv_decode.proofs.Passing.{passes-same, passes-form, passes-entry, bytes-pass}
 use Rattle.gv_decode.proofs.Rooms.{in-room, shape-Array, shape-Tuple, entry-is, members_at}
-use Rattle.gv_decode.proofs.Short.{array-short, tuple-short}
+use Rattle.gv_decode.proofs.Short.{tuple-short}
+use Rattle.gv_decode.proofs.Nexts.{step-is, goes-on}
+use Rattle.gv_decode.specs.Stepped.{elements_left}
 use Rattle.gv_decode.proofs.checking.+check.Goals as goal
 
 pub check-returns-in-Array : goal.check-returns-in-Array
@@ -53,12 +55,6 @@ pub check_array-returns-then-is_byte : goal.check_array-returns-then-is_byte
 check_array-returns-then-is_byte t c =
     bytes-pass c.args.room c.args.element.now c.args.bytes.now (AllBelow-fits c.args.bytes.now c.type_inv.bytes) (c.is_byte.ensures.0 c.if-is_byte.true)
 
-pub check_array-check_items-requires : goal.check_array-check_items-requires
-check_array-check_items-requires t c =
-    let s = plan_shape c.args.element.now in
-    let found = c.in_ok-children.ensures ∙ ap (λ xs. Some (slices xs)) (sym c.deref.ensures.value) in
-    (search rules, (c.requires.planned, array-short (align_of s) (size_of s) c.args.bytes.now (slices c.deref.result.now) c.requires.short found))
-
 pub check_each-returns-then-plans-children : goal.check_each-returns-then-plans-children
 check_each-returns-then-plans-children t c = each-count (value_at c.args.room) c.args.plans.now c.args.children.now c.if-plans-children.true
 
@@ -78,8 +74,18 @@ check_each-loop-i-preserved t c =
     sym (each-passes (value_at c.args.room) (plan_shape p) (plan_shapes (drop (i + 1) ps)) _ (slices (drop (i + 1) cs)) c.in_ok-check.ensures)
     ∙ sym (ap is_some (each-next (value_at c.args.room) ps cs i p _ c.loop-i-test.true there c.index-plans-i.is)) ∙ c.loop-i.invariant
 
-pub check_items-check-requires : goal.check_items-check-requires
-check_items-check-requires t c = (search rules, (c.requires.planned, short-at c.args.children.now c.loop-child.child-index _ c.loop-child-test.true c.requires.short))
+pub check_items-loop-child-preserved : goal.check_items-loop-child-preserved
+check_items-loop-child-preserved t c =
+    let l = c.loop-child in
+    let o = c.in_ok-child.field-0 in
+    let x = c.in-Some.child in
+    let others = c.in-Some.others in
+    let is : o ≡ Some (x, others) = search rules in
+    let step = step-is o x others (elements_left l.left) is c.in_ok-child.ensures.found in
+    record {
+      ready = (goes-on o x others l.left is c.in_ok-child.ensures.ready).ready;
+      same = sym (left-passes (value_at c.args.room (plan_shape c.args.element.now)) x.now (elements_left l.left) (elements_left others) step c.in_ok-check.ensures) ∙ l.invariant.same;
+    }
 
 pub check_members-check_each-requires : goal.check_members-check_each-requires
 check_members-check_each-requires t c =

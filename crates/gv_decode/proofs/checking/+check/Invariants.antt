@@ -1,8 +1,9 @@
-use Rattle.std.proofs.Common.{◌≡◌, ◌+◌, ◌*◌, drop}
+use Rattle.std.proofs.Common.{◌≡◌, ◌+◌, ◌*◌, drop, option_and_then}
 use Rattle.std.specs.Option.{is_some}
 use Rattle.gv_value.specs.Plans.{plan_shape, plan_shapes}
 use Rattle.gv_value.specs.Reading.{value_at, read_all, read_each}
 use Rattle.gv_decode.specs.Decoded.{slices}
+use Rattle.gv_decode.specs.Stepped.{elements_left, IsOpen}
 use Rattle.gv_decode.proofs.checking.+check.Given as goal
 
 abbrev pub decreases-check : goal.decreases-check
@@ -28,8 +29,13 @@ decreases-check_each l = 4 * l.room + 1
 
 abbrev pub invariant-check_items-loop-child : goal.invariant-check_items-loop-child
 invariant-check_items-loop-child l =
-    let one = value_at l.room (plan_shape l.element) in
-    is_some (read_all one (slices (drop l.child-index l.children))) ≡ is_some (read_all one (slices l.children))
+    let one = value_at l.room (plan_shape l.element) in record {
+      ready : IsOpen l.left;
+      same : is_some (option_and_then (read_all one) (elements_left l.left)) ≡ is_some (option_and_then (read_all one) (elements_left l.elements));
+    }
+
+abbrev pub decreases-check_items-loop-child : goal.decreases-check_items-loop-child
+decreases-check_items-loop-child l = l.left.left
 
 abbrev pub invariant-check_each-loop-i : goal.invariant-check_each-loop-i
 invariant-check_each-loop-i l =

@@ -1,0 +1,64 @@
+-- The elements of an array that are left, as they are cut one after another.
+use Rattle.std.specs.Prelude.{◌≡◌, ℕ, map, ◌*◌, ◌<◌, ◌≤◌, ⊤, List, [], ◌∷◌, length, Option, Some, None, option_map, Result, Ok, Err}
+use denote.Ref.{Bor}
+use Rattle.gv_value.specs.declared.limits.TheConstants.{MOST_BYTES, TOO_LARGE}
+use Rattle.gv_value.specs.Framing.{Mark, cut, steps, numbers, array_children}
+use Rattle.gv_value.specs.Layout.{align_of, size_of}
+use Rattle.gv_value.specs.Shape.{Shape}
+use Rattle.gv_decode.specs.declared.error.DecodeError.{DecodeError}
+use Rattle.gv_decode.specs.declared.stepping.Elements.{Elements}
+use Rattle.gv_decode.specs.declared.stepping.Ends.{Ends}
+use Rattle.gv_decode.specs.declared.stepping.Ends.TheVariants as ends
+use Rattle.gv_decode.specs.Decoded.{Fails}
+
+-- the alignment and the end of each element that is left
+abbrev pub marks_left : Ends → ℕ → ℕ → ℕ → List Mark
+marks_left (ends.Size size) at align left = steps size at left
+marks_left (ends.Offsets width table) at align left =
+    map (λ e. (align, e)) (numbers width left table.now)
+
+-- the bytes of the elements that are left, where they stand so
+abbrev pub elements_left : Elements → Option (List (List ℕ))
+elements_left e = cut e.body.now e.at (marks_left e.ends e.at e.align e.left)
+
+-- sizes that are not too large, of elements without padding; or an offset for each element
+abbrev pub AreEnds : Ends → ℕ → ℕ → Type 0
+AreEnds (ends.Size size) align left = (align ≡ 1) × (size ≤ TOO_LARGE)
+AreEnds (ends.Offsets width table) align left =
+    (length table.now ≡ left * width) × (0 < width) × (width ≤ 4)
+
+-- elements can be cut
+pub record IsOpen (e : Elements) : Type 0 where
+  pub within : e.at ≤ length e.body.now
+  pub short : length e.body.now ≤ MOST_BYTES
+  pub pos : 0 < e.align
+  pub small : e.align ≤ 8
+  pub ends : AreEnds e.ends e.align e.left
+
+-- the bytes of the elements of an array
+abbrev pub elements_of : Shape → List ℕ → Option (List (List ℕ))
+elements_of (Shape.array t) bytes = array_children (align_of t) (size_of t) bytes
+elements_of _ bytes = None
+
+-- what was returned are the elements
+abbrev pub Opens : Result Elements DecodeError → Option (List (List ℕ)) → Type 0
+Opens (Ok e) found = found ≡ elements_left e
+Opens (Err e) found = Fails e found
+
+-- what was returned is the first of the elements that were left, and the others
+abbrev pub Steps : Result (Option (Bor (List ℕ) × Elements)) DecodeError
+    → Option (List (List ℕ)) → Type 0
+Steps (Ok (Some s)) left = left ≡ option_map (λ cs. s.0.now ∷ cs) (elements_left s.1)
+Steps (Ok None) left = left ≡ Some []
+Steps (Err e) left = Fails e left
+
+-- the others can be cut, are fewer, and the first isn't too long
+pub record AreFewer (child : Bor (List ℕ)) (others elements : Elements) : Type 0 where
+  pub short : length child.now ≤ MOST_BYTES
+  pub ready : IsOpen others
+  pub fewer : others.left < elements.left
+
+abbrev pub GoesOn : Result (Option (Bor (List ℕ) × Elements)) DecodeError → Elements → Type 0
+GoesOn (Ok (Some s)) elements = AreFewer s.0 s.1 elements
+GoesOn (Ok None) elements = ⊤
+GoesOn (Err e) elements = ⊤

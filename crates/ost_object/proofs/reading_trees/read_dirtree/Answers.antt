@@ -1,0 +1,47 @@
+use Rattle.std.proofs.Common.{◌≡◌, Some, option_and_then, sym, ap, ◌∙◌, subst, refl}
+use Rattle.std.specs.Prelude.{Result}
+use Rattle.std.specs.Option.{IsSome}
+use Rattle.gv_value.specs.Reading.{value_of}
+use Rattle.gv_value.specs.Shape.{Shape}
+use Rattle.gv_value.specs.Tree.{Tree, tuple}
+use Rattle.gv_value.specs.Views.{shape_of}
+use Rattle.gv_decode.specs.Decoded.{slices, children_of}
+use Rattle.fp_base.specs.declared.rule.Rule.{Rule}
+use Rattle.fp_base.specs.declared.rule.Rule.TheVariants as broken
+use Rattle.ost_model.specs.Fields.{TreeView, tree_in}
+use Rattle.ost_model.specs.Readers.{tree_breaks, judged}
+use Rattle.ost_model.specs.Types.{tree_shape}
+use Rattle.ost_object.specs.Answers.{Misses, Reads}
+use Rattle.ost_object.specs.Parts.{rows_shapes, each_tree}
+use Rattle.ost_object.specs.Views.{tree_view}
+use Rattle.ost_object.proofs.ByParts.{checked-short, tuple-there, tuple-parts}
+use Rattle.ost_object.proofs.Judging.{reads-err}
+use Rattle.ost_object.proofs.ReadTrees.{nothing-judged, missed-judged}
+use Rattle.ost_object.proofs.reading_trees.read_dirtree.Goals as goal
+
+pub returns-in_err-check : goal.returns-in_err-check
+returns-in_err-check c =
+    let e = c.in_err-check.field-0.0 in
+    reads-err tree_view c.from_residual-in_err-check.result e _ c.from_residual-in_err-check.ensures.1
+    (nothing-judged tree_in tree_breaks e (value_of tree_shape c.args.bytes.now) (subst (λ (s : Shape). Misses broken.Value e (value_of s c.args.bytes.now)) c.in_ok-of.ensures c.in_err-check.ensures))
+
+pub members_of-requires : goal.members_of-requires
+members_of-requires c =
+    let bytes = c.args.bytes.now in
+    let some = subst (λ (s : Shape). IsSome (value_of s bytes)) c.in_ok-of.ensures c.in_ok-check.ensures in
+    (checked-short tree_shape bytes some, subst (λ (s : Shape). IsSome (children_of s bytes)) (sym c.in_ok-of.ensures) (tuple-there rows_shapes bytes some))
+
+pub tree_of_members-requires : goal.tree_of_members-requires
+tree_of_members-requires c =
+    let bytes = c.args.bytes.now in
+    let some = subst (λ (s : Shape). IsSome (value_of s bytes)) c.in_ok-of.ensures c.in_ok-check.ensures in
+    let found = c.in_ok-members.ensures ∙ ap (λ xs. Some (slices xs)) (sym c.deref.ensures.value) in
+    (tuple-parts rows_shapes bytes (slices c.deref.result.now) refl some (subst (λ (s : Shape). children_of s bytes ≡ Some (slices c.deref.result.now)) c.in_ok-of.ensures found)).each
+
+pub returns : goal.returns
+returns c =
+    let bytes = c.args.bytes.now in
+    let some = subst (λ (s : Shape). IsSome (value_of s bytes)) c.in_ok-of.ensures c.in_ok-check.ensures in
+    let found = c.in_ok-members.ensures ∙ ap (λ xs. Some (slices xs)) (sym c.deref.ensures.value) in
+    let parts = tuple-parts rows_shapes bytes (slices c.deref.result.now) refl some (subst (λ (s : Shape). children_of s bytes ≡ Some (slices c.deref.result.now)) c.in_ok-of.ensures found) in
+    subst (λ (r : Result TreeView Rule). Reads tree_view c.tree_of_members.result r) (sym (ap (λ o. judged tree_breaks (option_and_then tree_in o)) parts.value)) c.tree_of_members.ensures
