@@ -1,30 +1,30 @@
 -- The parts of bytes that were checked, each by its own bytes.
-use Rattle.std.proofs.Common.{◌≡◌, ℕ, ◌≤◌, ◌&&◌, leb, Bool, true, false, List, [], ◌∷◌, ◌++◌, length, map, Option, Some, None, option_map, option_and_then, refl, sym, ap, ap₂, ◌∙◌, subst, arith}
-use Rattle.std.specs.Prelude.{if◌then◌else◌, Result, Ok}
+use Rattle.std.proofs.Common.{◌≡◌, ℕ, ◌≤◌, ◌&&◌, leb, Bool, true, false, not, List, [], ◌∷◌, ◌++◌, length, map, Option, Some, None, option_map, option_and_then, refl, sym, ap, ap₂, ◌∙◌, subst, arith}
+use Rattle.std.specs.Prelude.{Ok}
 use denote.Ref.{Bor}
 use Rattle.std.specs.Option.{is_some, IsSome}
-use Rattle.std.proofs.lemmas.Bool.{and_parts}
+use Rattle.std.proofs.lemmas.Bool.{and_parts, false≢true}
 use Rattle.fp_base.proofs.Options.{guarded}
 use Rattle.gv_value.specs.declared.limits.TheConstants.{MOST_BYTES, MOST_DEPTH}
 use Rattle.gv_value.specs.Bytes.{AllBelow}
 use Rattle.gv_value.specs.Reading.{read_all, read_each, value_at, value_of}
 use Rattle.gv_value.specs.Shape.{Shape, Shapes, no_shapes, shape, is_type, all_shapes}
-use Rattle.gv_value.specs.Tree.{Tree, Trees, no_trees, tree, byte_trees}
-use Rattle.gv_value.proofs.Lists.{then_some, map_some}
+use Rattle.gv_value.specs.Tree.{Tree, Trees, tree, byte_trees}
+use Rattle.gv_value.proofs.Lists.{then_some}
 use Rattle.gv_decode.specs.Decoded.{children_of}
 use Rattle.gv_decode.specs.declared.stepping.Elements.{Elements}
-use Rattle.gv_decode.specs.Stepped.{elements_of, elements_left}
+use Rattle.gv_decode.specs.Stepped.{elements_of, elements_left, Steps, GoesOn}
 use Rattle.gv_decode.proofs.Contained.{alone, value-short, tuple-value, array-value, first-read, none-read, not-read, first-of-all}
 use Rattle.gv_decode.proofs.Rooms.{byte_array-read}
 use Rattle.gv_decode.proofs.Short.{Each, IsShort, children-each, short-of-parts, bytes-of-parts}
-use Rattle.ost_model.specs.Contents.{number_shape, bytes_shape, attributes_shape}
+use Rattle.ost_model.specs.Contents.{bytes_shape}
 use Rattle.ost_model.specs.Types.{text_shape}
 use Rattle.ost_model.specs.Fields.{text_in, bytes_in, items_in, each_of, are_none}
 use Rattle.fp_base.specs.declared.rule.Rule.{Rule}
 use Rattle.ost_object.specs.declared.error.ObjectError.{ObjectError}
 use Rattle.ost_object.specs.declared.error.ObjectError.TheVariants as errors
 use Rattle.ost_object.specs.Answers.{only, passing, Misses}
-use Rattle.ost_object.specs.Parts.{each_tree, AreEach, AreRows, AreLeft, row_trees, all_passing, rows_passing, IsNext, Advances}
+use Rattle.ost_object.specs.Parts.{each_tree, AreEach, AreRows, AreLeft, row_trees, rows_passing, IsNext, IsStep}
 use Rattle.ost_object.specs.Views.{tree_at, text_at}
 use Rattle.ost_object.proofs.Kept.{tree_at-is, some-value, text-field}
 use Rattle.ost_object.proofs.Rows.{remainder, remainder_one, remainder_all, bytes_back}
@@ -34,10 +34,6 @@ checked-short t bytes some = let v = some-value (value_of t bytes) some in value
 
 is-some : {A : Type 0} (o : Option A) (x : A) → o ≡ Some x → IsSome o
 is-some o x e = ap is_some e
-
-pub not-none : {A : Type 0} (o : Option A) → o ≡ None → IsSome o → ⊥
-not-none None e h = absurd cc
-not-none (Some x) e h = absurd cc
 
 -- ---- tuples
 
@@ -88,6 +84,14 @@ tuple-there ts bytes some =
     let a = tuple-value ts bytes v.0 v.1 in
     let c = then_some (read_each (value_at 63) ts) (children_of (Shape.tuple ts) bytes) a.0 a.2 in
     is-some (children_of (Shape.tuple ts) bytes) c.0 c.1
+
+-- the same of a type that is known to be the tuple's
+module _ (ts : Shapes) (of : Shape) (bytes : List ℕ) (is : of ≡ Shape.tuple ts) (some : IsSome (value_of (Shape.tuple ts) bytes)) where
+  pub members-there : (length bytes ≤ MOST_BYTES) × IsSome (children_of of bytes)
+  members-there = (checked-short (Shape.tuple ts) bytes some, subst (λ (s : Shape). IsSome (children_of s bytes)) (sym is) (tuple-there ts bytes some))
+
+  pub parts-of : (cs : List (List ℕ)) → all_shapes is_type ts ≡ true → children_of of bytes ≡ Some cs → AreParts ts bytes cs
+  parts-of cs good found = tuple-parts ts bytes cs good some (subst (λ (s : Shape). children_of s bytes ≡ Some cs) is found)
 
 -- ---- arrays
 
@@ -155,11 +159,15 @@ left-first t c left others e h = by others (subst (AreLeft t) e h)
 abbrev Next : Type 0
 Next = Option (Bor (List ℕ) × Elements)
 
-pub next-is : {E : Type 0} (o : Next) (row : Bor (List ℕ)) (others rows : Elements) → o ≡ Some (row, others) → Advances {E = E} (Ok o) rows → IsNext row others rows
-next-is {E} o row others rows is h = subst (λ (s : Next). Advances {E = E} (Ok s) rows) is h
+pub step-taken : (o : Next) (rows : Elements) → Steps (Ok o) (elements_left rows) → GoesOn (Ok o) rows → IsStep o rows
+step-taken None rows steps goes_on = steps
+step-taken (Some step) rows steps goes_on = (steps, goes_on)
 
-pub none-is : {E : Type 0} (o : Next) (rows : Elements) → o ≡ None → Advances {E = E} (Ok o) rows → elements_left rows ≡ Some []
-none-is {E} o rows is h = subst (λ (s : Next). Advances {E = E} (Ok s) rows) is h
+pub next-is : (o : Next) (row : Bor (List ℕ)) (others rows : Elements) → o ≡ Some (row, others) → IsStep o rows → IsNext row others rows
+next-is o row others rows is h = subst (λ (s : Next). IsStep s rows) is h
+
+pub none-is : (o : Next) (rows : Elements) → o ≡ None → IsStep o rows → elements_left rows ≡ Some []
+none-is o rows is h = subst (λ (s : Next). IsStep s rows) is h
 
 -- ---- what rows say, where all of it passes a test
 
@@ -254,11 +262,18 @@ none-of-rows t cs c None e = absurd (cc e)
 none-of-rows t cs c (Some ds) e = let same : cs ≡ c ∷ ds = cc e in ap (λ (xs : List (List ℕ)). are_none (row_trees t xs)) same
 
 module _ (t : Shape) (bytes : List ℕ) (left : Option (List (List ℕ))) (good : is_type t ≡ true) (some : IsSome (value_of (Shape.array t) bytes)) (is : elements_of (Shape.array t) bytes ≡ left) where
-  pub array-bare : left ≡ Some [] → option_map are_none (items_in (tree_at (Shape.array t) bytes)) ≡ Some true
+  array-bare : left ≡ Some [] → option_map are_none (items_in (tree_at (Shape.array t) bytes)) ≡ Some true
   array-bare e = ap (option_map are_none) (array-rows t bytes [] good some (is ∙ e)).items
 
-  pub array-full : (c : List ℕ) (others : Option (List (List ℕ))) → left ≡ option_map (λ cs. c ∷ cs) others → option_map are_none (items_in (tree_at (Shape.array t) bytes)) ≡ Some false
+  array-full : (c : List ℕ) (others : Option (List (List ℕ))) → left ≡ option_map (λ cs. c ∷ cs) others → option_map are_none (items_in (tree_at (Shape.array t) bytes)) ≡ Some false
   array-full c others e =
       let found = array-found t bytes some in
       ap (option_map are_none) (array-rows t bytes found.0 good some found.1).items
       ∙ ap (λ (b : Bool). Some b) (none-of-rows t found.0 c others (sym found.1 ∙ is ∙ e))
+
+  -- whether there is a first row says it
+  pub array-emptied : (o : Next) (rows : Elements) (b : Bool) → left ≡ elements_left rows → IsStep o rows → is_some o ≡ not b → option_map are_none (items_in (tree_at (Shape.array t) bytes)) ≡ Some b
+  array-emptied None rows true e step h = array-bare (e ∙ step)
+  array-emptied None rows false e step h = absurd (false≢true h)
+  array-emptied (Some s) rows false e step h = array-full s.0.now (elements_left s.1) (e ∙ step.0)
+  array-emptied (Some s) rows true e step h = absurd (false≢true (sym h))

@@ -1,51 +1,39 @@
 -- Dirtrees and dirmetas that are read from the bytes of their parts.
-use Rattle.std.proofs.Common.{◌≡◌, ℕ, suc, ◌&&◌, Bool, true, false, List, [], ◌∷◌, length, map, Option, Some, None, IsErrAnd, option_map, option_and_then, refl, sym, ap, ap₂, ◌∙◌, subst}
-use Rattle.std.specs.Prelude.{if◌then◌else◌, Result, Ok, Err}
+use Rattle.std.proofs.Common.{◌≡◌, ◌⊎◌, inl, inr, ℕ, ◌<◌, ◌≤◌, ◌&&◌, Bool, true, false, List, [], ◌∷◌, length, Option, Some, None, option_map, option_and_then, refl, sym, ap, ap₂, ◌∙◌, subst, arith}
+use denote.Ref.{Bor}
+use Rattle.std.specs.Prelude.{if◌then◌else◌, Err}
 use Rattle.std.specs.Option.{is_some, IsSome}
 use Rattle.std.specs.List.{list_all}
-use Rattle.fp_base.proofs.Options.{guarded}
 use Rattle.gv_value.specs.Bytes.{AllBelow}
 use Rattle.gv_value.specs.Reading.{value_of}
-use Rattle.gv_value.specs.Shape.{Shape, Shapes}
+use Rattle.gv_value.specs.Shape.{Shape}
 use Rattle.gv_value.specs.Tree.{Tree, tuple}
-use Rattle.gv_decode.specs.Decoded.{children_of}
+use Rattle.gv_decode.specs.Decoded.{children_of, slices}
 use Rattle.gv_decode.proofs.Short.{Each, children-each, bytes-of-parts}
 use Rattle.ost_model.specs.Contents.{number_shape, bytes_shape}
 use Rattle.ost_model.specs.Types.{text_shape, related_shape, dirs_shape}
-use Rattle.ost_model.specs.Fields.{FileRow, DirRow, TreeView, text_in, bytes_in, number_in, file_in, dir_in, tree_in}
+use Rattle.ost_model.specs.Fields.{FileRow, DirRow, TreeView, bytes_in, number_in, file_in, dir_in, tree_in}
 use Rattle.ost_model.specs.Readers.{is_long, has_long, has_both_long, first_broken, name_tests, tree_breaks, kept, judged}
 use Rattle.fp_base.specs.declared.rule.Rule.{Rule}
 use Rattle.fp_base.specs.declared.rule.Rule.TheVariants as rules
-use Rattle.ost_object.specs.declared.dirtree.DirTree.{DirTree}
-use Rattle.ost_object.specs.declared.dirtree.FileEntry.{FileEntry}
-use Rattle.ost_object.specs.declared.dirtree.DirEntry.{DirEntry}
 use Rattle.ost_object.specs.declared.error.ObjectError.{ObjectError}
 use Rattle.ost_object.specs.declared.error.ObjectError.TheVariants as errors
-use Rattle.ost_object.specs.Answers.{only, passing, Misses, Breaks, Reads}
+use Rattle.ost_object.specs.Answers.{only, passing, Misses, Breaks}
 use Rattle.ost_object.specs.Parts.{each_tree, AreEach, file_shapes, dir_shapes, rows_shapes, meta_shapes, files_in, dirs_in}
-use Rattle.ost_object.specs.Views.{tree_at, text_at, file_row, dir_row, rows_view, tree_view}
+use Rattle.ost_object.specs.Views.{tree_at, text_at}
 use Rattle.ost_object.proofs.ByParts.{tuple-parts, tuple-there, array-said, text-said, bytes-said}
 use Rattle.ost_object.proofs.Kept.{some-value, tree_at-is, tree_at-none}
 use Rattle.ost_object.proofs.Trees.{only_none, only_some, file_digests, dir_digests, names_left, misses_breaks}
 
 -- ---- how many members there are
 
-pub two-members : (t u : Shape) (cs : List (List ℕ)) → AreEach (Shapes.shape t (Shapes.shape u Shapes.no_shapes)) cs → length cs ≡ 2
-two-members t u [] h = absurd h
-two-members t u (a ∷ []) h = absurd h.1
-two-members t u (a ∷ b ∷ []) h = refl
-two-members t u (a ∷ b ∷ c ∷ cs) h = absurd h.1.1
-
-pub three-members : (t u w : Shape) (cs : List (List ℕ)) → AreEach (Shapes.shape t (Shapes.shape u (Shapes.shape w Shapes.no_shapes))) cs → length cs ≡ 3
-three-members t u w [] h = absurd h
-three-members t u w (a ∷ cs) h = more (two-members u w cs h.1)
-  where
-    more : length cs ≡ 2 → length (a ∷ cs) ≡ 3
-    more e = ap (λ (n : ℕ). suc n) e
-
-pub four-members : (t u w x : Shape) (cs : List (List ℕ)) → AreEach (Shapes.shape t (Shapes.shape u (Shapes.shape w (Shapes.shape x Shapes.no_shapes)))) cs → length cs ≡ 4
-four-members t u w x [] h = absurd h
-four-members t u w x (a ∷ cs) h = ap (λ (n : ℕ). suc n) (three-members u w x cs h.1)
+pub not-four : (ms : List (Bor (List ℕ))) → AreEach meta_shapes (slices ms) → (length ms < 4) ⊎ (5 ≤ length ms) → ⊥
+not-four [] h o = h
+not-four (a ∷ []) h o = h.1
+not-four (a ∷ b ∷ []) h o = h.1.1
+not-four (a ∷ b ∷ c ∷ []) h o = h.1.1.1
+not-four (a ∷ b ∷ c ∷ d ∷ []) h o = elim o [ inl less ↦ omega (arith, less) | inr more ↦ omega (arith, more) ]
+not-four (a ∷ b ∷ c ∷ d ∷ e ∷ ms) h o = h.1.1.1.1
 
 -- ---- a file
 
@@ -199,6 +187,13 @@ number-at bytes = by (value_of number_shape bytes) refl
     by : (o : Option Tree) → value_of number_shape bytes ≡ o → number_in (tree_at number_shape bytes) ≡ option_and_then number_in (value_of number_shape bytes)
     by None e = ap number_in (tree_at-none number_shape bytes e) ∙ sym (ap (option_and_then number_in) e)
     by (Some v) e = ap number_in (tree_at-is number_shape bytes v e) ∙ sym (ap (option_and_then number_in) e)
+
+number-nothing : (bytes : List ℕ) → value_of number_shape bytes ≡ None → number_in (tree_at number_shape bytes) ≡ None
+number-nothing bytes e = number-at bytes ∙ ap (option_and_then number_in) e
+
+pub number-misses : (rule : Rule) (e : ObjectError) (bytes : List ℕ) → Misses rule e (value_of number_shape bytes) → Misses rule e (number_in (tree_at number_shape bytes))
+number-misses rule (errors.Malformed broken) bytes h = (h.0, number-nothing bytes h.1)
+number-misses rule errors.NoMemory bytes h = tt
 
 -- ---- what is judged
 

@@ -1,5 +1,5 @@
 -- What the parts of bytes say that are a value, each by its own bytes.
-use Rattle.std.specs.Prelude.{◌≡◌, ⊤, ℕ, Bool, List, [], ◌∷◌, map, Option, Some, None, option_map, option_and_then, Result, Ok, Err}
+use Rattle.std.specs.Prelude.{◌≡◌, ⊤, ℕ, Bool, List, [], ◌∷◌, map, Option, Some, None, option_map, option_and_then}
 use denote.Ref.{Bor}
 use Rattle.std.specs.Option.{IsSome}
 use Rattle.gv_value.specs.Reading.{value_of}
@@ -82,8 +82,7 @@ IsNext child others rows =
     (elements_left rows ≡ option_map (λ cs. child.now ∷ cs) (elements_left others))
     × AreFewer child others rows
 
-abbrev pub Advances : {E : Type 0} → Result (Option (Bor (List ℕ) × Elements)) E → Elements
-    → Type 0
-Advances (Ok (Some s)) rows = IsNext s.0 s.1 rows
-Advances (Ok None) rows = elements_left rows ≡ Some []
-Advances (Err e) rows = ⊤
+-- the same, or nothing where no row was left
+abbrev pub IsStep : Option (Bor (List ℕ) × Elements) → Elements → Type 0
+IsStep (Some s) rows = IsNext s.0 s.1 rows
+IsStep None rows = elements_left rows ≡ Some []

@@ -6,7 +6,7 @@ ghost use Rattle.gv_value.specs.declared.limits.TheConstants.{MOST_BYTES};
 ghost use Rattle.gv_value.specs.Views.{shape_of};
 ghost use Rattle.gv_decode.specs.Decoded.{slices, children_of as children_in};
 ghost use Rattle.gv_decode.specs.Stepped.{elements_left, elements_of as elements_in, IsOpen};
-ghost use Rattle.ost_object.specs.Parts.{Advances};
+ghost use Rattle.ost_object.specs.Parts.{IsStep};
 
 use gv_decode::{DecodeError, Elements, array_elements, children, next_element};
 use gv_value::GvType;
@@ -51,7 +51,7 @@ pub fn rows_of<'a>(alloc: Global, of: &GvType, bytes: &'a [u8]) -> Result<Elemen
 pub fn next_row(rows: Elements<'_>) -> Result<Option<(&[u8], Elements<'_>)>, AllocError>
     requires ready { IsOpen rows }
     requires there { IsSome (elements_left rows) }
-    ensures { Advances result rows.entry }
+    ensures { IfOk result (λ step. IsStep step rows.entry) }
 {
     match next_element(rows) {
         Ok(step) => Ok(step),

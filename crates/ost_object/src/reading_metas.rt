@@ -58,10 +58,8 @@ fn is_bare(alloc: Global, bytes: &[u8]) -> Result<bool, AllocError>
 {
     let of = attributes_type(alloc)?;
     let rows = rows_of(alloc, &of, bytes)?;
-    match next_row(rows)? {
-        Some(_step) => Ok(false),
-        None => Ok(true),
-    }
+    let first = next_row(rows)?;
+    Ok(first.is_none())
 }
 
 /// The dirmeta of these fields, or the first rule after `Value` that they break.

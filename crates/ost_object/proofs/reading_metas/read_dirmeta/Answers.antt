@@ -3,8 +3,6 @@ use Rattle.std.specs.Prelude.{Result}
 use Rattle.std.specs.Option.{IsSome}
 use Rattle.gv_value.specs.Reading.{value_of}
 use Rattle.gv_value.specs.Shape.{Shape}
-use Rattle.gv_value.specs.Tree.{Tree, tuple}
-use Rattle.gv_value.specs.Views.{shape_of}
 use Rattle.gv_decode.specs.Decoded.{slices, children_of}
 use Rattle.fp_base.specs.declared.rule.Rule.{Rule}
 use Rattle.fp_base.specs.declared.rule.Rule.TheVariants as broken
@@ -12,7 +10,7 @@ use Rattle.ost_model.specs.Fields.{MetaView, meta_in}
 use Rattle.ost_model.specs.Readers.{meta_breaks, judged}
 use Rattle.ost_model.specs.Types.{meta_shape}
 use Rattle.ost_object.specs.Answers.{Misses, Reads}
-use Rattle.ost_object.specs.Parts.{meta_shapes, each_tree}
+use Rattle.ost_object.specs.Parts.{meta_shapes}
 use Rattle.ost_object.specs.Views.{meta_view}
 use Rattle.ost_object.proofs.ByParts.{checked-short, tuple-there, tuple-parts}
 use Rattle.ost_object.proofs.Judging.{reads-err}
@@ -29,7 +27,7 @@ pub members_of-requires : goal.members_of-requires
 members_of-requires c =
     let bytes = c.args.bytes.now in
     let some = subst (λ (s : Shape). IsSome (value_of s bytes)) c.in_ok-of.ensures c.in_ok-check.ensures in
-    (checked-short meta_shape bytes some, subst (λ (s : Shape). IsSome (children_of s bytes)) (sym c.in_ok-of.ensures) (tuple-there meta_shapes bytes some))
+    record { short = checked-short meta_shape bytes some; there = subst (λ (s : Shape). IsSome (children_of s bytes)) (sym c.in_ok-of.ensures) (tuple-there meta_shapes bytes some) }
 
 pub fields_of-requires : goal.fields_of-requires
 fields_of-requires c =

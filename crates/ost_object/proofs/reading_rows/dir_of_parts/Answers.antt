@@ -12,7 +12,7 @@ returns-in_err-tree c =
     let t = c.args.tree.now in
     let m = c.args.meta.now in
     let e = c.in_err-tree.field-0.0 in
-    finds-err dir_row broken.Digest c.from_residual-in_err-tree.result e _ c.from_residual-in_err-tree.ensures.1
+    finds-err dir_row broken.Digest c.from_residual.result e _ c.from_residual.ensures.1
     (tree-misses n t m c.requires.name c.requires.tree c.requires.meta (AllBelow-fits t c.type_inv.tree) (AllBelow-fits m c.type_inv.meta) broken.Digest e c.in_err-tree.ensures)
 
 pub returns-in_err-meta : goal.returns-in_err-meta

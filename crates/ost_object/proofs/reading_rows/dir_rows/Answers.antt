@@ -1,4 +1,4 @@
-use Rattle.std.proofs.Common.{◌≡◌, List, [], ◌∷◌, ◌++◌, Some, None, map, ap, ◌∙◌, rules}
+use Rattle.std.proofs.Common.{◌≡◌, [], ◌∷◌, ◌++◌, map, ap, ◌∙◌, rules}
 use Rattle.fp_base.specs.declared.rule.Rule.TheVariants as broken
 use Rattle.gv_value.specs.Shape.{Shape, tuple}
 use Rattle.gv_decode.specs.Stepped.{elements_left}
@@ -11,8 +11,12 @@ use Rattle.ost_object.proofs.Judging.{finds-err}
 use Rattle.ost_object.proofs.Rows.{remainder}
 use Rattle.ost_object.proofs.reading_rows.dir_rows.Goals as goal
 
+-- the type of a row
 abbrev of : Shape
 of = tuple dir_shapes
+
+pub next_row-requires : goal.next_row-requires
+next_row-requires c = let l = c.loop-dirs in record { ready = l.invariant.ready; there = left-there of (elements_left l.left) l.invariant.values }
 
 pub dir_entry-requires : goal.dir_entry-requires
 dir_entry-requires c =
@@ -20,7 +24,7 @@ dir_entry-requires c =
     let x = c.in-Some.row in
     let others = c.in-Some.others in
     let next = next-is c.in_ok-row.field-0 x others l.left (search rules) c.in_ok-row.ensures in
-    (c.requires.of, (left-first of x.now (elements_left l.left) (elements_left others) next.0 l.invariant.values).0)
+    record { of = c.requires.of; value = (left-first of x.now (elements_left l.left) (elements_left others) next.0 l.invariant.values).0 }
 
 pub returns-in_err-dir_entry : goal.returns-in_err-dir_entry
 returns-in_err-dir_entry c =
@@ -46,3 +50,8 @@ loop-dirs-preserved c =
       so_far = ap (λ xs. remainder (map dir_row xs) (rows_passing has_both_long dir_in of (elements_left others))) pushed
           ∙ rows-more has_both_long dir_in of dir_row l.dirs.items x.now (elements_left l.left) (elements_left others) _ l.invariant.so_far next.0 entry c.in_ok-dir_entry.ensures;
     }
+
+pub returns : goal.returns
+returns c =
+    let l = c.loop-dirs in
+    rows-end has_both_long dir_in of dir_row l.dirs.items (elements_left l.left) _ l.invariant.so_far (none-is c.in_ok-row.field-0 l.left (search rules) c.in_ok-row.ensures)

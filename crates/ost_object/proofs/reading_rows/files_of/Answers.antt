@@ -1,4 +1,4 @@
-use Rattle.std.proofs.Common.{◌≡◌, List, Option, map, sym, ap, ◌∙◌, subst, refl}
+use Rattle.std.proofs.Common.{◌≡◌, map, sym, subst, refl}
 use Rattle.std.specs.Option.{IsSome}
 use Rattle.gv_value.specs.Shape.{Shape, tuple}
 use Rattle.gv_decode.specs.Stepped.{elements_left, elements_of}
@@ -15,13 +15,13 @@ use Rattle.ost_object.proofs.reading_rows.files_of.Goals as goal
 pub rows_of-requires : goal.rows_of-requires
 rows_of-requires c =
     let bytes = c.args.bytes.now in
-    (checked-short related_shape bytes c.requires, subst (λ (s : Shape). IsSome (elements_of s bytes)) (sym c.in_ok-of.ensures) (array-there (tuple file_shapes) bytes c.requires))
+    record { short = checked-short related_shape bytes c.requires; there = subst (λ (s : Shape). IsSome (elements_of s bytes)) (sym c.in_ok-of.ensures) (array-there (tuple file_shapes) bytes c.requires) }
 
 pub file_rows-requires : goal.file_rows-requires
 file_rows-requires c =
     let bytes = c.args.bytes.now in
     let left = elements_left c.in_ok-rows.rows in
-    (c.in_ok-rows.ensures.ready, c.in_ok-row.ensures, all-left (tuple file_shapes) bytes left refl c.requires (subst (λ (s : Shape). elements_of s bytes ≡ left) c.in_ok-of.ensures c.in_ok-rows.ensures.found))
+    record { ready = c.in_ok-rows.ensures.ready; of = c.in_ok-row.ensures; values = all-left (tuple file_shapes) bytes left refl c.requires (subst (λ (s : Shape). elements_of s bytes ≡ left) c.in_ok-of.ensures c.in_ok-rows.ensures.found) }
 
 pub returns : goal.returns
 returns c =

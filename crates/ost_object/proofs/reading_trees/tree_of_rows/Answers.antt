@@ -1,4 +1,4 @@
-use Rattle.std.proofs.Common.{◌≡◌, sym, ap, ◌∙◌, subst, map}
+use Rattle.std.proofs.Common.{sym, subst, map}
 use Rattle.std.specs.Prelude.{Result}
 use Rattle.gv_value.proofs.Known.{AllBelow-fits}
 use Rattle.fp_base.specs.declared.rule.Rule.{Rule}
@@ -14,7 +14,7 @@ returns-in_err-files c =
     let f = c.args.files.now in
     let d = c.args.dirs.now in
     let e = c.in_err-files.field-0.0 in
-    reads-err tree_view c.from_residual-in_err-files.result e _ c.from_residual-in_err-files.ensures.1
+    reads-err tree_view c.from_residual.result e _ c.from_residual.ensures.1
     (files-break f d c.requires.files c.requires.dirs (AllBelow-fits f c.type_inv.files) (AllBelow-fits d c.type_inv.dirs) e c.in_err-files.ensures)
 
 pub returns-in_err-dirs : goal.returns-in_err-dirs
