@@ -76,7 +76,7 @@ named_of d object good = first_none (name_fault d kinds.File (Some object)) (dir
 
 -- ---- the remote's file
 
-held_bytes : (h : Held) (mode : ℕ) (bytes : List ℕ) → object_at kinds.File (as_spot h) ≡ Some (objects.File mode bytes) → bytes_of h ≡ bytes
+pub held_bytes : (h : Held) (mode : ℕ) (bytes : List ℕ) → object_at kinds.File (as_spot h) ≡ Some (objects.File mode bytes) → bytes_of h ≡ bytes
 held_bytes nothing mode bytes is = absurd (cc is)
 held_bytes directory mode bytes is = absurd (cc is)
 held_bytes (contents m b) mode bytes is = cc is

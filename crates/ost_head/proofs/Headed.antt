@@ -5,7 +5,6 @@ use Rattle.fp_base.specs.declared.object.ObjKind.{ObjKind}
 use Rattle.fp_base.specs.declared.object.ObjKind.TheVariants as kinds
 use Rattle.fp_name.specs.Refs.{Ref}
 use Rattle.fp_small.specs.declared.refusal.Refusal.{Refusal}
-use Rattle.ost_model.specs.declared.object.Object.{Object}
 use Rattle.ost_model.specs.Fields.{CommitView, TreeView}
 use Rattle.ost_model.specs.Objects.{Have, Fault, object_fault}
 use Rattle.ost_model.specs.Order.{commit_at, tree_at, read_as}
@@ -18,7 +17,8 @@ use Rattle.ost_walk.specs.Steps.{own_fault}
 use Rattle.ost_walk.specs.declared.pull_end.PullEnd.{PullEnd}
 use Rattle.ost_head.specs.declared.head.Head.{Head}
 use Rattle.ost_walk.specs.PullEnds.{walk_refusal, of_walk, Answers}
-use Rattle.ost_head.specs.Objects.{IsGood}
+use Rattle.ost_head.specs.declared.metadata.Kept.{Kept}
+use Rattle.ost_head.specs.Kept.{kept_of, IsKept}
 use Rattle.ost_head.specs.Parts.{ReadsAs, IsReadAs}
 use Rattle.ost_walk.specs.Refusals.{refusal_of, object_refused}
 use Rattle.ost_head.specs.Heads.{unless_refused, with_tree, with_commit, with_content, content_in, metadata_at, head_in, head_of}
@@ -97,8 +97,9 @@ module _ (have : Have) (name : Ref) (commit : List ℕ) (time : ℕ) (d : List �
   pub metadata_off : (end : WalkEnd) → RefusesBy (IsFaultOf d kinds.File (own_fault have d kinds.File)) end → RefusesBy (λ w. metadata_at have name commit time (file_at d) ≡ Err (walk_refusal w)) end
   metadata_off end is = object_ends have d kinds.File of_content end (metadata_at have name commit time (file_at d)) refl is
 
-  pub metadata_on : (o : Object) (r : Result Head PullEnd) → IsGood d kinds.File (have d kinds.File) o → Answers r (with_content name commit time (content_in (Some o))) → Answers r (metadata_at have name commit time (file_at d))
-  metadata_on o r good answers = subst (Answers r) (sym (good_object have d kinds.File of_content (ap (object_fault d kinds.File) good.is ∙ good.good) ∙ ap (λ x. with_content name commit time (content_in x)) good.is)) answers
+  pub metadata_on : (k : Kept) (r : Result Head PullEnd) → IsKept d (have d kinds.File) k → ((content : Option (List ℕ)) → k ≡ kept_of content → Answers r (with_content name commit time content)) → Answers r (metadata_at have name commit time (file_at d))
+  metadata_on k r kept answers =
+      subst (Answers r) (sym (good_object have d kinds.File of_content (ap (object_fault d kinds.File) kept.is ∙ kept.good) ∙ ap (λ x. with_content name commit time (content_in x)) kept.is)) (answers (content_in (Some kept.object)) kept.kept_is)
 
 -- ---- the entry of the file
 

@@ -11,3 +11,4 @@ mod Checked
 mod Told
 mod Copied
 mod Brought
+mod Kept

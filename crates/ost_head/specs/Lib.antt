@@ -3,6 +3,7 @@ pub mod Fetches
 pub mod Stored
 pub mod Found
 pub mod Heads
+pub mod Kept
 pub mod Parts
 pub mod Roots
 pub mod Pieces

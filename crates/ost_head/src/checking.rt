@@ -110,7 +110,7 @@ fn stored_digest<H: Host>(
 /// Checks that the file with these permission bits and of this size is the one that its digest
 /// names.
 #[tactic(auto, using(crate::proofs::Checked::stored_refused, crate::proofs::Checked::stored_good, crate::proofs::Checked::stored_corrupt))]
-fn check_file<H: Host>(
+pub(crate) fn check_file<H: Host>(
     alloc: Global,
     host: &mut H,
     root: &Path,
@@ -137,7 +137,7 @@ fn check_file<H: Host>(
 
 /// Checks that the link with this text is the one that its digest names.
 #[tactic(auto, using(crate::proofs::Checked::text_good, crate::proofs::Checked::text_refused))]
-fn check_text(alloc: Global, digest: &Digest, text: &Text) -> Result<bool, WalkEnd>
+pub(crate) fn check_text(alloc: Global, digest: &Digest, text: &Text) -> Result<bool, WalkEnd>
     ensures tells { is_link_text text.now ≡ true
         → ChecksIfThere digest.now (Some (objects.Link text.now)) result }
     ensures faults { NoFault result }

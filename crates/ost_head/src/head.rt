@@ -1,26 +1,26 @@
 //! The head of a ref: its commit, checked as far as an installer has to know it.
-ghost use Rattle.std.specs.Prelude.{◌≡◌, Some, IfOk, codes};
+ghost use Rattle.std.specs.Prelude.{◌≡◌, ◌≤◌, ℕ, List, length, Option, Some, IfOk, codes};
 ghost use Rattle.std.specs.Option.{option_or};
 ghost use Rattle.fp_small.specs.Places.{repo};
+ghost use Rattle.ost_model.specs.declared.limits.TheConstants.{MOST_METADATA_FILE_BYTES};
 ghost use Rattle.ost_model.specs.Objects.{Have};
 ghost use Rattle.ost_model.specs.Look.{entry_in, file_at};
 ghost use Rattle.ost_model.specs.Remotes.{Supplies};
 ghost use Rattle.ost_object.specs.Views.{commit_view, tree_view};
 ghost use Rattle.ost_walk.specs.Ends.{Observes, around};
 ghost use Rattle.ost_walk.specs.PullEnds.{Answers, Looks, NoFault};
-ghost use Rattle.ost_head.specs.Found.{found_object};
-ghost use Rattle.ost_head.specs.Heads.{commit_refused, content_in, head_in, head_of, metadata_at, root_refused, with_content};
+ghost use Rattle.ost_head.specs.Heads.{commit_refused, head_in, head_of, metadata_at, root_refused, with_content};
+ghost use Rattle.ost_head.specs.Kept.{kept_of};
 ghost use Rattle.ost_head.specs.Roots.{ReadsRoot, ReadsTree};
 
 use crate::entries::file_in;
-use crate::found::{Found, find};
+use crate::metadata::{Kept, find_metadata};
 use crate::parts::{find_commit, find_meta, find_tree};
-use crate::refusing::{refuse_absent, refuse_commit, refuse_metadata, refuse_root};
-use fp_base::{Blob, ObjKind};
+use crate::refusing::{refuse_absent, refuse_commit, refuse_lines, refuse_longer, refuse_root};
+use fp_base::Blob;
 use fp_host::{Host, Path, Remotes};
 use fp_name::{Digest, RefName};
 use fp_small::{Refusal, RemoteRow, repo_path};
-use ost_model::Object;
 use ost_object::{Commit, DirTree};
 use ost_walk::{PullEnd, WalkEnd};
 use std::alloc::{AllocError, Global};
@@ -93,18 +93,6 @@ fn read_root<H: Host, R: Remotes>(
     }
 }
 
-/// The content of a file that was found; None for a link.
-fn content_of(found: Found) -> Option<Blob>
-    ensures { result ≡ content_in (Some (found_object found)) }
-{
-    match found {
-        Found::Stored(object) | Found::New(object) => match object {
-            Object::File { bytes, .. } => Some(bytes),
-            Object::Meta(_) | Object::Link(_) => None,
-        },
-    }
-}
-
 /// The refusal of a commit by its binding and its time, or of its root.
 fn refuse_early(
     alloc: Global,
@@ -123,27 +111,45 @@ fn refuse_early(
     }
 }
 
-/// The head with a file `metadata` of these bytes.
+/// The head with a file `metadata` of these bytes, which its limit lets be.
 fn head_with(
     alloc: Global,
     name: &RefName,
     commit: &Digest,
     timestamp: u64,
-    content: Option<Blob>,
+    metadata: Blob,
 ) -> Result<Head, PullEnd>
-    ensures tells { Answers result (with_content name.now commit.now timestamp content) }
+    ensures tells { length metadata ≤ MOST_METADATA_FILE_BYTES
+        → Answers result (with_content name.now commit.now timestamp (Some metadata)) }
     ensures faults { NoFault result }
 {
-    let Some(metadata) = content else {
-        return Err(PullEnd::Refused(refuse_absent(name)?));
-    };
-    match refuse_metadata(alloc, name, &metadata)? {
+    let off = refuse_lines(alloc, name, &metadata)?;
+    match off {
         Some(refusal) => Err(PullEnd::Refused(refusal)),
         None => Ok(Head {
             commit: *commit,
             timestamp,
             metadata,
         }),
+    }
+}
+
+/// The head of whose file `metadata` this is kept.
+fn head_kept(
+    alloc: Global,
+    name: &RefName,
+    commit: &Digest,
+    timestamp: u64,
+    kept: Kept,
+) -> Result<Head, PullEnd>
+    ensures tells { (content : Option (List ℕ)) → kept ≡ kept_of content
+        → Answers result (with_content name.now commit.now timestamp content) }
+    ensures faults { NoFault result }
+{
+    match kept {
+        Kept::Bytes(bytes) => head_with(alloc, name, commit, timestamp, bytes),
+        Kept::Longer(size) => Err(PullEnd::Refused(refuse_longer(size))),
+        Kept::Nothing => Err(PullEnd::Refused(refuse_absent(name)?)),
     }
 }
 
@@ -166,8 +172,8 @@ fn head_at<H: Host, R: Remotes>(
         (R.holds remotes.old) have
         → Answers result (metadata_at have name.now commit.now timestamp (file_at digest.now)) }
 {
-    match find(alloc, host, remotes, store, url, digest, ObjKind::File) {
-        Ok(found) => head_with(alloc, name, commit, timestamp, content_of(found)),
+    match find_metadata(alloc, host, remotes, store, url, digest) {
+        Ok(kept) => head_kept(alloc, name, commit, timestamp, kept),
         Err(end) => Err(PullEnd::from(end)),
     }
 }
@@ -198,7 +204,7 @@ fn head_below<H: Host, R: Remotes>(
                 alloc, host, remotes, store, url, name, commit, timestamp, &digest,
             )
         }
-        None => head_with(alloc, name, commit, timestamp, None),
+        None => head_kept(alloc, name, commit, timestamp, Kept::Nothing),
     }
 }
 

@@ -8,15 +8,18 @@ mod copying;
 mod entries;
 mod fetching;
 mod found;
+mod hashing;
 mod head;
 mod judging;
 mod limits;
+mod metadata;
 mod modes;
 mod offering;
 mod parts;
 mod refusing;
 mod small;
 mod storing;
+mod taking;
 
 pub use bringing::bring;
 pub use checking::check_stored;

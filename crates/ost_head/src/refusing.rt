@@ -1,10 +1,12 @@
 //! Why a head is refused.
 ghost use Rattle.std.specs.Prelude.{◌≡◌, IfOk};
 ghost use Rattle.fp_name.specs.Refs.{ref_text};
+ghost use Rattle.fp_base.specs.declared.what.What.TheVariants as whats;
+ghost use Rattle.fp_small.specs.declared.refusal.Refusal.TheVariants as refusals;
 ghost use Rattle.ost_object.specs.Views.{commit_view, tree_view};
 ghost use Rattle.fp_keyfile.specs.KeyFile.{file_of};
 ghost use Rattle.fl_meta.specs.Metadata.{meta_of, meta_kind};
-ghost use Rattle.ost_head.specs.Heads.{age_refused, binding_refused, commit_refused, lines_refused, lists, meta_refused, metadata_refused, no_metadata, root_refused};
+ghost use Rattle.ost_head.specs.Heads.{age_refused, binding_refused, commit_refused, lines_refused, lists, meta_refused, no_metadata, root_refused};
 
 use crate::entries::has_none;
 use fl_meta::{Meta, MetaError, meta_kind};
@@ -12,12 +14,8 @@ use fp_base::{Blob, Items, MetaRule, MetadataRule, Text, What};
 use fp_keyfile::{KeyError, KeyFile};
 use fp_name::{Digest, RefName};
 use fp_small::Refusal;
-use ost_model::MOST_METADATA_FILE_BYTES;
 use ost_object::{Commit, DirTree, binding};
 use std::alloc::{AllocError, Global};
-
-/// The most bytes of the file `metadata`.
-const MOST_METADATA: usize = MOST_METADATA_FILE_BYTES as usize;
 
 /// Whether the ref is among the names.
 fn lists(names: &Items<Text>, name: &RefName) -> bool
@@ -114,7 +112,11 @@ fn refuse_meta(alloc: Global, name: &RefName, file: &KeyFile) -> Result<Option<R
 }
 
 /// The refusal of lines that are no metadata.
-fn refuse_lines(alloc: Global, name: &RefName, bytes: &Blob) -> Result<Option<Refusal>, AllocError>
+pub(crate) fn refuse_lines(
+    alloc: Global,
+    name: &RefName,
+    bytes: &Blob,
+) -> Result<Option<Refusal>, AllocError>
     ensures { IfOk result (λ r. r ≡ lines_refused name.now (file_of bytes.now)) }
 {
     match KeyFile::parse(alloc, bytes.as_slice()) {
@@ -128,19 +130,12 @@ fn refuse_lines(alloc: Global, name: &RefName, bytes: &Blob) -> Result<Option<Re
     }
 }
 
-/// The refusal of a file `metadata` of these bytes.
-pub(crate) fn refuse_metadata(
-    alloc: Global,
-    name: &RefName,
-    bytes: &Blob,
-) -> Result<Option<Refusal>, AllocError>
-    ensures { IfOk result (λ r. r ≡ metadata_refused name.now bytes.now) }
+/// The refusal of a file `metadata` of this many bytes, more than its limit.
+pub(crate) fn refuse_longer(size: u64) -> Refusal
+    ensures { result ≡ refusals.Limit whats.MetadataFile size }
 {
-    if bytes.len() > MOST_METADATA {
-        return Ok(Some(Refusal::Limit {
-            what: What::MetadataFile,
-            number: bytes.len() as u64,
-        }));
+    Refusal::Limit {
+        what: What::MetadataFile,
+        number: size,
     }
-    refuse_lines(alloc, name, bytes)
 }

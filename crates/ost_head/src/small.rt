@@ -20,7 +20,7 @@ pub(crate) fn file_size(node: &Node) -> Option<u64>
 }
 
 /// A buffer of this number of zeros.
-fn buffer(alloc: Global, size: u64) -> Result<Vec<u8>, RemoteError>
+pub(crate) fn buffer(alloc: Global, size: u64) -> Result<Vec<u8>, RemoteError>
     ensures size { IfOk result (λ bytes. length bytes.items ≡ size) }
     ensures remote { IsErrOf result RemoteError.Failed → ⊥ }
 {

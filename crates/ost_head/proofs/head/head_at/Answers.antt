@@ -1,7 +1,3 @@
-use Rattle.std.proofs.Common.{subst}
-use Rattle.ost_walk.specs.PullEnds.{Answers}
-use Rattle.ost_head.specs.Found.{found_object}
-use Rattle.ost_head.specs.Heads.{with_content}
 use Rattle.ost_model.specs.Look.{file_at}
 use Rattle.ost_head.specs.Heads.{metadata_at}
 use Rattle.ost_head.proofs.Looking.{looks_to, looks_err}
@@ -9,12 +5,11 @@ use Rattle.ost_head.proofs.Headed.{metadata_off, metadata_on, passed}
 use Rattle.ost_head.proofs.head.head_at.Goals as goal
 
 pub returns-in-Ok-clause-looks : goal.returns-in-Ok-clause-looks
-returns-in-Ok-clause-looks g c = looks_to c.head_with.result c.in-Ok.ensures.looks c.head_with.ensures.faults
+returns-in-Ok-clause-looks g c = looks_to c.head_kept.result c.in-Ok.ensures.looks c.head_kept.ensures.faults
 
 pub returns-in-Ok-clause-tells : goal.returns-in-Ok-clause-tells
 returns-in-Ok-clause-tells g c have s =
-    metadata_on have c.args.name.now c.args.commit.now c.args.timestamp c.args.digest.now (found_object c.in-Ok.found) c.head_with.result (c.in-Ok.ensures.tells have s)
-    (subst (λ x. Answers c.head_with.result (with_content c.args.name.now c.args.commit.now c.args.timestamp x)) c.content_of.ensures c.head_with.ensures.tells)
+    metadata_on have c.args.name.now c.args.commit.now c.args.timestamp c.args.digest.now c.in-Ok.kept c.head_kept.result (c.in-Ok.ensures.tells have s) c.head_kept.ensures.tells
 
 pub returns-in-Err-clause-looks : goal.returns-in-Err-clause-looks
 returns-in-Err-clause-looks g c = looks_err c.in-Err.end c.from.result c.from.ensures c.in-Err.ensures.looks
