@@ -10,6 +10,7 @@ use Rattle.ost_commit.specs.declared.tree.Tree.{Tree}
 use Rattle.ost_commit.specs.Rows.{Said, no_entry, a_directory, content, row_path, put_by, is_above, first_said}
 use Rattle.ost_commit.specs.Refusals.{is_good_row, is_nothing, is_content, may_stand, is_clear, new_names, is_taken}
 use Rattle.ost_commit.specs.Folders.{with_entry, with_above, with_row, Gathers, new_root_at, Entered, Reached, TakesFolder, TakesContent, PutsRow, Takes}
+use Rattle.ost_commit.proofs.Counting.{counts_both}
 use Rattle.ost_commit.proofs.Saying.{or_nothing, first_assoc}
 use Rattle.ost_commit.proofs.Entering.{gathers_same, above_same, above_step, row_step, dir_row_step, unclear, content_next, reached_next}
 
@@ -112,6 +113,7 @@ takes_row rows said r old mid new folder taken b g good clear reached puts is =
       gathers = λ t. let h = (and_parts taken (leb new.names MOST_NAMES) (sym is ∙ t)).0 in
           gathers_same rows (with_entry (with_above said (drop 1 (row_path r))) (row_path r) (put_by r)) (with_row said r) new.folders.items (row_said said r root (sym stands ∙ h)) (puts.gathers h);
       names = λ t. count (and_parts taken (leb new.names MOST_NAMES) (sym is ∙ t)).0;
+      counts = λ t. counts_both old mid new reached.counts (puts.counts (and_parts taken (leb new.names MOST_NAMES) (sym is ∙ t)).0);
     }
   where
     all : (t : Bool) → t ≡ may_stand r (said (row_path r)) → (t ≡ true → new.names ≡ old.names + new_names said (row_path r))
@@ -121,7 +123,7 @@ takes_row rows said r old mid new folder taken b g good clear reached puts is =
 
 -- a directory, or a file or a link
 pub puts_dir : (rows : List TreeRow) (said : Elements → Said) (p : Elements) (old new : Tree) (taken : Bool) → TakesFolder rows said p old new taken → PutsRow rows said (row.Dir p) old new taken
-puts_dir rows said p old new taken t = record { is = t.is; gathers = t.gathers; names = t.names }
+puts_dir rows said p old new taken t = record { is = t.is; gathers = t.gathers; names = t.names; counts = t.counts }
 
 one_name : (said : Elements → Said) (p : Elements) → said [] ≡ a_directory → is_nothing (said p) ≡ true → new_root_at said p ≡ 1
 one_name said [] root none = absurd (false≢true (sym (ap is_nothing root) ∙ none))
@@ -132,11 +134,11 @@ content_names rows said p v old new taken root t e = t.names e ∙ ap (λ n. old
 
 pub puts_file : (rows : List TreeRow) (said : Elements → Said) (path : Elements) (mode : ℕ) (bytes : List ℕ) (old new : Tree) (taken : Bool) → said [] ≡ a_directory
     → TakesContent rows said path (put_by (row.File path mode bytes)) old new taken → PutsRow rows said (row.File path mode bytes) old new taken
-puts_file rows said path mode bytes old new taken root t = record { is = t.is; gathers = t.gathers; names = content_names rows said path (put_by (row.File path mode bytes)) old new taken root t }
+puts_file rows said path mode bytes old new taken root t = record { is = t.is; gathers = t.gathers; names = content_names rows said path (put_by (row.File path mode bytes)) old new taken root t; counts = t.counts }
 
 pub puts_link : (rows : List TreeRow) (said : Elements → Said) (path : Elements) (target : List ℕ) (old new : Tree) (taken : Bool) → said [] ≡ a_directory
     → TakesContent rows said path (put_by (row.Link path target)) old new taken → PutsRow rows said (row.Link path target) old new taken
-puts_link rows said path target old new taken root t = record { is = t.is; gathers = t.gathers; names = content_names rows said path (put_by (row.Link path target)) old new taken root t }
+puts_link rows said path target old new taken root t = record { is = t.is; gathers = t.gathers; names = content_names rows said path (put_by (row.Link path target)) old new taken root t; counts = t.counts }
 
 -- ---- whether a row is taken
 
@@ -151,6 +153,7 @@ takes_none rows said r old new unclear = record {
   is = unclear_row (is_good_row r) (is_clear said (row_path r)) (may_stand r (said (row_path r)) && leb (old.names + new_names said (row_path r)) MOST_NAMES) unclear;
   gathers = λ t. absurd (false≢true t);
   names = λ t. absurd (false≢true t);
+  counts = λ t. absurd (false≢true t);
 }
 
 pub clear_from : (said : Elements → Said) (p : Elements) → is_content (said (drop 1 p)) ≡ false → is_clear said (drop 1 p) ≡ true → is_clear said p ≡ true

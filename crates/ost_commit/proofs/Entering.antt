@@ -11,6 +11,7 @@ use Rattle.ost_commit.specs.declared.tree.Tree.{Tree}
 use Rattle.ost_commit.specs.Rows.{Said, no_entry, a_directory, row_path, put_by, is_above, first_said}
 use Rattle.ost_commit.specs.Refusals.{is_nothing, is_content, is_clear}
 use Rattle.ost_commit.specs.Folders.{with_entry, with_above, with_row, Gathers, new_at, Entered, Reached}
+use Rattle.ost_commit.proofs.Counting.{counts_same, counts_both}
 use Rattle.ost_commit.proofs.Saying.{or_nothing, first_assoc}
 
 -- what is said the same is gathered the same
@@ -114,6 +115,7 @@ reached_next rows said x up old mid new i j r e = record {
   names =
       let one : new_at (with_above said up) (x ∷ up) ≡ (if is_nothing (said (x ∷ up)) then 1 else 0) = ap (λ s. if is_nothing s then 1 else 0) (above_same said x up) in
       e.names ∙ omega (arith, r.names, one);
+  counts = counts_both old mid new r.counts e.counts;
 }
 
 -- a file or link that stands on the way
@@ -128,6 +130,7 @@ reached_root rows said tree g = record {
   gathers = gathers_same rows said (with_above said []) tree.folders.items at_root g;
   at = record { folder = g.root.0; at = g.root.1; is = g.root.2 };
   names = omega arith;
+  counts = counts_same tree;
 }
   where
     at_root : (q : Elements) → said q ≡ with_above said [] q

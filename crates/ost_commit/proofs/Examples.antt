@@ -1,5 +1,5 @@
 -- Worked rows, closed by computing.
-use Rattle.std.proofs.Common.{◌≡◌, ℕ, List, [], ◌∷◌, true, false, Some, None, refl}
+use Rattle.std.proofs.Common.{◌≡◌, ℕ, List, [], ◌∷◌, ◌++◌, true, false, Some, None, refl}
 use Rattle.std.specs.Prelude.{codes, replicate}
 use Rattle.std.specs.Str.{is_utf8, chars}
 use lib.Utf8.{encode}
@@ -16,6 +16,7 @@ use Rattle.ost_commit.specs.Rows.{no_entry, a_directory, content, says}
 use Rattle.ost_commit.specs.Refusals.{is_taken, first_refused}
 use Rattle.ost_commit.specs.Objects.{have_of}
 use Rattle.ost_commit.specs.Commits.{bound_to}
+use Rattle.ost_commit.specs.Sizes.{IsUnwritten}
 
 abbrev a : List ℕ
 a = codes "a"
@@ -131,3 +132,9 @@ module _ (d : List ℕ) (object other : Object) where
 
 bound : (r : Ref) → binding_in (bound_to r) ≡ Some (ref_text r ∷ [])
 bound r = refl
+
+-- ---- a dirtree of one file, `a`, has bytes
+
+one_file_has_room : IsUnwritten (record { files = record { name = a; digest = replicate 32 7 } ∷ []; dirs = [] }) → ⊥
+unfolding is_utf8 chars encode
+one_file_has_room none = none.none (a ++ (0 ∷ replicate 32 7) ++ (2 ∷ 35 ∷ 36 ∷ [])) refl

@@ -1,6 +1,7 @@
 -- The objects of rows in a table.
 use Rattle.std.proofs.Common.{◌≡◌, ◌⊎◌, inl, inr, ◌<◌, ℕ, zero, suc, List, [], ◌∷◌, ◌++◌, length, get_or, Bool, true, false, Some, None, refl, sym, ◌∙◌, ap, subst, arith}
-use Rattle.std.specs.Prelude.{if◌then◌else◌}
+use Rattle.std.specs.Prelude.{if◌then◌else◌, ◌≢◌, Option, Result, Ok, Err, IfErr}
+use Rattle.std.specs.Result.{IsErrAnd}
 use Rattle.std.specs.Str.{bytes_eq}
 use Rattle.std.specs.List.{AllByRecursion}
 use Rattle.std.proofs.lemmas.Slice.Eq.{bytes_eq-Decides}
@@ -22,6 +23,15 @@ use Rattle.ost_commit.specs.Objects.{Holds}
 use Rattle.ost_commit.specs.Shows.{IsThere}
 use Rattle.ost_commit.specs.Digests.{IsDigestOf, AreDigests, object_by}
 use Rattle.ost_commit.specs.Folders.{At, put_at}
+use Rattle.fp_name.specs.Refs.{Ref}
+use Rattle.ost_commit.specs.Rows.{says}
+use Rattle.ost_commit.specs.Refusals.{first_refused, IsRefusal}
+use Rattle.ost_commit.specs.Built.{IsBuildFault}
+use Rattle.ost_commit.specs.Sizes.{IsTooLarge}
+use Rattle.ost_object.specs.Writes.{Writes}
+use Rattle.ost_object.specs.declared.error.ObjectError.{ObjectError}
+use Rattle.fp_base.specs.declared.rule.Rule.{Rule}
+use Rattle.ost_commit.specs.Writing.{IsWantOfRoom, IsRefused}
 use Rattle.ost_commit.specs.Tables.{object_in, PutsObject, IsOtherThere, HasRow, AreUsable, AreContents, Collide, IsFaultOfPut, IsFaultOfTables}
 use Rattle.ost_commit.specs.declared.built.BuildError.{BuildError}
 use Rattle.ost_commit.specs.declared.built.BuildError.TheVariants as error
@@ -133,11 +143,52 @@ puts_new old new d o none updates = record {
 
 -- ---- why an object doesn't come to its digest
 
-pub fault_of_put : (kind : ObjKind) (table : List (List ℕ × Object)) (d : List ℕ) (o : Object) (e : BuildError) → AreUsable kind table → object_fault d kind (Some o) ≡ None → IsFaultOfPut table d o e → IsFaultOfTables e
-fault_of_put kind table d o (error.Row n) usable good h = h
-fault_of_put kind table d o error.Collision usable good h = collide kind table d o usable good h
-fault_of_put kind table d o error.TooLarge usable good h = absurd h
-fault_of_put kind table d o error.NoMemory usable good h = tt
+pub fault_of_put : (large : Type 0) (kind : ObjKind) (table : List (List ℕ × Object)) (d : List ℕ) (o : Object) (e : BuildError) → AreUsable kind table → object_fault d kind (Some o) ≡ None → IsFaultOfPut table d o e → IsFaultOfTables large e
+fault_of_put large kind table d o (error.Row n) usable good h = h
+fault_of_put large kind table d o error.Collision usable good h = collide kind table d o usable good h
+fault_of_put large kind table d o error.TooLarge usable good h = absurd h
+fault_of_put large kind table d o error.NoMemory usable good h = tt
+
+-- why no table is made, by another reason for what is too large
+pub fault_for : (large larger : Type 0) (e : BuildError) → (large → larger) → IsFaultOfTables large e → IsFaultOfTables larger e
+fault_for large larger (error.Row n) to h = h
+fault_for large larger error.Collision to h = h
+fault_for large larger error.TooLarge to h = to h
+fault_for large larger error.NoMemory to h = tt
+
+pub want_for : (large larger : Type 0) (e : BuildError) → (large → larger) → IsWantOfRoom large e → IsWantOfRoom larger e
+want_for large larger (error.Row n) to h = h
+want_for large larger error.Collision to h = h
+want_for large larger error.TooLarge to h = to h
+want_for large larger error.NoMemory to h = tt
+
+pub fault_of_want : (large larger : Type 0) (e : BuildError) → (large → larger) → IsWantOfRoom large e → IsFaultOfTables larger e
+fault_of_want large larger (error.Row n) to h = h
+fault_of_want large larger error.Collision to h = absurd h
+fault_of_want large larger error.TooLarge to h = to h
+fault_of_want large larger error.NoMemory to h = tt
+
+-- an error that is handed on
+pub err_at : {T : Type 0} (r : Result T BuildError) (e : BuildError) (P : BuildError → Type 0) → IsErrAnd r (λ x. x ≡ e) → P e → IfErr r P
+err_at (Ok x) e P h p = absurd h
+err_at (Err x) e P h p = subst P (sym h) p
+
+-- bytes that were refused are none
+pub refused_reads : {Y : Type 0} (read : List ℕ → Result Y Rule) (breaks : Y → Option Rule) (r : Result (List ℕ) ObjectError) (y : Y) → Writes read breaks r y → IsRefused r → (bytes : List ℕ) → read bytes ≢ Ok y
+refused_reads read breaks r y w refused = (subst (λ (x : Result (List ℕ) ObjectError). Writes read breaks x y) refused.1 w).1
+
+-- and why rows make no commit
+pub fault_of_refusal : (rows : List TreeRow) (r : Ref) (subject : List ℕ) (timestamp : ℕ) (e : BuildError) → IsRefusal rows e → IsBuildFault rows r subject timestamp e
+fault_of_refusal rows r subject timestamp (error.Row n) h = h
+fault_of_refusal rows r subject timestamp error.Collision h = absurd h
+fault_of_refusal rows r subject timestamp error.TooLarge h = absurd h
+fault_of_refusal rows r subject timestamp error.NoMemory h = tt
+
+pub fault_of_build : (rows : List TreeRow) (r : Ref) (subject : List ℕ) (timestamp : ℕ) (e : BuildError) → first_refused rows ≡ None → IsFaultOfTables (IsTooLarge rows (says rows) r subject timestamp) e → IsBuildFault rows r subject timestamp e
+fault_of_build rows r subject timestamp (error.Row n) none h = absurd h
+fault_of_build rows r subject timestamp error.Collision none h = (none, h)
+fault_of_build rows r subject timestamp error.TooLarge none h = (none, h)
+fault_of_build rows r subject timestamp error.NoMemory none h = tt
 
 pub usable_none : (kind : ObjKind) (table : List (List ℕ × Object)) → table ≡ [] → AreUsable kind table
 usable_none kind table is = subst (AreUsable kind) (sym is) (record { each = λ d o h. absurd (cc h) })

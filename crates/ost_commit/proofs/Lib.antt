@@ -3,6 +3,7 @@ pub mod Showing
 pub mod Places
 pub mod Saying
 pub mod Gathering
+pub mod Counting
 pub mod Entering
 pub mod Taking
 pub mod Descending
@@ -13,4 +14,6 @@ pub mod Reading
 pub mod Holding
 pub mod Building
 pub mod Written
+pub mod Weights
+pub mod Sizes
 pub mod Assembly

@@ -16,6 +16,7 @@ use Rattle.ost_commit.specs.Rows.{Said, no_entry, a_directory, content, row_path
 use Rattle.ost_commit.specs.Refusals.{is_good_row, is_nothing, is_content, new_names, is_taken, refused_remainder}
 use Rattle.ost_commit.specs.Folders.{At, child_in, folder_place, child_said, put_at, with_entry, with_row, Gathers, HasNew, new_at, new_root_at, Entered, Enters, TakesFolder, TakesContent}
 use Rattle.ost_commit.proofs.Places.{at_within, more_right}
+use Rattle.ost_commit.proofs.Counting.{counts_same, counts_name, counts_folder}
 use Rattle.ost_commit.proofs.Saying.{says_push}
 use Rattle.ost_commit.proofs.Gathering.{IsTail, gathers_more}
 use Rattle.ost_commit.proofs.Entering.{gathers_same, dir_again}
@@ -31,6 +32,7 @@ module _ (rows : List TreeRow) (said : Elements → Said) (old : Tree) (g : Gath
         gathers = gathers_same rows said (with_entry said (x ∷ f.path) a_directory) old.folders.items (λ q. dir_again said (x ∷ f.path) q there) g;
         at = let b = g.below i f x j at is in record { folder = b.1.0; at = b.1.1; is = b.1.2 };
         names = let none : new_at said (x ∷ f.path) ≡ 0 = ap (λ s. if is_nothing s then 1 else 0) there in omega (arith, none);
+        counts = counts_same old;
       }
 
   pub entered_content : (k : ℕ) → child_in f.children.entries x ≡ Some (child.Content k) → is_content (said (x ∷ f.path)) ≡ true
@@ -53,6 +55,7 @@ module _ (rows : List TreeRow) (said : Elements → Said) (old : Tree) (g : Gath
         (gathers_more rows said old.folders.items g i f at x element (said_none none) f' (child.Folder (length old.folders.items)) has (h ∷ []) tail (inl low) (λ k e. absurd (cc e)));
     at = record { folder = h; at = subst (λ l. At l (length old.folders.items) h) (sym folders) (more_right (slice_set old.folders.items i f') (h ∷ []) (length old.folders.items) 0 h (omega (arith, length-set old.folders.items i f')) refl); is = path };
     names = let one : new_at said (x ∷ f.path) ≡ 1 = ap (λ s. if is_nothing s then 1 else 0) (said_none none) in omega (arith, names, one);
+    counts = counts_folder old new i f f' at has.few names h empty folders;
   }
     where
       new_one : (k : ℕ) (n : Folder) → At (h ∷ []) k n → (k ≡ 0) × (n.path ≡ x ∷ f.path) × ((y : List ℕ) → child_in n.children.entries y ≡ None) × (child_said rows (Some (child.Folder (length old.folders.items))) ≡ a_directory)
@@ -155,6 +158,7 @@ module _ (rows : List TreeRow) (said : Elements → Said) (old : Tree) (g : Gath
     is = sym (not_nothing some);
     gathers = λ e. absurd (false≢true e);
     names = λ e. absurd (false≢true e);
+    counts = λ e. absurd (false≢true e);
   }
 
   pub first_taken : (r : TreeRow) (k : ℕ) (f' : Folder) (new : Tree) → is_some (child_in f.children.entries x) ≡ false → is_element x ≡ true → HasNew f f' x (child.Content k)
@@ -163,6 +167,7 @@ module _ (rows : List TreeRow) (said : Elements → Said) (old : Tree) (g : Gath
     is = sym (ap is_nothing (said_none rows said old g i f at x (none_if_not_some (child_in f.children.entries x) none)));
     gathers = λ e. content_put rows said old g i f at x r k f' new.folders.items (none_if_not_some (child_in f.children.entries x) none) element has (at_within rows k r at_row) (put_at_is rows k r at_row) is folders;
     names = λ e. names;
+    counts = λ e. counts_name old new i f f' at has.few names folders;
   }
 
 pub took_folder : (rows : List TreeRow) (said : Elements → Said) (path : Elements) (old new : Tree) (found : Option ℕ) (b : Bool) → b ≡ is_some found → Enters rows said path old new found → path ≢ []
@@ -171,11 +176,13 @@ took_folder rows said path old new None b is e inner = record {
   is = is ∙ sym (ap not e);
   gathers = λ t. absurd (false≢true (sym is ∙ t));
   names = λ t. absurd (false≢true (sym is ∙ t));
+  counts = λ t. absurd (false≢true (sym is ∙ t));
 }
 took_folder rows said path old new (Some j) b is e inner = record {
   is = is ∙ sym (ap not e.clear);
   gathers = λ t. e.gathers;
   names = λ t. e.names ∙ ap (λ n. old.names + n) (root_at path inner);
+  counts = λ t. e.counts;
 }
   where
     root_at : (p : Elements) → p ≢ [] → new_at said p ≡ new_root_at said p

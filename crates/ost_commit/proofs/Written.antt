@@ -131,12 +131,12 @@ module _ (rows : List TreeRow) (said : Elements → Said) (folders : List Folder
 
 -- ---- one directory after another, the last first
 
-set_here : (ds : List Done) (n : ℕ) (d : Done) → n < length ds → done_at (slice_set ds n d) n ≡ d
+pub set_here : (ds : List Done) (n : ℕ) (d : Done) → n < length ds → done_at (slice_set ds n d) n ≡ d
 set_here [] n d low = absurd (omega (arith, low))
 set_here (x ∷ ds) zero d low = refl
 set_here (x ∷ ds) (suc n) d low = set_here ds n d (omega (arith, low))
 
-set_other : (ds : List Done) (n : ℕ) (d : Done) (i : ℕ) → i ≢ n → done_at (slice_set ds n d) i ≡ done_at ds i
+pub set_other : (ds : List Done) (n : ℕ) (d : Done) (i : ℕ) → i ≢ n → done_at (slice_set ds n d) i ≡ done_at ds i
 set_other [] n d i apart = refl
 set_other (x ∷ ds) zero d zero apart = absurd (apart refl)
 set_other (x ∷ ds) zero d (suc i) apart = refl

@@ -13,6 +13,7 @@ use Rattle.ost_commit.specs.declared.built.BuildError.TheVariants as error
 use Rattle.ost_commit.specs.Rows.{says}
 use Rattle.ost_commit.specs.Refusals.{first_refused}
 use Rattle.ost_commit.specs.Tables.{Collide}
+use Rattle.ost_commit.specs.Sizes.{IsTooLarge}
 use Rattle.ost_commit.specs.Objects.{have_of, IsNamed, AreApart, Holds}
 use Rattle.ost_commit.specs.Commits.{commit_of_tree}
 use Rattle.ost_commit.specs.Shows.{found_said, meta_at, plain_meta}
@@ -37,8 +38,9 @@ pub record BuiltCommit (rows : List TreeRow) (r : Ref) (subject : List ℕ) (tim
   pub apart : AreApart built.objects
 
 -- why rows make no commit
-abbrev pub IsBuildFault : List TreeRow → BuildError → Type 0
-IsBuildFault rows (error.Row n) = first_refused rows ≡ Some n
-IsBuildFault rows error.Collision = (first_refused rows ≡ None) × Collide
-IsBuildFault rows error.TooLarge = first_refused rows ≡ None
-IsBuildFault rows error.NoMemory = Unit {0}
+abbrev pub IsBuildFault : List TreeRow → Ref → List ℕ → ℕ → BuildError → Type 0
+IsBuildFault rows r subject timestamp (error.Row n) = first_refused rows ≡ Some n
+IsBuildFault rows r subject timestamp error.Collision = (first_refused rows ≡ None) × Collide
+IsBuildFault rows r subject timestamp error.TooLarge =
+    (first_refused rows ≡ None) × IsTooLarge rows (says rows) r subject timestamp
+IsBuildFault rows r subject timestamp error.NoMemory = Unit {0}

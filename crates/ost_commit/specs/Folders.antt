@@ -7,6 +7,7 @@ use Rattle.std.specs.BTreeMap.{is_at}
 use Rattle.std.specs.Map.{lookup}
 use Rattle.fp_host.specs.Paths.{Elements, path_eq, is_element}
 use Rattle.ost_model.specs.declared.limits.TheConstants.{MOST_LEVELS}
+use Rattle.ost_commit.specs.declared.limits.TheConstants.{MOST_NAMES}
 use Rattle.ost_commit.specs.declared.row.TreeRow.{TreeRow}
 use Rattle.ost_commit.specs.declared.tree.Child.{Child}
 use Rattle.ost_commit.specs.declared.tree.Child.TheVariants as child
@@ -96,11 +97,27 @@ abbrev pub new_root_at : (Elements → Said) → Elements → ℕ
 new_root_at said [] = 0
 new_root_at said (x ∷ up) = new_at said (x ∷ up)
 
+-- how many names the directories have in them
+abbrev pub names_in : List Folder → ℕ
+names_in [] = 0
+names_in (f ∷ fs) = length f.children.entries + names_in fs
+
+-- each name and each directory that came was counted
+pub record Counts (old new : Tree) : Type 0 where
+  pub names : names_in new.folders.items + old.names ≤ names_in old.folders.items + new.names
+  pub folders : length new.folders.items + old.names ≤ length old.folders.items + new.names
+
+-- at most as many names as a tree may have, and the root besides
+pub record AreFew (fs : List Folder) : Type 0 where
+  pub names : names_in fs ≤ MOST_NAMES
+  pub folders : length fs ≤ MOST_NAMES + 1
+
 -- the second has the name x besides, for this child
 pub record HasNew (f g : Folder) (x : List ℕ) (c : Child) : Type 0 where
   pub path : g.path ≡ f.path
   pub children : (y : List ℕ) → child_in g.children.entries y
       ≡ (if bytes_eq x y then Some c else child_in f.children.entries y)
+  pub few : length g.children.entries ≤ length f.children.entries + 1
 
 -- so has the directory of this place
 pub record PutsChild (i : ℕ) (x : List ℕ) (c : Child) (old new : Tree) : Type 0 where
@@ -115,6 +132,7 @@ pub record Entered (rows : List TreeRow) (said : Elements → Said) (path : Elem
   pub gathers : Gathers rows (with_entry said path a_directory) new.folders.items
   pub at : FolderAt new.folders.items j path
   pub names : new.names ≡ old.names + new_at said path
+  pub counts : Counts old new
 
 -- or a file or link stands there
 abbrev pub Enters : List TreeRow → (Elements → Said) → Elements → Tree → Tree → Option ℕ → Type 0
@@ -129,6 +147,7 @@ pub record Reached (rows : List TreeRow) (said : Elements → Said) (path : Elem
   pub gathers : Gathers rows (with_above said path) new.folders.items
   pub at : FolderAt new.folders.items j path
   pub names : new.names ≡ old.names + new_names said path
+  pub counts : Counts old new
 
 -- the directory above the path is so reached, or a file or link stands above it
 abbrev pub Reaches : List TreeRow → (Elements → Said) → Elements → Tree → Tree → Option ℕ → Type 0
@@ -141,6 +160,7 @@ pub record TakesFolder (rows : List TreeRow) (said : Elements → Said) (path : 
   pub is : taken ≡ not (is_content (said path))
   pub gathers : taken ≡ true → Gathers rows (with_entry said path a_directory) new.folders.items
   pub names : taken ≡ true → new.names ≡ old.names + new_root_at said path
+  pub counts : taken ≡ true → Counts old new
 
 -- a file or link was taken, where nothing stood before
 pub record TakesContent (rows : List TreeRow) (said : Elements → Said) (path : Elements)
@@ -148,6 +168,7 @@ pub record TakesContent (rows : List TreeRow) (said : Elements → Said) (path :
   pub is : taken ≡ is_nothing (said path)
   pub gathers : taken ≡ true → Gathers rows (with_entry said path entry) new.folders.items
   pub names : taken ≡ true → new.names ≡ old.names + 1
+  pub counts : taken ≡ true → Counts old new
 
 -- a row was put into the directory above its path, where it may stand
 pub record PutsRow (rows : List TreeRow) (said : Elements → Said) (r : TreeRow) (old new : Tree)
@@ -156,6 +177,7 @@ pub record PutsRow (rows : List TreeRow) (said : Elements → Said) (r : TreeRow
   pub gathers : taken ≡ true
       → Gathers rows (with_entry said (row_path r) (put_by r)) new.folders.items
   pub names : taken ≡ true → new.names ≡ old.names + new_root_at said (row_path r)
+  pub counts : taken ≡ true → Counts old new
 
 -- the row is taken exactly where it may be
 pub record Takes (rows : List TreeRow) (said : Elements → Said) (r : TreeRow) (old new : Tree)
@@ -163,3 +185,4 @@ pub record Takes (rows : List TreeRow) (said : Elements → Said) (r : TreeRow) 
   pub is : taken ≡ is_taken said old.names r
   pub gathers : taken ≡ true → Gathers rows (with_row said r) new.folders.items
   pub names : taken ≡ true → new.names ≡ old.names + new_names said (row_path r)
+  pub counts : taken ≡ true → Counts old new

@@ -9,4 +9,5 @@ pub mod Tables
 pub mod Folders
 pub mod Entries
 pub mod Trees
+pub mod Sizes
 pub mod Writing

@@ -77,13 +77,13 @@ pub record Collide : Type 0 where
   pub apart : first ≢ second
   pub same : digest_of first ≡ digest_of second
 
--- why no table is made: because memory ran out, because objects are too large, or because two have
--- one digest
-abbrev pub IsFaultOfTables : BuildError → Type 0
-IsFaultOfTables (error.Row n) = ⊥
-IsFaultOfTables error.Collision = Collide
-IsFaultOfTables error.TooLarge = Unit {0}
-IsFaultOfTables error.NoMemory = Unit {0}
+-- why no table is made: because memory ran out, because an object is too large, as the first says,
+-- or because two have one digest
+abbrev pub IsFaultOfTables : Type 0 → BuildError → Type 0
+IsFaultOfTables large (error.Row n) = ⊥
+IsFaultOfTables large error.Collision = Collide
+IsFaultOfTables large error.TooLarge = large
+IsFaultOfTables large error.NoMemory = Unit {0}
 
 -- the objects of rows, and no others
 pub record AreContents (rows : List TreeRow) (table : List (List ℕ × Object)) : Type 0 where

@@ -6,11 +6,13 @@ ghost use Rattle.std.specs.Ordering.{nat_cmp};
 ghost use Rattle.std.specs.Cmp.Lexicographic.{slice_cmp};
 ghost use Rattle.fp_base.specs.declared.object.ObjKind.TheVariants as kinds;
 ghost use Rattle.ost_model.specs.Contents.{meta_digest as digest_of_meta};
-ghost use Rattle.ost_commit.specs.Rows.{says};
+ghost use Rattle.fp_host.specs.Paths.{Elements};
+ghost use Rattle.ost_commit.specs.Rows.{Said, says};
 ghost use Rattle.ost_commit.specs.Refusals.{first_refused, AreGoodRows};
 ghost use Rattle.ost_commit.specs.Built.{BuiltCommit, IsBuildFault};
 ghost use Rattle.ost_commit.specs.Digests.{AreDigests};
-ghost use Rattle.ost_commit.specs.Folders.{Gathers};
+ghost use Rattle.ost_commit.specs.Folders.{Gathers, AreFew};
+ghost use Rattle.ost_commit.specs.Sizes.{IsTooLarge};
 ghost use Rattle.ost_commit.specs.Tables.{AreContents, AreUsable, IsFaultOfTables, AreObjectsOf, built_meta};
 ghost use Rattle.ost_commit.specs.Trees.{AreGatheredFor};
 
@@ -46,7 +48,9 @@ pub fn commit_tree(
     ensures built { IfOk result (BuiltCommit rows.now name.now subject.now timestamp) }
     // `Row` comes exactly with the first row that is refused, unless memory ran out.
     ensures taken { OnOk result (first_refused rows.now ≡ None) }
-    ensures error { IfErr result (IsBuildFault rows.now) }
+    // `TooLarge` comes only where no bytes of at most 16 MiB are the dirtree of a directory, or the
+    // commit; `Collision` only where two different objects have one digest.
+    ensures error { IfErr result (IsBuildFault rows.now name.now subject.now timestamp) }
 {
     let heading = Heading {
         name,
@@ -68,12 +72,16 @@ fn with_directories(
     heading: Heading,
 ) -> Result<Built, BuildError>
     requires gathered { AreGatheredFor tree.folders.items digests.now }
+    requires few { AreFew tree.folders.items }
     ensures built { IfOk result (λ built. (rows : List TreeRow)
         → Gathers rows (says rows) tree.folders.items → AreDigests rows digests.now
         → AreContents rows contents.entries
         → BuiltCommit rows heading.entry.name.now heading.entry.subject.now
         heading.entry.timestamp built) }
-    ensures error { IfErr result IsFaultOfTables }
+    ensures error { IfErr result (λ reason. (rows : List TreeRow) (said : Elements → Said)
+        → Gathers rows said tree.folders.items
+        → IsFaultOfTables (IsTooLarge rows said heading.entry.name.now heading.entry.subject.now
+        heading.entry.timestamp) reason) }
 {
     let meta_bytes = dirmeta_bytes(alloc)?;
     let meta = meta_digest(meta_bytes.as_slice());

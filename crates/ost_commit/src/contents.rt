@@ -74,7 +74,7 @@ pub(crate) fn contents_of(
     requires good { AreGoodRows rows.now }
     requires digests { AreDigests rows.now digests.now }
     ensures contents { IfOk result (λ contents. AreContents rows.now contents.entries) }
-    ensures error { IfErr result IsFaultOfTables }
+    ensures error { IfErr result (IsFaultOfTables ⊥) }
 {
     let mut contents = Table::new(alloc);
     for (at, row) in rows.iter().enumerate() {
@@ -90,7 +90,7 @@ fn add_row(contents: &mut Table, row: &TreeRow, digest: Digest) -> Result<(), Bu
     requires usable { AreUsable kinds.File contents.old.entries }
     ensures adds { OnOk result ((before : List TreeRow) → AreContents before contents.old.entries
         → AreContents (before ++ row.now ∷ []) contents.new.entries) }
-    ensures error { IfErr result IsFaultOfTables }
+    ensures error { IfErr result (IsFaultOfTables ⊥) }
 {
     match object_of(row)? {
         Some(object) => put(contents, digest, object),

@@ -1,17 +1,18 @@
 //! The dirtrees of a tree, from the deepest to the root.
 
-ghost use Rattle.std.specs.Prelude.{◌≡◌, ◌<◌, ◌+◌, ◌∷◌, ◌++◌, List, [], map, length, IfOk, IfErr, OnOk};
+ghost use Rattle.std.specs.Prelude.{◌≡◌, ◌<◌, ◌+◌, ◌∷◌, ◌++◌, List, [], map, length, true, IfOk, IfErr, OnOk};
 ghost use Rattle.fp_base.specs.declared.object.ObjKind.TheVariants as kinds;
 ghost use Rattle.fp_host.specs.Paths.{Elements};
+ghost use Rattle.ost_model.specs.declared.limits.TheConstants.{MOST_OBJECTS};
 ghost use Rattle.ost_object.specs.Views.{tree_view, file_row, dir_row};
 ghost use Rattle.ost_commit.specs.Rows.{Said};
 ghost use Rattle.ost_commit.specs.Digests.{AreDigests};
-ghost use Rattle.ost_commit.specs.Folders.{Gathers};
+ghost use Rattle.ost_commit.specs.Folders.{Gathers, AreFew};
 ghost use Rattle.ost_commit.specs.Entries.{tree_rows};
+ghost use Rattle.ost_commit.specs.Sizes.{IsUnwritten, IsLargeDirectory, StayNamed, are_named};
 ghost use Rattle.ost_commit.specs.Tables.{AreUsable, IsFaultOfTables};
 ghost use Rattle.ost_commit.specs.Trees.{names_of, child_places, places_in, IsAmong, AreAmong, AddsEntry, AddsTree};
 ghost use Rattle.ost_commit.specs.Trees.{AreGatheredFor, IsRootWritten};
-ghost use Rattle.ost_commit.specs.Writing.{IsWantOfRoom};
 
 use crate::built::BuildError;
 use crate::objects::{Table, put};
@@ -21,7 +22,7 @@ use crate::writing::dirtree_bytes;
 use fp_base::{Items, Text};
 use fp_name::Digest;
 use ost_content::meta_digest;
-use ost_model::{MOST_OBJECTS, Object};
+use ost_model::Object;
 use ost_object::{DirEntry, DirTree, FileEntry};
 use std::alloc::{AllocError, Global};
 use std::collections::BTreeMap;
@@ -50,11 +51,14 @@ pub(crate) fn dirtrees_of(
     meta: Digest,
 ) -> Result<Dirtrees, BuildError>
     requires gathered { AreGatheredFor folders.items contents.now }
+    requires few { AreFew folders.items }
     ensures written { IfOk result (λ made. (rows : List TreeRow) (said : Elements → Said)
         → Gathers rows said folders.items → AreDigests rows contents.now
         → IsRootWritten rows said contents.now meta made) }
     ensures usable { IfOk result (λ made. AreUsable kinds.DirTree made.trees.entries) }
-    ensures error { IfErr result IsFaultOfTables }
+    ensures error { IfErr result (λ reason. (rows : List TreeRow) (said : Elements → Said)
+        → Gathers rows said folders.items
+        → IsFaultOfTables (IsLargeDirectory rows said) reason) }
 {
     let mut trees = Table::new(alloc);
     let nothing = Done {
@@ -63,9 +67,8 @@ pub(crate) fn dirtrees_of(
     };
     let mut done = vec![in alloc; nothing; folders.len()]?;
     while let Some(folder) = folders.pop() {
-        if folder.children.len() >= MOST_OBJECTS {
-            return Err(BuildError::TooLarge);
-        }
+        // Its names ascend.
+        let _count = folder.children.len();
         let at = folders.len();
         done[at] = add_dirtree(alloc, &mut trees, folder.children, contents, meta, &done)?;
     }
@@ -86,10 +89,12 @@ fn add_dirtree(
 ) -> Result<Done, BuildError>
     requires among { AreAmong (length contents.now) (length done.now) children.entries }
     requires usable { AreUsable kinds.DirTree trees.old.entries }
+    requires few { 2 + places_in done.now children.entries < MOST_OBJECTS }
     ensures adds { IfOk result (AddsTree contents.now meta done.now children.entries
         trees.old.entries trees.new.entries) }
     ensures usable { OnOk result (AreUsable kinds.DirTree trees.new.entries) }
-    ensures error { IfErr result IsFaultOfTables }
+    ensures error { IfErr result (IsFaultOfTables (IsUnwritten (tree_rows (names_of contents.now meta
+        done.now) children.entries))) }
 {
     let listing = listing_of(alloc, children, contents, meta, done)?;
     let bytes = dirtree_bytes(alloc, &listing.tree)?;
@@ -118,14 +123,15 @@ fn listing_of(
     contents: &[Digest],
     meta: Digest,
     done: &[Done],
-) -> Result<Listing, BuildError>
-    requires { AreAmong (length contents.now) (length done.now) children.entries }
+) -> Result<Listing, AllocError>
+    requires among { AreAmong (length contents.now) (length done.now) children.entries }
+    requires few { 2 + places_in done.now children.entries < MOST_OBJECTS }
     ensures tree { IfOk result (λ listing. tree_view listing.tree
         ≡ tree_rows (names_of contents.now meta done.now) children.entries) }
     ensures places { IfOk result (λ listing. listing.places
         ≡ 2 + places_in done.now children.entries) }
     ensures few { IfOk result (λ listing. listing.places < MOST_OBJECTS) }
-    ensures error { IfErr result IsWantOfRoom }
+    ensures named { IfOk result (λ listing. are_named (tree_view listing.tree) ≡ true) }
 {
     let mut listing = Listing::new(alloc);
     while let Some((name, child)) = children.pop_first() {
@@ -157,15 +163,14 @@ impl Listing {
         contents: &[Digest],
         meta: Digest,
         done: &[Done],
-    ) -> Result<(), BuildError>
+    ) -> Result<(), AllocError>
         requires among { IsAmong (length contents.now) (length done.now) child }
-        requires few { self.old.places < MOST_OBJECTS }
+        requires few { self.old.places + child_places done.now child < MOST_OBJECTS }
         ensures adds { OnOk result (AddsEntry (names_of contents.now meta done.now) name child
             self.old.tree self.new.tree) }
+        ensures named { OnOk result (StayNamed self.old.tree self.new.tree) }
         ensures places { OnOk result (self.new.places
             ≡ self.old.places + child_places done.now child) }
-        ensures few { OnOk result (self.new.places < MOST_OBJECTS) }
-        ensures error { IfErr result IsWantOfRoom }
     {
         match child {
             Child::Content(row) => self.add_file(name, contents[row]),
@@ -174,52 +179,40 @@ impl Listing {
     }
 
     /// Adds a file or a link.
-    fn add_file(&mut self, name: Text, digest: Digest) -> Result<(), BuildError>
-        requires { self.old.places < MOST_OBJECTS }
+    fn add_file(&mut self, name: Text, digest: Digest) -> Result<(), AllocError>
+        requires { self.old.places + 1 < MOST_OBJECTS }
         ensures files { OnOk result (map file_row self.new.tree.files
             ≡ map file_row self.old.tree.files ++ record { name = name; digest = digest } ∷ []) }
         ensures dirs { OnOk result (self.new.tree.dirs ≡ self.old.tree.dirs) }
         ensures places { OnOk result (self.new.places ≡ self.old.places + 1) }
-        ensures few { OnOk result (self.new.places < MOST_OBJECTS) }
-        ensures error { IfErr result IsWantOfRoom }
+        ensures named { OnOk result (StayNamed self.old.tree self.new.tree) }
     {
-        self.count(1)?;
+        // It is a digest.
+        let _bytes = digest.as_bytes();
+        self.places += 1;
         self.tree.files.push(FileEntry { name, digest })?;
         Ok(())
     }
 
     /// Adds a directory.
-    fn add_dir(&mut self, name: Text, done: Done, meta: Digest) -> Result<(), BuildError>
-        requires { self.old.places < MOST_OBJECTS }
+    fn add_dir(&mut self, name: Text, done: Done, meta: Digest) -> Result<(), AllocError>
+        requires { self.old.places + done.places < MOST_OBJECTS }
         ensures files { OnOk result (self.new.tree.files ≡ self.old.tree.files) }
         ensures dirs { OnOk result (map dir_row self.new.tree.dirs
             ≡ map dir_row self.old.tree.dirs
             ++ record { name = name; tree = done.tree; meta = meta } ∷ []) }
         ensures places { OnOk result (self.new.places ≡ self.old.places + done.places) }
-        ensures few { OnOk result (self.new.places < MOST_OBJECTS) }
-        ensures error { IfErr result IsWantOfRoom }
+        ensures named { OnOk result (StayNamed self.old.tree self.new.tree) }
     {
-        self.count(done.places)?;
+        // Each is a digest.
+        let _tree = done.tree.as_bytes();
+        let _meta = meta.as_bytes();
+        self.places += done.places;
         self.tree.dirs.push(DirEntry {
             name,
             tree: done.tree,
             meta,
         })?;
-        Ok(())
-    }
-
-    /// Counts this number of objects more.
-    fn count(&mut self, more: usize) -> Result<(), BuildError>
-        requires { self.old.places < MOST_OBJECTS }
-        ensures places { OnOk result (self.new.places ≡ self.old.places + more) }
-        ensures few { OnOk result (self.new.places < MOST_OBJECTS) }
-        ensures tree { self.new.tree ≡ self.old.tree }
-        ensures error { IfErr result IsWantOfRoom }
-    {
-        if more >= MOST_OBJECTS - self.places {
-            return Err(BuildError::TooLarge);
-        }
-        self.places += more;
         Ok(())
     }
 }

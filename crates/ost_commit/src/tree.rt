@@ -4,7 +4,7 @@ ghost use Rattle.std.specs.Prelude.{◌≡◌, ◌≢◌, ◌≤◌, ◌<◌, �
 ghost use Rattle.fp_host.specs.Paths.{Elements, is_element};
 ghost use Rattle.ost_commit.specs.Rows.{Said, says, put_by, row_path};
 ghost use Rattle.ost_commit.specs.Refusals.{first_refused, IsRefusal, is_good_row, is_content};
-ghost use Rattle.ost_commit.specs.Folders.{At, child_in, folder_place, Gathers, AreGathered, FolderAt, PutsChild, Enters, Reaches, Takes, TakesFolder, TakesContent, PutsRow};
+ghost use Rattle.ost_commit.specs.Folders.{At, names_in, AreFew, child_in, folder_place, Gathers, AreGathered, FolderAt, PutsChild, Enters, Reaches, Takes, TakesFolder, TakesContent, PutsRow};
 
 use crate::built::BuildError;
 use crate::limits::MOST_NAMES;
@@ -62,6 +62,8 @@ impl Tree {
         ensures gathers { (rows : List TreeRow)
             → IfOk result (λ tree. Gathers rows (says []) tree.folders.items) }
         ensures names { IfOk result (λ tree. tree.names ≡ 0) }
+        ensures alone { IfOk result (λ tree. names_in tree.folders.items ≡ 0) }
+        ensures one { IfOk result (λ tree. length tree.folders.items ≡ 1) }
     {
         let root = Folder {
             path: Path::root(alloc),
@@ -78,6 +80,7 @@ impl Tree {
         ensures gathers { IfOk result (λ tree. Gathers rows.now (says rows.now)
             tree.folders.items) }
         ensures good { OnOk result (first_refused rows.now ≡ None) }
+        ensures few { IfOk result (λ tree. AreFew tree.folders.items) }
         ensures refused { IfErr result (IsRefusal rows.now) }
     {
         let mut tree = Tree::new(alloc)?;

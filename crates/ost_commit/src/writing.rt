@@ -1,6 +1,6 @@
 //! Metadata objects, as they are written.
 
-ghost use Rattle.std.specs.Prelude.{◌≡◌, IfOk, IfErr, Ok};
+ghost use Rattle.std.specs.Prelude.{◌≡◌, ◌≢◌, ℕ, List, IfOk, IfErr, Ok};
 ghost use Rattle.gv_value.specs.Views.{shape_of, plain};
 ghost use Rattle.gv_value.specs.Shape.{Shape};
 ghost use Rattle.ost_model.specs.Types.{text_shape, dictionary_shape};
@@ -9,7 +9,8 @@ ghost use Rattle.ost_model.specs.Fields.{text_value};
 ghost use Rattle.ost_object.specs.Views.{commit_view, tree_view, tree_at};
 ghost use Rattle.ost_commit.specs.Commits.{one_text, refs_of, binding_entry_of, bound_to as binding_of, commit_of_tree};
 ghost use Rattle.ost_commit.specs.Shows.{plain_meta};
-ghost use Rattle.ost_commit.specs.Writing.{IsWantOfRoom};
+ghost use Rattle.ost_commit.specs.Sizes.{IsLargeCommit};
+ghost use Rattle.ost_commit.specs.Writing.{IsWantOfRoom, HasNoBytes, IsRefused};
 
 use crate::built::BuildError;
 use crate::limits::DIRECTORY_MODE;
@@ -42,7 +43,7 @@ pub(crate) struct Root {
 /// The bytes of each directory's dirmeta.
 pub(crate) fn dirmeta_bytes(alloc: Global) -> Result<Blob, BuildError>
     ensures reads { IfOk result (λ bytes. meta_read bytes ≡ Ok plain_meta) }
-    ensures error { IfErr result IsWantOfRoom }
+    ensures error { IfErr result (IsWantOfRoom ⊥) }
 {
     let meta = DirMeta {
         mode: DIRECTORY_MODE,
@@ -53,7 +54,8 @@ pub(crate) fn dirmeta_bytes(alloc: Global) -> Result<Blob, BuildError>
 /// The bytes of a dirtree.
 pub(crate) fn dirtree_bytes(alloc: Global, tree: &DirTree) -> Result<Blob, BuildError>
     ensures reads { IfOk result (λ bytes. tree_read bytes ≡ Ok (tree_view tree.now)) }
-    ensures error { IfErr result IsWantOfRoom }
+    ensures error { IfErr result (IsWantOfRoom ((bytes : List ℕ)
+        → tree_read bytes ≢ Ok (tree_view tree.now))) }
 {
     object_bytes(write_dirtree(alloc, tree))
 }
@@ -63,8 +65,12 @@ pub(crate) fn commit_bytes(alloc: Global, heading: Heading, root: Root) -> Resul
     ensures reads { IfOk result (λ bytes. commit_read bytes
         ≡ Ok (commit_of_tree heading.entry.name.now
         heading.entry.subject.now heading.entry.timestamp root.tree root.meta)) }
-    ensures error { IfErr result IsWantOfRoom }
+    ensures error { IfErr result (IsWantOfRoom (IsLargeCommit heading.entry.name.now
+        heading.entry.subject.now heading.entry.timestamp)) }
 {
+    // Each is a digest.
+    let _tree = root.tree.as_bytes();
+    let _meta = root.meta.as_bytes();
     let commit = commit_of(alloc, heading, root)?;
     object_bytes(write_commit(alloc, &commit))
 }
@@ -73,7 +79,8 @@ pub(crate) fn commit_bytes(alloc: Global, heading: Heading, root: Root) -> Resul
 fn commit_of(alloc: Global, heading: Heading, root: Root) -> Result<Commit, BuildError>
     ensures says { IfOk result (λ commit. commit_view commit ≡ commit_of_tree heading.entry.name.now
         heading.entry.subject.now heading.entry.timestamp root.tree root.meta) }
-    ensures error { IfErr result IsWantOfRoom }
+    ensures error { IfErr result (IsWantOfRoom (HasNoBytes dictionary_shape
+        (binding_of heading.entry.name.now))) }
 {
     Ok(Commit {
         metadata: binding_bytes(alloc, heading.name)?,
@@ -90,7 +97,7 @@ fn commit_of(alloc: Global, heading: Heading, root: Root) -> Result<Commit, Buil
 /// The bytes of the metadata of a commit that is bound to the ref.
 fn binding_bytes(alloc: Global, name: &RefName) -> Result<Blob, BuildError>
     ensures says { IfOk result (λ bytes. tree_at dictionary_shape bytes ≡ binding_of name.now) }
-    ensures error { IfErr result IsWantOfRoom }
+    ensures error { IfErr result (IsWantOfRoom (HasNoBytes dictionary_shape (binding_of name.now))) }
 {
     let value = bound_to(alloc, name)?;
     dictionary_bytes(alloc, &value)
@@ -99,7 +106,7 @@ fn binding_bytes(alloc: Global, name: &RefName) -> Result<Blob, BuildError>
 /// The bytes of the value of a commit's metadata.
 fn dictionary_bytes(alloc: Global, value: &GvValue) -> Result<Blob, BuildError>
     ensures says { IfOk result (λ bytes. tree_at dictionary_shape bytes ≡ plain value.now) }
-    ensures error { IfErr result IsWantOfRoom }
+    ensures error { IfErr result (IsWantOfRoom (HasNoBytes dictionary_shape (plain value.now))) }
 {
     let of = dictionary_type(alloc)?;
     encoded(alloc, &of, value)
@@ -108,12 +115,13 @@ fn dictionary_bytes(alloc: Global, value: &GvValue) -> Result<Blob, BuildError>
 /// The bytes of a value of a type.
 fn encoded(alloc: Global, of: &GvType, value: &GvValue) -> Result<Blob, BuildError>
     ensures says { IfOk result (λ bytes. tree_at (shape_of of.now) bytes ≡ plain value.now) }
-    ensures error { IfErr result IsWantOfRoom }
+    ensures error { IfErr result (IsWantOfRoom (HasNoBytes (shape_of of.now) (plain value.now))) }
 {
     match encode(alloc, of, value) {
         Ok(bytes) => Ok(bytes),
         Err(EncodeError::NoMemory) => Err(BuildError::NoMemory),
-        Err(_) => Err(BuildError::TooLarge),
+        Err(EncodeError::NotOfType) => Err(BuildError::TooLarge),
+        Err(EncodeError::TooLong) => Err(BuildError::TooLarge),
     }
 }
 
@@ -181,10 +189,10 @@ fn texts_type(alloc: Global) -> Result<GvType, AllocError>
 /// The bytes of an object; it is too large where no bytes read as it.
 fn object_bytes(bytes: Result<Blob, ObjectError>) -> Result<Blob, BuildError>
     ensures bytes { IfOk result (λ b. bytes ≡ Ok b) }
-    ensures error { IfErr result IsWantOfRoom }
+    ensures error { IfErr result (IsWantOfRoom (IsRefused bytes)) }
 {
     match bytes {
-        Ok(bytes) => Ok(bytes),
+        Ok(written) => Ok(written),
         Err(ObjectError::Malformed(_)) => Err(BuildError::TooLarge),
         Err(ObjectError::NoMemory) => Err(BuildError::NoMemory),
     }

@@ -1,6 +1,7 @@
 -- Why rows make no commit, and which line that is.
 use Rattle.std.proofs.Common.{◌≡◌, ℕ, ◌+◌, ◌≤◌, Bool, true, false, List, [], ◌∷◌, ◌++◌, length, Some, None, Option, Ok, Err, Result, sym, ap, subst, arith, length-append}
-use Rattle.std.specs.Prelude.{if◌then◌else◌}
+use Rattle.std.specs.Prelude.{if◌then◌else◌, IfErr}
+use Rattle.std.specs.Result.{IsErrAnd}
 use Rattle.ost_commit.specs.declared.row.TreeRow.{TreeRow}
 use Rattle.ost_commit.specs.Rows.{says, row_path}
 use Rattle.ost_commit.specs.declared.built.BuildError.{BuildError}
@@ -10,7 +11,9 @@ use Rattle.ost_commit.specs.Refusals.{is_taken, new_names, refused_remainder, fi
 use Rattle.ost_description.specs.declared.description.Description.{Description}
 use Rattle.ost_description.specs.declared.description.DescriptionError.{DescriptionError}
 use Rattle.ost_description.specs.Descriptions.{checked_description}
-use Rattle.ost_description.specs.Commits.{IsFaultOf}
+use Rattle.fp_name.specs.Refs.{Ref}
+use Rattle.ost_description.specs.declared.description.DescriptionError.TheVariants as error
+use Rattle.ost_description.specs.Commits.{IsFaultOf, IsDescriptionFault, IsReadFault}
 
 step : (b : Bool) (o : Option ℕ) (k n m : ℕ) → (o ≡ Some n → n ≤ m) → k ≤ m → (if b then o else Some k) ≡ Some n → n ≤ m
 step true o k n m ih h e = ih e
@@ -38,15 +41,27 @@ whole d e = ap (checked_description d None) e
 
 -- ---- why there is no commit
 
-pub in_front : (d : Description) (unformed : Option ℕ) (reason : DescriptionError) → first_refused d.rows ≡ None → IsFaultOf (checked_description d unformed None) reason → IsFaultOf (checked_description d unformed (first_refused d.rows)) reason
-in_front d unformed reason e h = subst (λ (o : Option ℕ). IsFaultOf (checked_description d unformed o) reason) (sym e) h
+pub in_front : (r : Ref) (d : Description) (unformed : Option ℕ) (reason : DescriptionError) → first_refused d.rows ≡ None → IsFaultOf r (checked_description d unformed None) reason → IsFaultOf r (checked_description d unformed (first_refused d.rows)) reason
+in_front r d unformed reason e h = subst (λ (o : Option ℕ). IsFaultOf r (checked_description d unformed o) reason) (sym e) h
 
-pub as_read : (read : Result Description ℕ) (other : Result Description ℕ) (reason : DescriptionError) → read ≡ other → IsFaultOf other reason → IsFaultOf read reason
-as_read read other reason e h = subst (λ (r : Result Description ℕ). IsFaultOf r reason) (sym e) h
+pub as_read : (r : Ref) (read : Result Description ℕ) (other : Result Description ℕ) (reason : DescriptionError) → read ≡ other → IsFaultOf r other reason → IsFaultOf r read reason
+as_read r read other reason e h = subst (λ (d : Result Description ℕ). IsFaultOf r d reason) (sym e) h
 
-pub fault_of : (rows rs : List TreeRow) (reason : BuildError) → rows ≡ rs → IsBuildFault rows reason → IsBuildFault rs reason
-fault_of rows rs reason e f = subst (λ (l : List TreeRow). IsBuildFault l reason) e f
+-- what isn't read is a fault
+pub fault_of_reading : (r : Ref) (bytes : List ℕ) (reason : DescriptionError) → IsReadFault bytes reason → IsDescriptionFault r bytes reason
+fault_of_reading r bytes (error.Record number) h = h
+fault_of_reading r bytes error.Collision h = absurd h
+fault_of_reading r bytes error.TooLarge h = absurd h
+fault_of_reading r bytes error.NoMemory h = tt
+
+-- where that is handed on
+pub read_fault : {A : Type 0} (result : Result A DescriptionError) (reason : DescriptionError) (r : Ref) (bytes : List ℕ) → IsErrAnd result (λ e. e ≡ reason) → IsReadFault bytes reason → IfErr result (IsDescriptionFault r bytes)
+read_fault (Ok a) reason r bytes is h = absurd is
+read_fault (Err e) reason r bytes is h = subst (IsDescriptionFault r bytes) (sym is) (fault_of_reading r bytes reason h)
+
+pub fault_of : (rows rs : List TreeRow) (r : Ref) (text subject : List ℕ) (timestamp : ℕ) (reason : BuildError) → rows ≡ rs → text ≡ subject → IsBuildFault rows r text timestamp reason → IsBuildFault rs r subject timestamp reason
+fault_of rows rs r text subject timestamp reason e s f = subst (λ (l : List TreeRow). IsBuildFault l r subject timestamp reason) e (subst (λ (t : List ℕ). IsBuildFault rows r t timestamp reason) s f)
 
 -- a row that is refused is one of the rows
-pub number_within : (rs : List TreeRow) (reason : BuildError) (n : ℕ) → IsBuildFault rs reason → reason ≡ errors.Row n → n ≤ length rs
-number_within rs reason n f is = refused_among rs n (subst (IsBuildFault rs) is f)
+pub number_within : (rs : List TreeRow) (r : Ref) (subject : List ℕ) (timestamp : ℕ) (reason : BuildError) (n : ℕ) → IsBuildFault rs r subject timestamp reason → reason ≡ errors.Row n → n ≤ length rs
+number_within rs r subject timestamp reason n f is = refused_among rs n (subst (IsBuildFault rs r subject timestamp) is f)

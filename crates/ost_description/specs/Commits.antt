@@ -3,7 +3,9 @@ use Rattle.std.specs.Prelude.{◌≡◌, ℕ, List, Result, Ok, Err}
 use Rattle.fp_name.specs.Refs.{Ref}
 use Rattle.ost_commit.specs.declared.built.Built.{Built}
 use Rattle.ost_commit.specs.Built.{BuiltCommit}
+use Rattle.ost_commit.specs.Rows.{says}
 use Rattle.ost_commit.specs.Tables.{Collide}
+use Rattle.ost_commit.specs.Sizes.{IsTooLarge}
 use Rattle.ost_description.specs.declared.description.Description.{Description}
 use Rattle.ost_description.specs.declared.description.DescriptionError.{DescriptionError}
 use Rattle.ost_description.specs.declared.description.DescriptionError.TheVariants as error
@@ -20,13 +22,27 @@ pub record IsRead (read : Result Description ℕ) : Type 0 where
   pub description : Description
   pub is : read ≡ Ok description
 
+-- one whose commit, bound to the ref, is too large
+pub record IsReadTooLarge (r : Ref) (read : Result Description ℕ) : Type 0 where
+  pub description : Description
+  pub is : read ≡ Ok description
+  pub large : IsTooLarge description.rows (says description.rows) r description.subject
+      description.timestamp
+
 -- why there is no commit of what was read
-abbrev pub IsFaultOf : Result Description ℕ → DescriptionError → Type 0
-IsFaultOf read (error.Record number) = read ≡ Err number
-IsFaultOf read error.Collision = IsRead read × Collide
-IsFaultOf read error.TooLarge = IsRead read
-IsFaultOf read error.NoMemory = Unit {0}
+abbrev pub IsFaultOf : Ref → Result Description ℕ → DescriptionError → Type 0
+IsFaultOf r read (error.Record number) = read ≡ Err number
+IsFaultOf r read error.Collision = IsRead read × Collide
+IsFaultOf r read error.TooLarge = IsReadTooLarge r read
+IsFaultOf r read error.NoMemory = Unit {0}
 
 -- or of what the bytes describe
-abbrev pub IsDescriptionFault : List ℕ → DescriptionError → Type 0
-IsDescriptionFault bytes e = IsFaultOf (described bytes) e
+abbrev pub IsDescriptionFault : Ref → List ℕ → DescriptionError → Type 0
+IsDescriptionFault r bytes e = IsFaultOf r (described bytes) e
+
+-- why the bytes describe nothing
+abbrev pub IsReadFault : List ℕ → DescriptionError → Type 0
+IsReadFault bytes (error.Record number) = described bytes ≡ Err number
+IsReadFault bytes error.Collision = ⊥
+IsReadFault bytes error.TooLarge = ⊥
+IsReadFault bytes error.NoMemory = Unit {0}

@@ -1,6 +1,7 @@
 //! Commits of descriptions.
 
 ghost use Rattle.std.specs.Prelude.{◌≡◌, ◌<◌, ◌+◌, ◌^◌, ℕ, None, IfOk, IfErr};
+ghost use Rattle.fp_name.specs.Refs.{Ref};
 ghost use Rattle.ost_commit.specs.declared.built.BuildError.TheVariants as errors;
 ghost use Rattle.ost_commit.specs.Built.{IsBuildFault};
 ghost use Rattle.ost_commit.specs.Refusals.{first_refused};
@@ -33,7 +34,8 @@ pub fn commit_description(
     // The bytes describe a tree, and this is its commit.
     ensures built { IfOk result (IsDescribed bytes.now name.now) }
     // `Record` comes exactly with the first bad line, unless memory ran out.
-    ensures error { IfErr result (IsDescriptionFault bytes.now) }
+    // `TooLarge` and `Collision` come only with their causes.
+    ensures error { IfErr result (IsDescriptionFault name.now bytes.now) }
 {
     let draft = draft_of(alloc, bytes)?;
     let tree = &draft.description;
@@ -51,8 +53,8 @@ pub fn commit_description(
 /// row, if there is one, stands after them.
 fn refusal(error: BuildError, unformed: Option<u64>) -> DescriptionError
     requires small { (number : ℕ) → error ≡ errors.Row number → number + 2 < 2 ^ 64 }
-    ensures { (d : Description) → IsBuildFault d.rows error
-        → IsFaultOf (checked_description d unformed (first_refused d.rows)) result }
+    ensures { (d : Description) (r : Ref) → IsBuildFault d.rows r d.subject d.timestamp error
+        → IsFaultOf r (checked_description d unformed (first_refused d.rows)) result }
 {
     match error {
         BuildError::Row(number) => DescriptionError::Record(number + 2),
@@ -64,8 +66,8 @@ fn refusal(error: BuildError, unformed: Option<u64>) -> DescriptionError
 
 /// The line that isn't formed as a row, or else this reason.
 fn unformed_or(unformed: Option<u64>, reason: DescriptionError) -> DescriptionError
-    ensures { (d : Description) → IsFaultOf (checked_description d None None) reason
-        → IsFaultOf (checked_description d unformed None) result }
+    ensures { (d : Description) (r : Ref) → IsFaultOf r (checked_description d None None) reason
+        → IsFaultOf r (checked_description d unformed None) result }
 {
     match unformed {
         Some(number) => DescriptionError::Record(number),

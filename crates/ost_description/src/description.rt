@@ -27,8 +27,7 @@ pub enum DescriptionError {
     Record(u64),
     /// Two different objects have one digest.
     Collision,
-    /// An object would have more than 16 MiB, or the commit more than 200,000 objects, repeats
-    /// counted.
+    /// No bytes, of at most 16 MiB, are the dirtree of a directory, or the commit.
     TooLarge,
     /// Memory ran out.
     NoMemory,

@@ -3,7 +3,7 @@
 ghost use Rattle.std.specs.Prelude.{◌≡◌, ◌<◌, ◌≤◌, ◌+◌, ◌^◌, ◌==◌, if◌then◌else◌, length, Some, None, IfOk, IfErr, IfSome};
 ghost use Rattle.ost_commit.specs.Refusals.{first_refused};
 ghost use Rattle.fp_base.specs.Steps.{Gives};
-ghost use Rattle.ost_description.specs.Commits.{IsDescriptionFault};
+ghost use Rattle.ost_description.specs.Commits.{IsReadFault};
 ghost use Rattle.ost_description.specs.Descriptions.{said_after, timestamp_in, subject_in, folder_in, file_in, link_in, row_in, pieces, first_by, rows_in, unformed_in, checked_description, with_rows, described};
 
 use crate::description::{Description, DescriptionError};
@@ -122,7 +122,7 @@ fn read_heading(bytes: &[u8]) -> Result<Heading, DescriptionError>
     ensures reads { IfOk result (λ h. described bytes.now
         ≡ with_rows h.timestamp h.subject.now (pieces h.rest.now)) }
     ensures shorter { IfOk result (λ h. length h.rest.now < length bytes.now) }
-    ensures bad { IfErr result (IsDescriptionFault bytes.now) }
+    ensures bad { IfErr result (IsReadFault bytes.now) }
 {
     let Some((timestamp, rest)) = timestamp_line(bytes) else {
         return Err(DescriptionError::Record(1));
@@ -211,7 +211,7 @@ pub(crate) fn draft_of(alloc: Global, bytes: &[u8]) -> Result<Draft, Description
     ensures reads { IfOk result (λ d. described bytes.now
         ≡ checked_description d.description d.unformed (first_refused d.description.rows)) }
     ensures few { IfOk result (λ d. length d.description.rows < length bytes.now) }
-    ensures bad { IfErr result (IsDescriptionFault bytes.now) }
+    ensures bad { IfErr result (IsReadFault bytes.now) }
 {
     let heading = read_heading(bytes)?;
     let subject = Text::from_str(alloc, heading.subject)?;

@@ -14,7 +14,7 @@ returns-in-Some-clause-adds c =
 pub returns-in-Some-clause-error : goal.returns-in-Some-clause-error
 returns-in-Some-clause-error c =
     let by : object_by c.args.row.now ≡ Some c.in-Some.object = sym c.in_ok-object.ensures ∙ c.in-Some.is in
-    IfErr-weaker c.put.result _ _ (λ e h. fault_of_put kinds.File c.args.contents.now.entries c.args.digest c.in-Some.object e c.requires.usable (row_good c.args.row.now c.args.digest c.in-Some.object c.requires.good c.requires.digest by) h) c.put.ensures.error
+    IfErr-weaker c.put.result _ _ (λ e h. fault_of_put ⊥ kinds.File c.args.contents.now.entries c.args.digest c.in-Some.object e c.requires.usable (row_good c.args.row.now c.args.digest c.in-Some.object c.requires.good c.requires.digest by) h) c.put.ensures.error
 
 pub returns-in-None-clause-adds : goal.returns-in-None-clause-adds
 returns-in-None-clause-adds c before held = contents_same before c.args.row.now c.args.contents.now.entries held (sym c.in_ok-object.ensures ∙ c.in-None.is)

@@ -8,6 +8,7 @@ use Rattle.ost_commit.specs.Digests.{AreDigests}
 use Rattle.ost_commit.specs.Folders.{At, Gathers}
 use Rattle.ost_commit.specs.Tables.{AreUsable}
 use Rattle.ost_commit.specs.Trees.{done_at, IsWritten}
+use Rattle.ost_commit.proofs.Weights.{HasRoom}
 use Rattle.ost_commit.proofs.directories.dirtrees_of.Given as goal
 
 abbrev pub invariant-loop-folder : goal.invariant-loop-folder
@@ -16,6 +17,7 @@ invariant-loop-folder l = record {
   few : length l.folders.items ≤ length l.fn.folders.items;
   long : length l.done.items ≡ length l.fn.folders.items;
   usable : AreUsable kinds.DirTree l.trees.entries;
+  room : HasRoom l.fn.folders.items l.done.items (length l.folders.items);
   written : (rows : List TreeRow) (said : Elements → Said) → Gathers rows said l.fn.folders.items → AreDigests rows l.contents
       → (i : ℕ) (f : Folder) → At l.fn.folders.items i f → length l.folders.items ≤ i → IsWritten rows said l.contents l.meta l.trees.entries f.path (done_at l.done.items i);
 }

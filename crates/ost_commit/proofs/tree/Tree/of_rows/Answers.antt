@@ -21,6 +21,8 @@ loop-at-init c = record {
   gathers = c.in_ok-tree.ensures.gathers c.args.rows.now;
   refused = ap (λ n. refused_remainder [] n c.args.rows.now) c.in_ok-tree.ensures.names;
   few = let none = c.in_ok-tree.ensures.names in omega (arith, none);
+  counted = let alone = c.in_ok-tree.ensures.alone in omega (arith, alone);
+  folders = let one = c.in_ok-tree.ensures.one in omega (arith, one);
 }
 
 pub returns-then-not-branch-clause-refused : goal.returns-then-not-branch-clause-refused
@@ -49,4 +51,6 @@ loop-at-preserved c =
           (next_row (take i rows) (drop (i + 1) rows) r c.loop-at.tree.names c.take.new.self.names (first_refused rows) taken (takes.names c.if-not-branch.false)
           (sym (ap (refused_remainder (take i rows) c.loop-at.tree.names) (rest_at rows i r low c.index-rows-at.is)) ∙ c.loop-at.invariant.refused));
       few = let few = few_taken (says (take i rows)) c.loop-at.tree.names r taken in let names = takes.names c.if-not-branch.false in omega (arith, few, names);
+      counted = let counts = (takes.counts c.if-not-branch.false).names in let before = c.loop-at.invariant.counted in omega (arith, counts, before);
+      folders = let counts = (takes.counts c.if-not-branch.false).folders in let before = c.loop-at.invariant.folders in omega (arith, counts, before);
     }
