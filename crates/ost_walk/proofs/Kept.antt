@@ -110,14 +110,14 @@ none_put es = record { keyed = λ k. k; each = λ k q. (λ has. inr has, λ eith
 
 -- ---- commit after commit
 
-in_places : (ps : List Place) (o : Object) → Contains (map place_name ps) o → (p : Place) × In ps p × (o ≡ place_name p)
+pub in_places : (ps : List Place) (o : Object) → Contains (map place_name ps) o → (p : Place) × In ps p × (o ≡ place_name p)
 in_places [] o has = absurd (in_none o has)
 in_places (p ∷ ps) o has = elim (in_cases (place_name p) (map place_name ps) o has) [
   | inl is ↦ (p, inl refl, is)
   | inr later ↦ let q = in_places ps o later in (q.0, inr q.1, q.2)
 ]
 
-from_places : (ps : List Place) (p : Place) → In ps p → Contains (map place_name ps) (place_name p)
+pub from_places : (ps : List Place) (p : Place) → In ps p → Contains (map place_name ps) (place_name p)
 from_places [] p is = absurd is
 from_places (q ∷ ps) p (inl same) = subst (λ (r : Place). Contains (place_name q ∷ map place_name ps) (place_name r)) same (in_first (place_name q) (map place_name ps))
 from_places (q ∷ ps) p (inr later) = in_rest (place_name q) (map place_name ps) (place_name p) (from_places ps p later)
@@ -126,7 +126,7 @@ or_twice : {A : Type 0} (f g h : Option A) → option_or f (option_or g h) ≡ o
 or_twice None g h = refl
 or_twice (Some a) g h = refl
 
-used_append : (have : Have) (xs ys : List (List ℕ)) → used_fault have (xs ++ ys) ≡ option_or (used_fault have xs) (used_fault have ys)
+pub used_append : (have : Have) (xs ys : List (List ℕ)) → used_fault have (xs ++ ys) ≡ option_or (used_fault have xs) (used_fault have ys)
 used_append have [] ys = refl
 used_append have (x ∷ xs) ys = ap (option_or (first_walk_fault have x)) (used_append have xs ys) ∙ or_twice (first_walk_fault have x) (used_fault have xs) (used_fault have ys)
 
@@ -186,8 +186,8 @@ used_list have commits es objects used same sorted = subst (IsUsedList have comm
 
 -- ---- over a list of commits
 
-split : (commits : List (List ℕ)) (i : ℕ) (commit : List ℕ) → i < length commits → commit ≡ get_or commits i commit → commits ≡ take i commits ++ commit ∷ drop (suc i) commits
-split commits i commit low is = sym (take-append-drop i commits) ∙ ap (λ l. take i commits ++ l) (drop-cons commits i commit low ∙ ap (λ (c : List ℕ). c ∷ drop (suc i) commits) (sym is))
+pub split_at : (commits : List (List ℕ)) (i : ℕ) (commit : List ℕ) → i < length commits → commit ≡ get_or commits i commit → commits ≡ take i commits ++ commit ∷ drop (suc i) commits
+split_at commits i commit low is = sym (take-append-drop i commits) ∙ ap (λ l. take i commits ++ l) (drop-cons commits i commit low ∙ ap (λ (c : List ℕ). c ∷ drop (suc i) commits) (sym is))
 
 pub next_used : {Z : Type 0} (have : Have) (commits : List (List ℕ)) (i : ℕ) (commit : List ℕ) (es fs : List (String Z × Object)) → i < length commits → commit ≡ get_or commits i commit
     → AreUsed have (take i commits) es → PutsOrder have commit es fs → AreUsed have (take (i + 1) commits) fs
@@ -198,7 +198,7 @@ next_used have commits i commit es fs low is so_far puts =
 pub next_refused : {Z : Type 0} (have : Have) (commits : List (List ℕ)) (i : ℕ) (commit : List ℕ) (es : List (String Z × Object)) (end : WalkEnd) → i < length commits → commit ≡ get_or commits i commit
     → AreUsed have (take i commits) es → RefusesBy (IsFirst (first_walk_fault have commit)) end → RefusesBy (IsFirst (used_fault have commits)) end
 next_refused have commits i commit es end low is so_far refused =
-    subst (λ (l : List (List ℕ)). RefusesBy (IsFirst (used_fault have l)) end) (sym (split commits i commit low is)) (used_refused have (take i commits) (drop (suc i) commits) commit es end so_far refused)
+    subst (λ (l : List (List ℕ)). RefusesBy (IsFirst (used_fault have l)) end) (sym (split_at commits i commit low is)) (used_refused have (take i commits) (drop (suc i) commits) commit es end so_far refused)
 
 pub all_used : {Z : Type 0} (have : Have) (commits : List (List ℕ)) (i : ℕ) (es : List (String Z × Object)) → length commits ≡ i → AreUsed have (take i commits) es → AreUsed have commits es
 all_used have commits i es is so_far = subst (λ (l : List (List ℕ)). AreUsed have l es) (ap (λ (k : ℕ). take k commits) (sym is) ∙ take-length commits) so_far

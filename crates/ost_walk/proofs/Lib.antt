@@ -5,7 +5,7 @@ mod Checked
 mod Walked
 pub mod Quiet
 mod Followed
-mod Kept
+pub mod Kept
 mod Surveyed
 pub mod Ended
 pub mod PullEnded
