@@ -71,19 +71,19 @@ pub const TREE_PIECES: &[Piece] = &[
     Piece::Bytes(b"\x2c\xb0\0\0"),
 ];
 
-/// A dirtree of 16 MiB whose files have neither names nor digests.
+/// A dirtree of 100,000 files that have neither names nor digests.
 pub const EMPTY_FILES: &[Piece] = &[
-    Piece::Alike(b"\0\x01", 2_796_202),
-    Piece::Ends(2_796_202, 2, 4),
-    Piece::Bytes(b"\xfc\xff\xff\0"),
+    Piece::Alike(b"\0\x01", 100_000),
+    Piece::Ends(100_000, 2, 4),
+    Piece::Bytes(b"\xc0\x27\x09\0"),
 ];
 
-/// A dirmeta of 16 MiB, of user and group 0, whose extended attributes have neither names nor
+/// A dirmeta of user and group 0, with 100,000 extended attributes that have neither names nor
 /// values.
 pub const EMPTY_ATTRIBUTES: &[Piece] = &[
     Piece::Times(0, 12),
-    Piece::Alike(b"\0", 3_355_440),
-    Piece::Ends(3_355_440, 1, 4),
+    Piece::Alike(b"\0", 100_000),
+    Piece::Ends(100_000, 1, 4),
 ];
 
 fn push(rt: &impl Abort, bytes: &mut Vec<u8>, piece: &[u8]) {

@@ -477,9 +477,9 @@ fn breaks(rt: &impl Abort, alloc: Global, kind: ObjKind, pieces: &[Piece], rule:
     rule_of_bytes(rt, alloc, kind, &bytes) == Some(rule)
 }
 
-/// 16 MiB of rows without a byte of a name are refused by the first rule after `Value`.
+/// 100,000 rows without a byte of a name are refused by the first rule after `Value`.
 #[test]
-fn millions_of_empty_rows_are_refused(rt: HostRuntime) {
+fn a_hundred_thousand_empty_rows_are_refused(rt: HostRuntime) {
     let alloc = rt.alloc();
     assert!(rt; breaks(&rt, alloc, ObjKind::DirTree, EMPTY_FILES, Rule::Digest));
     assert!(rt; breaks(&rt, alloc, ObjKind::DirMeta, EMPTY_ATTRIBUTES, Rule::Xattrs));

@@ -10,4 +10,4 @@ pub returns-in-Longer-clause-tells : goal.returns-in-Longer-clause-tells
 returns-in-Longer-clause-tells g content is = longer_answer g.args.name.now g.args.commit.now g.args.timestamp content g.in-Longer.size (sym g.in-Longer.is ∙ is) ∙ ap (λ (r : Refusal). Err r) (sym g.refuse_longer.ensures)
 
 pub returns-in_ok-refuse_absent-in-Nothing-clause-tells : goal.returns-in_ok-refuse_absent-in-Nothing-clause-tells
-returns-in_ok-refuse_absent-in-Nothing-clause-tells g content is = nothing_answer g.args.name.now g.args.commit.now g.args.timestamp content (sym g.in-Nothing.is ∙ is) ∙ ap (λ (r : Refusal). Err r) (sym g.in_ok-refuse_absent.ensures)
+returns-in_ok-refuse_absent-in-Nothing-clause-tells g content is = nothing_answer g.args.name.now g.args.commit.now g.args.timestamp content (sym g.in-Nothing.is ∙ is) ∙ ap (λ (r : Refusal). Err r) (sym g.in_ok-refuse_absent-in-Nothing.ensures)
