@@ -1,5 +1,5 @@
 -- Why rows make no commit, and which line that is.
-use Rattle.std.proofs.Common.{◌≡◌, ℕ, ◌+◌, ◌≤◌, Bool, true, false, List, [], ◌∷◌, ◌++◌, length, Some, None, Option, Ok, Err, Result, sym, ap, subst, arith, length-append}
+use Rattle.std.proofs.Common.{◌≡◌, ℕ, ◌+◌, ◌≤◌, Bool, true, false, List, [], ◌∷◌, ◌++◌, length, Some, None, Option, Ok, Err, Result, refl, sym, ap, subst, arith, length-append}
 use Rattle.std.specs.Prelude.{if◌then◌else◌, IfErr}
 use Rattle.std.specs.Result.{IsErrAnd}
 use Rattle.ost_commit.specs.declared.row.TreeRow.{TreeRow}
@@ -46,6 +46,14 @@ in_front r d unformed reason e h = subst (λ (o : Option ℕ). IsFaultOf r (chec
 
 pub as_read : (r : Ref) (read : Result Description ℕ) (other : Result Description ℕ) (reason : DescriptionError) → read ≡ other → IsFaultOf r other reason → IsFaultOf r read reason
 as_read r read other reason e h = subst (λ (d : Result Description ℕ). IsFaultOf r d reason) (sym e) h
+
+-- two objects have one digest, or a line isn't formed as a row
+pub collided : (r : Ref) (d : Description) (unformed : Option ℕ) (why : BuildError) (reason : DescriptionError) → why ≡ errors.Collision → IsBuildFault d.rows r d.subject d.timestamp why
+    → (IsFaultOf r (checked_description d None None) error.Collision → IsFaultOf r (checked_description d unformed None) reason)
+    → IsFaultOf r (checked_description d unformed (first_refused d.rows)) reason
+collided r d unformed why reason is fault on =
+    let both = subst (IsBuildFault d.rows r d.subject d.timestamp) is fault in
+    in_front r d unformed reason both.0 (on (record { description = d; is = refl }, both.1))
 
 -- what isn't read is a fault
 pub fault_of_reading : (r : Ref) (bytes : List ℕ) (reason : DescriptionError) → IsReadFault bytes reason → IsDescriptionFault r bytes reason
