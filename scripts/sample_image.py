@@ -150,19 +150,20 @@ class Objects:
         define(name, "Stored", "record {\n" + "".join(f"  {field};\n" for field in fields) + "}", comment)
 
 
-HEAD = """-- The objects of a small installation and of its remote, as the `ostree` command made them
--- (`scripts/sample_image.py`), and the records of its kept commits.
+HEAD = """-- The objects of the sample installation and of its remote, as made by the `ostree` command
+-- (`scripts/sample_image.py`), and the records of its deployed and previous commits.
 use Rattle.std.specs.Prelude.{ℕ, List, [], ◌∷◌, codes}
 use Rattle.fp_base.specs.declared.object.ObjKind.{ObjKind}
 use Rattle.fp_base.specs.declared.object.ObjKind.TheVariants as kinds
 use Rattle.fp_host.specs.Outcome.{Spot, holds, points}
 
--- an object of a store: its digest and its kind, and what stands at its name
+-- An object of a store: its digest, its kind, and the node at its path
 pub record Stored : Type 0 where
   pub digest : List ℕ
   pub kind : ObjKind
-  -- the first two digits of its digest, and its name in the folder that they name
+  -- The first two digits of the digest, which name the object's directory
   pub front : List ℕ
+  -- The object's name in its directory
   pub name : List ℕ
   pub spot : Spot
 """
@@ -181,21 +182,24 @@ def main():
             digests[name] = commit(repo, work / name, ref, time)
         for name, ref, tree, time in COMMITS:
             print(f"\n-- ---- {ref} at time {time}")
-            objects.tell(f"{name}_commit", digests[name], "commit", "the commit")
-            define(f"{name}_text", "List ℕ", f'codes "{digests[name]}"', "its digest's digits")
+            of = f"`{ref}` at time {time}"
+            objects.tell(f"{name}_commit", digests[name], "commit", f"The commit of {of}")
+            define(f"{name}_text", "List ℕ", f'codes "{digests[name]}"', f"The digest of the commit of {of}, in hexadecimal")
             for path, found in listed(repo, digests[name]):
-                place = f"{name}_{PLACES[path]}" if PLACES[path] in OWN or ref != APP else PLACES[path]
+                is_own = PLACES[path] in OWN or ref != APP
+                place = f"{name}_{PLACES[path]}" if is_own else PLACES[path]
+                owner = of if is_own else "the application's commits"
                 if len(found) == 2:
-                    objects.tell(place, found[0], "dirtree", f"the directory {path}")
-                    objects.tell("dir_mode", found[1], "dirmeta", "of the mode 040755")
+                    objects.tell(place, found[0], "dirtree", f"The dirtree of the directory `{path}` of {owner}")
+                    objects.tell("dir_mode", found[1], "dirmeta", "The dirmeta of all directories, with the mode 040755")
                 else:
-                    objects.tell(place, found[0], "file", f"the file {path}")
+                    objects.tell(place, found[0], "file", f"The file `{path}` of {owner}")
         print("\n-- ---- the records of kept commits")
         back = (digests["old"], 1)
-        define("app_record", "List ℕ", numbers(record(digests["app"], 2, back), 4), "with the commit of before")
-        define("old_record", "List ℕ", numbers(record(digests["old"], 1), 4), "as it was first installed")
-        define("locale_record", "List ℕ", numbers(record(digests["locale"], 1), 4), "of the extension")
-        define("platform_record", "List ℕ", numbers(record(digests["platform"], 1), 4), "of the runtime")
+        define("app_record", "List ℕ", numbers(record(digests["app"], 2, back), 4), "The record of the application's deployed commit, with the previous commit")
+        define("old_record", "List ℕ", numbers(record(digests["old"], 1), 4), "The record of the application's previous commit, as it was written at the install")
+        define("locale_record", "List ℕ", numbers(record(digests["locale"], 1), 4), "The record of the extension's commit")
+        define("platform_record", "List ℕ", numbers(record(digests["platform"], 1), 4), "The record of the runtime's commit")
 
 
 if __name__ == "__main__":

@@ -1,4 +1,4 @@
--- The fields of a header, after the D-Bus specification's "Message Protocol", "Header Fields".
+-- The header fields (D-Bus specification, "Message Protocol", "Header Fields").
 use Rattle.std.specs.Prelude.{◌≡◌, ℕ, zero, suc, ◌-◌, Bool, true, false, ◌||◌, ◌==◌, not, if◌then◌else◌, List, length, Option, Some, None, is_some, option_map, Result, Ok, Err}
 use Rattle.bus_frame.specs.declared.limits.TheConstants.{MOST_CONTAINERS, MOST_ARRAYS, MOST_STRUCTS}
 use Rattle.fp_base.specs.declared.frame_rule.FrameRule.{FrameRule}
@@ -16,26 +16,29 @@ use Rattle.fp_base.specs.Steps.{◌>>=◌}
 use Rattle.bus_frame.specs.Places.{Place, byte_at, aligned_at, number_at, long_text_at, short_text_at}
 use Rattle.bus_frame.specs.Values.{value_at, variant_type_at}
 
--- what a field says: a text of the type s, o or g, by the code of the type; a number of the type u;
--- or a value of another type
+-- The value of a header field: a string, with its type's code for s, o or g before it; a number of
+-- the type u; or a value of another type
 pub data Content : Type 0 where
   word : ℕ → List ℕ → Content
   number : ℕ → Content
   other : Content
 
+-- A header field with any code
 pub record Field : Type 0 where
   pub code : ℕ
   pub content : Content
 
+-- The value of a field that the code read
 abbrev pub content_of : RawContent → Content
 content_of (raw.Word code text) = word code text.now
 content_of (raw.Number n) = number n
 content_of raw.Other = other
 
+-- The field that the code read
 abbrev pub field_of : RawField → Field
 field_of f = record { code = f.code; content = content_of f.content }
 
--- The variant of a field is the first of the 64 containers.
+-- Reads the value of a field by its type. The field's variant is the first of the 64 containers.
 unfoldable pub content_at : Bool → List ℕ → Place → Option (Content × Place)
 content_at little types p = do
   code ← first_of types
@@ -46,7 +49,7 @@ content_at little types p = do
       else option_map (λ r. (other, r.1))
       (value_at little (MOST_CONTAINERS - 1) MOST_ARRAYS MOST_STRUCTS types p)))
 
--- a code and a variant, at a multiple of 8
+-- Reads a field: a code and a variant, at a multiple of 8
 unfoldable pub field_at : Bool → Place → Option (Field × Place)
 field_at little p = do
   q ← aligned_at 8 p
@@ -55,7 +58,7 @@ field_at little p = do
   content ← content_at little types.0 types.1
   Some (record { code = code.0; content = content.0 }, content.1)
 
--- the known fields
+-- The header fields with the codes 1 to 9
 pub record Known : Type 0 where
   pub path : Option (List ℕ)
   pub interface : Option (List ℕ)
@@ -67,6 +70,7 @@ pub record Known : Type 0 where
   pub signature : Option (List ℕ)
   pub unix_fds : Option ℕ
 
+-- The known fields that the code read
 abbrev pub known_of : RawKnown → Known
 known_of k = record {
   path = option_map (λ t. t.now) k.path;
@@ -80,6 +84,7 @@ known_of k = record {
   unix_fds = k.unix_fds;
 }
 
+-- No known field
 abbrev pub none_known : Known
 none_known = record {
   path = None;
@@ -93,13 +98,14 @@ none_known = record {
   unix_fds = None;
 }
 
+-- Runs the second step on the value of the first; the rule if the first one broke a rule
 infixl 10 ◌>=>◌
 abbrev pub ◌>=>◌ : {A B : Type 0} → Result A FrameRule → (A → Result B FrameRule)
     → Result B FrameRule
 (Ok x) >=> f = f x
 (Err rule) >=> f = Err rule
 
--- which texts a field may have
+-- Tests whether a string follows a grammar
 abbrev pub good_text : Grammar → List ℕ → Bool
 good_text grammar.Path = is_path
 good_text grammar.Interface = is_interface
@@ -107,25 +113,25 @@ good_text grammar.Member = is_member
 good_text grammar.Bus = is_bus
 good_text grammar.Signature = is_signature
 
--- the text of a field of this type, which is to be good
+-- The string of a field, which has this type and is `good`
 abbrev pub word_in : ℕ → (List ℕ → Bool) → Content → Result (List ℕ) FrameRule
 word_in type good (word code text) =
     if code == type then (if good text then Ok text else Err Value) else Err Kind
 word_in type good (number n) = Err Kind
 word_in type good other = Err Kind
 
--- a number, which may be 0 or may not
+-- The number of a field; it may be 0 only if `zero_too` is true
 abbrev pub number_in : Bool → Content → Result ℕ FrameRule
 number_in zero_too (word code text) = Err Kind
 number_in zero_too (number n) = if zero_too || not (n == 0) then Ok n else Err Value
 number_in zero_too other = Err Kind
 
--- a known field comes once
+-- The new value of a known field, or `Double` if the field occurred before
 abbrev pub once : {A : Type 0} → Option A → Result A FrameRule → Result (Option A) FrameRule
 once (Some before) new = Err Double
 once None new = new >=> λ x. Ok (Some x)
 
--- the known fields with one more field, or the first rule that it breaks
+-- Adds a field to the known ones, or returns the first rule that the field breaks
 unfoldable pub add_field : Known → Field → Result Known FrameRule
 add_field k f =
     if f.code == 0 then Err Code
@@ -152,13 +158,13 @@ add_field k f =
     >=> λ x. Ok (record k { unix_fds = x }))
     else Ok k)))))))))
 
--- what is there, or else the rule that is broken
+-- The value, or the rule if there is none
 abbrev pub or_rule : {A : Type 0} → FrameRule → Option A → Result A FrameRule
 or_rule rule (Some x) = Ok x
 or_rule rule None = Err rule
 
--- Fields up to the last byte: the known ones, or the first rule that is broken. Each field has at
--- least one byte.
+-- Reads fields up to the last byte: the known ones, or the first rule that is broken. Each field
+-- has at least one byte, so the number of bytes bounds the steps.
 unfoldable pub fields_at : Bool → ℕ → Known → Place → Result Known FrameRule
 fields_at little zero k p = if length p.rest == 0 then Ok k else Err Fields
 fields_at little (suc n) k p =

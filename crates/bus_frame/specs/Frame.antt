@@ -1,5 +1,4 @@
--- What a message is, and which rule bytes break first: the D-Bus specification's "Message
--- Protocol".
+-- Messages, and the first rule that bytes break (D-Bus specification, "Message Protocol").
 use Rattle.std.specs.Prelude.{◌≡◌, ◌≢◌, ◌⊎◌, ℕ, ◌+◌, ◌≤◌, Bool, true, false, ◌||◌, ◌&&◌, ◌==◌, not, nat_lt, if◌then◌else◌, List, [], ◌∷◌, ◌++◌, length, take, drop, Option, Some, None, is_some, option_map}
 use Rattle.std.specs.List.{list_all}
 use Rattle.fp_base.specs.declared.frame_rule.FrameRule.{FrameRule}
@@ -17,26 +16,27 @@ use Rattle.bus_frame.specs.Grammar.{IsField, AreFields}
 
 -- ---- the known fields
 
--- what the field with a code says, where it is there
+-- The value of the first field with a code, if there is one
 abbrev pub given : ℕ → List Field → Option Content
 given code [] = None
 given code (f ∷ fs) = if f.code == code then Some f.content else given code fs
 
--- the type of a known field with a text, by the codes of both: PATH o, SIGNATURE g, others s
+-- The code of the type that a known field with a string has: o for PATH (1), g for SIGNATURE (8), s
+-- for the others
 abbrev pub word_type : ℕ → ℕ
 word_type code = if code == 1 then 111 else (if code == 8 then 103 else 115)
 
--- REPLY_SERIAL and UNIX_FDS are numbers of the type u
+-- Tests whether a known field is a number of the type u: REPLY_SERIAL (5) and UNIX_FDS (9)
 abbrev pub is_number_field : ℕ → Bool
 is_number_field code = code == 5 || code == 9
 
--- whether a known field has its type
+-- Tests whether a value has the type of the known field with this code
 abbrev pub is_kind : ℕ → Content → Bool
 is_kind code (word type text) = not (is_number_field code) && type == word_type code
 is_kind code (number n) = is_number_field code
 is_kind code other = false
 
--- what a known text is held to
+-- The grammar of the string of a known field
 abbrev pub known_grammar : ℕ → Grammar
 known_grammar code =
     if code == 1 then grammar.Path
@@ -45,13 +45,14 @@ known_grammar code =
     else (if code == 8 then grammar.Signature
     else grammar.Interface)))
 
--- a known text is as its grammar says, and a reply serial isn't 0
+-- Tests whether the value of a known field is valid: a string follows its grammar, and a reply
+-- serial isn't 0
 abbrev pub is_good : ℕ → Content → Bool
 is_good code (word type text) = not (is_number_field code) && good_text (known_grammar code) text
 is_good code (number n) = code == 9 || (code == 5 && not (n == 0))
 is_good code other = false
 
--- the first rule that a field breaks, after others
+-- The first rule that a field breaks, after the fields `before`
 abbrev pub field_fault : List Field → Field → Option FrameRule
 field_fault before f =
     if f.code == 0 then Some Code
@@ -61,12 +62,12 @@ field_fault before f =
     else (if not (is_good f.code f.content) then Some Value
     else None))))
 
--- no field breaks a rule, after others
+-- No field breaks a rule, after the fields `before`
 abbrev pub AreFine : List Field → List Field → Type 0
 AreFine before [] = Unit {0}
 AreFine before (f ∷ fs) = (field_fault before f ≡ None) × AreFine (before ++ f ∷ []) fs
 
--- the fields that messages of a type need
+-- The codes of the fields that messages of a type require
 abbrev pub needed_fields : MessageType → List ℕ
 needed_fields type.MethodCall = 1 ∷ 3 ∷ []
 needed_fields type.MethodReturn = 5 ∷ []
@@ -74,10 +75,11 @@ needed_fields type.Error = 4 ∷ 5 ∷ []
 needed_fields type.Signal = 1 ∷ 2 ∷ 3 ∷ []
 needed_fields (type.Unknown n) = []
 
+-- Tests whether the fields that messages of a type require are there
 abbrev pub has_needed : MessageType → List Field → Bool
 has_needed kind fields = list_all (λ code. is_some (given code fields)) (needed_fields kind)
 
--- whether there is a signature that isn't empty
+-- Tests whether there is a signature and it isn't empty
 abbrev pub is_typing : Option Content → Bool
 is_typing None = false
 is_typing (Some (word code text)) = not (length text == 0)
@@ -86,8 +88,8 @@ is_typing (Some other) = false
 
 -- ---- the parts of a message
 
--- bytes as long as the message that their first 16 begin: the field array, what leads to a multiple
--- of 8, and the body
+-- The bytes are as long as the message that their first 16 bytes describe: those 16, the array of
+-- header fields, the padding to a multiple of 8, and the body
 pub record HasParts (bytes array gap body : List ℕ) : Type 0 where
   pub sound : fixed_fault (fixed_of bytes) ≡ None
   pub spelled : bytes ≡ take 16 bytes ++ array ++ gap ++ body
@@ -96,7 +98,7 @@ pub record HasParts (bytes array gap body : List ℕ) : Type 0 where
   pub gap_len : length gap ≡ padding 8 (array_end (fixed_of bytes))
   pub body_len : length body ≡ (fixed_of bytes).body_len
 
--- what a header says of a known field
+-- The value of the known field with a code, as a header contains it
 abbrev pub header_says : Header → ℕ → Option Content
 header_says h code =
     if code == 1 then option_map (word 111) h.path
@@ -109,7 +111,7 @@ header_says h code =
     else (if code == 8 then option_map (word 103) h.signature
     else None)))))))
 
--- the header of a fixed part and fields
+-- `h` is the header of a message with this fixed part and these fields
 pub record IsHeader (f : Fixed) (fields : List Field) (h : Header) : Type 0 where
   pub little : h.little ≡ is_little f
   pub kind : h.kind ≡ type_of f
@@ -119,7 +121,7 @@ pub record IsHeader (f : Fixed) (fields : List Field) (h : Header) : Type 0 wher
   pub body_at : h.body_at ≡ body_start f
   pub body_len : h.body_len ≡ f.body_len
 
--- bytes that are one whole message with this header
+-- The bytes are one whole message with this header
 pub record Frame (bytes : List ℕ) (h : Header) : Type 0 where
   pub array : List ℕ
   pub gap : List ℕ
@@ -135,7 +137,8 @@ pub record Frame (bytes : List ℕ) (h : Header) : Type 0 where
 
 -- ---- the first broken rule
 
--- the fields before a place of the array are fine
+-- The fields `before` are at the start of the array of header fields and break no rule; `rest` is
+-- what follows them in the array, from the offset `at` on
 pub record FineUpTo (bytes : List ℕ) (before : List Field) (at : ℕ) (rest : List ℕ) : Type 0 where
   pub array : List ℕ
   pub gap : List ℕ
@@ -147,7 +150,7 @@ pub record FineUpTo (bytes : List ℕ) (before : List Field) (at : ℕ) (rest : 
   pub spelled : AreFields (is_little (fixed_of bytes)) 16 before front
   pub fine : AreFine [] before
 
--- the first rule after the fields
+-- The first broken rule of those that are checked after the fields
 abbrev pub rest_fault : MessageType → List Field → (gap body : List ℕ) → Option FrameRule
 rest_fault kind fields gap body =
     if not (are_zero gap) then Some Padding
@@ -155,9 +158,9 @@ rest_fault kind fields gap body =
     else (if not (length body == 0 || is_typing (given 8 fields)) then Some Body
     else None))
 
--- The rule that bytes break first: one of the fixed part, or, in bytes as long as their message,
--- that something else than a field stands at a field's place, one that a field breaks, or one after
--- the fields.
+-- The rule is the first one that the bytes break: one of the fixed part; or, in bytes as long as
+-- their message, `Fields` where something else than a field is, a rule that a field breaks, or one
+-- of those that are checked after the fields
 pub data Breaks (bytes : List ℕ) (rule : FrameRule) : Type 0 where
   fixed_part : 16 ≤ length bytes → fixed_fault (fixed_of bytes) ≡ Some rule → Breaks bytes rule
   no_field : (before : List Field) (at : ℕ) (rest : List ℕ)

@@ -1,5 +1,5 @@
--- What values and fields are, by the bytes that spell them at a place: the D-Bus specification's
--- "Marshaling" and "Message Protocol". Places are counted from the message's first byte.
+-- Values and fields, by the bytes that encode them at an offset (D-Bus specification, "Marshaling"
+-- and "Message Protocol"). Offsets are in bytes from the message's first byte.
 use Rattle.std.specs.Prelude.{◌≡◌, ◌⊎◌, ℕ, zero, suc, ◌+◌, ◌-◌, ◌^◌, ◌<◌, ◌≤◌, Bool, true, false, ◌||◌, ◌&&◌, ◌==◌, MatchBool, List, [], ◌∷◌, ◌++◌, length}
 use Rattle.std.specs.List.{concat}
 use Rattle.bus_frame.specs.declared.limits.TheConstants.{MOST_ARRAY_BYTES, MOST_CONTAINERS, MOST_ARRAYS, MOST_STRUCTS}
@@ -9,36 +9,37 @@ use Rattle.bus_frame.specs.Values.{fixed_size, alignment}
 use Rattle.bus_frame.specs.Fields.{Content, word, number, other, Field}
 use Rattle.bus_frame.specs.Writing.{zeros, number_bytes}
 
--- bytes of a number that isn't looked at
+-- The bytes are a number of any value, with its padding
 pub record IsFixed (size at : ℕ) (bytes : List ℕ) : Type 0 where
   pub digits : List ℕ
   pub some : 0 < size
   pub size_is : length digits ≡ size
   pub spelled : bytes ≡ zeros size at ++ digits
 
--- a number of 32 bits
+-- The bytes are the 32-bit number n, with its padding
 pub record IsNumber (little : Bool) (at n : ℕ) (bytes : List ℕ) : Type 0 where
   pub fits : n < 2 ^ 32
   pub spelled : bytes ≡ zeros 4 at ++ number_bytes little n
 
--- a truth value is the number 0 or 1
+-- The bytes are a truth value, which is the 32-bit number 0 or 1, with its padding
 pub record IsTruth (little : Bool) (at : ℕ) (bytes : List ℕ) : Type 0 where
   pub n : ℕ
   pub bit : n ≤ 1
   pub spelled : bytes ≡ zeros 4 at ++ number_bytes little n
 
--- a text of the type s or o, and one of the type g
+-- The bytes are a string of the type s or o, with its padding
 pub record IsLongText (little : Bool) (at : ℕ) (text bytes : List ℕ) : Type 0 where
   pub fits : length text < 2 ^ 32
   pub valid : is_text text ≡ true
   pub spelled : bytes ≡ zeros 4 at ++ number_bytes little (length text) ++ text ++ 0 ∷ []
 
+-- The bytes are a string of the type g
 pub record IsShortText (text bytes : List ℕ) : Type 0 where
   pub fits : length text < 256
   pub valid : is_text text ≡ true
   pub spelled : bytes ≡ length text ∷ text ++ 0 ∷ []
 
--- a value of a basic type
+-- The bytes are a value of the basic type with this code
 abbrev pub IsBasic : Bool → ℕ → ℕ → List ℕ → Type 0
 IsBasic little code at bytes =
     MatchBool (code == 115 || code == 111) ((text : List ℕ) × IsLongText little at text bytes)
@@ -46,18 +47,19 @@ IsBasic little code at bytes =
     (MatchBool (code == 98) (IsTruth little at bytes)
     (IsFixed (fixed_size code) at bytes)))
 
--- pieces one after another, each with P at its place
+-- P holds for each piece at its offset; the pieces follow one another
 abbrev pub AreInRow : (ℕ → List ℕ → Type 0) → ℕ → List (List ℕ) → Type 0
 AreInRow P at [] = Unit {0}
 AreInRow P at (x ∷ xs) = P at x × AreInRow P (at + length x) xs
 
--- what stands before the elements of an array: padding, their length, and the padding of the first
+-- The bytes before the elements of an array: padding, the elements' length, and the padding of the
+-- first element
 abbrev pub array_head : Bool → (align at len : ℕ) → List ℕ
 array_head little align at len =
     let count = zeros 4 at ++ number_bytes little len in
     count ++ zeros align (at + length count)
 
--- an array of at most 64 MiB
+-- The bytes are an array with at most 64 MiB of elements; P holds for each element
 pub record IsArray (little : Bool) (align : ℕ) (P : ℕ → List ℕ → Type 0) (at : ℕ)
     (bytes : List ℕ) : Type 0 where
   pub elements : List (List ℕ)
@@ -66,26 +68,27 @@ pub record IsArray (little : Bool) (align : ℕ) (P : ℕ → List ℕ → Type 
   pub each : AreInRow P (at + length (array_head little align at (length (concat elements))))
       elements
 
--- values of these types one after another
+-- The bytes are values of these types, one after another; P holds for each
 abbrev pub AreMembers : (Ty → ℕ → List ℕ → Type 0) → Tys → ℕ → List ℕ → Type 0
 AreMembers P none at bytes = bytes ≡ []
 AreMembers P (more t ts) at bytes =
     (first : List ℕ) × (rest : List ℕ) × (bytes ≡ first ++ rest) × P t at first
     × AreMembers P ts (at + length first) rest
 
--- a struct or an entry: its members from a multiple of 8 on
+-- The bytes are a struct or a dictionary entry: its members from a multiple of 8 on
 pub record IsStruct (P : Ty → ℕ → List ℕ → Type 0) (ts : Tys) (at : ℕ) (bytes : List ℕ) : Type 0
   where
     pub members : List ℕ
     pub spelled : bytes ≡ zeros 8 at ++ members
     pub each : AreMembers P ts (at + length (zeros 8 at)) members
 
--- the text of a complete type, with its length before it and a zero byte after it
+-- The bytes are a complete type, with its length before it and a zero byte after it
 pub record IsTypeText (t : Ty) (bytes : List ℕ) : Type 0 where
   pub complete : is_type false t MOST_ARRAYS MOST_STRUCTS ≡ true
   pub fits : length (type_text t) < 256
   pub spelled : bytes ≡ length (type_text t) ∷ type_text t ++ 0 ∷ []
 
+-- The bytes are a variant: a complete type and a value of this type
 pub record IsVariant (P : Ty → ℕ → List ℕ → Type 0) (at : ℕ) (bytes : List ℕ) : Type 0 where
   pub held : Ty
   pub text : List ℕ
@@ -94,6 +97,7 @@ pub record IsVariant (P : Ty → ℕ → List ℕ → Type 0) (at : ℕ) (bytes 
   pub spelled : bytes ≡ text ++ value
   pub holds : P held (at + length text) value
 
+-- The alignment of the values of a type, in bytes
 abbrev pub type_alignment : Ty → ℕ
 type_alignment (basic c) = alignment c
 type_alignment variant = 1
@@ -101,7 +105,8 @@ type_alignment (array t) = 4
 type_alignment (struct t ts) = 8
 type_alignment (entry key t) = 8
 
--- a value of a type, with room for these numbers of containers, arrays and structs
+-- The bytes are a value of a type, in which at most these numbers of containers, arrays and structs
+-- nest
 abbrev pub IsValue : Bool → (all arrays structs : ℕ) → Ty → ℕ → List ℕ → Type 0
 IsValue little all arrays structs (basic c) at bytes = IsBasic little c at bytes
 IsValue little (suc all) arrays structs variant at bytes =
@@ -114,7 +119,7 @@ IsValue little (suc all) arrays structs (entry key t) at bytes =
     IsStruct (IsValue little all arrays structs) (more (basic key) (more t none)) at bytes
 IsValue little all arrays structs t at bytes = ⊥
 
--- whether a field of this type tells a text or a number
+-- Tests whether a field of this type has a string or a number as its value
 abbrev pub is_telling : Ty → Bool
 is_telling (basic c) = c == 115 || c == 111 || c == 103 || c == 117
 is_telling variant = false
@@ -122,8 +127,8 @@ is_telling (array t) = false
 is_telling (struct t ts) = false
 is_telling (entry key t) = false
 
--- what a field with a value of this type says; the field's variant is the first of the 64
--- containers
+-- The bytes are the value of a field with this type. The field's variant is the first of the 64
+-- containers.
 abbrev pub IsContent : Bool → Ty → ℕ → Content → List ℕ → Type 0
 IsContent little t at (word code text) bytes =
     ((t ≡ basic code) × ((code ≡ 115) ⊎ (code ≡ 111)) × IsLongText little at text bytes)
@@ -133,7 +138,7 @@ IsContent little t at other bytes =
     (is_telling t ≡ false) × IsValue little (MOST_CONTAINERS - 1) MOST_ARRAYS
     MOST_STRUCTS t at bytes
 
--- a field: a code and a variant, at a multiple of 8
+-- The bytes are a field: a code and a variant, at a multiple of 8
 pub record IsField (little : Bool) (at : ℕ) (f : Field) (bytes : List ℕ) : Type 0 where
   pub held : Ty
   pub text : List ℕ
@@ -142,7 +147,7 @@ pub record IsField (little : Bool) (at : ℕ) (f : Field) (bytes : List ℕ) : T
   pub spelled : bytes ≡ (zeros 8 at ++ f.code ∷ text) ++ value
   pub says : IsContent little held (at + length (zeros 8 at ++ f.code ∷ text)) f.content value
 
--- fields one after another
+-- The bytes are fields, one after another
 abbrev pub AreFields : Bool → ℕ → List Field → List ℕ → Type 0
 AreFields little at [] bytes = bytes ≡ []
 AreFields little at (f ∷ fs) bytes =

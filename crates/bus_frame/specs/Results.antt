@@ -2,7 +2,8 @@
 use Rattle.std.specs.Prelude.{◌≡◌, Result, Ok, Err}
 use Rattle.fp_base.specs.declared.frame_rule.FrameRule.{FrameRule}
 
--- what a function returned, seen by view, is what reading gives
+-- Holds if a function's result, mapped by `view`, equals the one that a specification defines: both
+-- have equal values, or both are the same broken rule
 abbrev pub Reads : {X Y : Type 0} → (X → Y) → Result X FrameRule → Result Y FrameRule → Type 0
 Reads view (Ok x) read = read ≡ Ok (view x)
 Reads view (Err rule) read = read ≡ Err rule

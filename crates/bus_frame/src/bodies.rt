@@ -1,4 +1,4 @@
-//! The bodies that a filter reads: texts, and lists of names.
+//! Bodies that a filter reads: strings, and arrays of strings.
 
 ghost use Rattle.std.specs.Prelude.{◌≡◌, ◌↔◌, IsTrue, Some, option_map, ◌==◌, ◌+◌, length, map, is_some, IfOk, List, ℕ};
 ghost use Rattle.fp_base.specs.Steps.{Gives};
@@ -12,7 +12,7 @@ use crate::value::array_head;
 use fp_base::{Items, Text};
 use std::alloc::{AllocError, Global};
 
-/// The body of a message.
+/// Returns the body of a message, or as much of it as `message` has.
 fn body<'m>(header: &Header, message: &'m [u8]) -> Cursor<'m>
     ensures { place_of result ≡ body_place header.now message.now }
 {
@@ -47,8 +47,8 @@ fn text_at_start<'m>(header: &Header, message: &'m [u8]) -> Option<&'m str>
     Some(text)
 }
 
-/// The text at the start of the body. There is none exactly where the signature doesn't begin with
-/// `s`, or no text stands there. It takes no memory.
+/// Returns the string at the start of the body, or `None` exactly if the signature doesn't begin
+/// with `s` or the body doesn't begin with a valid string. Allocates nothing.
 pub fn first_string<'m>(header: &Header, message: &'m [u8]) -> Option<&'m str>
     ensures exact { Gives (λ t. t.now) result (first_text header.now message.now) }
     ensures text { (text : List ℕ) → (option_map (λ t. t.now) result ≡ Some text) ↔ BeginsWithText
@@ -81,8 +81,8 @@ fn texts_of_three<'m>(header: &Header, message: &'m [u8]) -> Option<(&'m str, &'
     three(header.little, body(header, message))
 }
 
-/// The three texts of the body. There are none exactly where the signature isn't `sss`, or the body
-/// isn't exactly three texts. It takes no memory.
+/// Returns the three strings of the body, or `None` exactly if the signature isn't `sss` or the
+/// body isn't exactly three valid strings. Allocates nothing.
 pub fn three_strings<'m>(header: &Header, message: &'m [u8]) -> Option<(&'m str, &'m str, &'m str)>
     ensures exact { Gives (λ t. (t.0.now, t.1.now, t.2.now)) result
         (three_texts header.now message.now) }
@@ -164,7 +164,8 @@ fn has_names(header: &Header, message: &[u8]) -> bool
     }
 }
 
-/// Whether the signature is `as` and the body is exactly one such array. It takes no memory.
+/// Returns whether the signature is `as` and the body is exactly one array of valid strings.
+/// Allocates nothing.
 pub fn is_names(header: &Header, message: &[u8]) -> bool
     ensures exact { result ≡ is_some (names_in header.now message.now) }
     ensures names { IsTrue result ↔ ((names : List (List ℕ)) × AreNames header.now message.now
@@ -190,8 +191,8 @@ fn names_of(
     }
 }
 
-/// The texts of a body that is one array of them, in order; there are none exactly where `is_names`
-/// is false.
+/// Returns the strings of a body that is one array of strings (`as`), in order, or `None` exactly
+/// if `is_names` is false. Errs only if memory runs out.
 pub fn names_body(
     alloc: Global,
     header: &Header,

@@ -1,4 +1,4 @@
-//! Places in a message and what stands there, after the D-Bus specification's "Marshaling".
+//! Positions in a message, and the reading of values there (D-Bus specification, "Marshaling").
 
 ghost use Rattle.std.specs.Prelude.{◌≡◌, ℕ, ◌+◌, ◌^◌, ◌<◌, ◌≤◌, if◌then◌else◌, length, Some, None};
 ghost use Rattle.fp_base.specs.Steps.{Gives};
@@ -7,26 +7,27 @@ use crate::steps::first_byte;
 use byteorder::{BigEndian, ByteOrder, LittleEndian};
 use std::str;
 
-/// A place in a message, counted from the message's first byte, and the bytes from there on.
+/// A position in a message, and the bytes from there on.
 #[derive(Clone, Copy)]
 pub struct Cursor<'a> {
-    /// How many bytes of the message stand before the place.
+    /// The position, in bytes from the message's first byte.
     pub at: usize,
-    /// The bytes from there on.
+    /// The bytes from the position on, up to the end of the part that is read.
     pub rest: &'a [u8],
     ghost fits: { at + length rest.now < 2 ^ 64 },
 }
 
 ghost use Rattle.bus_frame.specs.Numbers.{are_zero, number_from, is_text};
 
-/// Whether each byte is zero.
+/// Returns whether all bytes are zero.
 pub fn all_zero(bytes: &[u8]) -> bool
     ensures { result ≡ are_zero bytes.now }
 {
     bytes.iter().all(|byte| *byte == 0)
 }
 
-/// The number that the first four bytes stand for.
+/// Returns the 32-bit number that the first four bytes encode, little-endian if `little`, else
+/// big-endian.
 pub fn number(little: bool, digits: &[u8]) -> u32
     requires { 4 ≤ length digits.now }
     ensures { result ≡ number_from little digits.now }
@@ -55,7 +56,7 @@ impl<'a> Cursor<'a> {
     ghost use Rattle.fp_base.specs.Steps.{Gives};
     ghost use Rattle.bus_frame.specs.Places.{place_of, bytes_at, byte_at, aligned_at, number_at, text_at, long_text_at, short_text_at};
 
-    /// So many bytes, and the place after them.
+    /// Returns the next `count` bytes and the position after them, or `None` if there are fewer.
     pub fn bytes(self, count: usize) -> Option<(&'a [u8], Cursor<'a>)>
         ensures { Gives (λ x. (x.0.now, place_of x.1)) result
             (bytes_at count (place_of self.entry)) }
@@ -71,7 +72,7 @@ impl<'a> Cursor<'a> {
         Some((front, remainder))
     }
 
-    /// A byte, and the place after it.
+    /// Returns the next byte and the position after it, or `None` at the end.
     pub fn byte(self) -> Option<(u8, Cursor<'a>)>
         ensures { Gives (λ x. (x.0, place_of x.1)) result (byte_at (place_of self.entry)) }
     {
@@ -83,7 +84,8 @@ impl<'a> Cursor<'a> {
         Some((byte, remainder))
     }
 
-    /// The next multiple of `alignment`, up to which bytes are zero.
+    /// Returns the first multiple of `alignment` at or after the position, or `None` if a padding
+    /// byte before it is missing or isn't zero.
     #[tactic(auto, unfolding(crate::specs::Places::aligned_at))]
     pub fn aligned(self, alignment: usize) -> Option<Cursor<'a>>
         requires { 0 < alignment }
@@ -97,7 +99,8 @@ impl<'a> Cursor<'a> {
         Some(remainder)
     }
 
-    /// A number of 32 bits.
+    /// Reads a 32-bit number at the next multiple of 4, and returns it with the position after it.
+    /// Returns `None` if bytes are missing or a padding byte isn't zero.
     #[tactic(auto, unfolding(crate::specs::Places::number_at))]
     pub fn number(self, little: bool) -> Option<(u32, Cursor<'a>)>
         ensures { Gives (λ x. (x.0, place_of x.1)) result (number_at little (place_of self.entry)) }
@@ -106,7 +109,9 @@ impl<'a> Cursor<'a> {
         Some((number(little, digits), remainder))
     }
 
-    /// A text of this number of bytes, and a zero byte.
+    /// Reads a string of `count` bytes and the zero byte after it, and returns it with the position
+    /// after that. Returns `None` if bytes are missing, the string isn't UTF-8 or contains a zero
+    /// byte, or another byte than zero follows it.
     #[tactic(auto, unfolding(crate::specs::Places::text_at))]
     pub fn text(self, count: usize) -> Option<(&'a str, Cursor<'a>)>
         ensures { Gives (λ x. (x.0.now, place_of x.1)) result
@@ -121,7 +126,8 @@ impl<'a> Cursor<'a> {
         Some((text, remainder))
     }
 
-    /// A text after a number of 32 bits.
+    /// Reads a string with its length before it as a 32-bit number (the types `s` and `o`), and
+    /// returns it with the position after it, or `None` if there is no such string.
     #[tactic(auto, unfolding(crate::specs::Places::long_text_at))]
     pub fn long_text(self, little: bool) -> Option<(&'a str, Cursor<'a>)>
         ensures { Gives (λ x. (x.0.now, place_of x.1)) result
@@ -131,7 +137,8 @@ impl<'a> Cursor<'a> {
         remainder.text(count as usize)
     }
 
-    /// A text after a byte.
+    /// Reads a string with its length before it in one byte (the type `g`), and returns it with the
+    /// position after it, or `None` if there is no such string.
     #[tactic(auto, unfolding(crate::specs::Places::short_text_at))]
     pub fn short_text(self) -> Option<(&'a str, Cursor<'a>)>
         ensures { Gives (λ x. (x.0.now, place_of x.1)) result

@@ -1,4 +1,4 @@
-//! Why no message is read.
+//! The error of reading a message.
 
 ghost use Rattle.std.specs.Prelude.{◌≡◌};
 ghost use Rattle.bus_frame.specs.declared.error.FrameError.TheVariants.{Bad, NoMemory};
@@ -8,10 +8,10 @@ use std::alloc::AllocError;
 use std::error::Error;
 use std::fmt;
 
-/// Why no message is read.
+/// The error of reading a message.
 #[derive(Debug, Drop)]
 pub enum FrameError {
-    /// The bytes break this rule first.
+    /// The first rule that the bytes break.
     Bad(FrameRule),
     /// Memory ran out.
     NoMemory,

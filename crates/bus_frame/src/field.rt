@@ -1,4 +1,4 @@
-//! A field of a header: its code and what it says.
+//! Header fields: a code and a value (D-Bus specification, "Header Fields").
 
 ghost use Rattle.fp_base.specs.Steps.{Gives};
 ghost use Rattle.bus_frame.specs.Places.{place_of};
@@ -10,10 +10,10 @@ use crate::room::Room;
 use crate::steps::first_byte;
 use crate::value::{value, variant_type};
 
-/// What a field says.
+/// The value of a header field.
 #[derive(Clone, Copy)]
 pub enum RawContent<'a> {
-    /// A text of the type `s`, `o` or `g`, with the type's code.
+    /// A string of the type `s`, `o` or `g`, with the type's code before it.
     Word(u8, &'a str),
     /// A number of the type `u`.
     Number(u32),
@@ -21,12 +21,12 @@ pub enum RawContent<'a> {
     Other,
 }
 
-/// A field, whatever its code.
+/// A header field with any code.
 #[derive(Clone, Copy)]
 pub struct RawField<'a> {
-    /// What the field is, by a number of the D-Bus specification.
+    /// The field's code, whose meaning the D-Bus specification's "Header Fields" defines.
     pub code: u8,
-    /// Its value.
+    /// The field's value.
     pub content: RawContent<'a>,
 }
 
@@ -65,7 +65,8 @@ fn content<'a>(
     }
 }
 
-/// The field that stands at the next multiple of 8, and the place after it.
+/// Reads the header field at the next multiple of 8, and returns it with the position after it, or
+/// `None` if there is no code with a variant.
 #[tactic(auto, unfolding(crate::specs::Fields::field_at))]
 pub fn field<'a>(little: bool, place: Cursor<'a>) -> Option<(RawField<'a>, Cursor<'a>)>
     ensures { Gives (λ x. (field_of x.0, place_of x.1)) result

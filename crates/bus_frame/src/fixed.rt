@@ -1,4 +1,4 @@
-//! The fixed part of a message, its first 16 bytes.
+//! The fixed part of a message: its first 16 bytes (D-Bus specification, "Message Format").
 
 ghost use Rattle.std.specs.Prelude.{◌≡◌, ◌+◌, ◌<◌, ◌≤◌, ◌^◌, take, drop, length};
 ghost use Rattle.bus_frame.specs.Numbers.{number_from};
@@ -9,22 +9,23 @@ use crate::limits::{MOST_ARRAY_BYTES, MOST_MESSAGE_BYTES};
 use crate::message::{Flags, MessageType};
 use fp_base::FrameRule;
 
-/// The fixed part: byte order, message type, flags, protocol version, and three numbers.
+/// The fixed part of a message: byte order, message type, flags, protocol version, and three
+/// numbers.
 #[derive(Clone, Copy)]
 pub struct Fixed {
-    /// The letter of the byte order.
+    /// The byte order: `l` is little-endian, and `B` is big-endian.
     pub order: u8,
-    /// The number of the message type.
+    /// The code of the message type.
     pub kind: u8,
     /// The flags.
     pub flags: Flags,
-    /// The version of the protocol.
+    /// The version of the protocol; only 1 is valid.
     pub version: u8,
-    /// How many bytes the body has.
+    /// The length of the body in bytes.
     pub body_len: u32,
-    /// The number by which a reply names the message.
+    /// The serial, by which a reply refers to the message.
     pub serial: u32,
-    /// How many bytes the fields of the header have.
+    /// The length of the array of header fields in bytes.
     pub array_len: u32,
 }
 
@@ -36,7 +37,7 @@ fn number_at(little: bool, bytes: &[u8], at: usize) -> u32
 }
 
 impl Fixed {
-    /// The fixed part of bytes, of which there are 16 at least.
+    /// Reads the fixed part from the first 16 of at least 16 bytes.
     #[tactic(auto, unfolding(crate::specs::Reading::fixed_of))]
     pub fn read(bytes: &[u8]) -> Self
         requires { 16 ≤ length bytes.now }
@@ -54,21 +55,22 @@ impl Fixed {
         }
     }
 
-    /// Whether numbers are little endian.
+    /// Returns whether the message's numbers are little-endian.
     pub fn is_little_endian(&self) -> bool
         ensures { result ≡ is_little self.now }
     {
         self.order == b'l'
     }
 
-    /// The message type.
+    /// Returns the message type.
     pub fn message_type(&self) -> MessageType
         ensures { result ≡ type_of self.now }
     {
         MessageType::from_code(self.kind)
     }
 
-    /// Where the field array ends.
+    /// Returns the offset at which the array of header fields ends, in bytes from the message's
+    /// first byte.
     pub fn end_of_array(&self) -> u64
         ensures value { result ≡ array_end self.now }
         ensures bound { result < 2 ^ 32 + 16 }
@@ -76,7 +78,8 @@ impl Fixed {
         16 + u64::from(self.array_len)
     }
 
-    /// Where the body begins: the next multiple of 8.
+    /// Returns the offset at which the body begins, in bytes from the message's first byte: the
+    /// first multiple of 8 at or after the end of the header fields.
     pub fn start_of_body(&self) -> u64
         ensures value { result ≡ body_start self.now }
         ensures bound { result < 2 ^ 32 + 32 }
@@ -86,14 +89,14 @@ impl Fixed {
         end + (8 - end % 8) % 8
     }
 
-    /// How many bytes the message has.
+    /// Returns the length of the message in bytes.
     pub fn len(&self) -> u64
         ensures { result ≡ message_len self.now }
     {
         self.start_of_body() + u64::from(self.body_len)
     }
 
-    /// The first rule that the fixed part breaks.
+    /// Returns the first rule that the fixed part breaks, or `None`.
     #[tactic(auto, unfolding(crate::specs::Reading::fixed_fault))]
     pub fn broken_rule(&self) -> Option<FrameRule>
         ensures { result ≡ fixed_fault self.now }

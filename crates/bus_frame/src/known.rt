@@ -1,4 +1,4 @@
-//! The known fields of a header.
+//! The known header fields, with the codes 1 to 9 (D-Bus specification, "Header Fields").
 
 ghost use Rattle.std.specs.Prelude.{◌≡◌, length, option_map};
 ghost use Rattle.bus_frame.specs.Results.{Reads};
@@ -11,41 +11,41 @@ use crate::names::{is_bus_name, is_interface_name, is_member_name, is_object_pat
 use crate::types::is_type_signature;
 use fp_base::FrameRule;
 
-/// The known fields, lent from the message.
+/// The known header fields of a message, with strings borrowed from the message.
 #[derive(Clone, Copy)]
 pub struct RawKnown<'a> {
-    /// The object.
+    /// The path of the object that is called or that emits the signal.
     pub path: Option<&'a str>,
-    /// The interface of the member.
+    /// The interface of the method or the signal.
     pub interface: Option<&'a str>,
-    /// The method or the signal.
+    /// The name of the method or the signal.
     pub member: Option<&'a str>,
-    /// The name of an error.
+    /// The name of the error.
     pub error_name: Option<&'a str>,
-    /// The serial of the message that this is the reply to.
+    /// The serial of the call that this message answers.
     pub reply_serial: Option<u32>,
-    /// The bus name that it goes to.
+    /// The bus name of the receiver.
     pub destination: Option<&'a str>,
-    /// The bus name that it comes from.
+    /// The bus name of the sender.
     pub sender: Option<&'a str>,
-    /// The types of the body.
+    /// The signature: the types of the body's values.
     pub signature: Option<&'a str>,
-    /// How many file descriptors go with it.
+    /// The number of file descriptors that accompany the message.
     pub unix_fds: Option<u32>,
 }
 
-/// Which texts a field may have.
+/// The grammar that the string of a known header field follows.
 #[derive(Clone, Copy)]
 pub enum Grammar {
-    /// The path of an object.
+    /// An object path.
     Path,
     /// The name of an interface or of an error.
     Interface,
     /// The name of a method or a signal.
     Member,
-    /// The name of a connection.
+    /// A bus name, unique or well-known.
     Bus,
-    /// The types of a value.
+    /// A signature: zero or more complete types.
     Signature,
 }
 
@@ -107,7 +107,8 @@ fn number(
     }
 }
 
-/// The known fields with one field more, or the first rule that it breaks.
+/// Adds a header field to the known ones, or returns the first rule that the field breaks. Fields
+/// with codes above 9 are ignored.
 #[tactic(auto, unfolding(crate::specs::Fields::add_field))]
 fn with_field<'a>(known: RawKnown<'a>, field: RawField<'a>) -> Result<RawKnown<'a>, FrameRule>
     ensures { Reads known_of result (add_field (known_of known.entry) (field_of field.entry)) }
@@ -144,7 +145,8 @@ impl<'a> RawKnown<'a> {
     };
 }
 
-/// The known fields of the array that stands at a place, or the first rule that is broken.
+/// Reads header fields from a position up to the last byte, and returns the known ones, or the
+/// first rule that is broken.
 pub fn known_fields<'a>(little: bool, place: Cursor<'a>) -> Result<RawKnown<'a>, FrameRule>
     ensures { Reads known_of result (fields_at little (length place.entry.rest.now) none_known
         (place_of place.entry)) }

@@ -1,4 +1,4 @@
-//! D-Bus messages: what a whole message is, its header, and the few bodies that a filter reads or
+//! D-Bus messages: where a message ends, its header, and the few bodies that a filter reads or
 //! writes.
 #![tactic(auto)]
 

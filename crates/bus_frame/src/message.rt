@@ -1,4 +1,4 @@
-//! The types and flags of messages, after the D-Bus specification's "Message Format".
+//! The types and flags of messages (D-Bus specification, "Message Format").
 
 ghost use Rattle.std.specs.Prelude.{◌≡◌};
 ghost use Rattle.bus_frame.specs.Messages.{message_type, type_code, wants_no_reply};
@@ -6,21 +6,21 @@ ghost use Rattle.bus_frame.specs.Messages.{message_type, type_code, wants_no_rep
 /// The type of a message.
 #[derive(Clone, Copy)]
 pub enum MessageType {
-    /// A call of a method.
+    /// A method call.
     MethodCall,
-    /// What a method returns.
+    /// A method return.
     MethodReturn,
-    /// An error in place of a return.
+    /// An error that answers a call.
     Error,
     /// A signal.
     Signal,
-    /// A type that the specification doesn't name, by its number. Whoever gets such a message
-    /// ignores it.
+    /// A type that the specification doesn't define, by its code. A receiver ignores such a
+    /// message.
     Unknown(u8),
 }
 
 impl MessageType {
-    /// The type with this number.
+    /// Returns the type with this code.
     pub fn from_code(code: u8) -> Self
         ensures value { result ≡ message_type code }
         ensures code { type_code result ≡ code }
@@ -34,7 +34,7 @@ impl MessageType {
         }
     }
 
-    /// The type's number.
+    /// Returns the type's code.
     pub fn code(self) -> u8
         ensures { result ≡ type_code self }
     {
@@ -51,7 +51,7 @@ impl MessageType {
 /// The flags of a message, one bit each.
 #[derive(Clone, Copy)]
 pub struct Flags {
-    /// The byte of the flags.
+    /// The byte that contains the flags.
     pub bits: u8,
 }
 
@@ -59,10 +59,10 @@ impl Flags {
     /// No flag.
     pub const NONE: Flags = Flags { bits: 0 };
 
-    /// The sender wants no reply.
+    /// NO_REPLY_EXPECTED: the sender expects no reply.
     pub const NO_REPLY_EXPECTED: Flags = Flags { bits: 1 };
 
-    /// Whether the sender wants no reply: the lowest bit.
+    /// Returns whether the sender expects no reply, which the lowest bit indicates.
     pub fn want_no_reply(self) -> bool
         ensures { result ≡ wants_no_reply self }
     {

@@ -1,4 +1,4 @@
-//! Valid names, after the D-Bus specification's "Valid Object Paths" and "Valid Names".
+//! Valid names (D-Bus specification, "Valid Object Paths" and "Valid Names").
 
 ghost use Rattle.std.specs.Prelude.{◌≡◌, ◌==◌};
 ghost use Rattle.std.specs.List.{list_all, slice_split};
@@ -6,19 +6,19 @@ ghost use Rattle.bus_frame.specs.Names.{begins_element, continues_element, is_el
 
 use crate::limits::MOST_NAME_BYTES;
 
-/// The bus's own name, and that of its interface.
+/// The bus's own name, which is also the name of its interface.
 pub const BUS_NAME: &str = "org.freedesktop.DBus";
 
-/// Which characters the elements of a name have.
+/// The characters that the elements of a name may have.
 #[derive(Clone, Copy)]
 pub enum Alphabet {
-    /// Letters, digits and `_`, where a digit isn't first.
+    /// ASCII letters, digits and `_`; the first is no digit.
     Interface,
-    /// The same with `-`.
+    /// ASCII letters, digits, `_` and `-`; the first is no digit.
     WellKnown,
-    /// Letters, digits, `_` and `-`.
+    /// ASCII letters, digits, `_` and `-`.
     Unique,
-    /// Letters, digits and `_`.
+    /// ASCII letters, digits and `_`.
     Path,
 }
 
@@ -72,8 +72,9 @@ fn dotted(alphabet: Alphabet, bytes: &[u8]) -> bool
     bytes.contains(&b'.') && elements(alphabet, b'.', bytes)
 }
 
-/// Whether the bytes are an interface's or an error's name: at most 255 bytes, two elements or more
-/// with a dot between, each a letter or `_` and then letters, digits and `_`.
+/// Returns whether the bytes are the name of an interface or an error: at most 255 bytes, and two
+/// or more elements with dots between them, each an ASCII letter or `_` and then ASCII letters,
+/// digits and `_`.
 #[tactic(auto, unfolding(crate::specs::Names::is_interface))]
 pub fn is_interface_name(bytes: &[u8]) -> bool
     ensures { result ≡ is_interface bytes.now }
@@ -81,7 +82,8 @@ pub fn is_interface_name(bytes: &[u8]) -> bool
     bytes.len() <= MOST_NAME_BYTES && dotted(Alphabet::Interface, bytes)
 }
 
-/// Whether the bytes are the name of a method or a signal: one element of at most 255 bytes.
+/// Returns whether the bytes are the name of a method or a signal: at most 255 bytes, an ASCII
+/// letter or `_` and then ASCII letters, digits and `_`.
 #[tactic(auto, unfolding(crate::specs::Names::is_member))]
 pub fn is_member_name(bytes: &[u8]) -> bool
     ensures { result ≡ is_member bytes.now }
@@ -89,8 +91,8 @@ pub fn is_member_name(bytes: &[u8]) -> bool
     bytes.len() <= MOST_NAME_BYTES && element(Alphabet::Interface, bytes)
 }
 
-/// Whether the bytes are a unique bus name: at most 255 bytes, `:` and then two elements or more of
-/// letters, digits, `_` and `-`.
+/// Returns whether the bytes are a unique bus name: at most 255 bytes, `:` and then two or more
+/// elements of ASCII letters, digits, `_` and `-`, with dots between them.
 #[tactic(auto, unfolding(crate::specs::Names::is_unique))]
 pub fn is_unique_name(bytes: &[u8]) -> bool
     ensures { result ≡ is_unique bytes.now }
@@ -101,8 +103,8 @@ pub fn is_unique_name(bytes: &[u8]) -> bool
     }
 }
 
-/// Whether the bytes are a bus name that isn't unique: as an interface's, with `-` among the
-/// letters.
+/// Returns whether the bytes are a well-known bus name: at most 255 bytes, and two or more elements
+/// of ASCII letters, digits, `_` and `-`, with dots between them. No element begins with a digit.
 #[tactic(auto, unfolding(crate::specs::Names::is_well_known))]
 pub fn is_well_known_name(bytes: &[u8]) -> bool
     ensures { result ≡ is_well_known bytes.now }
@@ -110,15 +112,15 @@ pub fn is_well_known_name(bytes: &[u8]) -> bool
     bytes.len() <= MOST_NAME_BYTES && dotted(Alphabet::WellKnown, bytes)
 }
 
-/// Whether the bytes are elements of a bus name that isn't unique: one or more with dots between,
-/// and of any length.
+/// Returns whether the bytes are one or more elements of a well-known bus name, with dots between
+/// them. Their number of bytes isn't limited.
 pub fn are_name_elements(bytes: &[u8]) -> bool
     ensures { result ≡ are_elements Alphabet.WellKnown 46 bytes.now }
 {
     elements(Alphabet::WellKnown, b'.', bytes)
 }
 
-/// Whether the bytes are a bus name.
+/// Returns whether the bytes are a bus name, unique or well-known.
 #[tactic(auto, unfolding(crate::specs::Names::is_bus))]
 pub fn is_bus_name(bytes: &[u8]) -> bool
     ensures { result ≡ is_bus bytes.now }
@@ -126,8 +128,8 @@ pub fn is_bus_name(bytes: &[u8]) -> bool
     is_unique_name(bytes) || is_well_known_name(bytes)
 }
 
-/// Whether the bytes are an object path: `/`, or `/` before each of one or more elements of
-/// letters, digits and `_`.
+/// Returns whether the bytes are an object path: `/`, or one or more elements of ASCII letters,
+/// digits and `_`, each after a `/`.
 #[tactic(auto, unfolding(crate::specs::Names::is_path))]
 pub fn is_object_path(bytes: &[u8]) -> bool
     ensures { result ≡ is_path bytes.now }

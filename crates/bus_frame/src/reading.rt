@@ -1,4 +1,4 @@
-//! Reading a message, after the D-Bus specification's "Message Protocol".
+//! Reading of a message (D-Bus specification, "Message Protocol").
 
 ghost use Rattle.std.specs.Prelude.{◌≡◌, ℕ, ◌≤◌, List, ◌++◌, IfOk, take, length, option_map};
 ghost use Rattle.bus_frame.specs.declared.header.Header.{Header};
@@ -18,7 +18,7 @@ use crate::message::MessageType;
 use fp_base::{FrameRule, Text};
 use std::alloc::{AllocError, Global};
 
-/// Whether a field that messages of this type need isn't there.
+/// Returns whether a header field that messages of this type require is missing.
 fn lacks(kind: MessageType, known: &RawKnown<'_>) -> bool
     ensures { result ≡ lacks_field kind (known_of known.now) }
 {
@@ -33,7 +33,8 @@ fn lacks(kind: MessageType, known: &RawKnown<'_>) -> bool
     }
 }
 
-/// The first rule that is broken after the fields.
+/// Returns the first broken rule of those that are checked after the header fields, or `None`.
+/// `zeros` is the padding between the header fields and the body.
 #[tactic(auto, unfolding(crate::specs::Reading::end_fault))]
 fn rule_after_fields(fixed: &Fixed, known: &RawKnown<'_>, zeros: &[u8]) -> Option<FrameRule>
     ensures { result ≡ end_fault fixed.now (known_of known.now) zeros.now }
@@ -50,7 +51,8 @@ fn rule_after_fields(fixed: &Fixed, known: &RawKnown<'_>, zeros: &[u8]) -> Optio
     None
 }
 
-/// The known fields of a whole message, or the first rule after the fixed part that is broken.
+/// Returns the known header fields of a whole message, or the first rule that it breaks after the
+/// fixed part.
 #[tactic(auto, unfolding(crate::specs::Reading::known_in))]
 fn known_of_message<'a>(fixed: &Fixed, bytes: &'a [u8]) -> Result<RawKnown<'a>, FrameRule>
     requires { message_len fixed.now ≤ length bytes.now }
@@ -69,7 +71,7 @@ fn known_of_message<'a>(fixed: &Fixed, bytes: &'a [u8]) -> Result<RawKnown<'a>, 
     }
 }
 
-/// A copy of a text, where there is one.
+/// Copies a string, if there is one. Errs only if memory runs out.
 pub fn copy_text(alloc: Global, text: Option<&str>) -> Result<Option<Text>, AllocError>
     ensures { IfOk result (λ copy. copy ≡ option_map (λ t. t.now) text.entry) }
 {
@@ -79,14 +81,14 @@ pub fn copy_text(alloc: Global, text: Option<&str>) -> Result<Option<Text>, Allo
     }
 }
 
-/// The member that a message is about.
+/// The header fields of a message that name its member.
 #[derive(Drop)]
 pub struct Target {
-    /// The object.
+    /// The path of the object that is called or that emits the signal.
     pub path: Option<Text>,
-    /// The interface of the member.
+    /// The interface of the method or the signal.
     pub interface: Option<Text>,
-    /// The method or the signal.
+    /// The name of the method or the signal.
     pub member: Option<Text>,
 }
 
@@ -102,12 +104,12 @@ fn target_of(alloc: Global, known: &RawKnown<'_>) -> Result<Target, AllocError>
     })
 }
 
-/// The bus names of those between whom a message goes.
+/// The bus names of a message's sender and receiver.
 #[derive(Drop)]
 pub struct Parties {
-    /// To whom it goes.
+    /// The bus name of the receiver.
     pub destination: Option<Text>,
-    /// From whom it comes.
+    /// The bus name of the sender.
     pub sender: Option<Text>,
 }
 
@@ -121,7 +123,7 @@ fn parties_of(alloc: Global, known: &RawKnown<'_>) -> Result<Parties, AllocError
     })
 }
 
-/// The header of a message with texts of its own.
+/// Returns the header of a message, with copies of its strings.
 fn header(alloc: Global, fixed: &Fixed, known: &RawKnown<'_>) -> Result<Header, AllocError>
     ensures { IfOk result (λ h. h ≡ header_of fixed.now (known_of known.now)) }
 {
@@ -169,26 +171,28 @@ fn frame_at_front(alloc: Global, bytes: &[u8]) -> Result<ReadFrame, FrameError>
 
 /// Reads the message at the front of some bytes.
 ///
-/// With fewer than 16 bytes it answers how many lack to 16. Then come the rules of the fixed part;
-/// then how many bytes lack to the message's length; then the other rules. Only a message that
-/// breaks none of them takes memory.
+/// Returns `Need` for fewer than 16 bytes, with the number that is missing to 16. Then it checks
+/// the rules of the fixed part. Then it returns `Need` if the message isn't whole, with the number
+/// of bytes that are missing. Then it checks the other rules. Memory is allocated only for a
+/// message that breaks no rule.
 pub fn read_frame(alloc: Global, bytes: &[u8]) -> Result<ReadFrame, FrameError>
     ensures exact { AnswersFrame result (frame_of bytes.now) }
 
-    // What is read is a message with its header, and a message is read, whatever follows it.
+    // A message that is returned is at the front, with its header. A message at the front is
+    // returned, whatever follows it.
     ensures message { IfFrame result (λ header len. (len ≤ length bytes.now) × Frame
         (take len bytes.now) header) }
     ensures every_message { (message rest : List ℕ) (header : Header) → bytes.now ≡ message ++ rest
         → Frame message header
         → AnswersFrame result (whole header (length message)) }
 
-    // The rule is the first one that is broken, and each broken rule is named.
+    // The rule is the first one that is broken, and each broken rule is reported.
     ensures broken { IfBad result (BeginsBroken bytes.now) }
     ensures every_broken { (message rest : List ℕ) (rule : FrameRule) → bytes.now ≡ message ++ rest
         → Breaks message rule
         → AnswersFrame result (bad rule) }
 
-    // So many bytes lack, exactly where some do.
+    // This many bytes are missing, exactly if some are.
     ensures lacking { IfNeed result (Lacks bytes.now) }
     ensures every_lacking { (n : ℕ) → Lacks bytes.now n → AnswersFrame result (need n) }
 {

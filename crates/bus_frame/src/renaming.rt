@@ -1,4 +1,4 @@
-//! A message with another list of names as its body.
+//! Messages with another array of names as their body.
 
 ghost use Rattle.std.specs.Prelude.{◌≡◌, ◌+◌, ◌-◌, ◌≤◌, ◌<◌, ◌^◌, ◌++◌, length, OnOk, IfOk, IsSome, map};
 ghost use Rattle.bus_frame.specs.Reading.{frame_of, whole};
@@ -10,7 +10,7 @@ use crate::writing::{number_bytes_of, put_text, put_zeros};
 use fp_base::{Blob, Items, Text};
 use std::alloc::{AllocError, Global};
 
-/// The elements of an array of texts, the first at a place.
+/// Returns the marshaled elements of an array of strings, of which the first is at the offset `at`.
 fn elements_of(
     alloc: Global,
     little: bool,
@@ -29,7 +29,8 @@ fn elements_of(
     Ok(out)
 }
 
-/// The message with an array of these elements as its body, and the body's length.
+/// Returns the message with an array of these marshaled elements as its body, and with that body's
+/// length in its fixed part.
 fn replaced(
     alloc: Global,
     header: &Header,
@@ -54,7 +55,9 @@ fn replaced(
     Ok(Blob::from_vec(out))
 }
 
-/// The message with these names as its body, and the body's length. The rest stays as it is.
+/// Returns the message with these names as its body, an array of strings, and with that body's
+/// length in its fixed part. The rest stays unchanged. The message must be whole, its body an array
+/// of strings (`is_names`), and the new body not longer than the old one.
 pub fn with_names(
     alloc: Global,
     header: &Header,

@@ -1,4 +1,4 @@
-//! Complete types and signatures, after the D-Bus specification's "Type System".
+//! Complete types and signatures (D-Bus specification, "Type System").
 
 ghost use Rattle.std.specs.Prelude.{◌≡◌, ◌==◌, ◌||◌, length};
 ghost use Rattle.fp_base.specs.Steps.{Gives};
@@ -17,7 +17,8 @@ fn is_basic_type(code: u8) -> bool
     )
 }
 
-/// What follows the complete type that stands at the front, where there is one.
+/// Returns the bytes after the complete type at the front, or `None` if there is none or it nests
+/// deeper than `room` allows.
 #[cycle(types)]
 #[tactic(auto, using(crate::proofs::TypeSteps::step))]
 pub fn after_type(room: Room, types: &[u8]) -> Option<&[u8]>
@@ -33,7 +34,8 @@ pub fn after_type(room: Room, types: &[u8]) -> Option<&[u8]>
     }
 }
 
-/// What follows the type of an array's elements, which may be dictionary entries.
+/// Returns the bytes after the element type of an array at the front, which may be a dictionary
+/// entry, or `None` if there is none or it nests deeper than `room` allows.
 #[cycle(types)]
 pub fn after_element(room: Room, types: &[u8]) -> Option<&[u8]>
     ensures { Gives (λ rest. rest.now) result (element_after
@@ -65,7 +67,7 @@ fn after_members(room: Room, types: &[u8]) -> Option<&[u8]>
     None
 }
 
-/// Whether the text is one complete type.
+/// Returns whether the bytes are exactly one complete type.
 pub fn is_complete_type(types: &[u8]) -> bool
     ensures { result ≡ is_one_type types.now }
 {
@@ -75,7 +77,7 @@ pub fn is_complete_type(types: &[u8]) -> bool
     }
 }
 
-/// Whether the text is a signature: complete types one after another, in at most 255 bytes.
+/// Returns whether the bytes are a signature: zero or more complete types, in at most 255 bytes.
 #[tactic(auto, unfolding(crate::specs::Types::is_signature))]
 pub fn is_type_signature(types: &[u8]) -> bool
     ensures { result ≡ is_signature types.now }

@@ -1,4 +1,4 @@
-//! Values of a type, after the D-Bus specification's "Marshaling".
+//! Reading of values by their types (D-Bus specification, "Marshaling").
 
 ghost use Rattle.std.specs.Prelude.{◌≡◌, ◌<◌, length};
 ghost use Rattle.bus_frame.specs.Steps.{first_of};
@@ -56,7 +56,8 @@ fn truth(little: bool, place: Cursor<'_>) -> Option<Cursor<'_>>
     Some(remainder)
 }
 
-/// Where a value of a basic type ends.
+/// Returns the position after a value of a basic type, or `None` if there is no such value. Of an
+/// object path or a signature it is only checked that it is a string.
 #[tactic(auto, unfolding(crate::specs::Values::basic_at))]
 fn basic(little: bool, code: u8, place: Cursor<'_>) -> Option<Cursor<'_>>
     ensures { Gives place_of result (basic_at little code (place_of place.entry)) }
@@ -81,7 +82,9 @@ fn basic(little: bool, code: u8, place: Cursor<'_>) -> Option<Cursor<'_>>
     }
 }
 
-/// How many bytes the elements of an array have, and the place of the first.
+/// Reads the length of an array, and returns it in bytes with the position of the first element.
+/// Returns `None` if the length is above 64 MiB, bytes are missing, or a padding byte isn't zero.
+/// `types` begins with the type of the elements.
 #[tactic(auto, unfolding(crate::specs::Values::array_head_at))]
 pub fn array_head<'m>(little: bool, types: &[u8], place: Cursor<'m>) -> Option<(usize, Cursor<'m>)>
     ensures { Gives (λ x. (x.0, place_of x.1)) result (array_head_at little types.now
@@ -96,7 +99,8 @@ pub fn array_head<'m>(little: bool, types: &[u8], place: Cursor<'m>) -> Option<(
     Some((count as usize, first))
 }
 
-/// The type of a variant, and the place of its value.
+/// Reads the type of a variant, and returns it with the position of the variant's value, or `None`
+/// if it isn't exactly one complete type.
 #[tactic(auto, unfolding(crate::specs::Values::variant_type_at))]
 pub fn variant_type<'m>(place: Cursor<'m>) -> Option<(&'m [u8], Cursor<'m>)>
     ensures { Gives (λ x. (x.0.now, place_of x.1)) result (variant_type_at (place_of place.entry)) }
@@ -110,7 +114,8 @@ pub fn variant_type<'m>(place: Cursor<'m>) -> Option<(&'m [u8], Cursor<'m>)>
     Some((types, remainder))
 }
 
-/// What follows the bracket that closes a struct or a dictionary entry.
+/// Returns the types after the closing bracket of a struct or a dictionary entry, or `None` if
+/// `types` doesn't begin with one.
 fn after_closing(types: &[u8]) -> Option<&[u8]>
     ensures { Gives (λ rest. rest.now) result (closed types.now) }
 {
@@ -121,7 +126,9 @@ fn after_closing(types: &[u8]) -> Option<&[u8]>
     Some(rest)
 }
 
-/// What follows the first type, and where the value of this type ends. The types are well formed.
+/// Reads a value of the first type, and returns the types after this one with the position after
+/// the value. Returns `None` if there is no such value or it nests deeper than `room` allows. The
+/// types are assumed to be well formed.
 #[cycle(values)]
 #[tactic(auto, using(crate::proofs::ValueSteps::step))]
 pub fn value<'t, 'm>(

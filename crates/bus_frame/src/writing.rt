@@ -1,4 +1,4 @@
-//! Writing messages, after the D-Bus specification's "Marshaling" and "Message Protocol".
+//! Writing of messages (D-Bus specification, "Marshaling" and "Message Protocol").
 
 ghost use Rattle.std.specs.Prelude.{◌≡◌, ℕ, ◌+◌, ◌≤◌, ◌<◌, ◌^◌, ◌++◌, ◌∷◌, [], List, length, vec_len, false, None, OnOk, IfOk, IfSome, replicate, option_map, take, drop};
 ghost use Rattle.bus_frame.specs.Fields.{Field, word as word_content, number as number_content};
@@ -16,7 +16,7 @@ use byteorder::{BigEndian, ByteOrder, LittleEndian};
 use fp_base::Blob;
 use std::alloc::{AllocError, Global};
 
-/// The four bytes of a number.
+/// Returns the four bytes of a number, little-endian if `little`, else big-endian.
 pub fn number_bytes_of(little: bool, number: u32) -> [u8; 4]
     ensures { result ≡ number_bytes little number }
 {
@@ -29,7 +29,7 @@ pub fn number_bytes_of(little: bool, number: u32) -> [u8; 4]
     digits
 }
 
-/// Adds the zero bytes that lead from a place to the next multiple of `alignment`.
+/// Appends the zero bytes from the offset `at` up to the next multiple of `alignment`.
 pub fn put_zeros(out: &mut Vec<u8>, alignment: usize, at: usize) -> Result<(), AllocError>
     requires { 0 < alignment }
     ensures { OnOk result (out.new.items ≡ out.old.items ++ zeros alignment at) }
@@ -40,7 +40,7 @@ pub fn put_zeros(out: &mut Vec<u8>, alignment: usize, at: usize) -> Result<(), A
     Ok(())
 }
 
-/// Adds a text with its length before it and a zero byte after it.
+/// Appends the length of a string as a 32-bit number, the string, and a zero byte.
 pub fn put_text(out: &mut Vec<u8>, little: bool, text: &str) -> Result<(), AllocError>
     requires { length text.now < 2 ^ 32 }
     ensures { OnOk result (out.new.items ≡ out.old.items ++ text_bytes little text.now) }
@@ -51,7 +51,8 @@ pub fn put_text(out: &mut Vec<u8>, little: bool, text: &str) -> Result<(), Alloc
     Ok(())
 }
 
-/// Adds a field of the type `s` to a field array, which begins at byte 16 of its message.
+/// Appends a field of the type `s` to an array of header fields, which begins at byte 16 of its
+/// message.
 fn put_word(fields: &mut Vec<u8>, little: bool, code: u8, text: &str) -> Result<(), AllocError>
     requires room { length fields.old.items < 2 ^ 32 }
     requires text_len { length text.now ≤ MOST_NAME_BYTES }
@@ -65,7 +66,8 @@ fn put_word(fields: &mut Vec<u8>, little: bool, code: u8, text: &str) -> Result<
     put_text(fields, little, text)
 }
 
-/// Adds a field of the type `u` to a field array, which begins at byte 16 of its message.
+/// Appends a field of the type `u` to an array of header fields, which begins at byte 16 of its
+/// message.
 fn put_number(fields: &mut Vec<u8>, little: bool, code: u8, number: u32) -> Result<(), AllocError>
     requires { length fields.old.items < 2 ^ 32 }
     ensures { OnOk result (fields.new.items ≡ fields.old.items
@@ -79,7 +81,7 @@ fn put_number(fields: &mut Vec<u8>, little: bool, code: u8, number: u32) -> Resu
     Ok(())
 }
 
-/// The field array of the answer to a refused call.
+/// Returns the array of header fields for a reply to a refused call.
 fn error_array(
     alloc: Global,
     little: bool,
@@ -103,7 +105,7 @@ fn error_array(
     Ok(fields)
 }
 
-/// The fixed part of a message without a body.
+/// Appends the fixed part of a message without a body.
 fn put_fixed(
     out: &mut Vec<u8>,
     little: bool,
@@ -123,9 +125,9 @@ fn put_fixed(
     Ok(())
 }
 
-/// The answer to a refused call: an error with this name, for the call with the serial `reply`, to
-/// the caller where its name is known, from the bus. It wants no reply and has no body; its serial
-/// is the greatest.
+/// Returns the reply to a refused call: an error with this name, from the bus, for the call with
+/// the serial `reply`. It goes to the caller `to` if this name is known. It expects no reply, has
+/// no body, and its serial is the greatest one. Both names must have at most 255 bytes.
 #[tactic(auto, unfolding(crate::specs::Writing::error_bytes))]
 pub fn error_frame(
     alloc: Global,

@@ -1,4 +1,4 @@
--- Calls to the bus itself.
+-- Calls to the bus itself (xdg-dbus-proxy(1)).
 use Rattle.std.specs.Prelude.{ℕ, Bool, true, false, ◌||◌, ◌&&◌, if◌then◌else◌, List, [], ◌∷◌, codes, is_none, unwrap_or}
 use Rattle.std.specs.List.{list_any}
 use Rattle.std.specs.Str.{bytes_eq}
@@ -10,25 +10,27 @@ use Rattle.bus_policy.specs.declared.driver.Handler.TheVariants as handler
 use Rattle.bus_policy.specs.declared.driver.TheConstants.{INTROSPECTABLE, PEER}
 use Rattle.bus_policy.specs.declared.level.Level.TheVariants as level
 
--- the bus itself, by its name
+-- The name of the bus itself
 abbrev pub driver : List ℕ
 driver = BUS_NAME.now
 
--- to its name, or to none
+-- Tests whether a message is for the bus: its destination is the bus's name or is missing
 abbrev pub is_to_driver : Header → Bool
 is_to_driver h = is_none h.destination || says h.destination driver
 
--- the interface of a call, or the bus's own where none is named, and the member
+-- The interface of a call; the bus's own interface if none is named
 abbrev pub called_interface : Header → List ℕ
 called_interface h = unwrap_or h.interface driver
 
+-- The member of a call; empty if none is named
 abbrev pub called_member : Header → List ℕ
 called_member h = unwrap_or h.member []
 
+-- Tests whether a name is in a list
 abbrev pub is_among : List ℕ → List (List ℕ) → Bool
 is_among name = list_any (bytes_eq name)
 
--- the members of the bus's own interface, row by row
+-- The decision for a call of the bus's own interface, by its member
 abbrev pub own_handler : List ℕ → Handler
 own_handler member =
     if is_among member (codes "Hello" ∷ codes "RemoveMatch" ∷ codes "GetId" ∷ []) then handler.Pass
@@ -45,7 +47,7 @@ own_handler member =
     then handler.Validate level.Own
     else handler.Deny)))))
 
--- those of its other interfaces
+-- The decision for a call of another interface of the bus
 abbrev pub other_handler : (interface member : List ℕ) → Handler
 other_handler interface member =
     if (bytes_eq interface INTROSPECTABLE.now
@@ -54,11 +56,13 @@ other_handler interface member =
     && (bytes_eq member (codes "Ping") || bytes_eq member (codes "GetMachineId"))) then handler.Pass
     else handler.Deny
 
+-- The decision for a call to the bus
 unfoldable pub handler_of : Header → Handler
 handler_of h =
     if bytes_eq (called_interface h) driver then own_handler (called_member h)
     else other_handler (called_interface h) (called_member h)
 
+-- Tests whether a decision filters the names of the reply
 abbrev pub filters_reply : Handler → Bool
 filters_reply handler.Pass = false
 filters_reply handler.FilterNameListReply = true
@@ -66,6 +70,6 @@ filters_reply handler.ValidateMatch = false
 filters_reply (handler.Validate level) = false
 filters_reply handler.Deny = false
 
--- a call to the bus that lists names
+-- Tests whether a call is for the bus and lists its names
 abbrev pub is_listing : Header → Bool
 is_listing h = is_to_driver h && filters_reply (handler_of h)

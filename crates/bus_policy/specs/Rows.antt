@@ -1,4 +1,4 @@
--- Worked examples: calls of the bus with serial 1, and replies to them.
+-- Worked examples: calls to the bus with the serial 1, and replies to them.
 use Rattle.std.specs.Prelude.{◌≡◌, ℕ, Bool, true, List, [], codes, Option, Some, None, is_some}
 use Rattle.fp_base.specs.declared.side.Side.TheVariants as side
 use Rattle.bus_frame.specs.declared.header.Header.{Header}
@@ -10,7 +10,7 @@ use Rattle.bus_policy.specs.Driver.{driver}
 use Rattle.bus_policy.specs.Events.{Event}
 use Rattle.bus_policy.specs.Watching.{verdict_after, judged}
 
--- a call of a method of the bus
+-- The header of a call of a method of the bus
 abbrev pub call_header : Option (List ℕ) → List ℕ → Header
 call_header interface member = record {
   little = true;
@@ -29,10 +29,11 @@ call_header interface member = record {
   body_len = 0;
 }
 
+-- A call of a method of the bus's own interface
 abbrev pub call : List ℕ → Event
 call member = record { side = side.Client; header = call_header (Some driver) member; bytes = [] }
 
--- one that wants no reply
+-- A call of a method of the bus's own interface that expects no reply
 abbrev pub silent_call : List ℕ → Event
 silent_call member = record {
   side = side.Client;
@@ -40,7 +41,7 @@ silent_call member = record {
   bytes = [];
 }
 
--- a reply to serial 1
+-- The header of a reply of the bus to the serial 1
 abbrev pub reply_header : MessageType → Header
 reply_header kind = record {
   little = true;
@@ -59,10 +60,11 @@ reply_header kind = record {
   body_len = 0;
 }
 
+-- A reply of the bus to the serial 1
 abbrev pub reply : MessageType → List ℕ → Event
 reply kind bytes = record { side = side.Bus; header = reply_header kind; bytes = bytes }
 
--- a return of a peer, and one of the bus that is a text
+-- A return of a peer to the serial 1
 abbrev pub peer_reply : List ℕ → Event
 peer_reply bytes = record {
   side = side.Bus;
@@ -70,6 +72,7 @@ peer_reply bytes = record {
   bytes = bytes;
 }
 
+-- A return of the bus to the serial 1 whose signature is a string's
 abbrev pub text_reply : List ℕ → Event
 text_reply bytes = record {
   side = side.Bus;
@@ -77,9 +80,10 @@ text_reply bytes = record {
   bytes = bytes;
 }
 
+-- The bytes are a return whose body is an array of names
 abbrev pub HoldsNames : List ℕ → Type 0
 HoldsNames bytes = is_some (names_in (reply_header type.MethodReturn) bytes) ≡ true
 
--- what becomes of a message after others, the latest first, where no rule gives anything
+-- The verdict on a message after others, the latest first, under a policy without rules
 abbrev pub verdict_on : List Event → Event → Verdict
 verdict_on before e = verdict_after [] None [] (judged [] None [] before) e

@@ -1,4 +1,4 @@
--- What becomes of a message, by what is known before it.
+-- The verdict on a message, by the knowledge before it.
 use Rattle.std.specs.Prelude.{ℕ, Bool, true, false, ◌||◌, ◌&&◌, nat_eq, if◌then◌else◌, List, [], ◌∷◌, codes, Option, Some, None, is_some, is_none}
 use Rattle.std.specs.Option.{option_map_or}
 use Rattle.std.specs.List.{starts_with}
@@ -21,23 +21,25 @@ use Rattle.bus_policy.specs.Levels.{is_at_least}
 use Rattle.bus_policy.specs.Driver.{driver, handler_of}
 use Rattle.bus_policy.specs.Events.{Event, is_bus_side, is_return, wants_no_reply, tells_owner}
 
--- What is known before an event: the level of a name; whether a rule for calls or broadcasts gives
--- leave to a message of a peer; the calls of the client with a serial that wait for a reply; whether
--- a call of a peer waits.
+-- The knowledge before an event: the level of a name; whether a rule lets a call to a peer or a
+-- broadcast of a peer pass; the client's waiting calls with a serial; and whether a peer's call
+-- with a serial waits
 pub record Sight : Type 0 where
   pub level_of : List ℕ → Level
   pub gives_leave : RuleKind → List ℕ → Header → Bool
   pub calls_waiting : ℕ → Option WaitingCalls
   pub peer_waits : List ℕ → ℕ → Bool
 
+-- Tests whether a name has at least a level
 abbrev pub has_level : Sight → Level → List ℕ → Bool
 has_level sight wanted name = is_at_least wanted (sight.level_of name)
 
+-- `Pass` if the message is allowed, else `Drop`
 abbrev pub pass_if : Bool → Verdict
 pass_if leave = if leave then verdict.Pass else verdict.Drop
 
--- A refused call that wants no reply is dropped. Else it is denied where the name may be seen, and
--- the name is hidden where not.
+-- The verdict on a refused call: dropped if it expects no reply, denied if the client may see the
+-- name, and else the name is hidden
 abbrev pub refused : Sight → Header → List ℕ → Verdict
 refused sight header name =
     if wants_no_reply header then verdict.Drop
@@ -46,22 +48,24 @@ refused sight header name =
 
 -- ---- calls to the bus itself
 
--- the text holds the word
+-- Tests whether a text contains a word
 abbrev pub holds_word : List ℕ → List ℕ → Bool
 holds_word word [] = false
 holds_word word (b ∷ bs) = starts_with nat_eq (b ∷ bs) word || holds_word word bs
 
+-- The verdict on a call with a match rule, which must not contain `eavesdrop`
 abbrev pub match_call : Sight → Header → Option (List ℕ) → Verdict
 match_call sight header None = refused sight header driver
 match_call sight header (Some rule) =
     if holds_word (codes "eavesdrop") rule then refused sight header driver else verdict.Pass
 
+-- The verdict on a call about a name, which must have at least the level `wanted`
 abbrev pub name_call : Sight → Header → Level → Option (List ℕ) → Verdict
 name_call sight header wanted None = refused sight header driver
 name_call sight header wanted (Some name) =
     if has_level sight wanted name then verdict.Pass else refused sight header name
 
--- by its handler, and its first argument
+-- The verdict on a call to the bus, by its decision and its first argument
 abbrev pub driver_call : Sight → Header → Handler → Option (List ℕ) → Verdict
 driver_call sight header handler.Pass argument = verdict.Pass
 driver_call sight header handler.FilterNameListReply argument = verdict.Pass
@@ -71,11 +75,13 @@ driver_call sight header handler.Deny argument = refused sight header driver
 
 -- ---- messages of the client
 
+-- The verdict on a call to a peer
 abbrev pub call_to : Sight → Header → List ℕ → Verdict
 call_to sight header name =
     if has_level sight level.Talk name || sight.gives_leave kind.Call name header then verdict.Pass
     else refused sight header name
 
+-- The verdict on a call of the client, by its destination
 abbrev pub client_call : Sight → Event → Option (List ℕ) → Verdict
 client_call sight e None =
     driver_call sight e.header (handler_of e.header) (first_text e.header e.bytes)
@@ -84,15 +90,19 @@ client_call sight e (Some name) =
     then driver_call sight e.header (handler_of e.header) (first_text e.header e.bytes)
     else call_to sight e.header name
 
+-- Tests whether a reply of the client answers a waiting call of a peer
 abbrev pub client_reply : Sight → Option (List ℕ) → Option ℕ → Bool
 client_reply sight None reply = false
 client_reply sight (Some peer) None = false
 client_reply sight (Some peer) (Some serial) = sight.peer_waits peer serial
 
+-- Tests whether a signal of the client passes: one without a destination, or to a name with the
+-- level `Talk`
 abbrev pub client_signal : Sight → Option (List ℕ) → Bool
 client_signal sight None = true
 client_signal sight (Some name) = has_level sight level.Talk name
 
+-- The verdict on a message of the client, by its type
 abbrev pub of_client : Sight → Event → MessageType → Verdict
 of_client sight e type.MethodCall = client_call sight e e.header.destination
 of_client sight e type.MethodReturn =
@@ -102,48 +112,54 @@ of_client sight e type.Error =
 of_client sight e type.Signal = pass_if (client_signal sight e.header.destination)
 of_client sight e (type.Unknown n) = verdict.Drop
 
--- ---- messages of the bus
+-- ---- messages of the bus's side
 
--- a message of the bus itself, and one with the type of a list of names
+-- Tests whether the bus itself sent a message: the sender is the bus's name or is missing
 abbrev pub is_of_driver : Header → Bool
 is_of_driver h = is_none h.sender || says h.sender driver
 
+-- Tests whether a message has the signature of a list of names
 abbrev pub is_list : Header → Bool
 is_list h = says h.signature (codes "as")
 
--- A return that may have names of the bus: of the bus itself, to calls of which one lists names; or
--- a list, to a serial that was used before, since an earlier call with it may have listed names.
+-- Tests whether a return may have names of the bus: it is from the bus itself, and one of the calls
+-- lists names; or it is a list, and the serial was reused, so that an earlier call with it may have
+-- listed names
 abbrev pub may_name : Header → WaitingCalls → Bool
 may_name h calls =
     is_return h && is_of_driver h && (calls.list_names || (calls.reused && is_list h))
 
--- a reply to calls that wait
+-- The verdict on a reply to waiting calls of the client
 abbrev pub reply_to : Event → WaitingCalls → Verdict
 reply_to e calls =
     if may_name e.header calls
     then (if is_some (names_in e.header e.bytes) then verdict.FilterNameList else verdict.Drop)
     else verdict.Pass
 
+-- The verdict on a reply of the bus's side, by its reply serial
 abbrev pub bus_reply : Sight → Event → Option ℕ → Verdict
 bus_reply sight e None = verdict.Drop
 bus_reply sight e (Some serial) =
     option_map_or (reply_to e) (sight.calls_waiting serial) verdict.Drop
 
+-- Tests whether a signal `NameOwnerChanged` passes, by the three strings of its body
 abbrev pub owner_signal : Sight → Option (List ℕ × List ℕ × List ℕ) → Bool
 owner_signal sight None = false
 owner_signal sight (Some texts) = has_level sight level.See texts.0
 
--- a signal to everybody from a peer
+-- Tests whether a broadcast signal passes, by its sender
 abbrev pub broadcast : Sight → Header → Option (List ℕ) → Bool
 broadcast sight header None = false
 broadcast sight header (Some peer) =
     has_level sight level.Talk peer || sight.gives_leave kind.Broadcast peer header
 
+-- Tests whether a signal of the bus's side passes
 abbrev pub bus_signal : Sight → Event → Bool
 bus_signal sight e =
     if tells_owner e.header then owner_signal sight (three_texts e.header e.bytes)
     else is_some e.header.destination || broadcast sight e.header e.header.sender
 
+-- The verdict on a message of the bus's side, by its type
 abbrev pub of_bus : Sight → Event → MessageType → Verdict
 of_bus sight e type.MethodCall = verdict.Pass
 of_bus sight e type.MethodReturn = bus_reply sight e e.header.reply_serial
@@ -151,6 +167,7 @@ of_bus sight e type.Error = bus_reply sight e e.header.reply_serial
 of_bus sight e type.Signal = pass_if (bus_signal sight e)
 of_bus sight e (type.Unknown n) = verdict.Drop
 
+-- The verdict on a message
 unfoldable pub verdict_in : Sight → Event → Verdict
 verdict_in sight e =
     if is_bus_side e.side then of_bus sight e e.header.kind else of_client sight e e.header.kind

@@ -14,17 +14,18 @@ use indexmap::IndexMap;
 use std::alloc::{AllocError, Global};
 use std::hash::BuildHasher;
 
-/// The calls with one serial that wait for a reply.
+/// The client's calls with one serial that wait for a reply.
 #[derive(Clone, Copy)]
 pub struct WaitingCalls {
-    /// Whether one of them lists the names of the bus.
+    /// Whether one of the calls lists the names of the bus.
     pub list_names: bool,
-    /// Whether a call with their serial was no first use of it: one with the serial, or with a
-    /// higher one, was forwarded before.
+    /// Whether the serial was reused: a call with it was forwarded after another one with the same
+    /// or a higher serial.
     pub reused: bool,
 }
 
-/// The calls with one serial that wait, with a call more: one that wants no reply doesn't wait.
+/// Returns the waiting calls with one serial after one more call with it. A call that expects no
+/// reply doesn't wait.
 fn with_call(header: &Header, reused: bool, waiting: Option<WaitingCalls>) -> Option<WaitingCalls>
     ensures { result
         ≡ calls_with (wants_no_reply header.now) (is_listing header.now) reused waiting }
@@ -43,17 +44,17 @@ fn with_call(header: &Header, reused: bool, waiting: Option<WaitingCalls>) -> Op
     }
 }
 
-/// What is known of the client's calls.
+/// The facts that a watch stores of the client's calls.
 #[derive(Drop)]
 pub struct ClientCalls<S: BuildHasher> {
-    /// Those that wait, by their serials.
+    /// The waiting calls, by their serials.
     pub waiting: IndexMap<u32, WaitingCalls, S>,
-    /// The highest serial of a call so far.
+    /// The highest serial of a forwarded call so far.
     pub highest: Option<u32>,
 }
 
 impl<S: BuildHasher + Copy> ClientCalls<S> {
-    /// There was no call yet.
+    /// Creates the state before any call.
     pub fn new(alloc: Global, hash_builder: S) -> Self
         ensures { CallsAt result [] }
     {
@@ -63,7 +64,7 @@ impl<S: BuildHasher + Copy> ClientCalls<S> {
         }
     }
 
-    /// A call that is forwarded. Without memory nothing changes.
+    /// Notes a call that is forwarded. Errs only if memory runs out, and then nothing changes.
     pub fn add(&mut self, header: &Header) -> Result<(), AllocError>
         ensures ok { (noted : List Judged) (bytes : List ℕ) (verdict : Verdict)
             → is_call header.now ≡ true → is_forwarded verdict ≡ true → CallsAt self.old noted
@@ -78,7 +79,9 @@ impl<S: BuildHasher + Copy> ClientCalls<S> {
         Ok(())
     }
 
-    /// A call waits, where it wants a reply.
+    /// Adds a call to the waiting ones, if it expects a reply. A call that expects none only sets
+    /// the mark `reused` of the waiting calls with its serial, if there are any. On an error
+    /// nothing changes.
     fn put_call(&mut self, header: &Header, reused: bool) -> Result<(), AllocError>
         ensures ok { OnOk result ((s : ℕ) → get nat_eq self.new.waiting s
             ≡ (if header.now.serial == s then calls_with (wants_no_reply header.now)
@@ -94,7 +97,7 @@ impl<S: BuildHasher + Copy> ClientCalls<S> {
         }
     }
 
-    /// A reply ends all calls with its serial.
+    /// Removes all calls with this serial, to which a reply was forwarded.
     pub fn end(&mut self, serial: u32)
         ensures waiting { (s : ℕ) → get nat_eq self.new.waiting s
             ≡ (if serial == s then None else get nat_eq self.old.waiting s) }
@@ -103,7 +106,7 @@ impl<S: BuildHasher + Copy> ClientCalls<S> {
         self.waiting.swap_remove(&serial);
     }
 
-    /// Whether a call with this serial, or with a higher one, was forwarded.
+    /// Returns whether a call with this serial or a higher one was forwarded.
     fn is_used(&self, serial: u32) -> bool
         ensures { result ≡ is_up_to self.now.highest serial }
     {
@@ -113,7 +116,7 @@ impl<S: BuildHasher + Copy> ClientCalls<S> {
         }
     }
 
-    /// Calls with this serial wait, and these are they.
+    /// Sets the waiting calls with this serial. On an error nothing changes.
     fn put(&mut self, serial: u32, calls: WaitingCalls) -> Result<(), AllocError>
         ensures ok { OnOk result ((s : ℕ) → get nat_eq self.new.waiting s
             ≡ (if serial == s then Some calls else get nat_eq self.old.waiting s)) }
@@ -125,7 +128,7 @@ impl<S: BuildHasher + Copy> ClientCalls<S> {
         Ok(())
     }
 
-    /// A call with this serial was forwarded.
+    /// Raises the highest serial to this one, if it is lower.
     fn raise(&mut self, serial: u32)
         ensures waiting { self.new.waiting ≡ self.old.waiting }
         ensures highest { (s : ℕ) → is_up_to self.new.highest s
@@ -138,7 +141,7 @@ impl<S: BuildHasher + Copy> ClientCalls<S> {
 }
 
 impl<S: BuildHasher> ClientCalls<S> {
-    /// How many serials have calls that wait.
+    /// Returns the number of serials with waiting calls.
     pub fn count(&self) -> usize
         ensures count { result ≡ index_map_len self.now.waiting }
         ensures small { result < 2 ^ 63 }
@@ -146,7 +149,7 @@ impl<S: BuildHasher> ClientCalls<S> {
         self.waiting.len()
     }
 
-    /// The calls with this serial that wait.
+    /// Returns the waiting calls with this serial, if there are any.
     pub fn with_serial(&self, serial: u32) -> Option<WaitingCalls>
         ensures { result ≡ get nat_eq self.now.waiting serial }
     {

@@ -1,4 +1,4 @@
-//! Calls to the bus itself: its methods, and what xdg-dbus-proxy(1) makes of them.
+//! Calls to the bus itself: its methods, and the decision for each, as in xdg-dbus-proxy(1).
 
 ghost use Rattle.std.specs.Prelude.{◌≡◌};
 ghost use Rattle.bus_policy.specs.Driver.{is_to_driver, called_interface, called_member, own_handler, other_handler, handler_of, is_listing};
@@ -7,24 +7,24 @@ use crate::level::Level;
 use bus_frame::{BUS_NAME, Header};
 use bus_rules::is_text;
 
-/// The interface of a bus that tells what it has.
+/// The interface by which the bus describes its objects and methods.
 const INTROSPECTABLE: &str = "org.freedesktop.DBus.Introspectable";
 
-/// The interface that each peer has.
+/// The interface that every peer on the bus has.
 const PEER: &str = "org.freedesktop.DBus.Peer";
 
-/// What becomes of a call to the bus.
+/// The decision for a call to the bus.
 #[derive(Clone, Copy)]
 pub enum Handler {
-    /// It passes.
+    /// The call passes.
     Pass,
-    /// It passes, and the names that may not be seen are taken out of the reply.
+    /// The call passes, and the names that the client may not see are removed from the reply.
     FilterNameListReply,
-    /// It passes where its first argument is a text without the word `eavesdrop`.
+    /// The call passes if its first argument is a string that doesn't contain `eavesdrop`.
     ValidateMatch,
-    /// It passes where the name in its first argument has this level.
+    /// The call passes if the name in its first argument has at least this level.
     Validate(Level),
-    /// It is denied.
+    /// The call is refused.
     Deny,
 }
 
@@ -34,7 +34,7 @@ fn is_for_driver(header: &Header) -> bool
     header.destination.is_none() || is_text(&header.destination, BUS_NAME)
 }
 
-/// The interface of a call to the bus, which is the bus's own where none is named.
+/// Returns the interface of a call to the bus; the bus's own interface if none is named.
 fn interface_called(header: &Header) -> &str
     ensures { result.now ≡ called_interface header.now }
 {
@@ -53,7 +53,7 @@ fn member_called(header: &Header) -> &str
     }
 }
 
-/// What becomes of a call of the bus's own interface, by its member.
+/// Returns the decision for a call of the bus's own interface, by its member.
 fn own_handler_of(member: &str) -> Handler
     ensures { result ≡ own_handler member.now }
 {
@@ -72,7 +72,7 @@ fn own_handler_of(member: &str) -> Handler
     }
 }
 
-/// What becomes of a call of another interface of the bus.
+/// Returns the decision for a call of another interface of the bus.
 fn other_handler_of(interface: &str, member: &str) -> Handler
     ensures { result ≡ other_handler interface.now member.now }
 {
@@ -81,7 +81,7 @@ fn other_handler_of(interface: &str, member: &str) -> Handler
     if passes { Handler::Pass } else { Handler::Deny }
 }
 
-/// What becomes of a call to the bus.
+/// Returns the decision for a call to the bus.
 #[tactic(auto, unfolding(crate::specs::Driver::handler_of))]
 pub fn handler_of_call(header: &Header) -> Handler
     ensures { result ≡ handler_of header.now }
@@ -94,7 +94,7 @@ pub fn handler_of_call(header: &Header) -> Handler
     }
 }
 
-/// Whether it is a call to the bus that lists names.
+/// Returns whether a call is for the bus and lists its names.
 pub fn asks_for_names(header: &Header) -> bool
     ensures { result ≡ is_listing header.now }
 {

@@ -1,4 +1,4 @@
-//! What messages are, by their headers and bodies.
+//! Properties of messages, by their headers and bodies.
 
 ghost use Rattle.std.specs.Prelude.{◌≡◌};
 ghost use Rattle.bus_policy.specs.Events.{is_call, is_reply, tells_owner};
@@ -11,28 +11,28 @@ use bus_frame::{BUS_NAME, Header, MessageType, is_names};
 use bus_rules::is_text;
 use fp_base::Side;
 
-/// A message that has leave passes, and another is dropped.
+/// Returns `Pass` if the message is allowed, else `Drop`.
 pub fn pass_if(leave: bool) -> Verdict
     ensures { result ≡ passed_if leave }
 {
     if leave { Verdict::Pass } else { Verdict::Drop }
 }
 
-/// Whether a message is a call.
+/// Returns whether a message is a method call.
 pub fn is_a_call(header: &Header) -> bool
     ensures { result ≡ is_call header.now }
 {
     matches!(header.kind, MessageType::MethodCall)
 }
 
-/// Whether a message is a return or an error.
+/// Returns whether a message is a method return or an error.
 pub fn is_a_reply(header: &Header) -> bool
     ensures { result ≡ is_reply header.now }
 {
     matches!(header.kind, MessageType::MethodReturn | MessageType::Error)
 }
 
-/// Whether a message tells that a name has another owner, by its fields.
+/// Returns whether a message is the bus's signal `NameOwnerChanged`, by its header fields.
 pub fn is_about_owner(header: &Header) -> bool
     ensures { result ≡ tells_owner header.now }
 {
@@ -42,7 +42,7 @@ pub fn is_about_owner(header: &Header) -> bool
         && is_text(&header.member, "NameOwnerChanged")
 }
 
-/// Whether a text holds a word.
+/// Returns whether a text contains a word of one byte or more.
 pub fn holds(word: &[u8], text: &[u8]) -> bool
     ensures { result ≡ holds_word word.now text.now }
 {
@@ -56,14 +56,14 @@ pub fn holds(word: &[u8], text: &[u8]) -> bool
     false
 }
 
-/// Whether a message is of the bus itself.
+/// Returns whether the bus itself sent a message: the sender is the bus's name or is missing.
 fn is_from_driver(header: &Header) -> bool
     ensures { result ≡ is_of_driver header.now }
 {
     header.sender.is_none() || is_text(&header.sender, BUS_NAME)
 }
 
-/// Whether a reply to calls that wait may have names of the bus.
+/// Returns whether a reply to these waiting calls may be a list of the bus's names.
 fn may_have_names(header: &Header, calls: WaitingCalls) -> bool
     ensures { result ≡ may_name header.now calls }
 {
@@ -72,7 +72,7 @@ fn may_have_names(header: &Header, calls: WaitingCalls) -> bool
         && (calls.list_names || (calls.reused && is_text(&header.signature, "as")))
 }
 
-/// What becomes of a reply to calls of the client that wait.
+/// Returns the verdict on a reply to waiting calls of the client.
 pub fn replied(header: &Header, message: &[u8], calls: WaitingCalls) -> Verdict
     ensures { result ≡ reply_to (event Side.Bus header.now message.now) calls }
 {

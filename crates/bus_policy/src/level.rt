@@ -1,18 +1,18 @@
-//! Levels.
+//! The levels of access to names (xdg-dbus-proxy(1)).
 
 ghost use Rattle.std.specs.Prelude.{◌≡◌};
 ghost use Rattle.bus_policy.specs.Levels.{rank, greater, is_at_least};
 
-/// How much of a name an application may use. Each level has what those before it have.
+/// The access that an application has to a name. Each level includes those before it.
 #[derive(Clone, Copy, Debug, PartialEq, Eq)]
 pub enum Level {
-    /// The name isn't there.
+    /// The application can't see the name.
     None,
-    /// The name is there.
+    /// The application can see the name.
     See,
-    /// Messages go to the name.
+    /// The application can call the name, send it signals, and get its broadcasts.
     Talk,
-    /// The name may be owned.
+    /// The application can request and release the name.
     Own,
 }
 
@@ -28,7 +28,7 @@ impl Level {
         }
     }
 
-    /// The greater of two levels.
+    /// Returns the greater of two levels.
     pub fn or(self, other: Level) -> Level
         ensures { result ≡ greater self other }
     {
@@ -39,7 +39,7 @@ impl Level {
         }
     }
 
-    /// Whether this is that level or one above it.
+    /// Returns whether the level is `wanted` or a higher one.
     pub fn reaches(self, wanted: Level) -> bool
         ensures { result ≡ is_at_least wanted self }
     {

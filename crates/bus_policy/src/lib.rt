@@ -1,4 +1,4 @@
-//! What a filter lets through: levels of names, and verdicts on messages by what came before.
+//! The policy of a filter: levels of names, and verdicts on messages by the events before them.
 #![tactic(auto)]
 
 mod calls;

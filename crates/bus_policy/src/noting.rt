@@ -1,4 +1,4 @@
-//! Noting events.
+//! Noting of events.
 
 ghost use Rattle.std.specs.Prelude.{◌≡◌, ◌&&◌, ◌∷◌, ℕ, List, false, is_some, OnOk, OnErr};
 ghost use Rattle.indexmap.specs.IndexMap.{get_by_text};
@@ -17,7 +17,7 @@ use fp_base::Side;
 use std::alloc::AllocError;
 use std::hash::BuildHasher;
 
-/// The serial of a call that waits from now on.
+/// Returns the serial of a forwarded call that expects a reply, or `None` for any other message.
 fn serial_to_wait(header: &Header, verdict: Verdict) -> Option<u32>
     ensures { result ≡ waiting_call header.now verdict }
 {
@@ -27,14 +27,15 @@ fn serial_to_wait(header: &Header, verdict: Verdict) -> Option<u32>
     Some(header.serial)
 }
 
-/// Whether a message is from a unique name to a destination.
+/// Returns whether a message has a destination, and a unique name as its sender.
 fn is_written_by(header: &Header, sender: &str) -> bool
     ensures { result ≡ (is_unique_like sender.now && is_some header.now.destination) }
 {
     is_like_unique(sender.as_bytes()) && header.destination.is_some()
 }
 
-/// A message of the client may be a call.
+/// Notes a message of the client: if it is a forwarded call, its serial counts as used, and it
+/// waits for a reply if it expects one. On an error nothing changes.
 pub fn note_client_call<S: BuildHasher + Copy>(
     calls: &mut ClientCalls<S>,
     header: &Header,
@@ -52,7 +53,8 @@ pub fn note_client_call<S: BuildHasher + Copy>(
     calls.add(header)
 }
 
-/// A message of the client may be a reply to a peer's call.
+/// Notes a message of the client: if it is a forwarded reply, the peer's call that it answers waits
+/// no longer.
 pub fn note_client_reply<S: BuildHasher + Copy>(
     peers: &mut Peers<S>,
     rules: &[PolicyRule],
@@ -74,7 +76,8 @@ pub fn note_client_reply<S: BuildHasher + Copy>(
     settle(peers, rules, peer.as_str(), serial);
 }
 
-/// A message of the bus may be a reply to the client's calls.
+/// Notes a message of the bus's side: if it is a forwarded reply, the client's calls that it
+/// answers wait no longer.
 pub fn note_bus_reply<S: BuildHasher + Copy>(
     calls: &mut ClientCalls<S>,
     header: &Header,
@@ -91,7 +94,8 @@ pub fn note_bus_reply<S: BuildHasher + Copy>(
     }
 }
 
-/// A message of a peer may be for the client, and a call that waits.
+/// Notes the sender of a message: whether it wrote to the client, and whether its message is a call
+/// that waits. On an error nothing changes.
 fn note_sender<S: BuildHasher + Copy>(
     peers: &mut Peers<S>,
     rules: &[PolicyRule],
@@ -118,7 +122,8 @@ fn note_sender<S: BuildHasher + Copy>(
     learn(peers, rules, sender.as_str(), news)
 }
 
-/// A message of the bus tells something of a peer.
+/// Notes what a message of the bus's side contains about a peer: for `NameOwnerChanged` the new
+/// owner of a name, for others the sender. On an error nothing changes.
 pub fn note_bus_peer<S: BuildHasher + Copy>(
     peers: &mut Peers<S>,
     rules: &[PolicyRule],

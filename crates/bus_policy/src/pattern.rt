@@ -8,7 +8,7 @@ ghost use Rattle.bus_policy.specs.Levels.{is_open, stem, is_pattern, pattern_mat
 use bus_frame::{are_name_elements, is_well_known_name};
 use bus_rules::is_at_or_under;
 
-/// NAME of `NAME.*`.
+/// Returns NAME of a pattern `NAME.*`, or `None` for other patterns.
 fn stem_of(pattern: &[u8]) -> Option<&[u8]>
     ensures { Gives (λ s. s.now) result
         (if is_open pattern.now then Some (stem pattern.now) else None) }
@@ -19,7 +19,8 @@ fn stem_of(pattern: &[u8]) -> Option<&[u8]>
     Some(&pattern[..pattern.len() - 2])
 }
 
-/// Whether a text is a pattern: a name that isn't unique, or one element or more and `.*`.
+/// Returns whether a text is a pattern: a well-known name, or one or more elements of one and then
+/// `.*`.
 #[tactic(auto, unfolding(crate::specs::Levels::is_pattern))]
 pub fn is_name_pattern(pattern: &[u8]) -> bool
     ensures { result ≡ is_pattern pattern.now }
@@ -33,7 +34,8 @@ pub fn is_name_pattern(pattern: &[u8]) -> bool
     }
 }
 
-/// Whether a pattern matches a name.
+/// Returns whether a pattern matches a name: it is the name, or it is `NAME.*` and the name is NAME
+/// or below NAME.
 #[tactic(auto, unfolding(crate::specs::Levels::pattern_matches))]
 pub fn matches_name(pattern: &[u8], name: &[u8]) -> bool
     ensures { result ≡ pattern_matches pattern.now name.now }
@@ -44,7 +46,7 @@ pub fn matches_name(pattern: &[u8], name: &[u8]) -> bool
     }
 }
 
-/// Whether a name is unique, good or not.
+/// Returns whether a name begins with `:` and thus counts as a unique name, even if it isn't valid.
 pub fn is_like_unique(name: &[u8]) -> bool
     ensures { result ≡ is_unique_like name.now }
 {

@@ -1,4 +1,4 @@
-//! What a watch keeps of a peer.
+//! The facts that a watch stores of a peer.
 
 ghost use Rattle.std.specs.Prelude.{◌≡◌, ◌||◌, ◌==◌, ◌++◌, [], ℕ, Bool, false, List, true, map, if◌then◌else◌, slice_set, IfOk, OnOk, OnErr, Some};
 ghost use Rattle.bus_policy.specs.declared.policy.PolicyRule.{PolicyRule as TheRule};
@@ -12,30 +12,32 @@ use indexmap::IndexSet;
 use std::alloc::{AllocError, Global};
 use std::hash::BuildHasher;
 
-/// What is known of a peer.
+/// The facts known of a peer.
 #[derive(Drop)]
 pub struct Peer<S: BuildHasher> {
-    /// The greatest level of the names that it had.
+    /// The greatest level that the rules give to a well-known name that the peer ever had.
     pub had: Level,
-    /// Whether it wrote to the client.
+    /// Whether the peer sent the client a message with a destination.
     pub wrote: bool,
-    /// For each rule of the policy, whether its pattern matches a name that the peer had.
+    /// For each rule of the policy, whether its pattern matches a name that the peer ever had.
     pub meant: Vec<bool>,
-    /// The serials of its calls that wait for a reply.
+    /// The serials of the peer's calls that wait for a reply.
     pub waiting: IndexSet<u32, S>,
 }
 
-/// What an event tells of a peer.
+/// The facts about a peer that an event adds.
 #[derive(Clone, Copy)]
 pub enum RawNews<'a> {
-    /// A name that it has now.
+    /// A name that the peer has now.
     Name(&'a str),
-    /// A message of its: whether it is for the client, and the serial of a call that waits.
+    /// A message of the peer: whether it is for the client, and its serial if it is a call that
+    /// waits.
     Message(bool, Option<u32>),
 }
 
 impl RawNews<'_> {
-    /// Whether anything is known with it that wasn't without.
+    /// Returns whether the event can add something: a name that a rule's pattern matches, a message
+    /// for the client, or a call that waits.
     pub fn tells(self, rules: &[PolicyRule]) -> bool
         ensures { result ≡ tells rules.now self.entry }
     {
@@ -46,7 +48,7 @@ impl RawNews<'_> {
     }
 }
 
-/// Whether a rule's pattern matches a name.
+/// Returns whether the pattern of a rule matches a name.
 fn is_spoken_of(rules: &[PolicyRule], name: &[u8]) -> bool
     ensures { result ≡ speaks_of rules.now name.now }
 {
@@ -58,7 +60,7 @@ fn is_spoken_of(rules: &[PolicyRule], name: &[u8]) -> bool
     false
 }
 
-/// The level of a name that a peer has; a unique name gives none.
+/// Returns the level that the rules give to a name of a peer; `None` for a unique name.
 fn level_had(rules: &[PolicyRule], name: &[u8]) -> Level
     ensures { result ≡ name_level rules.now name.now }
 {
@@ -78,7 +80,7 @@ fn unmeant(alloc: Global, rules: &[PolicyRule]) -> Result<Vec<bool>, AllocError>
     Ok(flags)
 }
 
-/// Whether no flag is raised, and each rule has one.
+/// Returns whether no flag is set and there is one for each rule.
 fn are_unmeant(flags: &[bool], rules: &[PolicyRule]) -> bool
     ensures blank { result ≡ true → flags.now ≡ map (λ rule. false) rules.now }
     ensures raised { flags.now ≡ map (λ rule. false) rules.now → result ≡ true }
@@ -103,7 +105,7 @@ fn raise(flags: &mut Vec<bool>, at: usize, raised: bool)
     }
 }
 
-/// Notes which rules' patterns match a name.
+/// Sets the flags of the rules whose patterns match a name.
 fn add_meant(meant: &mut Vec<bool>, rules: &[PolicyRule], name: &[u8])
     ensures { meant.new.items
         ≡ or_each (λ rule. pattern_matches rule.pattern name.now) rules.now meant.old.items }
@@ -115,7 +117,7 @@ fn add_meant(meant: &mut Vec<bool>, rules: &[PolicyRule], name: &[u8])
 }
 
 impl<S: BuildHasher + Copy> Peer<S> {
-    /// A peer of which nothing is known.
+    /// Creates a peer of which nothing is known.
     pub fn fresh(alloc: Global, hash_builder: S, rules: &[PolicyRule]) -> Result<Self, AllocError>
         ensures { IfOk result (λ peer. known_of rules.now (Some peer) ≡ unknown rules.now) }
     {
@@ -127,7 +129,7 @@ impl<S: BuildHasher + Copy> Peer<S> {
         })
     }
 
-    /// A peer of which an event tells first.
+    /// Creates a peer of which only one event is known.
     pub fn with_news(
         alloc: Global,
         hash_builder: S,
@@ -142,7 +144,7 @@ impl<S: BuildHasher + Copy> Peer<S> {
         Ok(peer)
     }
 
-    /// A name more that the peer has.
+    /// Adds a name that the peer has.
     pub fn add_name(&mut self, rules: &[PolicyRule], name: &[u8])
         ensures { known_of rules.now (Some self.new)
             ≡ with_name rules.now name.now (known_of rules.now (Some self.old)) }
@@ -174,7 +176,7 @@ impl<S: BuildHasher + Copy> Peer<S> {
         Ok(())
     }
 
-    /// What an event tells. Without memory nothing changes.
+    /// Adds what an event contains. Errs only if memory runs out, and then nothing changes.
     pub fn learn(&mut self, rules: &[PolicyRule], news: RawNews<'_>) -> Result<(), AllocError>
         ensures ok { OnOk result
             (known_of rules.now (Some self.new)
@@ -192,7 +194,7 @@ impl<S: BuildHasher + Copy> Peer<S> {
         Ok(())
     }
 
-    /// Whether nothing is known of the peer.
+    /// Returns whether nothing is known of the peer.
     pub fn is_blank(&self, rules: &[PolicyRule]) -> bool
         ensures blank { result ≡ true → known_of rules.now (Some self.now) ≡ unknown rules.now }
         ensures known { known_of rules.now (Some self.now) ≡ unknown rules.now → result ≡ true }
@@ -206,7 +208,7 @@ impl<S: BuildHasher + Copy> Peer<S> {
         are_unmeant(&self.meant, rules)
     }
 
-    /// A call of the peer that waits no more.
+    /// Removes a call of the peer that waits no longer.
     pub fn remove_call(&mut self, serial: u32)
         ensures { (rules : List TheRule) → known_of rules (Some self.new)
             ≡ without_call serial (known_of rules (Some self.old)) }

@@ -16,10 +16,10 @@ use indexmap::IndexMap;
 use std::alloc::{AllocError, Global};
 use std::hash::BuildHasher;
 
-/// The peers by their names.
+/// The peers, by their unique names.
 pub type Peers<S> = IndexMap<String, Peer<S>, S>;
 
-/// Adds a peer of which an event tells first.
+/// Adds a peer with the first event about it. On an error nothing changes.
 fn add_peer<S: BuildHasher + Copy>(
     peers: &mut Peers<S>,
     rules: &[PolicyRule],
@@ -43,7 +43,7 @@ fn add_peer<S: BuildHasher + Copy>(
     Ok(())
 }
 
-/// What an event that tells something tells of a peer.
+/// Adds an event that contains something about a peer. On an error nothing changes.
 fn learn_more<S: BuildHasher + Copy>(
     peers: &mut Peers<S>,
     rules: &[PolicyRule],
@@ -65,8 +65,8 @@ fn learn_more<S: BuildHasher + Copy>(
     }
 }
 
-/// What an event tells of a peer. Where it tells nothing, nothing is kept, and without memory
-/// nothing changes.
+/// Adds an event about a peer. Nothing is stored if it contains nothing to store. Errs only if
+/// memory runs out, and then nothing changes.
 pub fn learn<S: BuildHasher + Copy>(
     peers: &mut Peers<S>,
     rules: &[PolicyRule],
@@ -87,7 +87,8 @@ pub fn learn<S: BuildHasher + Copy>(
     learn_more(peers, rules, name, news)
 }
 
-/// A name that a peer has now, if it is a unique name. Without memory nothing changes.
+/// Adds a name that a peer has now, if the peer's name is a unique one. Errs only if memory runs
+/// out, and then nothing changes.
 pub fn add_owned<S: BuildHasher + Copy>(
     peers: &mut Peers<S>,
     rules: &[PolicyRule],
@@ -109,7 +110,7 @@ pub fn add_owned<S: BuildHasher + Copy>(
     learn(peers, rules, owner, RawNews::Name(name))
 }
 
-/// The peers that own names at the opening.
+/// Returns the peers that own names at the start. Errs only if memory runs out.
 pub fn opening<S: BuildHasher + Copy>(
     alloc: Global,
     hash_builder: S,
@@ -127,7 +128,7 @@ pub fn opening<S: BuildHasher + Copy>(
     Ok(peers)
 }
 
-/// A call of a peer waits no more.
+/// Removes a call of a peer that waits no longer.
 fn end_call<S: BuildHasher + Copy>(peers: &mut Peers<S>, name: &str, serial: u32)
     ensures known { (rules : List TheRule) (q : List ℕ) → known_of rules (get_by_text peers.new q)
         ≡ changed_if (bytes_eq name.now q) (without_call serial)
@@ -140,7 +141,7 @@ fn end_call<S: BuildHasher + Copy>(peers: &mut Peers<S>, name: &str, serial: u32
     }
 }
 
-/// Whether something is known of a peer.
+/// Returns whether something is known of a peer.
 fn is_known<S: BuildHasher + Copy>(peer: Option<&Peer<S>>, rules: &[PolicyRule]) -> bool
     ensures blank { result ≡ false
         → known_of rules.now (option_copied peer.entry) ≡ unknown rules.now }
@@ -153,7 +154,7 @@ fn is_known<S: BuildHasher + Copy>(peer: Option<&Peer<S>>, rules: &[PolicyRule])
     }
 }
 
-/// A peer of which nothing is known is forgotten.
+/// Removes a peer if nothing is known of it.
 fn forget_unknown<S: BuildHasher + Copy>(peers: &mut Peers<S>, rules: &[PolicyRule], name: &str)
     ensures known { (q : List ℕ) → known_of rules.now (get_by_text peers.new q)
         ≡ known_of rules.now (get_by_text peers.old q) }
@@ -166,7 +167,7 @@ fn forget_unknown<S: BuildHasher + Copy>(peers: &mut Peers<S>, rules: &[PolicyRu
     }
 }
 
-/// A call of a peer waits no more. If nothing else is known of it, it is forgotten.
+/// Removes a call of a peer that waits no longer, and then the peer if nothing else is known of it.
 pub fn settle<S: BuildHasher + Copy>(
     peers: &mut Peers<S>,
     rules: &[PolicyRule],

@@ -1,4 +1,5 @@
-//! Policies: which names an application may see, talk to and own, and which messages pass besides.
+//! Policies (xdg-dbus-proxy(1)): the names that an application may see, talk to and own, and rules
+//! for further messages that pass.
 
 ghost use Rattle.std.specs.Prelude.{◌≡◌, ◌↔◌, [], ◌∷◌, ◌++◌, ℕ, List, true, false, OnOk, OnErr, IsErrOf, IsOkUnless};
 ghost use Rattle.bus_rules.specs.declared.rule.Rule.{Rule as TheRule};
@@ -16,37 +17,37 @@ use std::error::Error;
 use std::fmt;
 use std::marker::Model;
 
-/// Which messages a rule is for.
+/// The messages that a rule is for.
 #[derive(Clone, Copy)]
 pub enum RuleKind {
     /// Calls of the client to a peer.
     Call,
-    /// Signals of a peer to everybody.
+    /// Broadcast signals of a peer, which have no destination.
     Broadcast,
 }
 
-/// What a pattern's names get.
+/// The grant of a rule to the names of its pattern.
 #[derive(Drop)]
 pub enum Grant {
     /// A level.
     Level(Level),
-    /// That messages that a rule matches pass.
+    /// Messages that match the rule pass, and the names can be seen.
     Rule(RuleKind, Rule),
 }
 
-/// A pattern of names, and what they get.
+/// A rule of a policy: a pattern of names, and a grant to these names.
 #[derive(Drop)]
 pub struct PolicyRule {
-    /// A name that isn't unique, or `NAME.*` for NAME and all names below it.
+    /// A well-known name, or `NAME.*` for NAME and all names below it.
     pub pattern: Text,
-    /// What these names get.
+    /// The grant to the names of the pattern.
     pub grant: Grant,
 }
 
-/// Why a rule isn't added.
+/// The error of adding a rule.
 #[derive(Debug, PartialEq, Eq, Drop)]
 pub enum PolicyError {
-    /// The pattern or the rule isn't one.
+    /// The pattern or the rule's text isn't valid.
     Bad,
     /// Memory ran out.
     NoMemory,
@@ -101,7 +102,7 @@ impl Model for Policy {
 }
 
 impl Policy {
-    /// A policy without rules.
+    /// Creates a policy without rules.
     pub fn new(alloc: Global) -> Self
         ensures { result ≡ [] }
     {
@@ -110,7 +111,8 @@ impl Policy {
         }
     }
 
-    /// Adds a rule that gives a level, at the end.
+    /// Adds a rule at the end that grants a level to the names of a pattern. Errs with `Bad`
+    /// exactly if the pattern isn't valid. On an error nothing changes.
     pub fn add(&mut self, alloc: Global, pattern: &str, level: Level) -> Result<(), PolicyError>
         ensures ok { OnOk result
             (self.new ≡ self.old
@@ -135,7 +137,8 @@ impl Policy {
         Ok(())
     }
 
-    /// Adds a rule for calls or for broadcasts, at the end.
+    /// Adds a rule at the end that lets calls or broadcasts pass. Errs with `Bad` exactly if the
+    /// pattern or the rule's text isn't valid. On an error nothing changes.
     pub fn add_rule(
         &mut self,
         alloc: Global,
@@ -162,7 +165,7 @@ impl Policy {
         }
     }
 
-    /// The rules, lent.
+    /// Returns the rules in order.
     pub fn rules(&self) -> &[PolicyRule]
         ensures { result.now ≡ self.now }
     {
@@ -170,7 +173,7 @@ impl Policy {
     }
 }
 
-/// The greatest level that rules give to a name.
+/// Returns the greatest level that the rules give to a name.
 pub fn level_by_rules(rules: &[PolicyRule], name: &[u8]) -> Level
     ensures { result ≡ rules_level rules.now name.now }
 {
@@ -194,7 +197,8 @@ impl PolicyRule {
         }
     }
 
-    /// Whether the rule gives leave to a message, of a call or of a broadcast.
+    /// Returns whether the rule lets a call or a broadcast with this header pass, if its pattern
+    /// matches the peer. The pattern isn't checked here.
     pub fn gives_leave(&self, kind: RuleKind, header: &Header) -> bool
         ensures { result ≡ allows kind header.now self.now.grant }
     {
@@ -214,8 +218,8 @@ fn is_same_kind(kind: RuleKind, other: RuleKind) -> bool
     )
 }
 
-/// Whether a rule gives leave to a message of a peer. The flags tell which rules' patterns match a
-/// name that it had.
+/// Returns whether a rule lets a message to or from a peer pass. Each flag is true if the rule's
+/// pattern matches a name that the peer ever had; a missing flag counts as false.
 pub fn any_gives_leave(
     rules: &[PolicyRule],
     flags: &[bool],

@@ -1,25 +1,26 @@
-//! Verdicts on messages, named as xdg-dbus-proxy names them.
+//! Verdicts on messages, with the names that xdg-dbus-proxy gives them.
 
 ghost use Rattle.std.specs.Prelude.{◌≡◌};
 ghost use Rattle.bus_policy.specs.Events.{is_forwarded};
 
-/// What becomes of a message.
+/// The decision for a message.
 #[derive(Clone, Copy, Debug, PartialEq, Eq)]
 pub enum Verdict {
-    /// It goes to the other side.
+    /// The message is forwarded unchanged.
     Pass,
-    /// It is a list of names, and goes to the other side with those names alone that may be seen.
+    /// The message is a list of names, and is forwarded with only the names that the client may
+    /// see.
     FilterNameList,
-    /// The client is told that it may not do this: `AccessDenied`.
+    /// The call isn't forwarded, and the client gets the error `AccessDenied`.
     Deny,
-    /// The client is told that there is no such name: `ServiceUnknown`.
+    /// The call isn't forwarded, and the client gets the error `ServiceUnknown`.
     Hide,
-    /// Nothing goes anywhere.
+    /// The message isn't forwarded, and nothing is sent instead.
     Drop,
 }
 
 impl Verdict {
-    /// Whether the message goes to the other side.
+    /// Returns whether the message is forwarded, unchanged or not.
     pub fn is_forwarding(self) -> bool
         ensures { result ≡ is_forwarded self }
     {

@@ -1,4 +1,4 @@
-//! What is known of the events so far, and what becomes of the next.
+//! The knowledge of the events so far, and the verdict on the next one.
 
 ghost use Rattle.std.specs.Prelude.{◌≡◌, ℕ, Bool, List, [], ◌∷◌, nat_eq, IfOk, OnOk, OnErr, option_map};
 ghost use Rattle.std.specs.Option.{option_copied};
@@ -29,12 +29,12 @@ use std::alloc::{AllocError, Global};
 use std::hash::{BuildHasher, BuildHasherDefault, FoldHasher};
 
 /// The hasher of `Watch::new`. Its seed is fixed, so an application can choose serials, and a peer
-/// that calls it names and serials, that make the application's own filter slow.
+/// that calls it can choose names and serials, that slow down the application's own filter.
 pub type FixedHasher = BuildHasherDefault<FoldHasher>;
 
-/// What a filter knows of the events so far: of each peer its level, whether it wrote, which rules
-/// speak of it, and which calls wait for a reply. It keeps no message. `S` makes the hashers of its
-/// tables.
+/// A filter's knowledge of the events so far: each peer's level, whether it wrote to the client,
+/// the rules that match its names, and the calls that wait for a reply. It stores no messages. `S`
+/// makes the hashers of its tables.
 #[derive(Drop)]
 pub struct Watch<S: BuildHasher = FixedHasher> {
     policy: Policy,
@@ -68,8 +68,8 @@ fn level_if(is_so: bool, level: Level) -> Level
 }
 
 impl Watch {
-    /// Nothing is noted yet: the policy, the client's name where it is known, and names that aren't
-    /// unique with their owners.
+    /// Creates a watch before any event, with a policy, the client's name if it is known, and
+    /// well-known names with their owners. Errs only if memory runs out.
     pub fn new(
         alloc: Global,
         policy: Policy,
@@ -85,7 +85,7 @@ impl Watch {
 }
 
 impl<S: BuildHasher + Copy> Watch<S> {
-    /// The same as `new`, with a hasher of the caller's.
+    /// Creates a watch before any event, as `Watch::new` does, with the caller's hasher.
     pub fn with_hasher(
         alloc: Global,
         policy: Policy,
@@ -107,7 +107,7 @@ impl<S: BuildHasher + Copy> Watch<S> {
         })
     }
 
-    /// Notes a message and what became of it. Without memory nothing is noted.
+    /// Notes a message with its verdict. Errs only if memory runs out, and then nothing is noted.
     pub fn note(
         &mut self,
         side: Side,
@@ -163,7 +163,7 @@ impl<S: BuildHasher + Copy> Watch<S> {
         Ok(())
     }
 
-    /// The level of a name, by the events noted. It takes no memory.
+    /// Returns the level of a name after the events noted so far. Allocates nothing.
     pub fn level(&self, name: &str) -> Level
         ensures { (owners : Owners) (noted : List Judged) → WatchAt self.now owners noted
             → result ≡ level_after (rules_of self.now) (client_of self.now) owners noted name.now }
@@ -171,7 +171,7 @@ impl<S: BuildHasher + Copy> Watch<S> {
         self.level_now(name)
     }
 
-    /// What becomes of a message, by the events noted. It takes no memory.
+    /// Returns the verdict on a message after the events noted so far. Allocates nothing.
     pub fn verdict(&self, side: Side, header: &Header, message: &[u8]) -> Verdict
         ensures { (owners : Owners) (noted : List Judged) → WatchAt self.now owners noted
             → result ≡ verdict_after (rules_of self.now) (client_of self.now) owners noted
@@ -181,10 +181,10 @@ impl<S: BuildHasher + Copy> Watch<S> {
     }
 }
 
-/// What is known.
+/// The knowledge of names and calls.
 impl<S: BuildHasher> Watch<S> {
-    /// How many peers are kept, and serials with calls of the client that wait. What else a watch
-    /// keeps doesn't grow, but for the serials of a peer's calls that wait.
+    /// Returns the number of stored peers plus the number of serials with waiting calls of the
+    /// client. Nothing else in a watch grows, except the serials of each peer's waiting calls.
     pub fn count_kept(&self) -> usize
         ensures { result ≡ count_kept self.now }
     {
@@ -204,7 +204,7 @@ impl<S: BuildHasher> Watch<S> {
         level_had(peer).or(by_writing.or(by_client))
     }
 
-    /// The level of a name.
+    /// Returns the level of a name.
     #[tactic(auto, unfolding(crate::specs::Watching::sight_of))]
     fn level_now(&self, name: &str) -> Level
         ensures { result ≡ (sight_of self.now).level_of name.now }
@@ -218,14 +218,14 @@ impl<S: BuildHasher> Watch<S> {
         }
     }
 
-    /// Whether a name has a level.
+    /// Returns whether a name has at least a level.
     fn has_level(&self, wanted: Level, name: &str) -> bool
         ensures { result ≡ has_level (sight_of self.now) wanted name.now }
     {
         self.level_now(name).reaches(wanted)
     }
 
-    /// Whether a rule for calls or broadcasts gives leave to a message of a peer.
+    /// Returns whether a rule lets a call to a peer, or a broadcast of a peer, pass.
     fn gives_leave(&self, kind: RuleKind, peer: &str, header: &Header) -> bool
         ensures { result ≡ (sight_of self.now).gives_leave kind peer.now header.now }
     {
@@ -236,7 +236,7 @@ impl<S: BuildHasher> Watch<S> {
         }
     }
 
-    /// The calls of the client with a serial that wait.
+    /// Returns the waiting calls of the client with a serial, if there are any.
     #[tactic(auto, unfolding(crate::specs::Watching::sight_of))]
     fn calls_waiting(&self, serial: u32) -> Option<WaitingCalls>
         ensures { result ≡ (sight_of self.now).calls_waiting serial }
@@ -244,7 +244,7 @@ impl<S: BuildHasher> Watch<S> {
         self.calls.with_serial(serial)
     }
 
-    /// Whether a call of a peer waits.
+    /// Returns whether a call of a peer with this serial waits.
     #[tactic(auto, unfolding(crate::specs::Watching::sight_of))]
     fn peer_waits(&self, peer: &str, serial: u32) -> bool
         ensures { result ≡ (sight_of self.now).peer_waits peer.now serial }
@@ -256,7 +256,7 @@ impl<S: BuildHasher> Watch<S> {
     }
 }
 
-/// What becomes of messages.
+/// Verdicts on messages.
 impl<S: BuildHasher> Watch<S> {
     fn refused_call(&self, header: &Header, name: &str) -> Verdict
         ensures { result ≡ refused (sight_of self.now) header.now name.now }
@@ -422,7 +422,7 @@ impl<S: BuildHasher> Watch<S> {
         }
     }
 
-    /// What becomes of a message.
+    /// Returns the verdict on a message.
     #[tactic(auto, unfolding(crate::specs::Verdicts::verdict_in))]
     pub(crate) fn judge(&self, side: Side, header: &Header, message: &[u8]) -> Verdict
         ensures { result ≡ verdict_in (sight_of self.now) (event side header.now message.now) }

@@ -1,5 +1,4 @@
--- Worked examples: a call, what answers it where nobody may see the name that it goes to, and a
--- list of names.
+-- Worked examples: a call, the error that answers it if its name is hidden, and a list of names.
 use Rattle.std.specs.Prelude.{ℕ, true, false, List, [], ◌∷◌, codes, Some, None}
 use Rattle.fp_base.specs.declared.side.Side.TheVariants as side
 use Rattle.bus_frame.specs.declared.header.Header.{Header}
@@ -9,7 +8,7 @@ use Rattle.bus_policy.specs.declared.policy.Grant.TheVariants as grant
 use Rattle.bus_policy.specs.Events.{Event}
 use Rattle.bus_proxy.specs.Outs.{Setting}
 
--- org.bar has this level, and no other name has one
+-- The setting whose only rule gives `org.bar` this level
 abbrev pub with_level : Level → Setting
 with_level level = record {
   rules = record { pattern = codes "org.bar"; grant = grant.Level level } ∷ [];
@@ -17,7 +16,7 @@ with_level level = record {
   owners = [];
 }
 
--- the call of the method M at the path /a of org.bar, with serial 1
+-- The bytes of a call of the method M at the path /a of `org.bar`, with the serial 1
 abbrev pub call_bytes : List ℕ
 call_bytes =
     108 ∷ 1 ∷ 0 ∷ 1 ∷ 0 ∷ 0 ∷ 0 ∷ 0 ∷ 1 ∷ 0 ∷ 0 ∷ 0 ∷ 48 ∷ 0 ∷ 0 ∷ 0 ∷ 1 ∷ 1 ∷ 111 ∷ 0 ∷ 2 ∷
@@ -25,6 +24,7 @@ call_bytes =
     0 ∷ 0 ∷ 0 ∷ 0 ∷ 0 ∷ 0 ∷ 6 ∷ 1 ∷ 115 ∷ 0 ∷ 7 ∷ 0 ∷ 0 ∷ 0 ∷ 111 ∷ 114 ∷ 103 ∷ 46 ∷ 98 ∷ 97 ∷
     114 ∷ 0 ∷ []
 
+-- The call of the method M at the path /a of `org.bar`, with the serial 1
 abbrev pub call : Event
 call = record {
   side = side.Client;
@@ -47,7 +47,7 @@ call = record {
   bytes = call_bytes;
 }
 
--- the error ServiceUnknown that answers it
+-- The bytes of the error ServiceUnknown that answers the call with the serial 1
 abbrev pub unknown_bytes : List ℕ
 unknown_bytes =
     108 ∷ 3 ∷ 1 ∷ 1 ∷ 0 ∷ 0 ∷ 0 ∷ 0 ∷ 255 ∷ 255 ∷ 255 ∷ 255 ∷ 93 ∷ 0 ∷ 0 ∷ 0 ∷ 4 ∷ 1 ∷ 115 ∷
@@ -58,7 +58,7 @@ unknown_bytes =
     114 ∷ 103 ∷ 46 ∷ 102 ∷ 114 ∷ 101 ∷ 101 ∷ 100 ∷ 101 ∷ 115 ∷ 107 ∷ 116 ∷ 111 ∷ 112 ∷ 46 ∷
     68 ∷ 66 ∷ 117 ∷ 115 ∷ 0 ∷ 0 ∷ 0 ∷ 0 ∷ []
 
--- a return in big endian with the names org.bar and :1.1
+-- The header of a big-endian return with the names `org.bar` and `:1.1`
 abbrev pub names_header : Header
 names_header = record {
   little = false;
@@ -77,6 +77,7 @@ names_header = record {
   body_len = 25;
 }
 
+-- A big-endian return with the names `org.bar` and `:1.1`
 abbrev pub names : Event
 names = record {
   side = side.Bus;
@@ -87,7 +88,7 @@ names = record {
       114 ∷ 103 ∷ 46 ∷ 98 ∷ 97 ∷ 114 ∷ 0 ∷ 0 ∷ 0 ∷ 0 ∷ 4 ∷ 58 ∷ 49 ∷ 46 ∷ 49 ∷ 0 ∷ [];
 }
 
--- the same with org.bar alone
+-- The bytes of the big-endian return with only the name `org.bar`
 abbrev pub fewer_names_bytes : List ℕ
 fewer_names_bytes =
     66 ∷ 2 ∷ 0 ∷ 1 ∷ 0 ∷ 0 ∷ 0 ∷ 16 ∷ 0 ∷ 0 ∷ 0 ∷ 2 ∷ 0 ∷ 0 ∷ 0 ∷ 16 ∷ 5 ∷ 1 ∷ 117 ∷ 0 ∷ 0 ∷

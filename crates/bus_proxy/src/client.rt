@@ -7,15 +7,15 @@ ghost use Rattle.bus_frame.specs.declared.limits.TheConstants.{MOST_NAME_BYTES};
 use fp_base::Text;
 use std::alloc::{AllocError, Global};
 
-/// A name of at most 255 bytes.
+/// A bus name of at most 255 bytes.
 #[derive(Drop)]
 pub struct Name {
-    /// The name as it is written.
+    /// The name's text.
     pub text: Text,
     ghost short: { length text ≤ MOST_NAME_BYTES },
 }
 
-/// The client's name, where it is known.
+/// Copies the client's name, if it is known. Errs only if memory runs out.
 pub fn name_of(alloc: Global, client: Option<&str>) -> Result<Option<Name>, AllocError>
     requires { ForSome client (λ t. length t.now ≤ MOST_NAME_BYTES) }
     ensures { IfOk result

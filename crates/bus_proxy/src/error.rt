@@ -1,15 +1,15 @@
-//! Why a filter goes on no more.
+//! The error that ends a filter.
 
 use fp_base::{FrameRule, Side};
 use std::alloc::AllocError;
 use std::error::Error;
 use std::fmt;
 
-/// Why a filter goes on no more.
+/// The error that ends a filter.
 #[derive(Debug, Drop)]
 pub enum FilterError {
-    /// A side's message breaks a rule: the side, the number of its whole messages before, and the
-    /// rule.
+    /// A side's message breaks a rule, or its stream ends within a message (`FrameRule::Cut`): the
+    /// side, the number of its whole messages before that, and the rule.
     Bad(Side, u64, FrameRule),
     /// Memory ran out.
     NoMemory,

@@ -1,4 +1,4 @@
-//! What becomes of messages.
+//! Judging of messages: the verdict on each, and the message that is sent for it.
 
 ghost use Rattle.std.specs.Prelude.{◌≡◌, ◌≤◌, ◌∷◌, ℕ, [], List, Option, length, IfOk, OnOk, option_map};
 ghost use Rattle.std.specs.Option.{ForSome};
@@ -21,23 +21,24 @@ use fp_base::{Blob, Items, Side, Text};
 use std::alloc::{AllocError, Global};
 use std::hash::BuildHasher;
 
-/// What is known of the messages so far, and the client's name for the errors that it gets.
+/// The watch over the messages so far, and the client's name, which is the destination of the
+/// filter's errors.
 #[derive(Drop)]
 pub struct Judge<S: BuildHasher> {
     alloc: Global,
-    /// What is known of the messages so far.
+    /// The knowledge of the messages so far.
     pub watch: Watch<S>,
-    /// The name, once it is known.
+    /// The client's name, if it is known.
     pub client: Option<Name>,
 }
 
-/// The error of a call that isn't let through.
+/// The name of the error that answers a refused call to a name that the client may see.
 const DENIED: &str = "org.freedesktop.DBus.Error.AccessDenied";
 
-/// The error of a call to a name that may not be seen.
+/// The name of the error that answers a call to a name that the client may not see.
 const UNKNOWN: &str = "org.freedesktop.DBus.Error.ServiceUnknown";
 
-/// The side that a side's messages go to.
+/// Returns the side to which a side's messages go.
 fn opposite(side: Side) -> Side
     ensures { result ≡ other_side side }
 {
@@ -47,7 +48,7 @@ fn opposite(side: Side) -> Side
     }
 }
 
-/// A message that goes to a side in the place of another.
+/// Returns a message that is sent to a side instead of another one. Errs only if memory runs out.
 fn sent(to: Side, bytes: Blob) -> Result<Out, AllocError>
     ensures { IfOk result (λ out. out ≡ record { to = to; bytes = bytes }) }
 {
@@ -55,7 +56,7 @@ fn sent(to: Side, bytes: Blob) -> Result<Out, AllocError>
     Ok(Out { to, bytes })
 }
 
-/// What a message gives: itself where it passes, else what goes somewhere in its place.
+/// Returns the message that is sent for another one, if any: itself if it passes, else `instead`.
 fn given(verdict: Verdict, side: Side, message: Bytes, instead: Option<Out>) -> Option<Out>
     ensures { result ≡ given_by verdict side message instead }
 {
@@ -69,7 +70,7 @@ fn given(verdict: Verdict, side: Side, message: Bytes, instead: Option<Out>) -> 
 }
 
 impl<S: BuildHasher + Copy> Judge<S> {
-    /// Nothing is known yet.
+    /// Creates a judge before any message. Errs only if memory runs out.
     pub fn new(
         alloc: Global,
         policy: Policy,
@@ -88,7 +89,7 @@ impl<S: BuildHasher + Copy> Judge<S> {
         })
     }
 
-    /// The error that answers a call.
+    /// Returns the filter's error that answers a call.
     fn refusal(&self, name: &str, call: &Header) -> Result<Out, AllocError>
         requires { length name.now ≤ MOST_NAME_BYTES }
         ensures { IfOk result (λ out. out ≡ record {
@@ -105,7 +106,8 @@ impl<S: BuildHasher + Copy> Judge<S> {
         sent(Side::Client, bytes)
     }
 
-    /// A list of names with those alone that may be seen, for the other side.
+    /// Returns a list of names reduced to those that the client may see, for the other side; `None`
+    /// if the message isn't such a list.
     fn shortened(
         &self,
         side: Side,
@@ -124,7 +126,7 @@ impl<S: BuildHasher + Copy> Judge<S> {
         }
     }
 
-    /// What goes somewhere in the place of a message that doesn't pass as it is.
+    /// Returns the message that is sent instead of one that doesn't pass unchanged, if any.
     fn instead(
         &self,
         verdict: Verdict,
@@ -146,7 +148,8 @@ impl<S: BuildHasher + Copy> Judge<S> {
         }
     }
 
-    /// What a message gives, by the messages before it. From now on it is one of them.
+    /// Returns the message that is sent for another one, if any, by the messages before it, and
+    /// notes the message with its verdict. Errs only if memory runs out.
     pub fn take(
         &mut self,
         side: Side,

@@ -1,5 +1,5 @@
-//! Laws of events, and of what a filter gives: for every policy and all events, and on worked
-//! examples.
+//! Laws of events and of what a filter sends, for every policy and all events, and on worked
+//! examples. Each law is the contract of a function with an empty body.
 
 ghost use Rattle.std.specs.Prelude.{◌≡◌, [], ◌∷◌, take, drop, codes, Some, None};
 ghost use Rattle.fp_base.specs.declared.side.Side.TheVariants as side;
@@ -11,13 +11,14 @@ ghost use Rattle.bus_proxy.specs.Outs.{out_after, reduced, level_in};
 ghost use Rattle.bus_proxy.specs.Laws.{ClientGets, LeftNamesAreSeen, UnseenNamesChangeNothing};
 ghost use Rattle.bus_proxy.specs.Rows.{with_level, call_bytes, call, unknown_bytes, names, fewer_names_bytes};
 
-/// The events of what was fed, and how they end, depend on the bytes and their sides alone, and not
-/// on the pieces in which they came.
+/// States that the events of what was fed, and how they end, depend only on the bytes and their
+/// sides in their order, and not on the pieces in which they were fed.
 pub fn pieces_dont_matter()
     ensures { (fed other : Pieces) → bytes_fed fed ≡ bytes_fed other → Alike fed other }
 {}
 
-/// A call is an event where its last byte comes, in whatever pieces; before that the stream is cut.
+/// States that a call is an event once its last byte is fed, in whatever pieces; before that the
+/// stream ends within a message.
 pub fn events_of_a_call()
     ensures whole { events ((side.Client, call_bytes) ∷ []) ≡ call ∷ [] }
     ensures in_two { events ((side.Client, drop 20 call_bytes) ∷ (side.Client, take 20 call_bytes)
@@ -31,7 +32,8 @@ pub fn events_of_a_call()
         ≡ Some (side.Bus, 0, rule.Order) }
 {}
 
-/// What becomes of a call, by the level of the name that it goes to.
+/// States what a filter sends for a call, by the level of the name that is called: the call to the
+/// bus, or the error ServiceUnknown to the client.
 pub fn answers_to_a_call()
     ensures talk { out_after (with_level level.Talk) [] call
         ≡ Some (record { to = side.Bus; bytes = call_bytes }) }
@@ -39,30 +41,30 @@ pub fn answers_to_a_call()
         ≡ Some (record { to = side.Client; bytes = unknown_bytes }) }
 {}
 
-/// What goes to the client is a message of the bus that is forwarded, or the filter's own error in
-/// answer to a call that isn't.
+/// States that what is sent to the client is for a message of the bus's side that is forwarded, or
+/// is the filter's own error that answers a refused call.
 pub fn what_the_client_gets()
     ensures { ClientGets }
 {}
 
-/// Each name that is left in a list may be seen.
+/// States that the client may see each name that is left in a filtered list.
 pub fn names_left_may_be_seen()
     ensures { LeftNamesAreSeen }
 {}
 
-/// Two recordings that differ only in names that may not be seen, in lists that are filtered, give
-/// the same bytes to either side.
+/// States that hidden names change nothing: if two sequences of events differ only in names that
+/// the client may not see, in lists that are filtered, the same bytes are sent for both.
 pub fn unseen_names_change_nothing()
     ensures { UnseenNamesChangeNothing }
 {}
 
-/// The errors' names, as the D-Bus specification spells them.
+/// States the names of the filter's errors, as the D-Bus specification has them.
 pub fn names_of_errors()
     ensures denied { DENIED.now ≡ codes "org.freedesktop.DBus.Error.AccessDenied" }
     ensures unknown { UNKNOWN.now ≡ codes "org.freedesktop.DBus.Error.ServiceUnknown" }
 {}
 
-/// The names that may not be seen are taken out of a list of names.
+/// States that the names that the client may not see are removed from a list, on a worked example.
 pub fn names_that_may_be_seen()
     ensures { reduced (level_in (with_level level.See) []) names ≡ Some fewer_names_bytes }
 {}

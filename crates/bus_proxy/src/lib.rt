@@ -1,4 +1,5 @@
-//! A filter between a client and its bus: what it forwards, takes away and answers.
+//! A filter between a client and its bus: the messages that it forwards, those that it shortens,
+//! and the errors with which it answers calls.
 #![tactic(auto)]
 
 mod client;

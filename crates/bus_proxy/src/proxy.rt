@@ -1,4 +1,4 @@
-//! The filter.
+//! The filter between a client and its bus.
 
 ghost use Rattle.std.specs.Prelude.{◌≡◌, ◌∷◌, ◌<◌, ℕ, [], List, length, Some, IsTrue, IsErrOf, IfOk, OnOk, option_map};
 ghost use Rattle.std.specs.Option.{ForSome};
@@ -23,21 +23,20 @@ use fp_base::{FrameRule, Items, Side, Text};
 use std::alloc::{AllocError, Global};
 use std::hash::{BuildHasher, BuildHasherDefault};
 
-/// What a filter gives next.
+/// The result of taking the next message.
 #[derive(Drop)]
 pub enum Next {
-    /// A message goes to a side.
+    /// A message was taken, and this one is to be sent.
     Out(Out),
-    /// A message came, and nothing goes anywhere.
+    /// A message was taken, and nothing is to be sent.
     Quiet,
-    /// No message is whole yet.
+    /// The next message isn't whole yet.
     NotYet,
 }
 
-/// A filter between a client and its bus, which is fed with what they send, in pieces.
+/// A filter between a client and its bus. It is fed what they send, in pieces.
 ///
-/// Feed it where nothing was fed yet or `next` last answered `NotYet`; then call `next` until it
-/// answers so again.
+/// Call `next` after each `feed` until it returns `NotYet`. Only then feed the next piece.
 #[derive(Drop)]
 pub struct Filter<S: BuildHasher = FixedHasher> {
     pub(crate) streams: Streams,
@@ -45,8 +44,8 @@ pub struct Filter<S: BuildHasher = FixedHasher> {
 }
 
 impl Filter {
-    /// Nothing is fed yet: the policy, the client's name where it is known, and names that aren't
-    /// unique with their owners.
+    /// Creates a filter with a policy, the client's unique name if it is known, and well-known
+    /// names with their owners. Errs only if memory runs out.
     pub fn new(
         alloc: Global,
         policy: Policy,
@@ -62,7 +61,8 @@ impl Filter {
 }
 
 impl<S: BuildHasher + Copy> Filter<S> {
-    /// The same as `new`, with a hasher of the caller's for the tables of names and calls.
+    /// Creates a filter as `Filter::new` does, with the caller's hasher for the tables of names and
+    /// calls.
     pub fn with_hasher(
         alloc: Global,
         policy: Policy,
@@ -81,8 +81,8 @@ impl<S: BuildHasher + Copy> Filter<S> {
         })
     }
 
-    /// Adds a piece of what a side sends, where every message before is taken. Without memory the
-    /// filter can only be dropped.
+    /// Adds a piece of what a side sends. All whole messages must have been taken. If memory runs
+    /// out, the filter can only be dropped.
     pub fn feed(&mut self, side: Side, piece: &[u8]) -> Result<(), AllocError>
         ensures at { (s : Setting) (fed : Pieces) (taken : List Event) (given : List TheOut)
             → FilterAt self.old s fed taken given
@@ -92,15 +92,16 @@ impl<S: BuildHasher + Copy> Filter<S> {
         self.streams.feed(side, piece)
     }
 
-    /// Takes the next message. Without memory the filter can only be dropped.
+    /// Takes the next message.
     ///
-    /// A rule that is broken stays broken: each later call names it again.
+    /// Errs with `Bad` and the rule that a message breaks; each later call returns the same error.
+    /// If memory runs out, the filter can only be dropped.
     pub fn next(&mut self) -> Result<Next, FilterError>
         ensures at { (s : Setting) (fed : Pieces) (taken : List Event) (given : List TheOut)
             → FilterAt self.old s fed taken given
             → Gives result self.new s fed taken given }
 
-        // Where no event is left, the answer takes no memory.
+        // If no event is left, the call allocates nothing.
         ensures not_yet { (s : Setting) (fed : Pieces) (taken : List Event) (given : List TheOut)
             → FilterAt self.old s fed taken given
             → AllTaken fed taken → IsNotYet result }
@@ -110,7 +111,7 @@ impl<S: BuildHasher + Copy> Filter<S> {
             → breach fed ≡ Some (side, index, rule)
             → IsErrOf result (FilterError.Bad side index rule) }
 
-        // There is an end to the events of what was fed.
+        // Only finitely many events are taken from what was fed.
         ensures less { TookEvent result → unread self.new < unread self.old }
     {
         match self.streams.next() {
@@ -120,7 +121,7 @@ impl<S: BuildHasher + Copy> Filter<S> {
         }
     }
 
-    /// What a message gives, which is taken from now on.
+    /// Returns the message to be sent for another one, if any, and counts that one as taken.
     fn take(&mut self, side: Side, header: &Header, message: Bytes) -> Result<Next, FilterError>
         requires { frame_of message ≡ whole header.now (length message) }
         ensures streams { self.new.streams ≡ self.old.streams }
@@ -133,15 +134,17 @@ impl<S: BuildHasher + Copy> Filter<S> {
         }
     }
 
-    /// How many peers are kept, and serials with calls of the client that wait.
+    /// Returns the number of stored peers plus the number of serials with waiting calls of the
+    /// client.
     pub fn count_kept(&self) -> usize
         ensures { result ≡ kept_by self.now }
     {
         self.judge.watch.count_kept()
     }
 
-    /// How what was fed ends, where every message is taken: cut within a message, the client's
-    /// first, or clean.
+    /// Checks that no side's bytes end within a message, after all whole messages were taken. Errs
+    /// with `Bad` and `FrameRule::Cut` for the client's side first, then for the bus's, and never
+    /// with `NoMemory`.
     pub fn end(&self) -> Result<(), FilterError>
         ensures at { (s : Setting) (fed : Pieces) (taken : List Event) (given : List TheOut)
             → FilterAt self.now s fed taken given

@@ -1,4 +1,4 @@
-//! Lists of names with those alone that may be seen.
+//! Lists of names, reduced to those that the client may see.
 
 ghost use Rattle.std.specs.Prelude.{◌≡◌, ◌≤◌, ℕ, Bool, List, length, IfOk};
 ghost use Rattle.bus_frame.specs.Reading.{whole, frame_of};
@@ -23,7 +23,8 @@ fn is_seen<S: BuildHasher + Copy>(watch: &Watch<S>, name: &Text) -> bool
     watch.level(name.as_str()).reaches(Level::See)
 }
 
-/// The names that may be seen. As an array they are no longer than all.
+/// Returns the names that the client may see. Marshaled as an array, they are no longer than all
+/// the names.
 fn seen<S: BuildHasher + Copy>(
     alloc: Global,
     watch: &Watch<S>,
@@ -45,7 +46,8 @@ fn seen<S: BuildHasher + Copy>(
     Ok(Items::from_vec(seen))
 }
 
-/// A list of names with those alone that may be seen; nothing where the message is no such list.
+/// Returns a list of names reduced to those that the client may see, or `None` if the message isn't
+/// a list of names. Errs only if memory runs out.
 pub fn without_unseen<S: BuildHasher + Copy>(
     alloc: Global,
     watch: &Watch<S>,

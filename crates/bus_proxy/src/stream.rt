@@ -10,26 +10,26 @@ use bytes::Bytes;
 use fp_base::Side;
 use std::alloc::{AllocError, Global};
 
-/// What comes next.
+/// The next message of a side, if it is whole.
 #[derive(Drop)]
 pub enum Arrival {
     /// A message of a side, with its header.
     Message(Side, Header, Bytes),
-    /// Nothing that is whole yet.
+    /// The next message isn't whole yet.
     NotYet,
 }
 
-/// A stream of messages and how many of them were taken.
+/// A stream of messages, and the number of those that were taken.
 #[derive(Drop)]
 pub struct Stream {
-    /// What was fed and is no whole message yet.
+    /// The bytes that were fed and aren't taken yet.
     pub cutter: Cutter,
-    /// How many messages were taken.
+    /// The number of messages that were taken; it stays at 2^64 - 1 once it gets there.
     pub count: u64,
 }
 
 impl Stream {
-    /// Nothing was fed and taken yet. It errs only without memory.
+    /// Creates a stream without bytes. Errs only if memory runs out.
     pub fn new(alloc: Global) -> Result<Self, AllocError>
         ensures { IfOk result (λ s. (s.cutter ≡ []) × (s.count ≡ 0)) }
     {
@@ -39,7 +39,7 @@ impl Stream {
         })
     }
 
-    /// Adds a piece.
+    /// Appends a piece. Errs only if memory runs out.
     pub fn feed(&mut self, piece: &[u8]) -> Result<(), AllocError>
         ensures cutter { OnOk result (self.new.cutter ≡ self.old.cutter ++ piece.now) }
         ensures count { self.new.count ≡ self.old.count }
@@ -47,7 +47,7 @@ impl Stream {
         self.cutter.feed(piece)
     }
 
-    /// Takes the next message, which is of this side.
+    /// Takes the next message of this stream, which belongs to `side`.
     pub fn next(&mut self, side: Side) -> Result<Arrival, FilterError>
         ensures { StreamGave result side self.old self.new }
     {

@@ -10,7 +10,7 @@ use crate::stream::{Arrival, Stream};
 use fp_base::Side;
 use std::alloc::{AllocError, Global};
 
-/// The streams of both sides, and which was fed last.
+/// The streams of both sides, and the side that was fed last.
 #[derive(Drop)]
 pub struct Streams {
     /// The stream of the client.
@@ -22,7 +22,7 @@ pub struct Streams {
 }
 
 impl Streams {
-    /// Nothing is fed.
+    /// Creates streams without bytes. Errs only if memory runs out.
     pub fn new(alloc: Global) -> Result<Self, AllocError>
         ensures { IfOk result (λ s. StreamsAt s [] []) }
     {
@@ -33,7 +33,7 @@ impl Streams {
         })
     }
 
-    /// Adds a piece of a side.
+    /// Appends a piece of a side. Errs only if memory runs out.
     pub fn feed(&mut self, side: Side, piece: &[u8]) -> Result<(), AllocError>
         ensures { OnOk result (Fed self.old self.new side piece.now) }
     {
@@ -44,7 +44,8 @@ impl Streams {
         }
     }
 
-    /// Takes the next message of the side that was fed last: the other has none.
+    /// Takes the next message of the side that was fed last. The other side has no whole message
+    /// left.
     pub fn next(&mut self) -> Result<Arrival, FilterError>
         ensures gave { StreamsGave result self.old self.new }
         ensures message { IfArrived result
@@ -58,8 +59,8 @@ impl Streams {
         }
     }
 
-    /// The first side that has bytes left, the client before the bus, and how many messages of it
-    /// were taken.
+    /// Returns the first side that has bytes left, the client before the bus, with the number of
+    /// messages taken from it.
     pub fn rest(&self) -> Option<(Side, u64)>
         ensures { FirstRest result self.now }
     {

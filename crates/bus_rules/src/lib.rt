@@ -1,5 +1,5 @@
-//! Rules that say which calls and which broadcasts pass a filter: members of interfaces, on
-//! objects.
+//! Rules for the calls and the broadcasts that pass a filter, by members of interfaces and by
+//! objects (xdg-dbus-proxy(1)).
 #![tactic(auto)]
 
 pub mod laws;

@@ -1,4 +1,4 @@
-//! Which messages a rule matches.
+//! The messages that a rule matches.
 
 ghost use Rattle.std.specs.Prelude.{◌≡◌};
 ghost use Rattle.bus_rules.specs.Rules.{says, has_member, has_object, members_match, objects_match, rule_matches};
@@ -8,7 +8,7 @@ use crate::within::is_at_or_under;
 use bus_frame::Header;
 use fp_base::Text;
 
-/// Whether a header's text is there, and is this one.
+/// Returns whether a header field is present and is this text.
 pub fn is_text(found: &Option<Text>, text: &str) -> bool
     ensures { result ≡ says found.now text.now }
 {
@@ -64,7 +64,9 @@ fn is_there(objects: &Option<Objects>, header: &Header) -> bool
 }
 
 impl Rule {
-    /// Whether a message with this header is one that the rule names. It takes no memory.
+    /// Returns whether the rule matches a message with this header. A message without an interface
+    /// matches no rule that names one, and a message without a path matches no rule with objects.
+    /// Allocates nothing.
     #[tactic(auto, unfolding(crate::specs::Rules::rule_matches))]
     pub fn matches(&self, header: &Header) -> bool
         ensures { result ≡ rule_matches self.now header.now }

@@ -1,4 +1,4 @@
-//! Reading a rule's text.
+//! Reading of rules.
 
 ghost use Rattle.std.specs.Prelude.{◌≡◌, ◌≢◌, ◌↔◌, ℕ, ◌<◌, ◌∷◌, ◌++◌, length, slice_index, MatchOption, IfOk, IsErrOf};
 ghost use Rattle.bus_rules.specs.declared.rule.Members.{Members as TheMembers};
@@ -10,36 +10,36 @@ use bus_frame::{is_interface_name, is_member_name, is_object_path};
 use fp_base::Text;
 use std::alloc::{AllocError, Global};
 
-/// What a text says of methods or signals.
+/// The methods or signals in a rule's text.
 #[derive(Clone, Copy)]
 pub enum RawMembers<'a> {
-    /// All of them.
+    /// All members of all interfaces.
     All,
-    /// Those of this interface.
+    /// All members of this interface.
     Of(&'a str),
-    /// The one of this interface, by its name.
+    /// One member: its interface, and its name.
     One(&'a str, &'a str),
 }
 
-/// What a text says of objects.
+/// The objects in a rule's text.
 #[derive(Clone, Copy)]
 pub enum RawObjects<'a> {
     /// The object at this path.
     At(&'a str),
-    /// The object at this path and those below it.
+    /// The object at this path and those below it; for the empty path, all objects.
     Below(&'a str),
 }
 
-/// A rule, lent from its text.
+/// A rule that borrows from its text.
 #[derive(Clone, Copy)]
 pub struct RawRule<'a> {
-    /// The methods or signals, where the rule names some.
+    /// The methods or signals, if the rule restricts them.
     pub members: Option<RawMembers<'a>>,
-    /// The objects, where the rule names some.
+    /// The objects, if the rule restricts them.
     pub objects: Option<RawObjects<'a>>,
 }
 
-/// What stands before the last dot, and what after it.
+/// Returns what precedes the last dot and what follows it, or `None` if there is no dot.
 fn at_last_dot(text: &str) -> Option<(&str, &str)>
     ensures { MatchOption result ((i : ℕ) → i < length text.now → slice_index text.now i ≢ 46)
         (λ parts. (text.now ≡ parts.0.now ++ 46 ∷ parts.1.now)
@@ -140,10 +140,12 @@ fn own(alloc: Global, raw: RawRule<'_>) -> Result<Rule, AllocError>
 }
 
 impl Rule {
-    /// Reads a rule: `*`, `INTERFACE.*` or `INTERFACE.MEMBER`, or `@` and `PATH`, `PATH/*` or `/*`,
-    /// or the one and then the other.
+    /// Reads a rule (xdg-dbus-proxy(1)): members, which are `*`, `INTERFACE.*` or
+    /// `INTERFACE.MEMBER`; or `@` and objects, which are `PATH`, `PATH/*` or `/*`; or members, `@`
+    /// and objects.
     ///
-    /// The text is looked at before memory is taken, so `Bad` comes exactly where it is no rule.
+    /// Errs with `Bad` exactly if the text is no rule, since it is checked before memory is
+    /// allocated.
     pub fn parse(alloc: Global, text: &str) -> Result<Self, RuleError>
         ensures found { IfOk result (λ rule. IsRule rule text.now) }
         ensures bad { IsErrOf result RuleError.Bad ↔ IsNoRule text.now }

@@ -1,44 +1,45 @@
-//! Rules and their texts.
+//! Rules for calls and broadcasts.
 
 use fp_base::Text;
 use std::alloc::AllocError;
 use std::error::Error;
 use std::fmt;
 
-/// Which methods or signals.
+/// The methods or signals that a rule matches.
 #[derive(Drop)]
 pub enum Members {
-    /// All of them: `*`.
+    /// All members of all interfaces: `*`.
     All,
-    /// Those of an interface: `INTERFACE.*`.
+    /// All members of an interface: `INTERFACE.*`.
     Of(Text),
-    /// The member of an interface: `INTERFACE.MEMBER`.
+    /// One member, by its interface and its name: `INTERFACE.MEMBER`.
     One(Text, Text),
 }
 
-/// Which objects.
+/// The objects that a rule matches.
 #[derive(Drop)]
 pub enum Objects {
-    /// The object at a path.
+    /// The object at a path: `PATH`.
     At(Text),
-    /// The object at a path and all below it: `PATH/*`. The empty path stands for all objects:
+    /// The object at a path and those below it: `PATH/*`. The empty path is that of all objects:
     /// `/*`.
     Below(Text),
 }
 
-/// A rule for calls or for broadcasts. A part that isn't there says nothing; one is.
+/// A rule for calls or for broadcasts. It has one part or both; an absent part matches every
+/// message.
 #[derive(Drop)]
 pub struct Rule {
-    /// The methods or signals.
+    /// The methods or signals, if the rule restricts them.
     pub members: Option<Members>,
-    /// The objects, with an `@` before them.
+    /// The objects, if the rule restricts them; in the rule's text, `@` precedes them.
     pub objects: Option<Objects>,
 }
 
-/// Why a text isn't read.
+/// The error of reading a rule.
 #[derive(Debug, Drop)]
 pub enum RuleError {
-    /// It is no rule.
+    /// The text is no rule.
     Bad,
     /// Memory ran out.
     NoMemory,

@@ -1,4 +1,4 @@
-//! A stream of messages that comes in pieces.
+//! Streams of D-Bus messages that arrive in pieces.
 
 ghost use Rattle.std.specs.Prelude.{◌≡◌, ◌↔◌, ℕ, List, [], ◌++◌, ◌<◌, ◌≤◌, slice_index, length, take, IfOk, OnOk, OnErr, IsErrOf};
 ghost use Rattle.fp_base.specs.declared.frame_rule.FrameRule.{FrameRule};
@@ -12,18 +12,19 @@ use bytes::{Bytes, BytesMut};
 use std::alloc::{AllocError, Global};
 use std::marker::Model;
 
+/// The capacity of a new stream's buffer, in bytes.
 const FIRST_ROOM: usize = 4_096;
 
-/// What the next bytes of a stream are.
+/// The result of taking the next message from a stream.
 #[derive(Drop)]
 pub enum Cut {
-    /// A whole message with its header, split off with no copy.
+    /// A whole message with its header. Its bytes are split off the stream's buffer without a copy.
     Message(Header, Bytes),
-    /// Less than a whole message, and no rule broken yet.
+    /// The next message isn't whole, and no rule is broken yet.
     NotYet,
 }
 
-/// What stands at the front of some bytes, each of which is below 256.
+/// Reads the message at the front of some bytes. Its contract adds that each byte is below 256.
 fn front(alloc: Global, bytes: &[u8]) -> Result<ReadFrame, FrameError>
     ensures exact { AnswersFrame result (frame_of bytes.now) }
     ensures message { IfFrame result (λ header len. (len ≤ length bytes.now) × Frame
@@ -33,8 +34,7 @@ fn front(alloc: Global, bytes: &[u8]) -> Result<ReadFrame, FrameError>
     read_frame(alloc, bytes)
 }
 
-/// A stream of messages that comes in pieces. It keeps the bytes that aren't taken yet, and no
-/// history.
+/// A stream of messages that arrives in pieces. It contains only the bytes that aren't taken yet.
 #[derive(Drop)]
 pub struct Cutter {
     bytes: BytesMut,
@@ -51,7 +51,7 @@ impl Model for Cutter {
 impl Cutter {
     ghost use Rattle.bus_stream.specs.Cuts.{AnswersCut, with_given, AreAll, IsNotYet};
 
-    /// A stream to which nothing was fed.
+    /// Creates a stream without bytes. Errs only if memory runs out.
     pub fn new(alloc: Global) -> Result<Self, AllocError>
         ensures nothing { IfOk result (λ c. c ≡ []) }
         ensures at { IfOk result (λ c. CutterAt c [] []) }
@@ -61,12 +61,12 @@ impl Cutter {
         })
     }
 
-    /// Adds a piece. Without memory nothing changes.
+    /// Appends a piece. Errs only if memory runs out, and then nothing changes.
     pub fn feed(&mut self, piece: &[u8]) -> Result<(), AllocError>
         ensures ok { OnOk result (self.new ≡ self.old ++ piece.now) }
         ensures err { OnErr result (self.new ≡ self.old) }
 
-        // What was given stays given, and a broken rule stays broken.
+        // Messages that were taken stay taken, and a broken rule stays broken.
         ensures at { (fed : List ℕ) (given : List Message) → CutterAt self.old fed given
             → OnOk result (CutterAt self.new (fed ++ piece.now) given) }
         ensures broken { (rule : FrameRule) → BeginsBroken self.old rule → BeginsBroken self.new
@@ -75,10 +75,11 @@ impl Cutter {
         self.bytes.extend_from_slice(piece)
     }
 
-    /// Takes the next whole message. Only a whole message takes memory, and without it nothing
-    /// changes.
+    /// Takes the next whole message off the front.
     ///
-    /// A rule that is broken stays broken, whatever is fed: each later call names it again.
+    /// Errs with `Bad` and the rule if the next bytes break one; each later call returns the same
+    /// error, whatever is fed. Errs with `NoMemory` only if a message is whole. After an error and
+    /// after `NotYet` nothing has changed.
     pub fn next(&mut self) -> Result<Cut, FrameError>
         ensures exact { AnswersCut result self.old self.new }
         ensures not_yet { IsNotYet result ↔ NothingYet self.old }
@@ -86,8 +87,8 @@ impl Cutter {
             self.old rule }
         ensures err { OnErr result (self.new ≡ self.old) }
 
-        // The messages given are whole messages of what was fed, and in the end all of them,
-        // however it was fed.
+        // The messages taken are whole messages of what was fed, and in the end all of them, in
+        // whatever pieces it was fed.
         ensures at { (fed : List ℕ) (given : List Message) → CutterAt self.old fed given
             → CutterAt self.new fed (with_given result given) }
         ensures all { (fed : List ℕ) (given : List Message) → CutterAt self.old fed given → AreAll
@@ -110,7 +111,7 @@ impl Cutter {
         }
     }
 
-    /// How many bytes aren't taken.
+    /// Returns the number of bytes that were fed and aren't taken yet.
     pub fn pending(&self) -> u64
         ensures { result ≡ length self.now }
     {

@@ -1,4 +1,4 @@
-//! Streams of D-Bus messages that come in pieces, and recordings of them.
+//! Streams of D-Bus messages that arrive in pieces, and recordings of them.
 #![tactic(auto)]
 
 mod cutter;

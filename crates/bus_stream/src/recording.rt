@@ -10,21 +10,22 @@ use std::collections::BTreeSet;
 use std::error::Error;
 use std::fmt;
 
-/// What a client and its bus sent to each other, and what was known of names before.
+/// The bytes that a client and its bus sent to each other, and the names that were known before.
 #[derive(Drop)]
 pub struct Recording {
-    /// The client's unique name, where it is known.
+    /// The client's unique name, if the recording contains it.
     pub client: Option<Text>,
-    /// Names that aren't unique, each once, with the unique name that owns it.
+    /// Well-known names, each once, with the unique name of the connection that owns it.
     pub owners: Items<(Text, Text)>,
-    /// What was sent, in order and in the pieces in which it came. Each has at least one byte.
+    /// The bytes that were sent, in order, in the pieces in which they arrived, each with the side
+    /// that sent it. Each piece has at least one byte.
     pub pieces: Items<(Side, Blob)>,
 }
 
-/// Why bytes aren't a recording.
+/// The error of reading a recording.
 #[derive(Debug, Drop)]
 pub enum RecordError {
-    /// The first line that is bad, counted from 1.
+    /// The number of the first bad line, counted from 1.
     BadRecord(u64),
     /// Memory ran out.
     NoMemory,
@@ -52,16 +53,16 @@ impl From<AllocError> for RecordError {
     }
 }
 
-/// What the lines so far say.
+/// A recording while its lines are read.
 #[derive(Drop)]
 pub struct Draft {
-    /// The name of the client, where a line gives it.
+    /// The client's unique name, if a line contained it.
     pub client: Option<Text>,
-    /// The names whose owners were given.
+    /// The well-known names that have an owner.
     pub owned: BTreeSet<String>,
-    /// Names, each with its owner, in the order of the lines.
+    /// Well-known names, each with its owner, in the order of the lines.
     pub owners: Vec<(Text, Text)>,
-    /// The pieces, each with the side that it comes from, in the order of the lines.
+    /// The pieces, each with the side that sent it, in the order of the lines.
     pub pieces: Vec<(Side, Blob)>,
 }
 
@@ -145,10 +146,13 @@ impl Draft {
 
 /// Reads a recording.
 ///
-/// It is lines, each with a newline at its end. First come at most one `client UNIQUE` and any
-/// number of `owner NAME UNIQUE`, in any order, then lines `c HEX` and `b HEX`: what the client
-/// sent, and what the bus sent. A NAME isn't unique and comes once; HEX is one byte or more in
-/// lower-case hexadecimal.
+/// A recording consists of lines, each with a newline at its end. First come at most one line
+/// `client UNIQUE` and any number of lines `owner NAME UNIQUE`, in any order. Then come lines `c
+/// HEX` and `b HEX`, with bytes that the client and that the bus sent. UNIQUE is a unique bus name.
+/// NAME is a well-known bus name and occurs once. HEX is one byte or more in lower-case
+/// hexadecimal.
+///
+/// Errs with `BadRecord` and the number of the first bad line, or with `NoMemory`.
 pub fn read_recording(alloc: Global, bytes: &[u8]) -> Result<Recording, RecordError>
     ensures { AnswersRecording result (recording_of bytes.now) }
 {

@@ -1,4 +1,4 @@
-//! What tests are made of, from texts: bytes, headers, policies and owners of names.
+//! Test data from texts: bytes, headers, policies, and owners of names.
 
 use crate::told::word_at;
 use bus_frame::{Flags, Header, MessageType};
@@ -8,8 +8,8 @@ use std::alloc::Global;
 use std::panic::Expect;
 use std::process::Abort;
 
-/// The bytes of words with `+` between them: each is hexadecimal digits, or these with `*` and how
-/// often they come.
+/// Returns the bytes of parts that are separated by `+`. Each part is hexadecimal digits, or
+/// hexadecimal digits, `*`, and the number of their repetitions.
 pub fn spelled(rt: &impl Abort, alloc: Global, words: &str) -> Vec<u8> {
     let mut bytes = Vec::new(alloc);
     for word in words.split('+') {
@@ -22,7 +22,7 @@ pub fn spelled(rt: &impl Abort, alloc: Global, words: &str) -> Vec<u8> {
     bytes
 }
 
-/// Bytes with one of them changed.
+/// Returns a copy of the bytes with the one at this offset replaced, if there is one.
 pub fn with_byte(rt: &impl Abort, alloc: Global, bytes: &[u8], at: usize, byte: u8) -> Vec<u8> {
     let mut changed = Vec::from_slice(alloc, bytes).expect(rt, "memory");
     if let Some(place) = changed.get_mut(at) {
@@ -31,7 +31,7 @@ pub fn with_byte(rt: &impl Abort, alloc: Global, bytes: &[u8], at: usize, byte: 
     changed
 }
 
-/// A text again for each number from 1 to the last, with the number in the place of each `#`.
+/// Repeats a text for each number from 1 to `last`, with the number in place of each `#`.
 pub fn numbered(rt: &impl Abort, alloc: Global, text: &str, last: usize) -> String {
     let mut all = String::new(alloc);
     for number in 1..=last {
@@ -42,7 +42,7 @@ pub fn numbered(rt: &impl Abort, alloc: Global, text: &str, last: usize) -> Stri
     all
 }
 
-/// The side of a text: the client's where `c` is its first letter.
+/// Returns the client's side if the text begins with `c`, else the bus's side.
 pub fn side_of(text: &str) -> Side {
     if text.starts_with('c') {
         Side::Client
@@ -51,7 +51,7 @@ pub fn side_of(text: &str) -> Side {
     }
 }
 
-/// The letter of a side.
+/// Returns the letter of a side.
 pub fn letter_of(side: Side) -> &'static str {
     match side {
         Side::Client => "c",
@@ -59,7 +59,7 @@ pub fn letter_of(side: Side) -> &'static str {
     }
 }
 
-/// The text of a word, or nothing for `-`.
+/// Returns the text of a word, or `None` for `-`.
 fn text(rt: &impl Abort, alloc: Global, word: &str) -> Option<Text> {
     match word {
         "-" => None,
@@ -67,9 +67,9 @@ fn text(rt: &impl Abort, alloc: Global, word: &str) -> Option<Text> {
     }
 }
 
-/// The header with this path and a body of this length, by a line of words: its type, flags,
-/// serial, the serial that it replies to, sender, destination, interface, member and signature.
-/// Where `-` stands there is none.
+/// Returns the header with this path and a body of this length. The words of the line are its type,
+/// flags, serial, reply serial, sender, destination, interface, member and signature; `-` stands
+/// for an absent one.
 pub fn header_of(rt: &impl Abort, alloc: Global, path: &str, line: &str, body_len: u64) -> Header {
     Header {
         little: true,
@@ -91,7 +91,7 @@ pub fn header_of(rt: &impl Abort, alloc: Global, path: &str, line: &str, body_le
     }
 }
 
-/// The level of a word.
+/// Returns the level that a word names; `None` for any other word.
 pub fn level_of(word: &str) -> Level {
     match word {
         "see" => Level::See,
@@ -101,7 +101,8 @@ pub fn level_of(word: &str) -> Level {
     }
 }
 
-/// Adds what a row says: `call` or `broadcast` with a pattern and a rule, or a level and a pattern.
+/// Adds a row to a policy: `call` or `broadcast` with a pattern and a rule, or a level with a
+/// pattern.
 pub fn add_row(policy: &mut Policy, alloc: Global, row: &str) -> Result<(), PolicyError> {
     let pattern = word_at(row, 1);
     match word_at(row, 0) {
@@ -111,7 +112,7 @@ pub fn add_row(policy: &mut Policy, alloc: Global, row: &str) -> Result<(), Poli
     }
 }
 
-/// The policy of rows.
+/// Returns the policy with these rows.
 pub fn policy_of(rt: &impl Abort, alloc: Global, rows: &str) -> Policy {
     let mut policy = Policy::new(alloc);
     for row in rows.lines() {
@@ -120,7 +121,7 @@ pub fn policy_of(rt: &impl Abort, alloc: Global, rows: &str) -> Policy {
     policy
 }
 
-/// Names with their owners, of rows that have both.
+/// Returns names with their owners, one pair from each row.
 pub fn owners_of(rt: &impl Abort, alloc: Global, rows: &str) -> Items<(Text, Text)> {
     let mut owners = Items::new(alloc);
     for row in rows.lines() {

@@ -1,8 +1,9 @@
-//! Messages captured from a private dbus-daemon, the headers that GDBus and libdbus read, and which
-//! broken messages the daemon disconnects for. Made by scripts/capture_dbus.py.
+//! Messages captured from a private dbus-daemon, the headers that GDBus and libdbus read from them,
+//! and the broken messages for which the daemon disconnects. `scripts/capture_dbus.py` made this
+//! file.
 
 /// Messages in hexadecimal, and their headers: type, flags, serial, path, interface, member, error
-/// name, reply serial, destination, sender, signature, and the length of the body.
+/// name, reply serial, destination, sender, signature, and the length of the body in bytes.
 pub const CAPTURED: &str = "\
 6c04010129000000050000008900000001016f00150000002f6f72672f667265656465736b746f702f4442757300000002017300140000006f72672e667265656465736b746f702e444275730000000003017300100000004e616d654f776e65724368616e676564000000000000000007017300140000006f72672e667265656465736b746f702e444275730000000008016700037373730000000000000000110000006f72672e6578616d706c652e54616b656e0000000000000000000000040000003a312e3000 4 1 5 /org/freedesktop/DBus org.freedesktop.DBus NameOwnerChanged - - - org.freedesktop.DBus sss 41
 6c04010116000000030000008d00000001016f00150000002f6f72672f667265656465736b746f702f4442757300000002017300140000006f72672e667265656465736b746f702e4442757300000000030173000c0000004e616d6541637175697265640000000006017300040000003a312e3000000000080167000173000007017300140000006f72672e667265656465736b746f702e4442757300000000110000006f72672e6578616d706c652e54616b656e00 4 1 3 /org/freedesktop/DBus org.freedesktop.DBus NameAcquired - - :1.0 org.freedesktop.DBus s 22
@@ -46,8 +47,9 @@ pub const CAPTURED: &str = "\
 6c02010109000000010000003d00000006017300040000003a312e35000000000501750001000000080167000173000007017300140000006f72672e667265656465736b746f702e4442757300000000040000003a312e3500 2 1 1 - - - - 1 :1.5 org.freedesktop.DBus s 9
 6c04010109000000020000008d00000001016f00150000002f6f72672f667265656465736b746f702f4442757300000002017300140000006f72672e667265656465736b746f702e4442757300000000030173000c0000004e616d6541637175697265640000000006017300040000003a312e3500000000080167000173000007017300140000006f72672e667265656465736b746f702e4442757300000000040000003a312e3500 4 1 2 /org/freedesktop/DBus org.freedesktop.DBus NameAcquired - - :1.5 org.freedesktop.DBus s 9";
 
-/// Messages in hexadecimal, what the daemon does with who sends one and then a ping, and what they
-/// show. It closes (`x`), answers the ping (`.`), or waits for more (`?`).
+/// Messages in hexadecimal, what the daemon does if one is sent and then `PING`, and what each
+/// message tests. The daemon closes the connection (`x`), answers the ping (`.`), or waits for more
+/// bytes (`?`).
 pub const CASES: &str = "\
 7801000100000000010000003000000001016f00020000002f6100000000000003017300010000004d0000000000000006017300070000006f72672e62617200 x order
 6c00000100000000010000003000000001016f00020000002f6100000000000003017300010000004d0000000000000006017300070000006f72672e62617200 x type 0
@@ -211,7 +213,8 @@ pub const CASES: &str = "\
 4201000100000000000000010000003001016f00000000022f6100000000000003017300000000014d0000000000000006017300000000076f72672e62617200 . big endian
 4201000100000000000000010000003001016f00000000022f610000000000000301730000000003612e62000000000006017300000000076f72672e62617200 x big endian, broken";
 
-/// The same, where this project does otherwise.
+/// Messages for which this project does something else than the daemon, in hexadecimal, what the
+/// daemon does if one is sent and then `PING` (`x`, `.` or `?`), and what each message tests.
 pub const DIFFERENT: &str = "\
 6c040001f1ffff000100000000000000 ? more than 16 MiB in all
 6c01000100000000010000003a00000001016f00020000002f6100000000000003017300010000004d0000000000000006017300070000006f72672e626172000a017300010000007800000000000000 x code 10
@@ -244,13 +247,14 @@ pub const DIFFERENT: &str = "\
 6c04000100000000010000004200000001016f001b0000002f6f72672f667265656465736b746f702f444275732f4c6f63616c00000000000201730003000000612e62000000000003017300010000004d00000000000000 x path of the local bus
 6c04000100000000010000004200000001016f00020000002f61000000000000020173001a0000006f72672e667265656465736b746f702e444275732e4c6f63616c00000000000003017300010000004d00000000000000 x interface of the local bus";
 
-/// Messages in hexadecimal, and for each of their bytes changed to 0, 1, 127, 255 and in its top
-/// bit, in this order, what the daemon does with who sends that and then a ping.
+/// Messages in hexadecimal, and what the daemon does (`x`, `.` or `?`) if one of their bytes is
+/// changed and `PING` follows: for each byte in order, if it is 0, 1, 127, 255, or has its top bit
+/// changed.
 pub const CHANGED: &str = "\
 6c01000100000000010000003000000001016f00020000002f6100000000000003017300010000004d0000000000000006017300070000006f72672e62617200 xxxxxx.........x.xxx.x???.????.????.?xxxx...................xxx??.????.????.?xxxx.xxxx.xxxxxxxx.xxxxxxxxx.xxxx.xxxx.xxxxxxxxxxxxxx.xxxx.xxxx.xxxx.xxxx.xxxx.xxxxxxxxxx.xxxxxxxx.xxxxx.xxx.xxxx.xxxx.xxxxxxxxx.xxxx.xxxx.xxxx.xxxx.xxxx.xxxx.xxxxxx...x.xxxxxxxx.xxxxxxxxx.xxxx.xxxx.xxxxxxxxxxxxxxxxxxxxxxxxxxxxxxxxxxxxxxx.xxxx
 4204000100000000000000010000003601016f00000000022f610000000000000201730000000003612e62000000000003017300000000014d000000000000000801670000000000 xxxxxx.........x.xxx.?xxx.????.????.x???...............x.....?xxx.????.????xxx??x.xxxx.xxxxxxxx.xxxx.xxxx.xxxx.xxxxxxxxxxxxxxxxxxx.xxxx.xxxx.xxxx.xxxx.xxxx.xxxxxxxxxx.xxxxxxxx.xxxx.xxxx.xxxx.xxxxxxxxxxxxxxxxxxxxxxxx.xxxx.xxxx.xxxx.xxxx.xxxxxxxxxx.xxxxxxxx.xxxx.xxxx.xxxx.xxxxx.xxxxxxxx.xxxx.xxxx.xxxx.xxxx.xxxx.xxxx.xxxxxx...x.xxxxxxxx.xxxx.xxxx.xxxx.xxxx.xxxx
 6c020001000000000100000042000000050175000300000006017300040000003a312e31000000000701730003000000612e6200000000004d05617b73767d000a00000000000000010000006b0001790006000000000000 xxxxxxx........x.xxx.x???.????.????.?xxxx...................xxx??.????.????.?xxxxxxxxx.xxxxxxxx.xxxxx...................xx...x.xxxxxxxx.xxxxxxxxx.xxxx.xxxx.xxxxxxxxxxxxxxxxxxxxxxxx.xxxx.xxxx.xxxx.xxxxxx...x.xxxxxxxx.xxxxxxxxx.xxxx.xxxx.xxxxxxxxxxxxxxxxxxx.xxxx.xxxx.xxxx.xxxx.xxxxxx...xxxxxxxxxxxxxxxxxxxxxxxxxxxxxx.xxxxxxxxx.xxxx.xxxx.xxxx.xxxx.xxxx.xxxx.xxxxx.xxx.xxxx.xxxx.xxxxx..xx.xxxxx.xxxxxxxx.xxxx......xxxx.xxxx.xxxx.xxxx.xxxx.xxxx";
 
-/// What the daemon is sent after each.
+/// The message that the daemon is sent after each other message.
 pub const PING: &str = "\
 6c01000100000000630000006500000001016f00010000002f0000000000000002017300190000006f72672e667265656465736b746f702e444275732e5065657200000000000000030173000400000050696e670000000006017300140000006f72672e667265656465736b746f702e4442757300000000";

@@ -1,4 +1,5 @@
-//! Worked messages: the header that is read, the rule that is broken, and what is written.
+//! Worked messages: the header that is read, the rule that is broken, and the bytes that are
+//! written.
 
 use crate::built::{spelled, with_byte};
 use crate::captured::CAPTURED;
@@ -12,21 +13,22 @@ use std::alloc::Global;
 use std::panic::Expect;
 use std::process::Abort;
 
-/// The call of the method `M` at the path `/a` of `org.bar`, with serial 1.
+/// The call of the method `M` at the path `/a` of `org.bar`, with the serial 1.
 const CALL: &[u8] = b"l\x01\0\x01\0\0\0\0\x01\0\0\0\x30\0\0\0\
 \x01\x01o\0\x02\0\0\0/a\0\0\0\0\0\0\
 \x03\x01s\0\x01\0\0\0M\0\0\0\0\0\0\0\
 \x06\x01s\0\x07\0\0\0org.bar\0";
 
-/// The answer to it where the name isn't there, to a caller without a name.
+/// The error that answers `CALL` if its name is hidden, for a caller without a known name.
 const ANSWER: &[u8] = b"l\x03\x01\x01\0\0\0\0\xff\xff\xff\xff\x5d\0\0\0\
 \x04\x01s\0\x29\0\0\0org.freedesktop.DBus.Error.ServiceUnknown\0\0\0\0\0\0\0\
 \x05\x01u\0\x01\0\0\0\
 \x07\x01s\0\x14\0\0\0org.freedesktop.DBus\0\0\0\0";
 
-/// Messages in hexadecimal, and what is read at their front. They are the worked call; with a byte
-/// after it; with a body that lacks; with that body and no signature; a byte between the fields and
-/// the body; a reply serial of 0. Beginnings of the worked call lack what its fixed part says.
+/// Messages in hexadecimal, and what is read at their front. The first six are the worked call; the
+/// call with a byte after it; with a missing body; with a body but without a signature; a signal
+/// with a nonzero byte between the fields and the body; and a return with the reply serial 0. The
+/// others are the beginnings of the worked call, which need more bytes.
 const FRONTS: &str = "\
 6c01000100000000010000003000000001016f00020000002f6100000000000003017300010000004d0000000000000006017300070000006f72672e62617200 1 0 1 /a - M - - org.bar - - 0
 6c01000100000000010000003000000001016f00020000002f6100000000000003017300010000004d0000000000000006017300070000006f72672e62617200ff 1 0 1 /a - M - - org.bar - - 0 and 1 more
@@ -40,8 +42,8 @@ const FRONTS: &str = "\
 6c01000100000000010000003000000001 lacks 47
 6c01000100000000010000003000000001016f00020000002f6100000000000003017300010000004d0000000000000006017300070000006f72672e626172 lacks 1";
 
-/// Messages in hexadecimal, and their bodies: none; three texts; one, where the second length says
-/// one byte more; two names in big endian; no names.
+/// Messages in hexadecimal, and their bodies: none; three strings; one string, since the length of
+/// the second one is a byte too great; two names in big-endian; and no names.
 const BODIES: &str = "\
 6c01000100000000010000003000000001016f00020000002f6100000000000003017300010000004d0000000000000006017300070000006f72672e62617200 l 64 - - -
 6c04000119000000010000003900000001016f00010000002f000000000000000201730003000000612e62000000000003017300010000004d000000000000000801670003737373000000000000000001000000610000000000000000000000040000003a312e3100 l 80 a a,,:1.1 -
@@ -49,7 +51,8 @@ const BODIES: &str = "\
 420200010000001900000002000000100501750000000001080167000261730000000015000000076f72672e62617200000000043a312e3100 B 32 - - names:org.bar,:1.1,
 420200010000000400000002000000100501750000000001080167000261730000000000 B 32 - - names:";
 
-/// A call whose path has 100 KiB and whose text a mebibyte: its front, and its body.
+/// A call whose path has 100 KiB and whose string has a mebibyte: what is read at its front, and
+/// its body.
 const LONG: &str = "\
 6c01000105001000010000007790010001016f00019001002f+70*102400+000000000000000201730003000000612e6\
 2000000000003017300010000004d000000000000000401730009000000612e622e4572726f720000000000000006017\
@@ -60,15 +63,15 @@ const LONG: &str = "\
 300070000006f72672e6261720007017300040000003a312e31000000000501750009000000080167000173000000001\
 000+74*1048576+00 l 102536 #1048576 - -";
 
-/// A return with 1,100 names.
+/// A return with 1,100 names, and its body.
 const MANY: &str = "\
 6c02000194330000010000007800000001016f00020000002f610000000000000201730003000000612e620000000000\
 03017300010000004d000000000000000401730009000000612e622e4572726f72000000000000000601730007000000\
 6f72672e6261720007017300040000003a312e31000000000501750009000000080167000261730090330000+0700000\
 06f72672e62617200*1100 l 136 - - names:#1100";
 
-/// Whether the message of a row is read as the row says: its body, where that begins with the order
-/// of its bytes, or what stands at its front.
+/// Returns whether a row's message is read as the row describes it: its body, if the words begin
+/// with the byte order, else what is at its front.
 fn is_read(rt: &impl Abort, alloc: Global, row: &str) -> bool {
     let (words, want) = row.split_once(' ').unwrap_or((row, ""));
     let bytes = spelled(rt, alloc, words);
@@ -79,7 +82,7 @@ fn is_read(rt: &impl Abort, alloc: Global, row: &str) -> bool {
     }
 }
 
-/// Messages are read as listed. The captured ones are read as the libraries of GDBus and libdbus
+/// Each message is read as its row describes it. The captured ones are read as GDBus and libdbus
 /// read them.
 #[test]
 fn listed_messages(rt: HostRuntime) {
@@ -90,7 +93,8 @@ fn listed_messages(rt: HostRuntime) {
     }
 }
 
-/// One byte of the worked call changed, and the rule that it then breaks.
+/// The offset of one byte of the worked call, its new value, and the rule that the call then
+/// breaks.
 const BROKEN: [(usize, u8, &str); 27] = [
     (0, b'x', "breaks Order"),
     (0, b'b', "breaks Order"),
@@ -106,7 +110,7 @@ const BROKEN: [(usize, u8, &str); 27] = [
     (18, b's', "breaks Kind"),
     (32, 8, "breaks Kind"),
     (32, 9, "breaks Kind"),
-    // `M` is no bus name
+    // `M` is not a bus name
     (32, 6, "breaks Value"),
     (24, b'x', "breaks Value"),
     (40, b'0', "breaks Value"),
@@ -117,7 +121,7 @@ const BROKEN: [(usize, u8, &str); 27] = [
     (40, 0, "breaks Fields"),
     (40, 0xff, "breaks Fields"),
     (12, 47, "breaks Fields"),
-    // a field that means nothing in the member's place
+    // an unknown field in place of the member
     (32, 100, "breaks Required"),
     (1, 2, "breaks Required"),
     (1, 4, "breaks Required"),
@@ -131,8 +135,8 @@ fn broken_messages(rt: HostRuntime) {
     }
 }
 
-/// Whether the answer with this name, to a call of this serial by a caller of this name, begins so
-/// and is read. A caller `-` has no name.
+/// Returns whether the error with this name, for a call with this serial and a caller with this
+/// name, begins with `front` and is read back. The caller `-` has no known name.
 fn is_answered(
     rt: &impl Abort,
     alloc: Global,
@@ -153,7 +157,8 @@ fn is_answered(
         && is_front(rt, alloc, answer.as_slice(), &line.expect(rt, "memory"))
 }
 
-/// An answer is this byte for byte, one in big endian is read, and one whose names have 255 bytes.
+/// The worked error is written byte for byte. An error in big-endian is read back, and so is one
+/// with names of 255 bytes.
 #[test]
 fn answers(rt: HostRuntime) {
     let alloc = rt.alloc();
@@ -172,7 +177,8 @@ fn answers(rt: HostRuntime) {
     );
 }
 
-/// Names, and what they are: interface, member, unique, well-known, bus name, path.
+/// Texts, and the kinds of names that each of them is: interface (`i`), member (`m`), unique name
+/// (`u`), well-known name (`w`), bus name (`b`), path (`p`).
 const KINDS: [(&str, &str); 14] = [
     ("", "......"),
     ("a", ".m...."),
@@ -190,7 +196,7 @@ const KINDS: [(&str, &str); 14] = [
     ("/a-b", "......"),
 ];
 
-/// Whether a name is of the kinds of these letters, and of no other kind.
+/// Returns whether a text is exactly the kinds of names that these letters stand for.
 fn is_of_kinds(name: &[u8], kinds: &str) -> bool {
     is_interface_name(name) == kinds.contains('i')
         && is_member_name(name) == kinds.contains('m')
@@ -207,16 +213,16 @@ fn kinds_of_names(rt: HostRuntime) {
     }
 }
 
-/// A call with each of the known fields, whose body is the text `t`.
+/// A call with each known header field except `UNIX_FDS`, whose body is the string `t`.
 const WHOLE: &str = "\
 6c01000106000000010000007700000001016f00020000002f610000000000000201730003000000612e620000000000\
 03017300010000004d000000000000000401730009000000612e622e4572726f72000000000000000601730007000000\
 6f72672e6261720007017300040000003a312e310000000005017500090000000801670001730000010000007400";
 
-/// What is read of it after its type.
+/// The words for `WHOLE` after its type.
 const AFTER_TYPE: &str = " 0 1 /a a.b M a.b.Error 9 org.bar :1.1 s 6";
 
-/// A message of each type is read whole, with each of its fields.
+/// A message of each type from 1 to 255 is read whole, with all its fields.
 #[test]
 fn each_type(rt: HostRuntime) {
     let alloc = rt.alloc();

@@ -1,5 +1,6 @@
-//! Tests of the bus: messages, streams of them, rules, what a filter lets through, and its time and
-//! room: its time doesn't grow with what it keeps, and it keeps nothing of what teaches nothing.
+//! Tests of the bus crates: messages, streams of them, rules, and what a filter lets through. Also
+//! tests of a filter's time, which doesn't grow with what it stores, and of its memory, in which it
+//! stores nothing for events that add nothing.
 #![tactic(auto)]
 
 #[cfg(test)]

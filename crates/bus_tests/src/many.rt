@@ -1,4 +1,5 @@
-//! Many calls that wait for their returns at once, and many events that teach a filter nothing.
+//! Many calls that wait for their returns at once, and many events for which a filter stores
+//! nothing.
 
 use crate::built::{owners_of, policy_of, spelled};
 use bus_proxy::{Filter, Next};
@@ -7,14 +8,14 @@ use std::alloc::Global;
 use std::panic::Expect;
 use std::process::Abort;
 
-/// How many calls the client makes before the first return comes.
+/// The number of calls that the client sends before the first return.
 const CALLS: u32 = 100_000;
 
-/// How many peers come, each with a number of its own.
+/// The number of peers, each with a number of its own.
 const PEERS: u32 = 1_000_000;
 
-/// A message in hexadecimal, the side that sends it, how many letters its number has and where they
-/// stand, and how many bytes come at a time.
+/// A kind of message: the side that sends it, its bytes in hexadecimal, the number of letters that
+/// encode its number, the offsets of these letters, and the number of bytes that are fed at a time.
 struct Kind {
     side: Side,
     digits: &'static str,
@@ -23,7 +24,7 @@ struct Kind {
     piece: usize,
 }
 
-/// A call of `M` at `/a` of `org.bar`, numbered by its serial.
+/// A call of `M` at `/a` of `org.bar`, whose serial encodes the number.
 const CALL: Kind = Kind {
     side: Side::Client,
     digits: "\
@@ -34,7 +35,7 @@ const CALL: Kind = Kind {
     piece: 7,
 };
 
-/// Its return from `:1.9`, numbered by the serial that it answers.
+/// A return from `:1.9` to the call `CALL`, whose reply serial encodes the number.
 const RETURN: Kind = Kind {
     side: Side::Bus,
     digits: "\
@@ -55,7 +56,7 @@ const BROADCAST: Kind = Kind {
     piece: 1000,
 };
 
-/// The bus tells that `:9.N` is there.
+/// The bus's signal that the peer `:9.N` has connected.
 const COMES: Kind = Kind {
     side: Side::Bus,
     digits: "\
@@ -68,7 +69,7 @@ const COMES: Kind = Kind {
     piece: 1000,
 };
 
-/// The bus tells that `:9.N` owns `org.hid.nN`.
+/// The bus's signal that `:9.N` owns `org.hid.nN`.
 const OWNS: Kind = Kind {
     side: Side::Bus,
     digits: "\
@@ -81,7 +82,7 @@ const OWNS: Kind = Kind {
     piece: 1000,
 };
 
-/// The bus tells that `:9.N` is gone.
+/// The bus's signal that the peer `:9.N` has disconnected.
 const GOES: Kind = Kind {
     side: Side::Bus,
     digits: "\
@@ -94,7 +95,8 @@ const GOES: Kind = Kind {
     piece: 1000,
 };
 
-/// Puts a number into a message, as letters from `a` to `z`, the lowest one first.
+/// Writes a number into a message at each of its offsets, in base 26 as letters from `a` to `z`,
+/// the lowest digit first.
 fn put_number(message: &mut [u8], kind: &Kind, number: u32) {
     for first in kind.places {
         let mut rest = number;
@@ -107,7 +109,8 @@ fn put_number(message: &mut [u8], kind: &Kind, number: u32) {
     }
 }
 
-/// Whether a message is taken and goes to the other side as it came, or goes nowhere.
+/// Feeds a message and returns whether it is forwarded unchanged to the other side, or nothing is
+/// sent if `goes` is false.
 fn is_taken(rt: &impl Abort, filter: &mut Filter, kind: &Kind, message: &[u8], goes: bool) -> bool {
     for piece in message.chunks(kind.piece.max(1)) {
         filter.feed(kind.side, piece).expect(rt, "memory");
@@ -120,7 +123,8 @@ fn is_taken(rt: &impl Abort, filter: &mut Filter, kind: &Kind, message: &[u8], g
     is_so && matches!(filter.next().expect(rt, "no bad message"), Next::NotYet)
 }
 
-/// Whether each message of a kind is taken so, and this many peers and calls are kept then.
+/// Feeds `count` messages of a kind and returns whether each is forwarded, or none if `goes` is
+/// false, and whether the filter then stores `kept` peers and serials of waiting calls.
 fn are_taken(
     rt: &impl Abort,
     alloc: Global,
@@ -140,15 +144,15 @@ fn are_taken(
     filter.count_kept() == kept
 }
 
-/// A filter that lets messages go to `org.bar`, where names have these owners.
+/// Returns a filter that lets messages to `org.bar` pass, with these owners of names.
 fn opened(rt: &impl Abort, alloc: Global, owners: &str) -> Filter {
     let policy = policy_of(rt, alloc, "talk org.bar");
     let owners = owners_of(rt, alloc, owners);
     Filter::new(alloc, policy, None, &owners).expect(rt, "memory")
 }
 
-/// The time grows with the number of messages, and not with that of the calls that wait besides:
-/// all calls go on where none is answered yet, then all returns, and nothing is left but the peer.
+/// The time grows with the number of messages, and not also with the number of waiting calls. All
+/// calls are forwarded before the first return, then all returns, and then only the peer is stored.
 #[test]
 fn many_calls_wait(rt: HostRuntime) {
     let mut filter = opened(&rt, rt.alloc(), "org.bar :1.9");
@@ -161,7 +165,7 @@ fn many_calls_wait(rt: HostRuntime) {
     drop(filter);
 }
 
-/// Peers that the application may not see leave a filter as large as it was.
+/// A filter stores nothing for peers that the application may not see.
 #[test]
 fn hidden_peers_leave_nothing(rt: HostRuntime) {
     let mut filter = opened(&rt, rt.alloc(), "");

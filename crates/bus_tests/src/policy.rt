@@ -1,4 +1,4 @@
-//! Worked policies: levels of names, and what becomes of messages one after another.
+//! Worked policies: the levels of names, and the verdicts on sequences of messages.
 
 use crate::built::{
     add_row, header_of, level_of, numbered, owners_of, policy_of, side_of, spelled,
@@ -10,7 +10,7 @@ use std::alloc::Global;
 use std::panic::Expect;
 use std::process::Abort;
 
-/// Names that are open at a level, and rules for calls and broadcasts.
+/// Patterns with their levels, and rules for calls and broadcasts.
 const POLICY: &str = "\
 talk org.foo.*
 see org.bar
@@ -19,17 +19,17 @@ see org.foo.less
 call org.ruled.* a.b.C@/x/*
 broadcast org.cast a.b.*";
 
-/// The one name that has an owner at the opening.
+/// The only name with an owner at the start.
 const OWNERS: &str = "org.foo :1.7";
 
-/// A watch for the client `:1.1`, by the rows of a policy and of owners.
+/// Returns a watch for the client `:1.1` with these rows of a policy and of owners.
 fn watch_of(rt: &impl Abort, alloc: Global, policy: &str, owners: &str) -> Watch {
     let policy = policy_of(rt, alloc, policy);
     let owners = owners_of(rt, alloc, owners);
     Watch::new(alloc, policy, Some(":1.1"), &owners).expect(rt, "memory")
 }
 
-/// Names and their levels at the opening.
+/// Names, and their levels at the start.
 const NAMES: &str = "\
 org.foo talk
 org.foo.bar talk
@@ -56,7 +56,7 @@ fn levels(rt: HostRuntime) {
     drop(watch);
 }
 
-/// Rows with patterns that are none, and with a rule that is none for names.
+/// Rows with an invalid pattern, and one with an invalid rule.
 const BAD: &str = "\
 own 
 call  *
@@ -86,7 +86,7 @@ fn bad_patterns(rt: HostRuntime) {
     drop(policy);
 }
 
-/// The last word of a step of this verdict.
+/// Returns the word for a verdict in a step.
 fn verdict_word(verdict: Verdict) -> &'static str {
     match verdict {
         Verdict::Pass => "Pass",
@@ -97,10 +97,10 @@ fn verdict_word(verdict: Verdict) -> &'static str {
     }
 }
 
-/// Notes the message of a step, and whether it goes as it is to.
+/// Notes the message of a step, and returns whether the verdict on it is the one in the step.
 ///
-/// A step is a message and what becomes of it, as words: its side, its header as `header_of` reads
-/// it, its body in hexadecimal, and the verdict.
+/// A step is the words of a message and of the verdict: the message's side, its header as
+/// `header_of` reads it, its body in hexadecimal, and the verdict.
 fn goes(rt: &impl Abort, alloc: Global, watch: &mut Watch, step: &str) -> bool {
     let (letter, line) = step.split_once(' ').unwrap_or((step, ""));
     let digits = word_at(line, 9);
@@ -115,7 +115,7 @@ fn goes(rt: &impl Abort, alloc: Global, watch: &mut Watch, step: &str) -> bool {
     word_at(line, 10) == verdict_word(verdict)
 }
 
-/// Ends the test at a step that goes otherwise than it is to, from the opening on.
+/// Fails the test at the first step with another verdict, from the start on.
 fn agree_on_steps(rt: &impl Abort, alloc: Global, policy: &str, owners: &str, steps: &str) {
     let mut watch = watch_of(rt, alloc, policy, owners);
     for step in steps.lines() {
@@ -124,8 +124,9 @@ fn agree_on_steps(rt: &impl Abort, alloc: Global, policy: &str, owners: &str, st
     drop(watch);
 }
 
-/// Calls of the client: to a name at talk, see, none; without a reply; by a rule and past it; to
-/// the client itself. Its signals: a rule for calls opens a name for no signal.
+/// Calls of the client: to names at the levels talk, see and none; without a reply; that a rule
+/// matches, or doesn't; to the client itself. Signals of the client, which a rule for calls doesn't
+/// let pass.
 const CALLS: &str = "\
 c 1 0 1 - - org.foo.x - M - - Pass
 c 1 0 1 - - org.bar - M - - Deny
@@ -165,7 +166,7 @@ c 1 0 1 - - org.freedesktop.DBus org.freedesktop.DBus.Peer Hello - - Deny
 c 1 0 1 - - org.freedesktop.DBus org.freedesktop.DBus.Introspectable Introspect - - Pass
 c 1 0 1 - - org.freedesktop.DBus - Introspect - - Deny";
 
-/// Replies to the client: one for each call that it waits for, and lists of names with fewer names.
+/// Replies to the client: one for each of its waiting calls, and lists of names with fewer names.
 const REPLIES: &str = "\
 c 1 0 5 - - org.foo - M - - Pass
 b 2 0 9 5 :1.7 :1.1 - M - - Pass
@@ -180,9 +181,9 @@ b 2 0 14 7 org.freedesktop.DBus :1.1 - M as 00000000 Drop
 c 1 0 8 - - org.freedesktop.DBus org.freedesktop.DBus ListNames - - Pass
 b 3 0 15 8 org.freedesktop.DBus :1.1 - M - - Pass";
 
-/// Serials that come again, with one of a call that lists names or without: a bus answers such a
-/// call that wants no reply, and both of two calls. A list that the bus itself returns is filtered
-/// then, and what is no list passes.
+/// Calls that reuse a serial, and of which some list names. The bus answers a call that lists names
+/// even if it expects no reply, and both of two calls with one serial. Then a list from the bus
+/// itself is filtered, and another return passes.
 const SERIALS_AGAIN: &str = "\
 c 1 1 9 - - org.freedesktop.DBus org.freedesktop.DBus ListNames - - Pass
 b 2 0 12 9 org.freedesktop.DBus :1.1 - M as 0c000000070000006f72672e62617200 Drop
@@ -208,8 +209,8 @@ c 1 0 13 - - org.freedesktop.DBus org.freedesktop.DBus GetId - - Pass
 c 1 0 13 - - org.freedesktop.DBus org.freedesktop.DBus Hello - - Pass
 b 2 0 22 13 org.freedesktop.DBus :1.1 - M as 05000000 Drop";
 
-/// A serial with which the client listed names, then called a peer: what the peer returns is its
-/// own, whatever it is.
+/// Calls that list names, and calls to a peer with the same serial. A return of the peer passes
+/// unchanged, whatever its body is.
 const PEERS_AGAIN: &str = "\
 c 1 0 9 - - org.freedesktop.DBus org.freedesktop.DBus ListNames - - Pass
 b 2 0 12 9 org.freedesktop.DBus :1.1 - M as 0c000000070000006f72672e62617200 FilterNameList
@@ -223,7 +224,8 @@ b 2 0 16 10 :1.7 :1.1 - M as 0c000000070000006f72672e62617200 Pass
 c 1 0 11 - - org.freedesktop.DBus org.freedesktop.DBus ListNames - - Pass
 b 3 0 17 11 org.freedesktop.DBus :1.1 - M s 070000006f72672e62617200 Pass";
 
-/// Calls to the client, of which each gets one reply.
+/// Calls of a peer to the client, and replies of the client, of which at most one for each call
+/// passes.
 const PEER_CALLS: &str = "\
 b 1 0 3 - :1.9 :1.1 - M - - Pass
 c 2 0 1 3 - :1.8 - M - - Drop
@@ -234,7 +236,8 @@ c 2 0 2 3 - :1.9 - M - - Drop
 b 1 1 4 - :1.9 :1.1 - M - - Pass
 c 2 0 3 4 - :1.9 - M - - Drop";
 
-/// Signals of the bus: by what a peer owns now or owned once, by a rule, and to the client alone.
+/// Signals to the client: by the names that a peer owns or once owned, by a rule, and with the
+/// client as the destination.
 const SIGNALS: &str = "\
 b 4 0 1 - :1.7 - c.d M - - Pass
 b 4 0 1 - :1.8 - c.d M - - Drop
@@ -269,8 +272,8 @@ fn verdicts(rt: HostRuntime) {
     }
 }
 
-/// A watch of so many rules for names, and as many for calls, and of so many owners forwards each
-/// of 1,100 calls, and the reply to the last.
+/// Checks that a watch with this number of level rules, as many rules for calls, and this number of
+/// owners forwards each of 1,100 calls and the reply to the last one.
 fn agree_on_many(rt: &impl Abort, alloc: Global, rules: usize, owners: usize) {
     let row = "talk org.n#.*\ncall org.n#.* a.b.C@/x/*\n";
     let rules = numbered(rt, alloc, row, rules);

@@ -1,5 +1,5 @@
-//! Worked streams through the filter, however they are cut. The messages are spelled by hand after
-//! the D-Bus specification.
+//! Worked streams through the filter, cut into pieces in several ways. The messages are written by
+//! hand according to the D-Bus specification.
 
 use crate::built::{letter_of, numbered, owners_of, policy_of, side_of, spelled};
 use crate::rows::agree;
@@ -8,16 +8,16 @@ use std::alloc::Global;
 use std::panic::Expect;
 use std::process::Abort;
 
-/// The level of `org.bar`, and messages that are sent and that go to a side: each with `c` for the
-/// client or `b` for the bus.
+/// The level of `org.bar`, the messages that the sides send, and the messages that the filter
+/// sends. Each message has the letter of its side before it: `c` for the client, `b` for the bus.
 struct Case {
     policy: &'static str,
     sent: &'static str,
     wanted: &'static str,
 }
 
-/// A call of `M` at `/a` of `org.bar` with serial 1 goes to the bus, and one return of it from
-/// `:1.9` to the client.
+/// A call of `M` at `/a` of `org.bar` with the serial 1 goes to the bus, and only one of two
+/// returns from `:1.9` goes to the client.
 const TALK: Case = Case {
     policy: "talk org.bar",
     sent: "\
@@ -31,7 +31,7 @@ b:6c01000100000000010000003000000001016f00020000002f6100000000000003017300010000
 000003a312e310000000007017300040000003a312e3900000000",
 };
 
-/// Where the name is hidden, the client is told `ServiceUnknown`.
+/// A call to the hidden name `org.bar`, for which the client gets the error `ServiceUnknown`.
 const HIDDEN: Case = Case {
     policy: "none org.bar",
     sent: "\
@@ -43,15 +43,15 @@ c:6c03010100000000ffffffff5d00000004017300290000006f72672e667265656465736b746f70
 656465736b746f702e4442757300000000",
 };
 
-/// Nothing is lost where nothing is sent.
+/// No messages, after which nothing is sent.
 const NOTHING: Case = Case {
     policy: "talk org.bar",
     sent: "",
     wanted: "",
 };
 
-/// A call of `ListNames`, and of the names `org.bar` and `:1.1` that come back, in big endian, the
-/// one that may be seen.
+/// A call of `ListNames`, and the return in big-endian: of the names `org.bar` and `:1.1`, the
+/// client gets the one that it may see.
 const NAMES: Case = Case {
     policy: "see org.bar",
     sent: "\
@@ -67,7 +67,7 @@ b:6c01000100000000010000007500000001016f00150000002f6f72672f667265656465736b746f
 000100000000200000010050175000000000108016700026173000000000c000000076f72672e62617200",
 };
 
-/// The same of `org.bar` alone, which may not be seen.
+/// A call of `ListNames`, and a return with only `org.bar`, which the client may not see.
 const NO_NAMES: Case = Case {
     policy: "none org.bar",
     sent: "\
@@ -82,7 +82,8 @@ b:6c01000100000000010000007500000001016f00150000002f6f72672f667265656465736b746f
 0000400000002000000100501750000000001080167000261730000000000",
 };
 
-/// The same of 1,100 names, of which the last may be seen.
+/// A call of `ListNames`, and a return with 1,100 names, of which the client may see only the last
+/// one.
 const MANY_NAMES: Case = Case {
     policy: "see org.bar",
     sent: "\
@@ -98,7 +99,7 @@ b:6c01000100000000010000007500000001016f00150000002f6f72672f667265656465736b746f
 000000200000010000000050175000100000008016700026173000c000000070000006f72672e62617200",
 };
 
-/// The same of 1,100 names that may all be seen.
+/// A call of `ListNames`, and a return with 1,100 names, all of which the client may see.
 const ALL_NAMES: Case = Case {
     policy: "see org.bar",
     sent: "\
@@ -113,7 +114,7 @@ b:6c01000100000000010000007500000001016f00150000002f6f72672f667265656465736b746f
 3000002000000100000000501750001000000080167000261730090330000+070000006f72672e62617200*1100",
 };
 
-/// A broadcast of `:1.7`, which may talk as the owner of a name that may be talked to.
+/// A broadcast of `:1.7`, which passes if `:1.7` owns `org.bar`.
 const BROADCAST: Case = Case {
     policy: "talk org.bar",
     sent: "\
@@ -124,8 +125,8 @@ c:6c04000100000000050000003d00000001016f00020000002f6100000000000002017300070000
 000301730001000000530000000000000007017300040000003a312e3700000000",
 };
 
-/// Adds what a filter gives for a piece that it was fed, of each byte one message at most: the letter
-/// of the side that it goes to, and its bytes.
+/// Appends what a filter sends after it was fed a piece: for each message the letter of the side to
+/// which it goes, and its bytes. At most one message is taken for each byte of the piece.
 fn push_given(rt: &impl Abort, filter: &mut Filter, out: &mut Vec<u8>, piece: &[u8]) {
     for _ in 0..piece.len() {
         match filter.next().expect(rt, "no bad message") {
@@ -141,7 +142,7 @@ fn push_given(rt: &impl Abort, filter: &mut Filter, out: &mut Vec<u8>, piece: &[
     }
 }
 
-/// What a filter gives for messages, each in pieces of at most this many bytes.
+/// Returns what a filter sends for messages, each fed in pieces of at most `most` bytes.
 fn given(rt: &impl Abort, alloc: Global, filter: &mut Filter, sent: &str, most: usize) -> Vec<u8> {
     let mut out = Vec::new(alloc);
     for message in sent.split_terminator(' ') {
@@ -155,7 +156,7 @@ fn given(rt: &impl Abort, alloc: Global, filter: &mut Filter, sent: &str, most: 
     out
 }
 
-/// The messages of words, each after the letter of its side.
+/// Returns the messages of words, each with the letter of its side before it.
 fn wanted(rt: &impl Abort, alloc: Global, words: &str) -> Vec<u8> {
     let mut out = Vec::new(alloc);
     for message in words.split_terminator(' ') {
@@ -168,8 +169,8 @@ fn wanted(rt: &impl Abort, alloc: Global, words: &str) -> Vec<u8> {
     out
 }
 
-/// Whether a case comes to what it has to, cut into pieces of at most this many bytes, where names
-/// have these owners.
+/// Returns whether a filter with these owners of names sends what the case contains, if the
+/// messages are fed in pieces of at most `most` bytes.
 fn is_filtered(rt: &impl Abort, alloc: Global, case: &Case, owners: &str, most: usize) -> bool {
     let policy = policy_of(rt, alloc, case.policy);
     let owners = owners_of(rt, alloc, owners);
@@ -191,7 +192,8 @@ fn worked_streams(rt: HostRuntime) {
     }
 }
 
-/// One peer owns 1,100 names, and another one `org.bar`.
+/// A broadcast passes if its sender owns `org.bar`, among the owners of 1,101 names, and is dropped
+/// without owners.
 #[test]
 fn many_owners(rt: HostRuntime) {
     let alloc = rt.alloc();

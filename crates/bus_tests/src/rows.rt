@@ -1,8 +1,8 @@
-//! How a test ends at a row of a table that is otherwise than it should be.
+//! Ending a test at a wrong row of a table.
 
 use std::process::Abort;
 
-/// Ends the test where this isn't so, and prints the row.
+/// Fails the test and prints the row, unless `is_so` is true.
 pub fn agree(rt: &impl Abort, row: &str, is_so: bool) {
     assert!(rt; is_so, "{row}");
 }

@@ -7,7 +7,7 @@ use std::alloc::Global;
 use std::panic::Expect;
 use std::process::Abort;
 
-/// Texts, and whether they are rules.
+/// Texts, and whether each is a rule.
 const RULES: [(&str, bool); 34] = [
     ("*", true),
     ("a.b.*", true),
@@ -17,7 +17,7 @@ const RULES: [(&str, bool); 34] = [
     ("@/a/b_1", true),
     ("@/*", true),
     ("@/a/*", true),
-    // the root, and what is below it: nothing
+    // matches only the root: no path is below `//`
     ("@//*", true),
     ("*@/a", true),
     ("a.b.*@/a/*", true),
@@ -46,7 +46,7 @@ const RULES: [(&str, bool); 34] = [
     ("a.b.C @/a", false),
 ];
 
-/// Whether a text is a rule, where there was memory.
+/// Returns whether a text is a rule, or `None` if memory ran out.
 fn is_rule(alloc: Global, text: &str) -> Option<bool> {
     match Rule::parse(alloc, text) {
         Ok(rule) => {
@@ -65,8 +65,8 @@ fn grammar(rt: HostRuntime) {
     }
 }
 
-/// Whether a rule matches a message, the rule, and the message: its path, and its header as
-/// `header_of` reads it.
+/// Rows of a rule and a message: whether the rule matches, the rule, the message's path, and its
+/// header as `header_of` reads it.
 const MATCHES: &str = "\
 yes * /a 1 0 1 - - - a.b C -
 yes * - 1 0 1 - - - - - -
@@ -93,7 +93,7 @@ no @//* /a 1 0 1 - - - - C -
 yes a.b.C@/a/* /a/b 1 0 1 - - - a.b C -
 no a.b.C@/a/* /b 1 0 1 - - - a.b C -";
 
-/// Whether the rule of a row matches the message of a row.
+/// Returns whether a rule matches a message.
 fn is_matched(rt: &impl Abort, alloc: Global, text: &str, path: &str, line: &str) -> bool {
     let rule = Rule::parse(alloc, text).expect(rt, "a rule");
     let header = header_of(rt, alloc, path, line, 0);
@@ -103,7 +103,7 @@ fn is_matched(rt: &impl Abort, alloc: Global, text: &str, path: &str, line: &str
     is_so
 }
 
-/// Ends the test at a row that is otherwise.
+/// Fails the test unless the rule of a row matches exactly if the row's first word is `yes`.
 fn agree_on(rt: &impl Abort, alloc: Global, row: &str) {
     let (answer, rest) = row.split_once(' ').unwrap_or((row, ""));
     let (text, rest) = rest.split_once(' ').unwrap_or((rest, ""));
@@ -112,7 +112,8 @@ fn agree_on(rt: &impl Abort, alloc: Global, row: &str) {
     agree(rt, row, is_so);
 }
 
-/// A rule whose path has 100 KiB matches a message of that path, too.
+/// The rules of the table match as listed, and a rule with a path of 100 KiB matches a message with
+/// that path.
 #[test]
 fn matching(rt: HostRuntime) {
     let alloc = rt.alloc();

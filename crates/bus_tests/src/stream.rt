@@ -1,4 +1,4 @@
-//! Broken messages as the real bus takes them, and worked streams and recordings.
+//! Broken messages, compared with the real bus, and worked streams and recordings.
 
 use crate::built::{letter_of, numbered, spelled, with_byte};
 use crate::captured::{CASES, CHANGED, DIFFERENT, PING};
@@ -10,9 +10,9 @@ use std::alloc::Global;
 use std::panic::Expect;
 use std::process::Abort;
 
-/// What the next answer of a stream means, where it ends the stream: `.` for whole messages, `?`
-/// where more is to come, `x` for a broken rule, `L` for the rule of lengths, and `m` without
-/// memory.
+/// Takes the next message and returns the mark of the result, or `None` for a message: `.` if no
+/// bytes are left, `?` if the next message isn't whole, `L` if the rule `Length` is broken, `x` if
+/// another rule is broken, and `m` if memory ran out.
 fn next_mark(cutter: &mut Cutter) -> Option<u8> {
     match cutter.next() {
         Ok(Cut::Message(_, _)) => None,
@@ -23,7 +23,8 @@ fn next_mark(cutter: &mut Cutter) -> Option<u8> {
     }
 }
 
-/// What becomes of bytes with more after them, as a mark.
+/// Returns the mark of the first result that isn't a message, for a stream of `bytes` and then
+/// `more`.
 fn verdict(rt: &impl Abort, alloc: Global, bytes: &[u8], more: &[u8]) -> u8 {
     let mut cutter = Cutter::new(alloc).expect(rt, "memory");
     cutter.feed(bytes).expect(rt, "memory");
@@ -38,14 +39,15 @@ fn verdict(rt: &impl Abort, alloc: Global, bytes: &[u8], more: &[u8]) -> u8 {
     mark.unwrap_or(b'.')
 }
 
-/// Whether a row of a table is as the daemon says: the first letter after a message.
+/// Returns whether the mark of a row's message is that of the daemon, which is the first letter
+/// after the message. `L` counts as `x`.
 fn is_as_told(rt: &impl Abort, alloc: Global, row: &str, ping: &[u8]) -> bool {
     let (digits, told) = row.split_once(' ').unwrap_or((row, ""));
     let mark = verdict(rt, alloc, &spelled(rt, alloc, digits), ping);
     told.as_bytes().first() == Some(if mark == b'L' { &b'x' } else { &mark })
 }
 
-/// A byte with the change of this number: 0, 1, 127, 255, and its top bit.
+/// Returns a byte after the change with this number: to 0, 1, 127 or 255, or of its top bit.
 fn change(number: usize, byte: u8) -> u8 {
     match number {
         0 => 0,
@@ -56,8 +58,8 @@ fn change(number: usize, byte: u8) -> u8 {
     }
 }
 
-/// Ends the test where a message with a byte changed is taken otherwise than the marks of its row
-/// say. The daemon waits for longer messages.
+/// Fails the test if a message with one byte changed has another mark than in its row. For a
+/// message that is too long the daemon may also wait.
 fn agree_on_changes(rt: &impl Abort, alloc: Global, row: &str, ping: &[u8]) {
     let (digits, marks) = row.split_once(' ').unwrap_or((row, ""));
     let message = spelled(rt, alloc, digits);
@@ -70,8 +72,8 @@ fn agree_on_changes(rt: &impl Abort, alloc: Global, row: &str, ping: &[u8]) {
     }
 }
 
-/// The daemon disconnects for messages that break a rule, and for no others but those that are
-/// listed apart. So it is with each byte changed.
+/// Each message of `CASES` has the daemon's mark, and none of `DIFFERENT` has it. Each message of
+/// `CHANGED` has the daemon's marks with one byte changed, except for the rule `Length`.
 #[test]
 fn messages_that_a_daemon_refuses(rt: HostRuntime) {
     let alloc = rt.alloc();
@@ -87,18 +89,18 @@ fn messages_that_a_daemon_refuses(rt: HostRuntime) {
     }
 }
 
-/// The call of the method `M` at the path `/a` of `org.bar`, with serial 1.
+/// The call of the method `M` at the path `/a` of `org.bar`, with the serial 1.
 const CALL: &str =
     "6c01000100000000010000003000000001016f00020000002f6100000000000003017300010000004d000000000000000601730007000000\
 6f72672e62617200";
 
-/// A call whose body of bytes has a mebibyte.
+/// A call whose body is an array of bytes with a mebibyte.
 const LONG: &str = "\
 6c01000100001000010000007800000001016f00020000002f610000000000000201730003000000612e620000000000\
 03017300010000004d000000000000000401730009000000612e622e4572726f72000000000000000601730007000000\
 6f72672e6261720007017300040000003a312e310000000005017500090000000801670002617900+00*1048576";
 
-/// Whether the next message is there, and these are its bytes.
+/// Takes the next message and returns whether it has these bytes.
 fn comes(cutter: &mut Cutter, wanted: &[u8]) -> bool {
     match cutter.next() {
         Ok(Cut::Message(_, bytes)) => bytes.as_slice() == wanted,
@@ -106,7 +108,8 @@ fn comes(cutter: &mut Cutter, wanted: &[u8]) -> bool {
     }
 }
 
-/// Whether this many messages come where they are fed at once, and nothing is left.
+/// Feeds this many copies of a message at once and returns whether all of them are taken and
+/// nothing is left.
 fn come(rt: &impl Abort, alloc: Global, words: &str, count: usize) -> bool {
     let message = spelled(rt, alloc, words);
     let all = message.repeat(alloc, count).expect(rt, "memory");
@@ -118,13 +121,13 @@ fn come(rt: &impl Abort, alloc: Global, words: &str, count: usize) -> bool {
     cutter.pending() == 0
 }
 
-/// A message of a mebibyte comes, and 1,100 messages at once.
+/// A message of a mebibyte is taken, and so are 1,100 messages that are fed at once.
 #[test]
 fn long_streams(rt: HostRuntime) {
     assert!(rt; come(&rt, rt.alloc(), LONG, 1) && come(&rt, rt.alloc(), CALL, 1_100));
 }
 
-/// Recordings, and the first bad line, or 0.
+/// Recordings, and the number of the first bad line, or 0.
 const RECORDINGS: [(&str, u64); 25] = [
     ("", 0),
     ("c 00\n", 0),
@@ -153,7 +156,7 @@ const RECORDINGS: [(&str, u64); 25] = [
     ("owner org.a\n", 1),
 ];
 
-/// Whether this is the first bad line of a recording, or 0 where there is none.
+/// Returns whether this is the number of a recording's first bad line; 0 if none is bad.
 fn is_first_bad(alloc: Global, text: &str, line: u64) -> bool {
     match read_recording(alloc, text.as_bytes()) {
         Ok(recording) => {
@@ -172,14 +175,14 @@ fn bad_recordings(rt: HostRuntime) {
     }
 }
 
-/// Adds a line of words.
+/// Appends a line of words.
 fn push_line(rt: &impl Abort, alloc: Global, text: &mut String, words: &[&str]) {
     let line = words.join(alloc, " ").expect(rt, "memory");
     text.push_str(&line).expect(rt, "memory");
     text.push('\n').expect(rt, "memory");
 }
 
-/// What a recording says, as lines: the client, the owners, and the pieces.
+/// Returns the lines of a recording: the client, the owners, and the pieces.
 fn lines_of(rt: &impl Abort, alloc: Global, recording: &Recording) -> String {
     let mut text = String::new(alloc);
     if let Some(client) = &recording.client {
@@ -200,7 +203,7 @@ fn lines_of(rt: &impl Abort, alloc: Global, recording: &Recording) -> String {
     text
 }
 
-/// Whether a recording says what its lines say.
+/// Returns whether the lines of a recording are those from which it was read.
 fn is_recorded(rt: &impl Abort, alloc: Global, text: &str) -> bool {
     let recording = read_recording(alloc, text.as_bytes()).expect(rt, "a recording");
     let lines = lines_of(rt, alloc, &recording);
@@ -208,7 +211,8 @@ fn is_recorded(rt: &impl Abort, alloc: Global, text: &str) -> bool {
     lines.as_str() == text
 }
 
-/// A client, an owner and a piece of each side; 1,100 owners and pieces, and one of a mebibyte.
+/// Recordings are read as they are written: one with a client, an owner, and a piece of each side;
+/// and one with 1,100 owners, 1,100 pieces, and a piece of a mebibyte.
 #[test]
 fn recordings(rt: HostRuntime) {
     let alloc = rt.alloc();

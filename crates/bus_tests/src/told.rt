@@ -1,4 +1,4 @@
-//! Whether what is read of bytes is as a line of words says.
+//! Comparing what is read from bytes with a line of words.
 
 use bus_frame::{
     FrameError, Header, ReadFrame, first_string, is_names, names_body, read_frame, three_strings,
@@ -8,17 +8,18 @@ use std::alloc::Global;
 use std::panic::Expect;
 use std::process::Abort;
 
-/// The word of a line at this place, counted from 0.
+/// Returns the word of a line with this index, counted from 0; empty if there is none.
 pub fn word_at(line: &str, at: usize) -> &str {
     line.split(' ').nth(at).unwrap_or("")
 }
 
-/// The number of a line at this place, if one stands there.
+/// Returns the number in a line at this index, if the word is one.
 fn number_at(line: &str, at: usize) -> Option<u64> {
     word_at(line, at).parse::<u64>().ok()
 }
 
-/// Whether a text is this word: the text, `-` where there is none, or `#` and its length.
+/// Returns whether a text is that of a word, which is the text, `-` for `None`, or `#` and the
+/// text's length in bytes.
 fn is_word(text: &Option<Text>, word: &str) -> bool {
     match text {
         None => word == "-",
@@ -26,7 +27,7 @@ fn is_word(text: &Option<Text>, word: &str) -> bool {
     }
 }
 
-/// Whether a text is this word, or has the length that stands in it after `#`.
+/// Returns whether a text is this word, or has the length in bytes that follows `#` in the word.
 fn fits(text: &str, word: &str) -> bool {
     match word.strip_prefix('#') {
         Some(length) => number_at(length, 0) == Some(text.len() as u64),
@@ -34,7 +35,7 @@ fn fits(text: &str, word: &str) -> bool {
     }
 }
 
-/// Whether the numbers of a header are those of a line.
+/// Returns whether a header has the numbers of a line.
 fn has_numbers(header: &Header, line: &str) -> bool {
     let reply = match header.reply_serial {
         Some(serial) => Some(serial as u64),
@@ -47,8 +48,8 @@ fn has_numbers(header: &Header, line: &str) -> bool {
         && number_at(line, 11) == Some(header.body_len)
 }
 
-/// Whether a header is this line: its type, flags, serial, path, interface, member, the name of the
-/// error, the serial that it replies to, destination, sender, signature, and how long the body is.
+/// Returns whether a header is that of a line: type, flags, serial, path, interface, member, error
+/// name, reply serial, destination, sender, signature, and the length of the body in bytes.
 fn is_header(header: &Header, line: &str) -> bool {
     has_numbers(header, line)
         && is_word(&header.path, word_at(line, 3))
@@ -60,8 +61,8 @@ fn is_header(header: &Header, line: &str) -> bool {
         && is_word(&header.signature, word_at(line, 10))
 }
 
-/// Whether this stands at the front of bytes: the header of a message, with `and N more` where
-/// bytes follow it; `lacks N`; or `breaks` and the rule.
+/// Returns whether the line describes the front of the bytes: the header of a message, with `and N
+/// more` if N bytes follow the message; `lacks N` if N bytes are missing; or `breaks` and the rule.
 pub fn is_front(rt: &impl Abort, alloc: Global, bytes: &[u8], line: &str) -> bool {
     match read_frame(alloc, bytes) {
         Ok(ReadFrame::Need(count)) => word_at(line, 0) == "lacks"
@@ -79,8 +80,8 @@ pub fn is_front(rt: &impl Abort, alloc: Global, bytes: &[u8], line: &str) -> boo
     }
 }
 
-/// Whether the texts of a body are those of a line: the order of its bytes and where it begins, its
-/// first text, and its three texts with commas between them.
+/// Returns whether a body has the strings of a line: the byte order, the offset of the body, its
+/// first string, and its three strings with commas between them.
 fn has_texts(header: &Header, message: &[u8], line: &str) -> bool {
     let order = if header.little { "l" } else { "B" };
     let first = first_string(header, message).unwrap_or("-");
@@ -95,7 +96,8 @@ fn has_texts(header: &Header, message: &[u8], line: &str) -> bool {
         && are_three
 }
 
-/// Whether these are the names of a word: each with a comma after it, or `#` and how many they are.
+/// Returns whether the names are those of a word, in which a comma follows each name, or which is
+/// `#` and the number of names.
 fn are_names(names: &[Text], word: &str) -> bool {
     if word.starts_with('#') {
         return number_at(word.trim_start_matches('#'), 0) == Some(names.len() as u64);
@@ -109,7 +111,8 @@ fn are_names(names: &[Text], word: &str) -> bool {
     words.next().is_none()
 }
 
-/// Whether the names of a body are those of a word after `names:`, and there are none for `-`.
+/// Returns whether a body has the names that follow `names:` in the word, or no array of names if
+/// the word is `-`.
 fn has_names(rt: &impl Abort, alloc: Global, header: &Header, message: &[u8], word: &str) -> bool {
     let are_there = is_names(header, message);
     match names_body(alloc, header, message).expect(rt, "memory") {
@@ -121,7 +124,7 @@ fn has_names(rt: &impl Abort, alloc: Global, header: &Header, message: &[u8], wo
     }
 }
 
-/// Whether bytes are a message whose body is this: its texts and its names.
+/// Returns whether bytes are a message with the strings and names of a line as its body.
 pub fn is_body(rt: &impl Abort, alloc: Global, bytes: &[u8], line: &str) -> bool {
     match read_frame(alloc, bytes) {
         Ok(ReadFrame::Frame(header, _)) => {

@@ -1,17 +1,18 @@
-//! How opening ends where there is nothing to go on with.
+//! The ends of opening an installation that isn't opened.
 ghost use Rattle.std.specs.Prelude.{◌≡◌};
 
 use fp_host::{HostEnd, HostError, Path};
 use std::alloc::AllocError;
 
-/// Why an installation isn't opened.
+/// The reason why an installation isn't opened.
 #[derive(Drop)]
 pub enum OpenEnd {
-    /// What stands at this path doesn't read.
+    /// The node at this path can't be read as a part of the state: the first such path by its
+    /// bytes.
     Damaged(Path),
     /// A call of the host failed.
     Fault,
-    /// There was no memory.
+    /// Memory ran out.
     NoMemory,
 }
 

@@ -12,8 +12,9 @@ use dep_states::Opened;
 use fp_host::Host;
 use std::alloc::Global;
 
-/// Reads the state and syncs, so that every stop from here on leaves this state. It changes no
-/// name, no file and no printed byte.
+/// Reads the state and syncs, so that each crash from then on leaves this state. Changes no name,
+/// no file and no printed byte. Errs with `Damaged` only if the installation shows no state, and
+/// doesn't sync then.
 pub fn open<H: Host>(alloc: Global, host: &mut H) -> Result<Opened, OpenEnd>
     ensures frame { Frame Nothing NoName NoPath (H.moments host.old) (H.moments host.new) }
     ensures good { IfOk result IsGood }

@@ -1,4 +1,4 @@
-//! The overrides.
+//! Reading the overrides.
 ghost use Rattle.std.specs.Prelude.{◌≡◌, true, IfOk, OnOk, IsErrOf};
 ghost use Rattle.fp_host.specs.OverHost.{AtReturn, ChangesNothing, FailsAlone};
 ghost use Rattle.fp_host.specs.Outcome.{shows};
@@ -19,7 +19,7 @@ use fp_small::{Loaded, MOST_TEXT_BYTES, OverrideRow, load, names_in, values_in_o
 use std::alloc::{AllocError, Global};
 use std::collections::BTreeMap;
 
-/// Reads the overrides that the present view shows, and changes nothing.
+/// Reads the overrides of the present image, and changes nothing.
 pub(crate) fn read_overrides<H: Host>(
     alloc: Global,
     host: &mut H,
@@ -35,7 +35,8 @@ pub(crate) fn read_overrides<H: Host>(
     overrides_among(alloc, host, &folder, names.as_slice())
 }
 
-/// The overrides that have these names.
+/// Reads the overrides with these names, which are all names in the directory `overrides`. Changes
+/// nothing.
 fn overrides_among<H: Host>(
     alloc: Global,
     host: &mut H,
@@ -62,7 +63,8 @@ fn overrides_among<H: Host>(
     })
 }
 
-/// Adds what stands at this name, where it is that of an override.
+/// Adds the override of this name, or its path as damaged if it can't be read. Does nothing if the
+/// name isn't an override's.
 fn add_override<H: Host>(
     alloc: Global,
     host: &mut H,
@@ -89,14 +91,14 @@ fn add_override<H: Host>(
     Ok(add(alloc, name, path, seen, rows, damaged)?)
 }
 
-/// Whether this names an override: `global`, or an application's ID.
+/// Returns whether a text names an override: `global`, or the ID of an application.
 fn is_override(name: &str) -> bool
     ensures { result ≡ names_override name.now }
 {
     name == "global" || is_id(name)
 }
 
-/// What a loaded override says.
+/// Returns the row that a loaded override gives; `Bad` if it isn't a key file of at most 1 MiB.
 fn override_in(alloc: Global, loaded: Loaded, name: &str) -> Result<Seen<OverrideRow>, AllocError>
     ensures { IfOk result (λ seen. seen_in seen ≡ override_loaded name.now loaded) }
 {

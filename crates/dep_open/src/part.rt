@@ -1,4 +1,4 @@
-//! What is found of the parts of the state.
+//! Parts of the state, and their damaged paths.
 ghost use Rattle.std.specs.Prelude.{◌≡◌, Some, OnOk};
 ghost use Rattle.dep_open.specs.Parts.{lesser, seen_in, Puts, Adds};
 
@@ -6,25 +6,29 @@ use fp_host::Path;
 use std::alloc::{AllocError, Global};
 use std::collections::BTreeMap;
 
-/// What stands at one place.
+/// The result of reading one part of the state.
 #[derive(Drop)]
 pub(crate) enum Seen<T> {
-    /// Nothing that belongs to the state.
+    /// The part is absent.
     Away,
-    /// It doesn't read.
+    /// The part can't be read.
     Bad,
+    /// The part that was read.
     There(T),
 }
 
-/// What is found of a part of the state, and the first of its paths by their bytes that doesn't
-/// read.
+/// A part of the state, and the first of its damaged paths by the bytes of their texts. The part is
+/// used only if no path is damaged.
 #[derive(Drop)]
 pub(crate) struct Part<T> {
+    /// The part, without what is damaged.
     pub found: T,
+    /// The first damaged path, if any.
     pub damaged: Option<Path>,
 }
 
-/// The first of the two by the bytes of their texts.
+/// Returns the first of two paths by the bytes of their texts. If one is `None`, returns the other
+/// one.
 pub(crate) fn lesser(first: Option<Path>, second: Option<Path>) -> Option<Path>
     ensures { result ≡ lesser first second }
 {
@@ -35,7 +39,7 @@ pub(crate) fn lesser(first: Option<Path>, second: Option<Path>) -> Option<Path>
     }
 }
 
-/// The same of two paths.
+/// Returns the first of two paths by the bytes of their texts.
 fn lesser_path(first: Path, second: Path) -> Path
     ensures { Some result ≡ lesser (Some first) (Some second) }
 {
@@ -46,8 +50,8 @@ fn lesser_path(first: Path, second: Path) -> Path
     }
 }
 
-/// Adds what stands at one place to the rows; or its path, where it doesn't read and comes before
-/// the others that don't.
+/// Adds what was read at a path: its row, or the path itself if it can't be read and is before the
+/// first damaged path so far.
 pub(crate) fn add<T: Drop>(
     alloc: Global,
     key: &str,
@@ -69,7 +73,7 @@ pub(crate) fn add<T: Drop>(
     }
 }
 
-/// Puts a row among the others by its key.
+/// Adds a row under its key.
 fn put<T: Drop>(
     alloc: Global,
     key: &str,

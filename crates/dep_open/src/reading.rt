@@ -1,4 +1,4 @@
-//! What an installation shows.
+//! Reading the state of an installation.
 ghost use Rattle.std.specs.Prelude.{◌≡◌, IfOk, IsErrOf};
 ghost use Rattle.fp_host.specs.OverHost.{AtReturn, ChangesNothing, FailsAlone};
 ghost use Rattle.dep_states.specs.After.{IsGood};
@@ -15,8 +15,8 @@ use fp_host::Host;
 use fp_small::{OverrideRow, RefRow, State};
 use std::alloc::Global;
 
-/// Reads the state that the present view shows, and changes nothing. `Damaged` comes only where
-/// it shows none, with the first path by its bytes that doesn't read.
+/// Reads the state of the present image, and changes nothing. Errs with `Damaged` only if the image
+/// shows no state, with the first damaged path by the bytes of its text.
 pub fn read_state<H: Host>(alloc: Global, host: &mut H) -> Result<State, OpenEnd>
     ensures unchanged { ChangesNothing H.Host host.old host.new }
     ensures good { IfOk result IsGood }
@@ -29,7 +29,7 @@ pub fn read_state<H: Host>(alloc: Global, host: &mut H) -> Result<State, OpenEnd
     state_of_parts(settings, refs, overrides)
 }
 
-/// The state of these parts, or the first path of them that doesn't read.
+/// Joins the parts to a state. Errs with the first damaged path, if any.
 fn state_of_parts(
     settings: Part<Setup>,
     refs: Part<Items<RefRow>>,

@@ -1,4 +1,4 @@
-//! The refs that are deployed.
+//! Reading the deployed refs.
 ghost use Rattle.std.specs.Prelude.{◌≡◌, true, IfOk, OnOk, IsErrOf};
 ghost use Rattle.fp_host.specs.OverHost.{AtReturn, ChangesNothing, FailsAlone};
 ghost use Rattle.fp_host.specs.Outcome.{shows};
@@ -19,7 +19,7 @@ use fp_small::{Loaded, MOST_TEXT_BYTES, RefRow, load, values_in_order};
 use std::alloc::{AllocError, Global};
 use std::collections::BTreeMap;
 
-/// Reads the refs that the present view shows, and changes nothing.
+/// Reads the deployed refs of the present image, and changes nothing.
 pub(crate) fn read_refs<H: Host>(
     alloc: Global,
     host: &mut H,
@@ -34,7 +34,7 @@ pub(crate) fn read_refs<H: Host>(
     refs_among(alloc, host, &paths)
 }
 
-/// The refs whose branch directories are among these paths.
+/// Reads the refs whose branch directories are among these paths, and changes nothing.
 fn refs_among<H: Host>(
     alloc: Global,
     host: &mut H,
@@ -58,7 +58,8 @@ fn refs_among<H: Host>(
     })
 }
 
-/// Adds what stands at the ref whose branch directory this is, where it is one.
+/// Adds the ref of this branch directory, or its `active` as damaged if the ref can't be read. Does
+/// nothing if the path isn't that of a ref.
 fn add_ref<H: Host>(
     alloc: Global,
     host: &mut H,
@@ -82,7 +83,7 @@ fn add_ref<H: Host>(
     Ok(add(alloc, key.as_str(), active, seen, rows, damaged)?)
 }
 
-/// What stands at the ref with this branch directory and this path of its `active`.
+/// Reads the row of a ref by its `active`, a symlink with a commit's digits. Changes nothing.
 fn read_active<H: Host>(
     alloc: Global,
     host: &mut H,
@@ -107,7 +108,8 @@ fn read_active<H: Host>(
     }
 }
 
-/// The text of the link at this path.
+/// Reads the text of a symlink. Returns `Away` if nothing is there, and `Bad` for a file or
+/// directory.
 fn read_text<H: Host>(alloc: Global, host: &mut H, path: &Path) -> Result<Seen<Text>, HostEnd>
     ensures unchanged { ChangesNothing H.Host host.old host.new }
     ensures tells { IfOk result (λ seen. AtReturn H.Host host.old host.new
@@ -121,7 +123,8 @@ fn read_text<H: Host>(alloc: Global, host: &mut H, path: &Path) -> Result<Seen<T
     }
 }
 
-/// What stands at the ref whose `active` has this text.
+/// Reads the row of a ref from the `deploy` in the directory that its `active` names. Returns `Bad`
+/// if the text isn't a digest.
 fn read_commit<H: Host>(
     alloc: Global,
     host: &mut H,
@@ -146,7 +149,8 @@ fn read_commit<H: Host>(
     Ok(read_deploy(alloc, loaded, name, commit)?)
 }
 
-/// The row that a loaded `deploy` says, in the folder of this commit.
+/// Returns the row that a loaded `deploy` in the directory of this commit gives; `Bad` if it is
+/// absent or can't be read.
 fn read_deploy(
     alloc: Global,
     loaded: Loaded,
@@ -166,7 +170,7 @@ fn read_deploy(
     }
 }
 
-/// The row of a `deploy` in the folder of this commit.
+/// Returns the row of a `deploy` in the directory of this commit; `Bad` if it has another commit.
 fn row_of(name: RefName, commit: Digest, read: DeployData) -> Seen<RefRow>
     ensures { seen_in result ≡ row_in name (hex commit) (there read) }
 {

@@ -1,4 +1,4 @@
-//! The settings of an installation, as its files say.
+//! Reading the settings.
 ghost use Rattle.std.specs.Prelude.{◌≡◌, [], Some, None, IfOk, IsErrOf};
 ghost use Rattle.fp_host.specs.OverHost.{AtReturn, ChangesNothing, FailsAlone};
 ghost use Rattle.fp_host.specs.Outcome.{shows};
@@ -20,7 +20,7 @@ use fp_small::{
 };
 use std::alloc::{AllocError, Global};
 
-/// Reads the settings that the present view shows, and changes nothing.
+/// Reads the settings of the present image, and changes nothing.
 pub(crate) fn read_settings<H: Host>(alloc: Global, host: &mut H) -> Result<Part<Setup>, HostEnd>
     ensures unchanged { ChangesNothing H.Host host.old host.new }
     ensures good { IfOk result IsGoodSetup }
@@ -36,7 +36,7 @@ pub(crate) fn read_settings<H: Host>(alloc: Global, host: &mut H) -> Result<Part
     Ok(read_new(alloc, loaded, path)?)
 }
 
-/// Reads the settings where there is no `config`, and changes nothing.
+/// Reads the settings by the files of layout 1, for an image without `config`. Changes nothing.
 fn load_old<H: Host>(alloc: Global, host: &mut H) -> Result<Part<Setup>, HostEnd>
     ensures unchanged { ChangesNothing H.Host host.old host.new }
     ensures good { IfOk result IsGoodSetup }
@@ -51,7 +51,7 @@ fn load_old<H: Host>(alloc: Global, host: &mut H) -> Result<Part<Setup>, HostEnd
     Ok(read_old(alloc, pins, pins_path, remotes, remotes_path)?)
 }
 
-/// Whether nothing stood where this was loaded.
+/// Returns whether the loaded file is absent.
 fn is_absent(loaded: &Loaded) -> bool
     ensures { result ≡ is_away loaded.now }
 {
@@ -61,7 +61,7 @@ fn is_absent(loaded: &Loaded) -> bool
     }
 }
 
-/// What a `config` says.
+/// Returns the settings that a loaded `config` gives, or its path as damaged.
 fn read_new(alloc: Global, loaded: Loaded, path: Path) -> Result<Part<Setup>, AllocError>
     requires { path ≡ config }
     ensures { IfOk result (IsSetUp (layout_two (seen_as config_of loaded)) config) }
@@ -73,7 +73,8 @@ fn read_new(alloc: Global, loaded: Loaded, path: Path) -> Result<Part<Setup>, Al
     }
 }
 
-/// What the files of layout 1 say: where both are absent, the empty settings of layout 2.
+/// Returns the settings that the files of layout 1 give, or the first damaged path. If both files
+/// are absent, the settings are empty ones of layout 2.
 fn read_old(
     alloc: Global,
     pins: Loaded,
@@ -101,7 +102,7 @@ fn read_old(
     }
 }
 
-/// What is there, or else the other.
+/// Returns what was found, or else this value.
 fn found_or<T: Drop>(seen: Seen<T>, other: T) -> T
     ensures { result ≡ found_or (seen_in seen) other }
 {
@@ -111,7 +112,7 @@ fn found_or<T: Drop>(seen: Seen<T>, other: T) -> T
     }
 }
 
-/// Settings that were read.
+/// Returns a part with these settings.
 fn whole(layout: Layout, settings: Settings) -> Part<Setup>
     ensures found { result.found ≡ setup layout settings.remotes settings.pins }
     ensures whole { result.damaged ≡ None }
@@ -122,7 +123,7 @@ fn whole(layout: Layout, settings: Settings) -> Part<Setup>
     }
 }
 
-/// The path of a file that doesn't read, and no settings.
+/// Returns a part with this path as damaged, and empty settings.
 fn broken(alloc: Global, path: Path) -> Part<Setup>
     ensures found { result.found ≡ setup Two [] [] }
     ensures path { result.damaged ≡ Some path }
@@ -136,7 +137,7 @@ fn broken(alloc: Global, path: Path) -> Part<Setup>
     }
 }
 
-/// No remotes and no pins.
+/// Returns settings without remotes and pins.
 fn no_settings(alloc: Global) -> Settings
     ensures remotes { result.remotes ≡ [] }
     ensures pins { result.pins ≡ [] }
@@ -147,7 +148,8 @@ fn no_settings(alloc: Global) -> Settings
     }
 }
 
-/// What a loaded `config` says.
+/// Returns the settings that a loaded `config` gives; `Bad` if it isn't a valid one of at most 2
+/// MiB.
 fn settings_in(alloc: Global, loaded: Loaded) -> Result<Seen<Settings>, AllocError>
     ensures { IfOk result (λ seen. seen_in seen ≡ seen_as config_of loaded) }
 {
@@ -162,7 +164,8 @@ fn settings_in(alloc: Global, loaded: Loaded) -> Result<Seen<Settings>, AllocErr
     }
 }
 
-/// What a loaded `remotes.conf` says.
+/// Returns the remotes that a loaded `remotes.conf` gives; `Bad` if it isn't a valid one of at most
+/// 1 MiB.
 fn remotes_in(alloc: Global, loaded: Loaded) -> Result<Seen<Items<RemoteRow>>, AllocError>
     ensures { IfOk result (λ seen. seen_in seen ≡ seen_as remotes_of loaded) }
 {
@@ -177,7 +180,8 @@ fn remotes_in(alloc: Global, loaded: Loaded) -> Result<Seen<Items<RemoteRow>>, A
     }
 }
 
-/// What a loaded `pins` says.
+/// Returns the pins that a loaded file `pins` gives; `Bad` if it isn't a valid one of at most 1
+/// MiB.
 fn pins_in(alloc: Global, loaded: Loaded) -> Result<Seen<Items<PinPattern>>, AllocError>
     ensures { IfOk result (λ seen. seen_in seen ≡ seen_as pins_of loaded) }
 {

@@ -1,4 +1,4 @@
--- What operations make of a state.
+-- The state after an operation, and the operations that a state allows.
 use Rattle.std.specs.Prelude.{◌≡◌, ◌≢◌, ◌<◌, ◌^◌, ℕ, List, [], ◌∷◌, length, map, Contains, true, false, Option, Some, None}
 use Rattle.std.specs.List.{AllByRecursion}
 use Rattle.fp_keyfile.specs.KeyFile.{is_good}
@@ -23,15 +23,15 @@ use Rattle.dep_states.specs.Deploy.{goes_back_to}
 use Rattle.dep_states.specs.Effects.{effect_of, layout_before, WritesConfig}
 use Rattle.dep_states.specs.Shown.{at_name, ref_key, override_key, settings_of}
 
--- an operation, and the timestamp of the commit that an Install or an Update brings (0 with each
--- other operation)
+-- An operation, and the timestamp of the commit that it brings; 0 if it isn't an `Install` or
+-- `Update`
 pub record Done : Type 0 where
   pub op : Op
   pub timestamp : ℕ
 
 -- ---- the rows of refs
 
--- a ref that is deployed from this remote at this commit, of this time, with this previous one
+-- The row of a ref with this origin, commit, timestamp and previous commit
 abbrev pub ref_row : Ref → List ℕ → List ℕ → ℕ → Option Previous → RefRow
 ref_row name origin commit timestamp previous =
     record {
@@ -42,21 +42,24 @@ ref_row name origin commit timestamp previous =
       previous = previous;
     }
 
--- the commit of a row, as a previous one
+-- The commit of a row, as a previous commit
 abbrev pub as_previous : RefRow → Option Previous
 as_previous row = Some (record { commit = row.commit; timestamp = row.timestamp })
 
+-- The row of a ref in a state; nothing if the state doesn't have the ref
 abbrev pub row_at : State → Ref → Option RefRow
 row_at s name = at_name ref_key s.refs (ref_text name)
 
+-- The state with these rows of refs instead of its own
 abbrev pub with_refs : State → List RefRow → State
 with_refs s rows = record s { refs = rows }
 
--- the rows of refs ascend
+-- The rows of refs ascend
 abbrev pub HasOrder : State → Type 0
 HasOrder s = is_ascending (map ref_key s.refs) ≡ true
 
--- with the commit of before as the previous one
+-- The row of a ref that moved to this commit of this remote; the row's old commit is the previous
+-- one
 abbrev pub moved : Ref → List ℕ → List ℕ → ℕ → RefRow → RefRow
 moved name remote commit timestamp row =
     record {
@@ -67,12 +70,13 @@ moved name remote commit timestamp row =
       previous = Some (record { commit = row.commit; timestamp = row.timestamp });
     }
 
+-- The state after an update of the ref whose row this is; unchanged if there is no row
 abbrev pub updated : State → Ref → List ℕ → List ℕ → ℕ → Option RefRow → State
 updated s name remote commit timestamp None = s
 updated s name remote commit timestamp (Some row) =
     with_refs s (replaced ref_key s.refs (moved name remote commit timestamp row))
 
--- the commit and the previous one change places
+-- The row after a rollback: its commit and its previous commit are exchanged
 abbrev pub exchanged : RefRow → Previous → RefRow
 exchanged row p = record {
   name = row.name;
@@ -82,16 +86,20 @@ exchanged row p = record {
   previous = Some (record { commit = row.commit; timestamp = row.timestamp });
 }
 
+-- The state after a rollback of the ref with this row and previous commit; unchanged if there is
+-- none
 abbrev pub back : State → RefRow → Option Previous → State
 back s row None = s
 back s row (Some p) = with_refs s (replaced ref_key s.refs (exchanged row p))
 
+-- The state after a rollback of the ref whose row this is; unchanged if there is no row
 abbrev pub rolled_back : State → Option RefRow → State
 rolled_back s None = s
 rolled_back s (Some row) = back s row row.previous
 
 -- ---- the state after an operation
 
+-- The state after an operation with this timestamp
 abbrev pub after_op : State → ℕ → Op → State
 after_op s timestamp (Install name remote commit) = with_refs s
     (inserted ref_key s.refs
@@ -117,44 +125,51 @@ after_op s timestamp (DropOverride name) =
 after_op s timestamp Migrate = record s { layout = Two }
 after_op s timestamp (Rollback name commit) = rolled_back s (row_at s name)
 
--- an operation that brings no commit
+-- An operation that brings no commit, with the timestamp 0
 abbrev pub plain : Op → Done
 plain op = record { op = op; timestamp = 0 }
 
+-- The state after an operation with its timestamp
 abbrev pub state_after : State → Done → State
 state_after s done = after_op s done.timestamp done.op
 
--- the state after operations in turn
+-- The state after operations in turn
 abbrev pub after_all : State → List Done → State
 after_all s [] = s
 after_all s (done ∷ more) = after_all (state_after s done) more
 
--- ---- what the refusals leave
+-- ---- the operations that a state allows
 
--- an installation of layout 1 is migrated before anything else is done with it
+-- The layout of the state on which the operation is done: layout 1 for `Migrate`, which comes
+-- before any other operation, else layout 2
 abbrev pub layout_for : Op → Layout
 layout_for op = layout_before (effect_of op)
 
--- an operation on what stands in `config`: the pins, the remotes and the layout
+-- The operation changes what `config` contains: the pins, the remotes or the layout
 abbrev pub IsOnConfig : Op → Type 0
 IsOnConfig op = WritesConfig (effect_of op)
 
--- a row of this ref that is so
+-- The state has the ref, and its row has the property `Is`
 abbrev pub HasRow : State → Ref → (RefRow → Type 0) → Type 0
 HasRow s name Is = (row : RefRow) × (row_at s name ≡ Some row) × Is row
 
+-- The row has this previous commit
 abbrev pub HasPrevious : List ℕ → RefRow → Type 0
 HasPrevious commit row = (p : Previous) × (row.previous ≡ Some p) × (p.commit ≡ commit)
 
+-- The ref isn't deployed, the remote exists, the commit is a digest, and the state has fewer refs
+-- than the maximum
 abbrev pub IsInstall : State → Ref → List ℕ → List ℕ → Type 0
 IsInstall s name remote commit = (is_ref name ≡ true) × (row_at s name ≡ None)
     × (has_name name_of s.remotes remote ≡ true) × (is_digest commit ≡ true)
     × (length s.refs < MOST_REFS)
 
+-- The ref is deployed at another commit, the remote exists, and the commit is a digest
 abbrev pub IsUpdate : State → Ref → List ℕ → List ℕ → Type 0
 IsUpdate s name remote commit = HasRow s name (λ row. row.commit ≢ commit)
     × (has_name name_of s.remotes remote ≡ true) × (is_digest commit ≡ true)
 
+-- The state allows the operation, in any layout
 abbrev pub Allows : State → Op → Type 0
 Allows s (Install name remote commit) = IsInstall s name remote commit
 Allows s (Update name remote commit) = IsUpdate s name remote commit
@@ -171,18 +186,19 @@ Allows s (DropOverride name) = is_override name ≡ true
 Allows s Migrate = Unit {0}
 Allows s (Rollback name commit) = HasRow s name (HasPrevious commit)
 
--- the operation may be done on the state
+-- The operation may be done on the state
 pub record May (s : State) (op : Op) : Type 0 where
   pub layout : s.layout ≡ layout_for op
   pub allows : Allows s op
 
 -- ---- states that can be written
 
+-- The previous commit, if there is one, can be written: a digest and a 64-bit timestamp
 abbrev pub IsGoodPrevious : Option Previous → Type 0
 IsGoodPrevious None = Unit {0}
 IsGoodPrevious (Some p) = (is_digest p.commit ≡ true) × (p.timestamp < 2 ^ 64)
 
--- a row that its `deploy` can say
+-- A row that a file `deploy` can have
 pub record IsGoodRow (row : RefRow) : Type 0 where
   pub name : is_ref row.name ≡ true
   pub origin : is_remote_name row.origin ≡ true
@@ -191,12 +207,12 @@ pub record IsGoodRow (row : RefRow) : Type 0 where
   pub moves : goes_back_to row.commit row.previous ≡ false
   pub time : row.timestamp < 2 ^ 64
 
--- a row that its key file can say
+-- A row that a key file can have
 pub record IsGoodLayer (row : OverrideRow) : Type 0 where
   pub name : is_override row.name ≡ true
   pub file : is_good row.file ≡ true
 
--- a state whose parts can be written, in order
+-- A state that can be written: each of its parts is valid, and its rows ascend
 pub record IsGood (s : State) : Type 0 where
   pub settings : IsSettings (settings_of s)
   pub rows : AllByRecursion IsGoodRow s.refs

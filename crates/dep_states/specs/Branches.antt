@@ -1,4 +1,4 @@
--- Where the branch directories of an installation may stand.
+-- The paths of branch directories in an installation.
 use Rattle.std.specs.Prelude.{◌≡◌, ◌⊎◌, ◌↔◌, ◌∷◌, List, [], true, Option, Some, None, Contains, codes}
 use Rattle.fp_host.specs.Paths.{Elements, path_text}
 use Rattle.fp_host.specs.View.{View}
@@ -6,12 +6,12 @@ use Rattle.fp_name.specs.Refs.{Ref, is_ref, ref_of}
 use Rattle.fp_small.specs.Walks.{IsLevel}
 use Rattle.dep_states.specs.Names.{branch_dir}
 
--- three names below `app` or `runtime`
+-- The paths are exactly those three levels below `app` or `runtime`
 pub record AreBranches (v : View) (paths : List Elements) : Type 0 where
   pub each : (q : Elements) → Contains paths q
       ↔ (IsLevel 3 (codes "app" ∷ []) v q ⊎ IsLevel 3 (codes "runtime" ∷ []) v q)
 
--- the ref whose branch directory this is
+-- The ref of a branch directory with this path; nothing if no ref has it
 abbrev pub IsRefAt : Elements → Option Ref → Type 0
 IsRefAt p None = ref_of (path_text p) ≡ None
 IsRefAt p (Some name) = (p ≡ branch_dir name) × (is_ref name ≡ true)

@@ -1,4 +1,4 @@
--- Where the files stay that an installer makes, and what they say there.
+-- The paths where new files last, and their contents there.
 use Rattle.std.specs.Prelude.{◌≡◌, ◌⊎◌, ℕ, List, [], ◌∷◌, true, Some, None, Contains, codes}
 use Rattle.fp_base.specs.declared.object.ObjKind.{ObjKind}
 use Rattle.fp_host.specs.Paths.{Elements, file, IsAbove}
@@ -17,14 +17,14 @@ use Rattle.ost_model.specs.declared.limits.TheConstants.{STORE_CONFIG}
 use Rattle.ost_refs.specs.Files.{ref_bytes}
 use Rattle.dep_states.specs.Names.{config, repo_config, override_path, commit_dir, deploy, ref_file}
 
--- a file with these bytes and the permission bits 0644
+-- The file has these bytes and the permission bits 0644
 abbrev pub Says : List ℕ → Inode → Type 0
 Says bytes f = f ≡ record { mode = FILE_MODE; bytes = bytes }
 
--- What lasts at a path: an object of the store; its `config`, with its one text; a ref's file, with a
--- commit; what stands below `made` or `exports`; the record beside a commit's tree; the settings; an
--- override, with the text of its groups and nothing else. All but objects, and what is below `made`
--- and `exports`, have the permission bits 0644.
+-- A file that may last at this path: an object of the store; the store's `config`, with its only
+-- text; a ref's file, with a commit; anything below `made` or `exports`; the file `deploy` of a
+-- commit; the settings; an override, with the text of its groups and nothing else. All but objects,
+-- and what is below `made` and `exports`, have the permission bits 0644.
 pub data IsLasting (q : Elements) (f : Inode) : Type 0 where
   an_object : (d : List ℕ) (kind : ObjKind) → is_digest d ≡ true → q ≡ object_path repo d kind
       → IsLasting q f
@@ -40,11 +40,12 @@ pub data IsLasting (q : Elements) (f : Inode) : Type 0 where
   an_override : (name : List ℕ) (groups : List Group) → is_override name ≡ true
       → is_good groups ≡ true → q ≡ override_path name → Says (text_of groups) f → IsLasting q f
 
--- each file that is new since u and has a byte in w was put at a path where L has it as it is
+-- Each file that is new since `u` and isn't empty in `w` was put at a path where `L` allows it with
+-- its present mode and bytes
 pub record SharesAs (L : Elements → Inode → Type 0) (u w : View) : Type 0 where
   pub each : (id : ℕ) (f : Inode) → u.files id ≡ None → w.files id ≡ Some f
       → (f.bytes ≡ []) ⊎ ((q : Elements) × L q f × Contains w.stood (q, file id))
 
--- a file with the permission bits 0644 at just this path
+-- The path is `p`, and the file there has the permission bits 0644
 abbrev pub SmallAt : Elements → Elements → Inode → Type 0
 SmallAt p q f = (q ≡ p) × (f.mode ≡ FILE_MODE)

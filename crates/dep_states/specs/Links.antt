@@ -1,4 +1,4 @@
--- What stands in the folders of commits.
+-- The files in commits' directories.
 use Rattle.std.specs.Prelude.{◌≡◌, ◌⊎◌, ℕ, List, Contains}
 use Rattle.fp_host.specs.Paths.{Elements, file, IsAbove}
 use Rattle.fp_host.specs.View.{View}
@@ -7,14 +7,14 @@ use Rattle.fp_small.specs.Places.{repo}
 use Rattle.ost_model.specs.Stores.{objects_folder}
 use Rattle.dep_states.specs.Names.{commit_dir, deploy}
 
--- the file was put at a name below the store's objects
+-- The file was put at a path below the store's objects
 pub record WasStored (id : ℕ) (v : View) : Type 0 where
   pub at : Elements
   pub below : IsAbove (objects_folder repo) at
   pub put : Contains v.stood (at, file id)
 
--- Each file in a commit's folder stood there, is the record beside the commit's tree, or was put
--- below the store's objects.
+-- Each file in a commit's directory was there at `u`, or is the commit's `deploy`, or was put below
+-- the store's objects
 pub record Links (u w : View) : Type 0 where
   pub each : (name : Ref) (commit : List ℕ) (q : Elements) (id : ℕ)
       → IsAbove (commit_dir name commit) q → w.names q ≡ file id

@@ -1,4 +1,4 @@
--- What the commits that an image keeps use, and an installation with nothing beside that.
+-- Settled images: those with nothing that their commits don't use.
 use Rattle.std.specs.Prelude.{◌≡◌, ◌≢◌, ◌∷◌, ◌++◌, [], ℕ, List, true}
 use Rattle.fp_host.specs.Paths.{Elements}
 use Rattle.fp_host.specs.Outcome.{Spot, gone, folder, holds, points, Disk}
@@ -14,7 +14,7 @@ use Rattle.dep_states.specs.Names.{config, remotes_conf, pins_file, commit_dir, 
 use Rattle.dep_states.specs.Shown.{there, ref_seen}
 use Rattle.dep_states.specs.Sound.{Keeps}
 
--- Used: the object stands in the order of a commit that the image keeps.
+-- The object is in the order of a commit that the image keeps
 pub record Used (disk : Disk) (d : List ℕ) (kind : ObjKind) : Type 0 where
   pub name : Ref
   pub commit : List ℕ
@@ -24,21 +24,22 @@ pub record Used (disk : Disk) (d : List ℕ) (kind : ObjKind) : Type 0 where
   pub digest_is : place.digest ≡ d
   pub kind_is : place.kind ≡ kind
 
--- a file with just these bytes
+-- The node is a file with exactly these bytes
 abbrev pub HasBytes : List ℕ → Spot → Type 0
 HasBytes text gone = ⊥
 HasBytes text folder = ⊥
 HasBytes text (points link) = ⊥
 HasBytes text (holds id mode bytes) = bytes ≡ text
 
--- the ref is shown, and has this origin
+-- The image shows the ref, with this origin
 abbrev pub HasOrigin : Disk → Ref → List ℕ → Type 0
 HasOrigin disk name origin =
     (row : RefRow) × (ref_seen disk name ≡ there row) × (row.origin ≡ origin)
 
--- Settled: no work is left. Each object that is there is used (a used one is there, where the image
--- is Sound), each folder of a commit is that of one that is kept. There is a ref file for each ref
--- that is shown, and no other. Beside `config` there are no files of layout 1.
+-- The image is settled. Nothing is below `repo/tmp`. Each object that is present is used, and each
+-- commit's directory is that of a commit that is kept. Each ref that is shown has a ref file, and
+-- no other ref has one. Beside `config` there are no files of layout 1. In a sound image, each used
+-- object is present.
 pub record Settled (disk : Disk) : Type 0 where
   pub no_work : (x : List ℕ) (rest : Elements) → disk (rest ++ (x ∷ tmp)) ≡ gone
   pub used : (d : List ℕ) (kind : ObjKind) → is_digest d ≡ true

@@ -1,4 +1,4 @@
--- Two images that differ in the settings' files, or in one override.
+-- Two images that differ only in the files of the settings, or in one override.
 use Rattle.std.specs.Prelude.{◌≡◌, ◌≢◌, ◌⊎◌, ℕ, List, map, true}
 use Rattle.fp_host.specs.Paths.{Elements}
 use Rattle.fp_host.specs.Reads.{is_ascending}
@@ -7,11 +7,11 @@ use Rattle.dep_states.specs.Names.{config}
 use Rattle.dep_states.specs.Shown.{at_name, override_key, setup_of}
 use Rattle.dep_states.specs.Sound.{IsOld}
 
--- the three files by which settings are shown
+-- The path is one of the three files of the settings
 abbrev pub IsSetting : Elements → Type 0
 IsSetting p = (p ≡ config) ⊎ IsOld p
 
--- t is the state s, but for the override of this name
+-- The state `t` equals `s` except for the override with this name
 pub record IsLayered (s : State) (layer : List ℕ) (t : State) : Type 0 where
   pub setup : setup_of t ≡ setup_of s
   pub refs : t.refs ≡ s.refs

@@ -1,4 +1,4 @@
--- Sound images, and the paths on which what they show depends.
+-- Sound images, and the paths on which the shown state depends.
 use Rattle.std.specs.Prelude.{◌≡◌, ◌≢◌, ◌⊎◌, ◌≤◌, ◌++◌, ℕ, List, [], ◌∷◌, length, Bool, true, false, Option, Some, Result, Ok, Err}
 use Rattle.fp_host.specs.Paths.{Elements}
 use Rattle.fp_host.specs.View.{View}
@@ -25,36 +25,41 @@ use Rattle.fp_name.specs.Grammar.{is_override}
 use Rattle.dep_states.specs.Shown.{there, ref_seen, Shows, IsShown}
 use Rattle.dep_states.specs.Zones.{IsFileOrGone, Allowed}
 
--- ---- metadata that reads
+-- ---- valid metadata
 
+-- Tests whether metadata was read
 abbrev pub is_meta : Result Meta MetaRule → Bool
 is_meta (Ok meta) = true
 is_meta (Err rule) = false
 
+-- Tests whether a key file was read that is valid metadata
 abbrev pub is_meta_file : MetaKind → Result (List Group) KeyFault → Bool
 is_meta_file kind (Ok file) = is_meta (meta_of kind file)
 is_meta_file kind (Err fault) = false
 
--- the bytes are the metadata of an application or a runtime
+-- Tests whether the bytes are valid metadata of an application or a runtime
 unfoldable pub reads_as : RefKind → List ℕ → Bool
 reads_as kind bytes = is_meta_file (meta_kind kind) (file_of bytes)
 
 -- ---- the commits that an image keeps
 
+-- The commit is this previous one
 abbrev pub IsPrevious : Option Previous → List ℕ → Type 0
 IsPrevious previous commit = (p : Previous) × (previous ≡ Some p) × (p.commit ≡ commit)
 
+-- The row keeps the commit: it is the row's own or its previous one
 abbrev pub IsKeptBy : RefRow → List ℕ → Type 0
 IsKeptBy row commit = (row.commit ≡ commit) ⊎ IsPrevious row.previous commit
 
--- the commit, or the previous commit, of a ref that the image shows
+-- The image keeps the commit: it is the commit or the previous commit of a ref that the image shows
 pub record Keeps (disk : Disk) (name : Ref) (commit : List ℕ) : Type 0 where
   pub row : RefRow
   pub shown : ref_seen disk name ≡ there row
   pub of_row : IsKeptBy row commit
 
--- Sound. Part 1, and what part 5 says of one path alone, are `kinds`; parts 2 to 4 are `commits`;
--- `deploys` is the rest of part 5.
+-- The image is sound. `kinds`: each path has only what may be there; so each object matches its
+-- digest. `commits`: each commit that the image keeps is checked out whole in its directory, and
+-- its objects are in the store. `deploys`: the `deploy` of such a commit is a file or absent.
 pub record Sound (disk : Disk) : Type 0 where
   pub kinds : (p : Elements) → Allowed p (disk p)
   pub commits : (name : Ref) (commit : List ℕ) → Keeps disk name commit
@@ -64,25 +69,25 @@ pub record Sound (disk : Disk) : Type 0 where
 
 -- ---- views
 
--- every outcome shows the state and is Sound
+-- Each crash leaves an image that shows the state and is sound
 pub record Opens (s : State) (v : View) : Type 0 where
   pub shown : (disk : Disk) → Leaves v disk → Shows disk s
   pub sound : (disk : Disk) → Leaves v disk → Sound disk
 
--- every outcome shows a state and is Sound
+-- Each crash leaves an image that shows a state and is sound
 pub record IsSound (v : View) : Type 0 where
   pub shown : (disk : Disk) → Leaves v disk → IsShown disk
   pub sound : (disk : Disk) → Leaves v disk → Sound disk
 
 -- ---- the fixed paths
 
--- a file of layout 1
+-- The path is that of a file of layout 1
 pub data IsOld (p : Elements) : Type 0 where
   is_remotes : p ≡ remotes_conf → IsOld p
   is_pins : p ≡ pins_file → IsOld p
 
--- The fixed paths of an image: those that are read for what it shows, those of the commits that it
--- keeps, and the objects of their orders.
+-- The fixed paths of an image, on which its state and its soundness depend: those that are read for
+-- the state, those of the commits that it keeps, and those of these commits' objects
 pub data Fixed (disk : Disk) (p : Elements) : Type 0 where
   is_config : p ≡ config → Fixed disk p
   is_old : disk config ≡ gone → IsOld p → Fixed disk p
@@ -96,33 +101,33 @@ pub data Fixed (disk : Disk) (p : Elements) : Type 0 where
       → In (order (store repo disk) commit) place
       → p ≡ object_path repo place.digest place.kind → Fixed disk p
 
--- what may come to stand at a path of this image that isn't fixed
+-- The node may be at a path of this image that isn't fixed
 pub record Permits (disk : Disk) (p : Elements) (spot : Spot) : Type 0 where
   pub allowed : Allowed p spot
   pub deploy : (name : Ref) (commit : List ℕ) → Keeps disk name commit
       → p ≡ deploy (commit_dir name commit) → IsFileOrGone spot
 
--- What may come to stand where, seen from each outcome of a view: nothing at a fixed path, and
--- elsewhere what may stand there.
+-- The frame `G` spares the view: for each image that a crash may leave, it allows nothing at a
+-- fixed path, and elsewhere only what may be there
 pub record Spares (v : View) (G : Elements → Spot → Type 0) : Type 0 where
   pub avoids : (disk : Disk) → Leaves v disk → (p : Elements) (spot : Spot) → Fixed disk p
       → G p spot → ⊥
   pub permits : (disk : Disk) → Leaves v disk → (p : Elements) (spot : Spot) → G p spot
       → Permits disk p spot
 
--- all that may come to stand where
+-- The largest frame that spares the view
 abbrev pub Spared : View → Elements → Spot → Type 0
 Spared v p spot = (disk : Disk) → Leaves v disk → (Fixed disk p → ⊥) × Permits disk p spot
 
--- no outcome is without `config`
+-- Each crash leaves a `config`
 abbrev pub HasConfig : View → Type 0
 HasConfig v = (disk : Disk) → Leaves v disk → disk config ≡ gone → ⊥
 
--- a file of layout 1 goes
+-- A file of layout 1 is removed
 abbrev pub OldGone : Elements → Spot → Type 0
 OldGone p spot = IsOld p × (spot ≡ gone)
 
--- anything that isn't too deep, below `repo/tmp`
+-- Any node below `repo/tmp`, at a path of at most 128 elements
 pub record InTmp (p : Elements) (spot : Spot) : Type 0 where
   pub name : List ℕ
   pub rest : Elements

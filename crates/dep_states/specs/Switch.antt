@@ -17,7 +17,7 @@ use Rattle.dep_states.specs.Shown.{there, seen_of, deploy_at, ref_seen, at_name,
 use Rattle.dep_states.specs.Zones.{IsFileOrGone}
 use Rattle.dep_states.specs.Sound.{Keeps, IsPrevious, Fixed, Permits, Sound, Opens, reads_as}
 
--- t is the state s with this row, or with none, for the ref: what an operation on a ref makes of it
+-- The state `t` equals `s` except that it has this row for the ref, or none
 pub record IsWith (s : State) (name : Ref) (row : Option RefRow) (t : State) : Type 0 where
   pub setup : setup_of t ≡ setup_of s
   pub overrides : t.overrides ≡ s.overrides
@@ -26,8 +26,9 @@ pub record IsWith (s : State) (name : Ref) (row : Option RefRow) (t : State) : T
       → at_name ref_key t.refs text ≡ at_name ref_key s.refs text
   pub ascend : is_ascending (map ref_key t.refs) ≡ true
 
--- The image j shows this row, or none, for the ref. Else it has at each fixed path of i what i has,
--- and elsewhere what may stand there. The commits that it keeps for the ref stand.
+-- The image `j` shows this row for the ref, or none. At each fixed path of `i` except the ref's
+-- `active` it has the node of `i`, and elsewhere one that may be there. The commits that it keeps
+-- for the ref are checked out whole.
 pub record Changed (i j : Disk) (name : Ref) (row : Option RefRow) : Type 0 where
   pub seen : ref_seen j name ≡ seen_of row
   pub still : (p : Elements) → Fixed i p → p ≢ active name → j p ≡ i p
@@ -37,8 +38,8 @@ pub record Changed (i j : Disk) (name : Ref) (row : Option RefRow) : Type 0 wher
   pub deploys : (commit : List ℕ) → Keeps j name commit
       → IsFileOrGone (j (deploy (commit_dir name commit)))
 
--- Staged, of one image: the row's commit stands beside the state, with its `deploy`, and its
--- previous commit is kept.
+-- The image is prepared for a switch of the ref to this row: the row's commit is checked out in its
+-- directory with its `deploy`, and its previous commit is kept
 pub record Prepared (i : Disk) (name : Ref) (row : RefRow) : Type 0 where
   pub good : is_ref name ≡ true
   pub stands : Stands (reads_as name.kind) repo i row.commit (commit_dir name row.commit)
@@ -46,7 +47,8 @@ pub record Prepared (i : Disk) (name : Ref) (row : RefRow) : Type 0 where
       ≡ there row
   pub previous : (commit : List ℕ) → IsPrevious row.previous commit → Keeps i name commit
 
--- the paths that a switch to the row reads beside the fixed ones
+-- The paths on which a switch to the row depends: the fixed ones but the ref's `active`, and those
+-- of the row's commit, its objects and its `deploy`
 pub data Wanted (i : Disk) (name : Ref) (row : RefRow) (p : Elements) : Type 0 where
   is_fixed : Fixed i p → p ≢ active name → Wanted i name row p
   is_new_path : (rest : Elements) → rest ≢ deploy_name → p ≡ rest ++ commit_dir name row.commit
@@ -55,17 +57,18 @@ pub data Wanted (i : Disk) (name : Ref) (row : RefRow) (p : Elements) : Type 0 w
       → p ≡ object_path repo place.digest place.kind → Wanted i name row p
   is_new_deploy : p ≡ deploy (commit_dir name row.commit) → Wanted i name row p
 
--- the link comes to `active`, and from its work name
+-- A crash may newly show the switch: the new symlink at `active`, and nothing at its staging path
 abbrev pub SwitchesAt : Ref → RefRow → Elements → Elements → Spot → Type 0
 SwitchesAt name row from q spot =
     ((q ≡ active name) × (spot ≡ points (hex row.commit))) ⊎ ((q ≡ from) × (spot ≡ gone))
 
--- Staged: every outcome shows the state and is Sound, and the row's commit stands there, recorded.
+-- Each crash leaves an image that shows the state, is sound, and is prepared for a switch of the
+-- ref to this row
 pub record Stages (s : State) (name : Ref) (row : RefRow) (v : View) : Type 0 where
   pub opens : Opens s v
   pub prepared : (disk : Disk) → Leaves v disk → Prepared disk name row
 
--- every outcome shows the one state or the other, and is Sound
+-- Each crash leaves an image that shows one of the two states and is sound
 pub record OpensEither (s t : State) (v : View) : Type 0 where
   pub shown : (disk : Disk) → Leaves v disk → Shows disk s ⊎ Shows disk t
   pub sound : (disk : Disk) → Leaves v disk → Sound disk

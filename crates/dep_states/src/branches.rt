@@ -1,4 +1,4 @@
-//! The branch directories of an installation, and the refs to which they belong.
+//! The branch directories of an installation, and their refs.
 ghost use Rattle.std.specs.Prelude.{IfOk, IsErrOf};
 ghost use Rattle.fp_host.specs.OverHost.{AtReturn, ChangesNothing, FailsAlone};
 ghost use Rattle.dep_states.specs.Branches.{AreBranches, IsRefAt};
@@ -9,10 +9,11 @@ use fp_name::{NameError, RefName};
 use ost_refs::paths_below;
 use std::alloc::{AllocError, Global};
 
-/// How many elements a branch directory's path has below `app` and `runtime`.
+/// The number of elements of a branch directory's path below `app` or `runtime`.
 const BRANCH_DEPTH: usize = 3;
 
-/// The paths at which branch directories may stand.
+/// Returns the paths three levels below `app` and `runtime`, where branch directories may be.
+/// Changes nothing.
 pub fn branch_paths<H: Host>(alloc: Global, host: &mut H) -> Result<Vec<Path>, HostEnd>
     ensures unchanged { ChangesNothing H.Host host.old host.new }
     ensures tells { IfOk result (λ paths. AtReturn H.Host host.old host.new
@@ -27,7 +28,8 @@ pub fn branch_paths<H: Host>(alloc: Global, host: &mut H) -> Result<Vec<Path>, H
     Ok(paths)
 }
 
-/// The ref whose branch directory this is.
+/// Returns the ref of the branch directory with this path, or `None` if the path isn't that of a
+/// ref.
 pub fn ref_at(alloc: Global, path: &Path) -> Result<Option<RefName>, AllocError>
     ensures { IfOk result (IsRefAt path.now) }
 {

@@ -1,4 +1,4 @@
-//! What the value of a `deploy` says.
+//! Parsing a file `deploy` from its GVariant value.
 ghost use Rattle.std.specs.Prelude.{◌≡◌, ◌≢◌, None, option_copied, IfOk, IsErrOf};
 ghost use Rattle.gv_value.specs.Reading.{value_of};
 ghost use Rattle.gv_value.specs.Tree.{tuple, just};
@@ -13,7 +13,8 @@ use gv_decode::{DecodeError, decode};
 use gv_value::{GvType, GvValue, TypeError};
 use std::alloc::{AllocError, Global};
 
-/// The type of a `deploy`: origin, commit, timestamp, and the commit before with its timestamp.
+/// Makes the GVariant type of a `deploy`, `(sstm(st))`: origin, commit, timestamp, and the previous
+/// commit with its timestamp, if any.
 pub(crate) fn deploy_type(alloc: Global) -> Result<GvType, AllocError>
     ensures { IfOk result (λ of. shape_of of ≡ deploy_shape) }
 {
@@ -24,7 +25,7 @@ pub(crate) fn deploy_type(alloc: Global) -> Result<GvType, AllocError>
     }
 }
 
-/// The value of a type that bytes are.
+/// Decodes bytes as a value of this type. Errs with `Bad` if they aren't its normal form.
 pub(crate) fn value_in(alloc: Global, of: &GvType, bytes: &[u8]) -> Result<GvValue, DeployError>
     ensures { Finds plain result (value_of (shape_of of.now) bytes.now) }
 {
@@ -36,7 +37,7 @@ pub(crate) fn value_in(alloc: Global, of: &GvType, bytes: &[u8]) -> Result<GvVal
     }
 }
 
-/// What a value says as a `deploy`.
+/// Reads a value as the data of a `deploy`. Errs with `Bad` if it isn't one.
 pub(crate) fn data_in(alloc: Global, value: &GvValue) -> Result<DeployData, DeployError>
     ensures { Says result (deploy_in (plain value.now)) }
 {
@@ -46,7 +47,8 @@ pub(crate) fn data_in(alloc: Global, value: &GvValue) -> Result<DeployData, Depl
     }
 }
 
-/// The same by the value's members.
+/// Reads the members of a tuple as the data of a `deploy`. Errs with `Bad` if they aren't its
+/// members.
 fn data_of(alloc: Global, members: &[GvValue]) -> Result<DeployData, DeployError>
     ensures { Says result (deploy_in (tuple (plains members.now))) }
 {
@@ -64,7 +66,7 @@ fn data_of(alloc: Global, members: &[GvValue]) -> Result<DeployData, DeployError
     }
 }
 
-/// The data, where the previous commit is another one.
+/// Returns the data, or `None` if the previous commit is the commit itself.
 fn if_moves(read: DeployData) -> Option<DeployData>
     ensures { result ≡ if_moves read }
 {
@@ -74,7 +76,7 @@ fn if_moves(read: DeployData) -> Option<DeployData>
     Some(read)
 }
 
-/// Whether the previous commit is this one.
+/// Returns whether the previous commit is this commit.
 pub(crate) fn goes_back_to(commit: &Digest, previous: &Option<Previous>) -> bool
     ensures { result ≡ goes_back_to commit.now previous.now }
 {
@@ -84,7 +86,7 @@ pub(crate) fn goes_back_to(commit: &Digest, previous: &Option<Previous>) -> bool
     }
 }
 
-/// The text of a value.
+/// Returns the text that a value is, or `None` for any other value.
 fn text_in(value: &GvValue) -> Option<&str>
     ensures { option_copied result ≡ text_in (plain value.now) }
 {
@@ -94,10 +96,10 @@ fn text_in(value: &GvValue) -> Option<&str>
     }
 }
 
-/// The remote's name that a value is.
+/// Reads a value as a remote's name. Errs with `Bad` if it isn't one.
 fn origin_in(alloc: Global, value: &GvValue) -> Result<RemoteName, DeployError>
     ensures said { Says result (origin_in (plain value.now)) }
-    // What is no name takes no memory.
+    // A text that isn't a name allocates nothing.
     ensures error { IsErrOf result DeployError.NoMemory → origin_in (plain value.now) ≢ None }
 {
     let Some(text) = text_in(value) else {
@@ -110,7 +112,7 @@ fn origin_in(alloc: Global, value: &GvValue) -> Result<RemoteName, DeployError>
     }
 }
 
-/// The digest whose digits a value is.
+/// Returns the digest whose 64 hexadecimal digits a value is, or `None` for any other value.
 fn digest_in(value: &GvValue) -> Option<Digest>
     ensures { result ≡ digest_in (plain value.now) }
 {
@@ -121,7 +123,8 @@ fn digest_in(value: &GvValue) -> Option<Digest>
     }
 }
 
-/// The timestamp that a value is, little endian.
+/// Returns the timestamp that a value of type `t` is, in seconds since 1970, or `None` for any
+/// other value.
 fn time_in(value: &GvValue) -> Option<u64>
     ensures { result ≡ time_in (plain value.now) }
 {
@@ -131,7 +134,7 @@ fn time_in(value: &GvValue) -> Option<u64>
     }
 }
 
-/// The commit before, where there is one.
+/// Reads a value as the previous commit, which may be none. Returns `None` if it isn't one.
 fn previous_in(value: &GvValue) -> Option<Option<Previous>>
     ensures { result ≡ previous_in (plain value.now) }
 {
@@ -142,7 +145,7 @@ fn previous_in(value: &GvValue) -> Option<Option<Previous>>
     }
 }
 
-/// The same where there is a value.
+/// Reads the content of a maybe as the previous commit. Returns `None` if it isn't one.
 fn previous_inside(value: &GvValue) -> Option<Option<Previous>>
     ensures { result ≡ previous_in (just (plain value.now)) }
 {
@@ -152,7 +155,7 @@ fn previous_inside(value: &GvValue) -> Option<Option<Previous>>
     }
 }
 
-/// The same by the value's members.
+/// Reads the members of a tuple as the previous commit. Returns `None` if they aren't its members.
 fn previous_of(members: &[GvValue]) -> Option<Option<Previous>>
     ensures { result ≡ previous_in (just (tuple (plains members.now))) }
 {

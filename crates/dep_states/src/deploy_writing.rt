@@ -1,4 +1,4 @@
-//! The value of a `deploy`.
+//! Making the GVariant value of a file `deploy`.
 ghost use Rattle.std.specs.Prelude.{◌≡◌, ◌<◌, ◌^◌, true, Some, IfOk, OnOk};
 ghost use Rattle.fp_name.specs.Grammar.{is_remote_name};
 ghost use Rattle.fp_name.specs.Hex.{hex, is_digest};
@@ -14,7 +14,7 @@ use fp_small::Previous;
 use gv_value::GvValue;
 use std::alloc::{AllocError, Global};
 
-/// What a `deploy` says, as a value of its type.
+/// Makes the GVariant value of the data of a `deploy`, of type `(sstm(st))`.
 pub(crate) fn data_as_value(alloc: Global, read: &DeployData) -> Result<GvValue, AllocError>
     ensures value { IfOk result (λ value. plain value ≡ deploy_tree read.now) }
     ensures origin { OnOk result (is_remote_name read.now.origin ≡ true) }
@@ -29,14 +29,14 @@ pub(crate) fn data_as_value(alloc: Global, read: &DeployData) -> Result<GvValue,
     Ok(GvValue::Tuple(vec![in alloc; origin, commit, time, previous]?))
 }
 
-/// A text as a value.
+/// Makes the value of a text.
 fn text_as_value(alloc: Global, text: &str) -> Result<GvValue, AllocError>
     ensures { IfOk result (λ value. plain value ≡ text_value text.now) }
 {
     Ok(GvValue::Str(Text::from_str(alloc, text)?))
 }
 
-/// The digits of a digest as a value.
+/// Makes the value of a digest: the text of its 64 hexadecimal digits.
 fn digest_as_value(alloc: Global, digest: &Digest) -> Result<GvValue, AllocError>
     ensures value { IfOk result (λ value. plain value ≡ text_value (hex digest.now)) }
     ensures good { OnOk result (is_digest digest.now ≡ true) }
@@ -44,7 +44,7 @@ fn digest_as_value(alloc: Global, digest: &Digest) -> Result<GvValue, AllocError
     Ok(GvValue::Str(digest.write(alloc)?))
 }
 
-/// A time as a value.
+/// Makes the value of a timestamp.
 fn time_as_value(time: u64) -> GvValue
     ensures value { plain result ≡ time_tree time }
     ensures small { time < 2 ^ 64 }
@@ -52,7 +52,7 @@ fn time_as_value(time: u64) -> GvValue
     GvValue::Uint64(time)
 }
 
-/// The commit before, as a value.
+/// Makes the value of a previous commit, which may be none.
 fn previous_as_value(alloc: Global, previous: &Option<Previous>) -> Result<GvValue, AllocError>
     ensures value { IfOk result (λ value. plain value ≡ previous_tree previous.now) }
     ensures good { OnOk result (IsGoodPrevious previous.now) }
@@ -63,7 +63,7 @@ fn previous_as_value(alloc: Global, previous: &Option<Previous>) -> Result<GvVal
     }
 }
 
-/// The same where there is one, in a box.
+/// Makes the value of a previous commit, in a box.
 fn boxed_previous(alloc: Global, previous: &Previous) -> Result<Box<GvValue>, AllocError>
     ensures value { IfOk result (λ value. plain value.value ≡ back_tree previous.now) }
     ensures good { OnOk result (IsGoodPrevious (Some previous.now)) }
@@ -72,7 +72,7 @@ fn boxed_previous(alloc: Global, previous: &Previous) -> Result<Box<GvValue>, Al
     Ok(Box::new(alloc, inside)?)
 }
 
-/// The same as a tuple.
+/// Makes the tuple of a previous commit and its timestamp.
 fn previous_inside(alloc: Global, previous: &Previous) -> Result<GvValue, AllocError>
     ensures value { IfOk result (λ value. plain value ≡ back_tree previous.now) }
     ensures good { OnOk result (IsGoodPrevious (Some previous.now)) }

@@ -1,4 +1,5 @@
-//! Laws of what images show. Each is the contract of a function that does nothing.
+//! Laws of images and the states that they show. Each law is the contract of a function with an
+//! empty body.
 ghost use Rattle.std.specs.Prelude.{◌≡◌, ◌≢◌, ◌⊎◌, ◌↔◌, ◌≤◌, ◌++◌, ◌∷◌, ℕ, List, [], length, map, true, Some, None, Result, Ok, Err};
 ghost use Rattle.fp_host.specs.Paths.{Elements, absent, IsAbove};
 ghost use Rattle.fp_host.specs.View.{View, Inode, IsTree};
@@ -43,31 +44,32 @@ ghost use Rattle.dep_states.specs.Samples.{no_disk, empty_disk, empty_state, con
 
 // ---- what is shown
 
-/// An image gives at most one state, or one first path that doesn't read, and not both.
+/// States that an image gives at most one result: a state, or a first damaged path, and not both.
 pub fn one_result_is_given()
     ensures { (disk : Disk) (a b : Result State Elements) → Gives disk a → Gives disk b → a ≡ b }
 {}
 
-/// An image of finitely many names shows a state where nothing in it is damaged.
+/// States that an image with finitely many names shows a state if nothing in it is damaged.
 pub fn undamaged_images_show_a_state()
     ensures { (disk : Disk) (names : List Elements)
         → ((p : Elements) → (disk p ≡ gone → ⊥) → In names p)
         → ((p : Elements) → Damages disk p → ⊥) → IsShown disk }
 {}
 
-/// Of two refs that don't read, one since its `deploy` is that of another commit, the path is given
-/// that comes first by its bytes: that of `org.x.A-b`, though `org.x.A` is the first of the IDs.
+/// States that of two damaged refs, one because its `deploy` has another commit, the image gives
+/// the path that is first by its bytes: that of `org.x.A-b`, though `org.x.A` is the first of the
+/// IDs.
 pub fn the_first_path_is_by_bytes()
     ensures { Gives damaged_disk (Err (active dashed_ref)) }
 {}
 
-/// What is shown can be written: good names, URLs and patterns, in order and within the limits;
-/// rows that a `deploy` can say; and overrides that a key file can say.
+/// States that a state that an image shows can be written: names, URLs and patterns are valid,
+/// ascending and within their limits, a `deploy` can have each row, and a key file each override.
 pub fn what_is_shown_can_be_written()
     ensures { (disk : Disk) (s : State) → Shows disk s → IsGood s }
 {}
 
-/// An image keeps just the commits that the state which it shows keeps.
+/// States that an image keeps exactly the commits that its state keeps.
 pub fn the_state_tells_what_is_kept()
     ensures { (disk : Disk) (s : State) (name : Ref) (commit : List ℕ) → is_ref name ≡ true
         → Shows disk s
@@ -76,28 +78,30 @@ pub fn the_state_tells_what_is_kept()
 
 // ---- worked images
 
-/// The root alone shows the empty state of layout 2, is sound, and is settled.
+/// States that the image with the root alone shows the empty state of layout 2, is sound, and is
+/// settled.
 pub fn the_empty_image_is_sound()
     ensures shown { Shows empty_disk empty_state }
     ensures sound { Sound empty_disk }
     ensures settled { Settled empty_disk }
 {}
 
-/// An image with a `config`, two refs, one of them with a previous commit, and an override shows
-/// its state.
+/// States that an image with a `config`, two refs, one of them with a previous commit, and an
+/// override shows its state.
 pub fn the_worked_image_shows_its_state()
     ensures { Shows worked_disk worked_state }
 {}
 
-/// An image with one deployed ref, its objects and its ref file shows it, is sound, and is settled.
+/// States that an image with one deployed ref, its objects and its ref file shows its state, is
+/// sound, and is settled.
 pub fn the_deployed_image_is_sound()
     ensures shown { Shows deployed_disk deployed_state }
     ensures sound { Sound deployed_disk }
     ensures settled { Settled deployed_disk }
 {}
 
-/// Sound images: one without even a root; and the root with a `config` as it is written, which
-/// shows its settings.
+/// States that two images are sound: one without even a root, and the root with a `config` as it is
+/// written, which shows its settings.
 pub fn sound_images()
     ensures nothing { Sound no_disk }
     ensures written { (s : Settings) → IsSettings s → length (config_text s) ≤ config_most
@@ -105,14 +109,14 @@ pub fn sound_images()
         × Shows (config_disk (config_text s)) (settings_state s) }
 {}
 
-/// A view in which the root stands alone is sound where every stop leaves what stands.
+/// States that a view with the root alone is sound if nothing waits for a sync.
 pub fn a_bare_view_is_sound()
     ensures { (v : View) → IsTree v → IsSettled v
         → ((x : List ℕ) (up : Elements) → v.names (x ∷ up) ≡ absent) → IsSound v }
 {}
 
-/// A path of 128 elements, the most, that is for nothing else may be a folder, and one of 129 may
-/// not.
+/// States the maximum number of elements of a path: a path of 128 elements that fpk doesn't use may
+/// be a directory, one of 129 may not.
 pub fn paths_have_a_longest()
     ensures longest { (p : Elements) → length p ≡ 128 → zone (outward p) ≡ anything
         → Allowed p folder }
@@ -121,15 +125,16 @@ pub fn paths_have_a_longest()
 
 // ---- steps
 
-/// A step that gives nothing to any path leaves what was shown before, and leaves it sound.
+/// States that a step after which a crash shows nothing new keeps the state and keeps the view
+/// sound.
 pub fn steps_that_give_nothing()
     ensures opens { (old new : View) (s : State) → Follows Nothing old new → Opens s old
         → Opens s new }
     ensures sound { (old new : View) → Follows Nothing old new → IsSound old → IsSound new }
 {}
 
-/// A step that gives nothing to a fixed path, and elsewhere only what may stand there, leaves what
-/// was shown before, and leaves it sound. `config` stays, too.
+/// States that a step keeps the state and keeps the view sound, if a crash may newly show nothing
+/// at a fixed path, and elsewhere only what may be there. Then `config` stays, too.
 pub fn steps_that_spare()
     ensures opens { (old new : View) (s : State) → Follows (Spared old) old new → Opens s old
         → Opens s new }
@@ -138,32 +143,32 @@ pub fn steps_that_spare()
         → HasConfig new }
 {}
 
-/// Anything below `repo/tmp` may come and go.
+/// States that any node below `repo/tmp` may be placed and removed.
 pub fn work_may_come_and_go()
     ensures { (v : View) → Spares v InTmp }
 {}
 
-/// Where no stop leaves the installation without `config`, the files of layout 1 may go.
+/// States that the files of layout 1 may be removed once each crash leaves a `config`.
 pub fn old_files_may_go()
     ensures { (v : View) → HasConfig v → Spares v OldGone }
 {}
 
-/// What is in the folder of a commit that the state doesn't keep may come and go.
+/// States that the content of a commit's directory may change if the state doesn't keep the commit.
 pub fn unkept_folders_may_change()
     ensures { (s : State) (v : View) (name : Ref) (commit : List ℕ) → is_digest commit ≡ true
         → Opens s v
         → (KeptIn s name commit → ⊥) → Spares v (InDir name commit) }
 {}
 
-/// An object that no kept commit uses may go.
+/// States that an object that no kept commit uses may be removed.
 pub fn unused_objects_may_go()
     ensures { (v : View) (d : List ℕ) (kind : ObjKind) → IsUnused v d kind
         → Spares v (ObjectGone d kind) }
 {}
 
-/// An object may come to a name that is absent. So a pull, which works below `repo/tmp` and brings
-/// new objects, leaves what was shown before, and leaves it sound. Pulls one after another are a
-/// pull.
+/// States that an object may be placed at a path that is absent. So a pull, which works below
+/// `repo/tmp` and adds new objects, keeps the state and keeps the view sound. Several pulls in turn
+/// are one pull.
 pub fn new_objects_may_come()
     ensures spares { (s : State) (v : View) → Opens s v → Spares v (IsNewObject v) }
     ensures pulls { (s : State) (u w : View) → Opens s u → Pulls InTmp u w → Opens s w }
@@ -172,14 +177,15 @@ pub fn new_objects_may_come()
         → Pulls InTmp u w }
 {}
 
-/// Where all is settled, every stop leaves what stands.
+/// States that a view in which nothing waits for a sync opens as the state that it shows now, if it
+/// is sound now.
 pub fn what_is_settled_is_opened()
     ensures { (s : State) (v : View) → IsTree v → IsSettled v → Shows (shows v) s → Sound (shows v)
         → Opens s v }
 {}
 
-/// What is asked of a view can be met: where all is settled, the root alone opens as the empty
-/// state of layout 2, and a view that shows the image with the deployed ref opens as that state.
+/// States that views can be opened. If nothing waits for a sync, the root alone opens as the empty
+/// state of layout 2, and the sample image with a deployed ref opens as its state.
 pub fn views_can_be_opened()
     ensures bare { (v : View) → IsTree v → IsSettled v
         → ((x : List ℕ) (up : Elements) → v.names (x ∷ up) ≡ absent) → Opens empty_state v }
@@ -187,18 +193,18 @@ pub fn views_can_be_opened()
         → ((p : Elements) → shows v p ≡ deployed_disk p) → Opens deployed_state v }
 {}
 
-/// Where all is settled and `config` stands, no stop leaves the installation without it.
+/// States that each crash leaves a `config`, if nothing waits for a sync and `config` exists.
 pub fn settled_config_stays()
     ensures { (v : View) → IsTree v → IsSettled v → (shows v config ≡ gone → ⊥) → HasConfig v }
 {}
 
-/// Where every outcome shows one state, every outcome shows a state.
+/// States that a view that opens as a state is sound.
 pub fn opened_is_sound()
     ensures { (s : State) (v : View) → Opens s v → IsSound v }
 {}
 
-/// In a sound image `config` and the files of layout 1 are absent or files, `repo` and `repo/tmp`
-/// are absent or folders, and the objects are what their names say.
+/// States that in a sound image `config` and the files of layout 1 are files or absent, `repo` and
+/// `repo/tmp` are directories or absent, and each object matches its digest.
 pub fn what_a_sound_image_holds()
     ensures config { (disk : Disk) → Sound disk → IsFileOrGone (disk config) }
     ensures remotes { (disk : Disk) → Sound disk → IsFileOrGone (disk remotes_conf) }
@@ -210,8 +216,9 @@ pub fn what_a_sound_image_holds()
 
 // ---- small files
 
-/// An image that differs from another in the files of the settings alone, and elsewhere in what may
-/// stand there, shows the state with the settings that are read of it, and is sound.
+/// States what a change of the settings leaves. If an image has the nodes of another one at all
+/// fixed paths except the files of the settings, it shows the state with the settings that are read
+/// from it. It is sound if the other one is, and if it has only nodes that may be there.
 pub fn settings_may_change()
     ensures shown { (i j : Disk) (s t : State)
         → ((p : Elements) → Fixed i p → (IsSetting p → ⊥) → j p ≡ i p)
@@ -222,8 +229,9 @@ pub fn settings_may_change()
         → ((p : Elements) → (j p ≡ i p) ⊎ Permits i p (j p)) → Sound i → Sound j }
 {}
 
-/// An image that differs from another in one override alone, and elsewhere in what may stand there,
-/// shows the state with the override that is read of it, or without one, and is sound.
+/// States what a change of one override leaves. If an image has the nodes of another one at all
+/// fixed paths except that override's, it shows the state with the override that is read from it,
+/// or without one. It is sound if the other one is, and if it has only nodes that may be there.
 pub fn an_override_may_change()
     ensures shown { (i j : Disk) (s t : State) (layer : List ℕ)
         → ((p : Elements) → Fixed i p → (p ≡ override_path layer → ⊥) → j p ≡ i p)
@@ -235,7 +243,7 @@ pub fn an_override_may_change()
         → ((p : Elements) → (j p ≡ i p) ⊎ Permits i p (j p)) → Sound i → Sound j }
 {}
 
-/// Setting an override, or dropping it, changes that one.
+/// States that setting or dropping an override changes no other part of the state.
 pub fn operations_change_one_override()
     ensures set { (s : State) (row : OverrideRow) (time : ℕ)
         → is_ascending (map override_key s.overrides) ≡ true
@@ -247,7 +255,7 @@ pub fn operations_change_one_override()
 
 // ---- operations on refs
 
-/// What the operations on refs make of a state: the row of that ref changes, and no other.
+/// States that an operation on a ref changes the row of that ref and no other part of the state.
 pub fn operations_change_one_row()
     ensures install { (s : State) (name : Ref) (remote commit : List ℕ) (time : ℕ) → HasOrder s
         → row_at s name ≡ None → IsWith s name (Some (ref_row name remote commit time None))
@@ -265,8 +273,9 @@ pub fn operations_change_one_row()
         (after_op s time (Rollback row.name commit)) }
 {}
 
-/// The rename of a link from `repo/tmp` onto `active`: where its commit stands beside the state,
-/// each outcome shows the state of before or the one with the new row, and is sound.
+/// States what the rename of a symlink from `repo/tmp` to `active` leaves. If the new commit is
+/// checked out beside the state, each crash leaves the old state or the one with the new row, and a
+/// sound image.
 pub fn a_switch_is_old_or_new()
     ensures { (u w : View) (s t : State) (name : Ref) (row : RefRow) (rest : Elements)
         → is_ref name ≡ true
@@ -275,11 +284,11 @@ pub fn a_switch_is_old_or_new()
         → OpensEither s t w }
 {}
 
-// ---- where files stay
+// ---- where files last
 
-/// No work lasts, and of what stands in a commit's folder only the record does. At an override's
-/// path lasts the text that its own groups have, and no other that reads as them; at the path of
-/// the store's `config` its one text. Each has the permission bits 0644.
+/// States what may last. No file below `repo/tmp` lasts, and in a commit's directory only the
+/// `deploy` does. At an override's path only the text of its own groups lasts, and at the path of
+/// the store's `config` only its one text. Each of these files has the permission bits 0644.
 pub fn what_lasts()
     ensures no_work { (q : Elements) (f : Inode) → IsWithin tmp q → IsLasting q f → ⊥ }
     ensures record { (name : Ref) (commit : List ℕ) (q : Elements) (f : Inode)
@@ -291,9 +300,10 @@ pub fn what_lasts()
     ensures config { (f : Inode) → IsLasting repo_config f → Says STORE_CONFIG.now f }
 {}
 
-/// Where no name changes, all that stands in commits' folders is linked; so it is after two steps
-/// if it is after each. A link to an object's file is, wherever it stands. A file that is written
-/// into a commit's folder and wasn't put below the store's objects is not, unless it is the record.
+/// States what `Links` allows in commits' directories. It holds of a step that changes no name, of
+/// two steps in turn if it holds of each and the second keeps the files, and of a hard link to an
+/// object's file, at any path. It doesn't hold of a file that is written into a commit's directory,
+/// unless that is the `deploy` or was put below the store's objects.
 pub fn what_is_linked()
     ensures still { (u w : View) → ((q : Elements) → w.names q ≡ u.names q) → Links u w }
     ensures on { (u v w : View) → Links u v → Links v w → KeepsFiles v w → Links u w }

@@ -1,4 +1,5 @@
-//! What an installation shows, and when it is sound.
+//! The state of an installation: how an image shows it, when an image is sound, and what operations
+//! make of it.
 #![tactic(auto)]
 
 mod branches;

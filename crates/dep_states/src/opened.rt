@@ -1,10 +1,10 @@
-//! An installation that was opened.
+//! Opened installations.
 ghost use Rattle.std.specs.Prelude.{◌≡◌};
 
 use fp_small::State;
 
-/// An installation that was opened, with its state: it stands for a view of the host in which every
-/// stop leaves that state, and is sound.
+/// The state of an opened installation, for a view of the host in which each crash leaves this
+/// state and a sound installation.
 #[derive(Drop)]
 pub struct Opened {
     state: State,
@@ -19,21 +19,21 @@ impl std::marker::Model for Opened {
 }
 
 impl Opened {
-    /// With this state. Nothing is asked of the host.
+    /// Makes an opened installation of its state. Calls nothing on the host.
     pub fn of(state: State) -> Opened
         ensures { result ≡ state }
     {
         Opened { state }
     }
 
-    /// The state, which takes no memory.
+    /// Returns the state. Allocates nothing.
     pub fn take(self) -> State
         ensures { result ≡ self }
     {
         self.state
     }
 
-    /// The state, to be looked at.
+    /// Borrows the state.
     pub fn state(&self) -> &State
         ensures { result.now ≡ self.now }
     {

@@ -1,11 +1,11 @@
-//! The settings of an installation, and how it keeps them.
+//! The settings of an installation, and its layout.
 use fp_small::{Layout, Settings};
 
-/// The settings of an installation, and how it keeps them.
+/// The settings of an installation, and its layout.
 #[derive(Drop)]
 pub struct Setup {
-    /// How the installation keeps its settings.
+    /// The layout: the files in which the settings are kept.
     pub layout: Layout,
-    /// The settings.
+    /// The settings: the remotes and the pins.
     pub settings: Settings,
 }

@@ -1,4 +1,4 @@
--- A switch to another commit: what stands before it, and what it leaves.
+-- Staging a switch of a ref to another commit, and the switch.
 use Rattle.std.specs.Prelude.{◌≡◌, ◌⊎◌, ◌≤◌, ℕ, List, length, true, Some, Contains}
 use Rattle.fp_host.specs.Paths.{Elements, Slot, absent, link}
 use Rattle.fp_host.specs.View.{View}
@@ -22,14 +22,15 @@ use Rattle.dep_switch.specs.declared.staged.Staged.{Staged}
 use Rattle.dep_switch.specs.declared.staged.Preparation.{Preparation}
 use Rattle.dep_switch.specs.declared.staged.Parts.{Parts}
 
--- the record of a row, beside its commit's tree
+-- The path of the file `deploy` of a row's commit
 abbrev pub row_deploy : RefRow → Elements
 row_deploy row = deploy (commit_dir row.name row.commit)
 
--- ---- before it is staged
+-- ---- before the switch is staged
 
--- The row's commit stands, and isn't the one at which its ref is. Its previous one is. Nothing is
--- at the new link's name, and at the row's `deploy` nothing or a file.
+-- A switch to the row can be staged. The row's commit is checked out in its directory, and its ref
+-- isn't at this commit; the row's previous commit is that of the ref. Nothing is at the staging
+-- path of the symlink, and the row's `deploy` is absent or a file.
 pub record CanStage (s : State) (row : RefRow) (v : View) : Type 0 where
   pub opens : Opens s v
   pub stands : Stands (reads_as row.name.kind) repo (shows v) row.commit
@@ -39,37 +40,40 @@ pub record CanStage (s : State) (row : RefRow) (v : View) : Type 0 where
   pub link_free : v.names new_link ≡ absent
   pub deploy_free : IsFreeFile (row_deploy row) v
 
--- ---- while it is staged
+-- ---- while the switch is staged
 
--- At every moment each stop leaves the state, where the ref isn't at the row's commit. No names
--- change but those of the row's `deploy`, the new link and its folders. A new file that has bytes is
--- that record.
+-- The staging at each moment: each crash leaves the state, if the ref isn't at the row's commit.
+-- Only the names of the row's `deploy`, of the new symlink and of its ancestors change. A new file
+-- that isn't empty is that `deploy`.
 pub record Readies (s : State) (row : RefRow) (u w : View) : Type 0 where
   pub opens : Opens s u → (IsAt s row.name row.commit → ⊥) → Opens s w
   pub prepares : Prepares (row_deploy row) (hex row.commit) u w
   pub shares : SharesAs IsLasting u w
 
--- ---- staged
+-- ---- the staged switch
 
--- Every stop leaves what stands: the state, the row's commit beside it with its record, and the
--- link to it.
+-- The switch to the row is staged: each crash leaves the state, the row's commit with its `deploy`
+-- beside it, and a sound installation; the symlink to the commit is at its staging path, and
+-- nothing waits for a sync
 pub record IsStaged (s : State) (row : RefRow) (v : View) : Type 0 where
   pub stages : Stages s row.name row v
   pub moves : IsAt s row.name row.commit → ⊥
   pub linked : v.names new_link ≡ link (hex row.commit)
   pub settled : IsSettled v
 
+-- The staging succeeded: the switch is staged if it could be, and the symlink is at its staging
+-- path
 pub record WasStaged (s : State) (row : RefRow) (u w : View) : Type 0 where
   pub staged : CanStage s row u → IsStaged s row w
   pub linked : w.names new_link ≡ link (hex row.commit)
 
--- the switch leads from this state to the one with the row
+-- The switch leads from this state to the one with the row
 pub record LeadsTo (s : State) (row : RefRow) (staged : Staged) : Type 0 where
   pub from : staged.from ≡ new_link
   pub to : staged.to ≡ active row.name
   pub state : staged.state ≡ with_row s row
 
--- what a switch to the row is made of, apart from the state
+-- The parts of a switch to the row, without the state
 pub record ArePartsOf (row : RefRow) (parts : Parts) : Type 0 where
   pub deploy : parts.deploy ≡ row_deploy row
   pub says : deploy_of parts.bytes ≡ Some (data_of row)
@@ -79,7 +83,7 @@ pub record ArePartsOf (row : RefRow) (parts : Parts) : Type 0 where
   pub to : parts.to ≡ active row.name
   pub digits : is_digest row.commit ≡ true
 
--- what it takes to stage it
+-- The preparation of a switch to the row
 pub record IsPreparation (s : State) (row : RefRow) (made : Preparation) : Type 0 where
   pub deploy : made.deploy ≡ row_deploy row
   pub says : deploy_of made.bytes ≡ Some (data_of row)
@@ -89,7 +93,7 @@ pub record IsPreparation (s : State) (row : RefRow) (made : Preparation) : Type 
   pub name : is_ref row.name ≡ true
   pub digits : is_digest row.commit ≡ true
 
--- the present view is one from which it leads
+-- The switch is staged in the present view
 pub record CanSwitch (staged : Staged) (v : View) : Type 0 where
   pub old : State
   pub row : RefRow
@@ -98,13 +102,13 @@ pub record CanSwitch (staged : Staged) (v : View) : Type 0 where
 
 -- ---- the switch
 
--- the new link comes to `active`, and from its own name
+-- The entries that names get by a switch: the symlink at `active`, and nothing at its staging path
 abbrev pub SwitchesName : Staged → View → Elements → Slot → Type 0
 SwitchesName staged u q e =
     ((q ≡ staged.to) × (e ≡ u.names staged.from)) ⊎ ((q ≡ staged.from) × (e ≡ absent))
 
--- At every moment each stop leaves the state of before or the one after. No file changes, what was
--- put at a name stays remembered, and nothing is printed.
+-- The switch at each moment: each crash leaves the old state or the new one, and a sound
+-- installation. No file changes, remembered entries stay remembered, and nothing is printed.
 pub record Switches (staged : Staged) (u w : View) : Type 0 where
   pub either : (s : State) (row : RefRow) → LeadsTo s row staged → IsStaged s row u
       → OpensEither s staged.state w
@@ -115,7 +119,7 @@ pub record Switches (staged : Staged) (u w : View) : Type 0 where
   pub stood : (x : Elements × Slot) → Contains u.stood x → Contains w.stood x
   pub printed : w.printed ≡ u.printed
 
--- in the end the one after, and what stands
+-- The switch succeeded: each crash leaves the new state, and nothing waits for a sync
 pub record WasSwitched (staged : Staged) (u w : View) : Type 0 where
   pub opens : CanSwitch staged u → Opens staged.state w
   pub settled : IsSettled w

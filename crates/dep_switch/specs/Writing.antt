@@ -1,4 +1,4 @@
--- What is made before a switch: a file that is written anew, and a link.
+-- The files made before a switch: the file `deploy`, which is written anew, and a symlink.
 use Rattle.std.specs.Prelude.{◌≡◌, ◌≢◌, ◌⊎◌, ◌∷◌, ℕ, List, Some, Contains, codes}
 use Rattle.fp_host.specs.Paths.{Elements, Slot, absent, dir, file, link}
 use Rattle.fp_host.specs.View.{View}
@@ -14,7 +14,7 @@ use Rattle.dep_states.specs.Lasting.{SharesAs, SmallAt}
 use Rattle.dep_states.specs.Zones.{IsFileOrGone}
 use Rattle.dep_states.specs.declared.deploy.DeployData.{DeployData}
 
--- what a row's `deploy` says
+-- The data of a row's `deploy`
 abbrev pub data_of : RefRow → DeployData
 data_of row = record {
   origin = row.origin;
@@ -23,21 +23,22 @@ data_of row = record {
   previous = row.previous;
 }
 
--- where the link to a new commit is made
+-- The staging path of the symlink to a new commit: `repo/tmp/active`
 abbrev pub new_link : Elements
 new_link = codes "active" ∷ tmp
 
--- ---- a file
+-- ---- the file
 
--- a file or nothing may come to stand at the path
+-- A crash may newly show a file or nothing at the path
 abbrev pub FileAt : Elements → Elements → Spot → Type 0
 FileAt p q spot = (q ≡ p) × IsFileOrGone spot
 
+-- The path's name may get a file, or become absent
 abbrev pub FileName : Elements → Elements → Slot → Type 0
 FileName p q e = (q ≡ p) × ((e ≡ absent) ⊎ IsFile e)
 
--- Each file that was there keeps its mode and its bytes, also the one that stood at the path. A new
--- one that has bytes was put there, with the permission bits 0644.
+-- The writing of a file at each moment. Each old file keeps its mode and bytes, also one that was
+-- at the path. A new file that isn't empty was put at the path, with the permission bits 0644.
 pub record WritesFile (p : Elements) (u w : View) : Type 0 where
   pub follows : Follows (FileAt p) u w
   pub names : (q : Elements) → (w.names q ≡ u.names q) ⊎ FileName p q (w.names q)
@@ -46,34 +47,35 @@ pub record WritesFile (p : Elements) (u w : View) : Type 0 where
   pub shares : SharesAs (SmallAt p) u w
   pub printed : w.printed ≡ u.printed
 
--- a file with these bytes and the permission bits 0644
+-- The path is a file with these bytes and the permission bits 0644
 pub record HasFile (p : Elements) (bytes : List ℕ) (v : View) : Type 0 where
   pub id : ℕ
   pub name : v.names p ≡ file id
   pub row : v.files id ≡ Some (record { mode = FILE_MODE; bytes = bytes })
 
--- where it may be written
+-- The file can be written: its parent is a directory, and the path is absent or a file
 pub record CanWrite (p : Elements) (v : View) : Type 0 where
   pub above : HasFolder v p
   pub free : IsFreeFile p v
 
--- ---- the file, and the link
+-- ---- the file and the symlink
 
--- what may come to stand: nothing or a file as the `deploy`, the folders of the new link, and that
--- link
+-- The nodes that a crash may newly show: a file or nothing at the `deploy`, directories at the
+-- ancestors of the new symlink, and the symlink
 pub data PreparesAt (deploy : Elements) (text : List ℕ) (q : Elements) (spot : Spot) : Type 0 where
   a_deploy : q ≡ deploy → IsFileOrGone spot → PreparesAt deploy text q spot
   a_folder : Contains (ancestors new_link) q → spot ≡ folder → PreparesAt deploy text q spot
   a_link : q ≡ new_link → spot ≡ points text → PreparesAt deploy text q spot
 
--- and what the names may come to hold
+-- The entries that names may get: a file at the `deploy`, which may also become absent, directories
+-- at the ancestors of the new symlink, and the symlink
 pub data PreparesName (deploy : Elements) (text : List ℕ) (q : Elements) (e : Slot) : Type 0 where
   new_deploy : q ≡ deploy → (e ≡ absent) ⊎ IsFile e → PreparesName deploy text q e
   new_folder : Contains (ancestors new_link) q → e ≡ dir → PreparesName deploy text q e
   the_link : q ≡ new_link → e ≡ link text → PreparesName deploy text q e
 
--- Each file that was there keeps its mode and its bytes, a new one that has bytes was put as the
--- `deploy`, with the permission bits 0644, and nothing is printed.
+-- The preparation at each moment. Each old file keeps its mode and bytes, a new file that isn't
+-- empty was put as the `deploy`, with the permission bits 0644, and nothing is printed.
 pub record Prepares (deploy : Elements) (text : List ℕ) (u w : View) : Type 0 where
   pub follows : Follows (PreparesAt deploy text) u w
   pub names : (q : Elements) → (w.names q ≡ u.names q) ⊎ PreparesName deploy text q (w.names q)
@@ -83,13 +85,14 @@ pub record Prepares (deploy : Elements) (text : List ℕ) (u w : View) : Type 0 
   pub shares : SharesAs (SmallAt deploy) u w
   pub printed : w.printed ≡ u.printed
 
--- both are there, and every stop leaves what stands
+-- The preparation succeeded: the file and the symlink exist, and nothing waits for a sync
 pub record WasPrepared (deploy : Elements) (text bytes : List ℕ) (w : View) : Type 0 where
   pub written : HasFile deploy bytes w
   pub linked : w.names new_link ≡ link text
   pub settled : IsSettled w
 
--- where they may be made
+-- The file and the symlink can be made: the `deploy` can be written, and the ancestors of the new
+-- symlink are absent or directories; the symlink is absent, and the `deploy` is none of these paths
 pub record CanPrepare (deploy : Elements) (v : View) : Type 0 where
   pub write : CanWrite deploy v
   pub folders : AreFree (ancestors new_link) v

@@ -1,5 +1,5 @@
-//! Laws of the step that changes a ref's deployed commit. Each is the contract of a function that
-//! does nothing.
+//! Laws of changing a ref's deployed commit. Each law is the contract of a function with an empty
+//! body.
 ghost use Rattle.std.specs.Prelude.{◌≡◌, ◌≢◌, ℕ, List, None, true};
 ghost use Rattle.fp_host.specs.Paths.{Elements};
 ghost use Rattle.fp_host.specs.View.{View, IsTree};
@@ -22,14 +22,14 @@ ghost use Rattle.dep_switch.specs.Writing.{FileAt};
 ghost use Rattle.dep_switch.specs.declared.retiring.RetirePlan.{RetirePlan};
 ghost use Rattle.dep_switch.specs.declared.staged.Staged.{Staged};
 
-/// The removal of an `active`: each outcome shows the state of before or the one without the ref,
-/// and is sound.
+/// States that after the removal of an `active` each crash leaves the old state or the one without
+/// the ref, and a sound installation.
 pub fn a_retirement_is_old_or_new()
     ensures { (u w : View) (s t : State) (name : Ref) → is_ref name ≡ true → IsWith s name None t
         → Follows (RetiresAt name) u w → Opens s u → OpensEither s t w }
 {}
 
-/// The `deploy` of a commit that isn't the deployed one may be written, also where the commit is
+/// States that the `deploy` of a commit that isn't deployed may be written, also if the commit is
 /// kept as the previous one.
 pub fn a_deploy_may_be_written()
     ensures { (s : State) (v : View) (name : Ref) (commit : List ℕ) → is_digest commit ≡ true
@@ -37,8 +37,8 @@ pub fn a_deploy_may_be_written()
         → Spares v (FileAt (deploy (commit_dir name commit))) }
 {}
 
-/// What is asked before a switch can be met: in the image that has a commit's folder, its objects
-/// and a `deploy`, but no `active` of the ref.
+/// States that a switch can be staged in the sample image that has a commit's directory, its
+/// objects and a `deploy`, but no `active` of the ref.
 pub fn a_switch_can_be_staged()
     ensures shown { Shows undeployed_disk undeployed_state }
     ensures sound { Sound undeployed_disk }
@@ -47,14 +47,13 @@ pub fn a_switch_can_be_staged()
         → CanStage undeployed_state deployed_row v }
 {}
 
-/// What is asked before a switch is met once it is staged.
+/// States that a switch can be done once it was staged.
 pub fn what_is_staged_can_be_switched()
     ensures { (s : State) (row : RefRow) (staged : Staged) (u w : View) → LeadsTo s row staged
         → CanStage s row u → WasStaged s row u w → CanSwitch staged w }
 {}
 
-/// What is asked before a ref goes is met for each plan of a ref that is deployed, wherever every
-/// stop leaves the state.
+/// States that each plan for a ref can be done, if the state that each crash leaves has the ref.
 pub fn a_deployed_ref_can_be_retired()
     ensures { (s : State) (v : View) (plan : RetirePlan) → IsPlanOf plan.name plan → Opens s v
         → row_at s plan.name ≢ None → CanRetire s plan v }

@@ -1,5 +1,6 @@
-//! The step that changes a ref's deployed commit: the new commit is recorded and linked beside the
-//! old one, and then the link is renamed onto `active`; or `active` is taken away.
+//! Changing the deployed commit of a ref: the new commit's `deploy` and a symlink to it are made
+//! beside the old one, and then the symlink is renamed to `active`. Retiring a ref: `active` is
+//! removed.
 #![tactic(auto)]
 
 pub mod laws;

@@ -12,14 +12,14 @@ use fp_name::{Digest, RefName};
 use fp_small::tmp_path;
 use std::alloc::{AllocError, Global};
 
-/// The path at which the link to the new commit is made.
+/// Returns the staging path of the symlink to a new commit: `repo/tmp/active`.
 pub fn new_link_path(alloc: Global) -> Result<Path, AllocError>
     ensures { IfOk result (λ p. p ≡ new_link) }
 {
     tmp_path(alloc)?.child("active")
 }
 
-/// The branch directory of a ref.
+/// Returns the path of a ref's branch directory: KIND/ID/ARCH/BRANCH.
 #[tactic(auto, using(fp_small::proofs::Elements::element_kind, fp_small::proofs::Elements::element_id, fp_small::proofs::Elements::element_arch, fp_small::proofs::Elements::element_branch))]
 fn branch_path(alloc: Global, name: &RefName) -> Result<Path, AllocError>
     ensures path { IfOk result (λ p. p ≡ branch_dir name.now) }
@@ -31,14 +31,14 @@ fn branch_path(alloc: Global, name: &RefName) -> Result<Path, AllocError>
     arch.child(name.branch())
 }
 
-/// The path of a ref's `active`.
+/// Returns the path of a ref's `active`.
 pub(crate) fn active_path(alloc: Global, name: &RefName) -> Result<Path, AllocError>
     ensures { IfOk result (λ p. p ≡ active name.now) }
 {
     branch_path(alloc, name)?.child("active")
 }
 
-/// The folder of a commit of the ref.
+/// Returns the path of the directory of a ref's commit.
 #[tactic(auto, using(crate::proofs::Texts::element_digits))]
 pub fn commit_path(alloc: Global, name: &RefName, commit: &Digest) -> Result<Path, AllocError>
     ensures path { IfOk result (λ p. p ≡ commit_dir name.now commit.now) }
@@ -49,7 +49,7 @@ pub fn commit_path(alloc: Global, name: &RefName, commit: &Digest) -> Result<Pat
     branch_path(alloc, name)?.child(digits.as_str())
 }
 
-/// The path of the `deploy` of a commit of the ref.
+/// Returns the path of the `deploy` of a ref's commit.
 pub(crate) fn deploy_path(
     alloc: Global,
     name: &RefName,
@@ -60,7 +60,7 @@ pub(crate) fn deploy_path(
     commit_path(alloc, name, commit)?.child("deploy")
 }
 
-/// The text of the link to a commit: its digits.
+/// Returns the text of the symlink to a commit: its 64 hexadecimal digits.
 #[tactic(auto, using(crate::proofs::Texts::link_digits))]
 pub(crate) fn commit_text(alloc: Global, commit: &Digest) -> Result<Text, AllocError>
     ensures text { IfOk result (λ text. text ≡ hex commit.now) }

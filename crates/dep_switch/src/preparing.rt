@@ -1,4 +1,4 @@
-//! What is made before a switch.
+//! Making the file and the symlink before a switch.
 ghost use Rattle.std.specs.Prelude.{◌≡◌, ◌≤◌, true, false, Some, length, IfOk, OnOk, IsErrOf};
 ghost use Rattle.fp_host.specs.OverHost.{AtEachMoment, AtReturn, FailsOnly};
 ghost use Rattle.fp_host.specs.Paths.{is_link_text};
@@ -15,7 +15,7 @@ use fp_host::{Host, HostEnd, Path};
 use fp_small::{FILE_MODE, RefRow, State, make_above, take_away};
 use std::alloc::{AllocError, Global};
 
-/// The bytes of the row's `deploy`.
+/// Returns the bytes of the row's `deploy`. Condition: the previous commit isn't the row's commit.
 pub(crate) fn deploy_bytes(alloc: Global, row: &RefRow) -> Result<Blob, AllocError>
     requires moves { goes_back_to row.now.commit row.now.previous ≡ false }
     ensures says { IfOk result (λ bytes. deploy_of bytes ≡ Some (data_of row.now)) }
@@ -30,7 +30,7 @@ pub(crate) fn deploy_bytes(alloc: Global, row: &RefRow) -> Result<Blob, AllocErr
     data.write(alloc)
 }
 
-/// The state with the row in the place of the one of its ref.
+/// Returns the state with this row instead of the one of its ref.
 pub(crate) fn with_row(state: State, row: RefRow) -> Result<State, AllocError>
     ensures state { IfOk result (λ s. s ≡ with_row state row) }
     ensures good { OnOk result (is_ref row.name ≡ true) }
@@ -46,8 +46,8 @@ pub(crate) fn with_row(state: State, row: RefRow) -> Result<State, AllocError>
     })
 }
 
-/// Writes a new file with the permission bits 0644, in the place of one that is there. Nothing is
-/// synced.
+/// Writes a new file with the permission bits 0644; removes a file that is at the path. Syncs
+/// nothing. Condition: the parent is a directory, and the path is absent or a file.
 pub(crate) fn write_new<H: Host>(host: &mut H, path: &Path, bytes: &[u8]) -> Result<(), HostEnd>
     ensures any_moment { AtEachMoment H.Host host.old host.new (WritesFile path.now) }
     ensures on_success { OnOk result (AtReturn H.Host host.old host.new
@@ -61,8 +61,8 @@ pub(crate) fn write_new<H: Host>(host: &mut H, path: &Path, bytes: &[u8]) -> Res
     Ok(host.append(path, bytes)?)
 }
 
-/// Writes the `deploy`, makes a link of this text, and syncs. The folders above the link are made
-/// where they are absent. All memory is taken before the first change.
+/// Writes the `deploy`, makes a symlink with this text, and syncs. Makes the ancestors of the
+/// symlink that are absent. Allocates before the first change only. Condition: see `CanPrepare`.
 pub(crate) fn prepare<H: Host>(
     alloc: Global,
     host: &mut H,

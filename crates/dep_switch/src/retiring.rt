@@ -1,4 +1,4 @@
-//! A ref that goes.
+//! Retiring a ref: the removal of its `active`.
 ghost use Rattle.std.specs.Prelude.{◌≡◌, ◌≢◌, None, IfOk, OnOk, IsErr, IsErrOf};
 ghost use Rattle.fp_host.specs.OverHost.{AtEachMoment, AtReturn, FailsOnly};
 ghost use Rattle.dep_states.specs.After.{row_at};
@@ -17,12 +17,12 @@ use std::alloc::{AllocError, Global};
 use std::error::Error;
 use std::fmt;
 
-/// Why there is no plan.
+/// The reason why there is no plan.
 #[derive(Clone, Copy, Debug, PartialEq, Eq)]
 pub enum RetireError {
     /// The ref isn't deployed.
     NotThere,
-    /// There was no memory.
+    /// Memory ran out.
     NoMemory,
 }
 
@@ -48,7 +48,7 @@ impl From<AllocError> for RetireError {
     }
 }
 
-/// What it takes to retire a ref. All memory is taken.
+/// The plan to retire a ref, which needs no more memory.
 #[derive(Drop)]
 pub struct RetirePlan {
     name: RefName,
@@ -56,7 +56,8 @@ pub struct RetirePlan {
 }
 
 impl RetirePlan {
-    /// The plan for a ref of the state. `NotThere` comes exactly where the state has no such ref.
+    /// Makes the plan for a ref of the state. Errs with `NotThere` exactly if the state doesn't
+    /// have the ref.
     pub fn new(alloc: Global, state: &State, name: &RefName) -> Result<RetirePlan, RetireError>
         ensures plan { IfOk result (IsPlanOf name.now) }
         ensures there { OnOk result (row_at state.now name.now ≢ None) }
@@ -74,11 +75,11 @@ impl RetirePlan {
         })
     }
 
-    /// Takes the ref's `active` away, and syncs. It is for the state of which the plan was made. It
-    /// takes no memory.
+    /// Removes the ref's `active`, and syncs. Allocates nothing. Condition: the plan was made of
+    /// this state, which each crash leaves.
     pub fn retire<H: Host>(self, host: &mut H, opened: Opened) -> Result<Switched, Faulted>
         ensures state { IfOk result (λ s. s ≡ without_row opened self.name) }
-        // A stop at any moment leaves the state with the ref or the one without it.
+        // A crash at any moment leaves the state with the ref or the one without it.
         ensures any_moment { AtEachMoment H.Host host.old host.new (Retires opened self) }
         ensures on_success { OnOk result (AtReturn H.Host host.old host.new
             (WasRetired opened self)) }

@@ -1,4 +1,4 @@
-//! Rows of a state, ascending by their names.
+//! Lists of rows, ascending by their names.
 ghost use Rattle.std.specs.Prelude.{◌≡◌, ◌≤◌, true, length, OnOk};
 ghost use Rattle.std.specs.List.{insert, find};
 ghost use Rattle.std.specs.Str.{bytes_eq};
@@ -13,12 +13,13 @@ use fp_name::{RefName, RemoteName};
 use fp_small::{OverrideRow, RefRow, RemoteRow};
 use std::alloc::AllocError;
 
-/// What rows are ordered by.
+/// A row with the name by which rows ascend.
 trait Named {
     ghost use Rattle.std.specs.Prelude.{List, ℕ, ◌≡◌};
 
     ghost name_of: { Self → List ℕ };
 
+    /// Returns the row's name.
     fn key(&self) -> &str
         ensures { result.now ≡ name_of self.now };
 }
@@ -49,7 +50,8 @@ impl Named for OverrideRow {
     }
 }
 
-/// Where a name belongs: before the first that doesn't come before it.
+/// Returns the index of the first row whose name doesn't come before this one, which is where a row
+/// of this name belongs.
 fn place_of<T: Named>(rows: &[T], name: &str) -> usize
     ensures within { result ≤ length rows.now }
     ensures before { (row : T) → T.name_of row ≡ name.now → inserted T.name_of rows.now row ≡
@@ -63,7 +65,7 @@ fn place_of<T: Named>(rows: &[T], name: &str) -> usize
     rows.len()
 }
 
-/// Puts a row where its name belongs.
+/// Inserts a row at the index where its name belongs.
 fn insert_row<T: Named + Drop>(rows: &mut Vec<T>, row: T) -> Result<(), AllocError>
     ensures { OnOk result (rows.new.items ≡ inserted T.name_of rows.old.items row) }
 {
@@ -72,14 +74,14 @@ fn insert_row<T: Named + Drop>(rows: &mut Vec<T>, row: T) -> Result<(), AllocErr
     Ok(())
 }
 
-/// The first row whose name has this text.
+/// Returns the first row with this name.
 fn find_text<'a, T: Named>(rows: &'a [T], text: &str) -> Option<&'a T>
     ensures { option_copied result ≡ find (λ row. bytes_eq (T.name_of row) text.now) rows.now }
 {
     rows.iter().find(|row| row.key() == text)
 }
 
-/// The row of a ref.
+/// Returns the row of a ref, or `None` if the ref isn't deployed.
 pub fn find_ref<'a>(rows: &'a [RefRow], name: &RefName) -> Option<&'a RefRow>
     ensures row { option_copied result ≡ at_name ref_key rows.now (ref_text name.now) }
     ensures good { is_ref name.now ≡ true }
@@ -87,21 +89,21 @@ pub fn find_ref<'a>(rows: &'a [RefRow], name: &RefName) -> Option<&'a RefRow>
     find_text(rows, name.as_str())
 }
 
-/// The remote of this name.
+/// Returns the remote with this name, or `None` if there is none.
 pub fn find_remote<'a>(rows: &'a [RemoteRow], name: &RemoteName) -> Option<&'a RemoteRow>
     ensures { option_copied result ≡ at_name remote_key rows.now name.now }
 {
     find_text(rows, name.as_str())
 }
 
-/// The override of this name.
+/// Returns the override with this name, or `None` if there is none.
 pub fn find_override<'a>(rows: &'a [OverrideRow], name: &Text) -> Option<&'a OverrideRow>
     ensures { option_copied result ≡ at_name override_key rows.now name.now }
 {
     find_text(rows, name.as_str())
 }
 
-/// Takes the row of a ref away, which takes no memory. Where there is none, nothing changes.
+/// Removes the row of a ref. Changes nothing if there is none. Allocates nothing.
 pub(crate) fn remove_ref(rows: &mut Vec<RefRow>, name: &RefName)
     ensures rows { rows.new.items ≡ removed ref_key rows.old.items (ref_text name.now) }
     ensures good { is_ref name.now ≡ true }
@@ -110,7 +112,7 @@ pub(crate) fn remove_ref(rows: &mut Vec<RefRow>, name: &RefName)
     rows.retain(|row| row.name.as_str() != text);
 }
 
-/// Puts a row in the place of the one of its ref.
+/// Removes the row of this ref, if there is one, and then inserts the new one.
 pub(crate) fn put_ref(rows: &mut Vec<RefRow>, row: RefRow) -> Result<(), AllocError>
     ensures rows { OnOk result (rows.new.items ≡ replaced ref_key rows.old.items row) }
     ensures good { is_ref row.name ≡ true }
@@ -119,14 +121,14 @@ pub(crate) fn put_ref(rows: &mut Vec<RefRow>, row: RefRow) -> Result<(), AllocEr
     insert_row(rows, row)
 }
 
-/// Takes the override of a name away, which takes no memory. Where there is none, nothing changes.
+/// Removes the override with this name. Changes nothing if there is none. Allocates nothing.
 pub fn remove_override(rows: &mut Vec<OverrideRow>, name: &Text)
     ensures { rows.new.items ≡ removed override_key rows.old.items name.now }
 {
     rows.retain(|row| row.name.as_str() != name.as_str());
 }
 
-/// Puts an override in the place of the one of its name.
+/// Removes the override of this name, if there is one, and then inserts the new one.
 pub fn put_override(rows: &mut Vec<OverrideRow>, row: OverrideRow) -> Result<(), AllocError>
     ensures { OnOk result (rows.new.items ≡ replaced override_key rows.old.items row) }
 {

@@ -1,4 +1,4 @@
-//! A switch that is staged.
+//! Staged switches.
 ghost use Rattle.std.specs.Prelude.{◌≡◌, false, IfOk, OnOk, IsErr, IsErrOf};
 ghost use Rattle.fp_host.specs.OverHost.{AtEachMoment, AtReturn, FailsOnly};
 ghost use Rattle.dep_states.specs.Deploy.{goes_back_to};
@@ -13,9 +13,9 @@ use fp_host::{Host, HostEnd, Path};
 use fp_small::{RefRow, State};
 use std::alloc::{AllocError, Global};
 
-/// A switch that is staged: it stands for a view of the host in which every stop leaves the state
-/// of before, the new commit stands beside it with its `deploy`, and `repo/tmp/active` is the link
-/// to it. It has the state after. All memory is taken.
+/// A staged switch, with the state after it, for a view of the host in which each crash leaves the
+/// old state, the new commit is checked out beside it with its `deploy`, and `repo/tmp/active` is a
+/// symlink to it. The switch needs no more memory.
 #[derive(Drop)]
 pub struct Staged {
     from: Path,
@@ -23,34 +23,35 @@ pub struct Staged {
     state: State,
 }
 
-/// What a switch takes before it is staged.
+/// Everything that is needed to stage a switch.
 #[derive(Drop)]
 struct Preparation {
-    /// Where the row's `deploy` stands.
+    /// The path of the row's `deploy`.
     deploy: Path,
-    /// Its bytes.
+    /// The bytes of the row's `deploy`.
     bytes: Blob,
-    /// The text of the link to the row's commit.
+    /// The text of the symlink to the row's commit.
     text: Text,
+    /// The switch, once it is staged.
     staged: Staged,
 }
 
-/// What a switch to a row is made of, apart from the state after it.
+/// The parts of a switch to a row, without the state after it.
 #[derive(Drop)]
 struct Parts {
-    /// Where the row's `deploy` stands.
+    /// The path of the row's `deploy`.
     deploy: Path,
-    /// Its bytes.
+    /// The bytes of the row's `deploy`.
     bytes: Blob,
-    /// The text of the link to the row's commit.
+    /// The text of the symlink to the row's commit.
     text: Text,
-    /// Where the link is made.
+    /// The staging path of the symlink.
     from: Path,
-    /// Where it comes to.
+    /// The path to which the symlink is renamed: the ref's `active`.
     to: Path,
 }
 
-/// What a switch to the row is made of.
+/// Makes the parts of a switch to the row. Condition: the previous commit isn't the row's commit.
 fn parts_of(alloc: Global, row: &RefRow) -> Result<Parts, AllocError>
     requires moves { goes_back_to row.now.commit row.now.previous ≡ false }
     ensures { IfOk result (ArePartsOf row.now) }
@@ -69,7 +70,8 @@ fn parts_of(alloc: Global, row: &RefRow) -> Result<Parts, AllocError>
     })
 }
 
-/// All that a switch to the row takes.
+/// Makes everything that is needed to stage a switch to the row. Condition: the previous commit
+/// isn't the row's commit.
 fn plan(alloc: Global, opened: Opened, row: RefRow) -> Result<Preparation, AllocError>
     requires moves { goes_back_to row.commit row.previous ≡ false }
     ensures { IfOk result (IsPreparation opened row) }
@@ -89,9 +91,9 @@ fn plan(alloc: Global, opened: Opened, row: RefRow) -> Result<Preparation, Alloc
 }
 
 impl Staged {
-    /// Writes the row's `deploy`, makes the link `repo/tmp/active` to its commit, and syncs. It is
-    /// for a commit that stands in its folder and isn't deployed. All memory is taken before the
-    /// first change.
+    /// Writes the row's `deploy`, makes the symlink `repo/tmp/active` to its commit, and syncs.
+    /// Allocates before the first change only. Condition: the commit is checked out in its
+    /// directory and isn't deployed, and the row's previous commit is that of the ref.
     pub fn of<H: Host>(
         alloc: Global,
         host: &mut H,
@@ -100,7 +102,7 @@ impl Staged {
     ) -> Result<Staged, HostEnd>
         requires moves { goes_back_to row.commit row.previous ≡ false }
         ensures leads { IfOk result (LeadsTo opened row) }
-        // A stop at any moment leaves the state of before.
+        // A crash at any moment leaves the old state.
         ensures any_moment { AtEachMoment H.Host host.old host.new (Readies opened row) }
         ensures on_success { OnOk result (AtReturn H.Host host.old host.new
             (WasStaged opened row)) }
@@ -117,10 +119,11 @@ impl Staged {
         Ok(made.staged)
     }
 
-    /// Renames the link onto the ref's `active`, and syncs. It takes no memory.
+    /// Renames the symlink to the ref's `active`, and syncs. Allocates nothing. Condition: the
+    /// switch is staged in the present view.
     pub fn switch<H: Host>(self, host: &mut H) -> Result<Switched, Faulted>
         ensures state { IfOk result (λ s. s ≡ self.state) }
-        // A stop at any moment leaves the state of before or the one after.
+        // A crash at any moment leaves the old state or the new one.
         ensures any_moment { AtEachMoment H.Host host.old host.new (Switches self) }
         ensures on_success { OnOk result (AtReturn H.Host host.old host.new (WasSwitched self)) }
         ensures fault_has_cause { FailsOnly H.Host host.old host.new

@@ -1,13 +1,12 @@
-//! A state whose change is done.
+//! Switches and retirements that are done.
 ghost use Rattle.std.specs.Prelude.{◌≡◌};
 
 use dep_states::Opened;
 use fp_host::HostError;
 use fp_small::State;
 
-/// A call of the host failed, or the host was not as this function's condition asks. Nothing is
-/// known but that every stop leaves the state of before or the one after, and the installation is
-/// opened again.
+/// A call of the host failed, or the host didn't meet the function's condition. All that is known
+/// is that each crash leaves the old state or the new one; the installation has to be opened again.
 #[derive(Clone, Copy, Debug, PartialEq, Eq)]
 pub struct Faulted;
 
@@ -19,8 +18,8 @@ impl From<HostError> for Faulted {
     }
 }
 
-/// A switch or a retirement that is done: it stands for a view of the host in which every stop
-/// leaves this state, and is sound.
+/// The state after a switch or a retirement that is done, for a view of the host in which each
+/// crash leaves this state and a sound installation.
 #[derive(Drop)]
 pub struct Switched {
     state: State,
@@ -35,14 +34,15 @@ impl std::marker::Model for Switched {
 }
 
 impl Switched {
-    /// With this state.
+    /// Makes a value with this state.
     pub(crate) fn of(state: State) -> Switched
         ensures { result ≡ state }
     {
         Switched { state }
     }
 
-    /// The installation with this state. Nothing is asked of the host, and no memory.
+    /// Returns the opened installation with this state. Calls nothing on the host, and allocates
+    /// nothing.
     pub fn settled(self) -> Opened
         ensures { result ≡ self }
     {

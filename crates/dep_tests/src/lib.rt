@@ -1,4 +1,4 @@
-//! Tests of what is deployed: a long record, and an installation of many refs.
+//! Tests of what is deployed: a long record, and an installation with many refs.
 #![tactic(auto)]
 
 #[cfg(test)]

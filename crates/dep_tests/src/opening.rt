@@ -1,5 +1,5 @@
-//! An installation of 1,100 refs and 1,100 overrides is read and opened, and the first path that
-//! doesn't read is told of as many.
+//! Tests that an installation of 1,100 refs and 1,100 overrides is read and opened, and that the
+//! first damaged path of as many is reported.
 
 use crate::wide_host::{APPS, WideHost};
 use dep_open::{OpenEnd, open, read_state};
@@ -12,12 +12,12 @@ use std::alloc::Global;
 use std::panic::Expect;
 use std::process::Abort;
 
-/// The commit that is deployed.
+/// Returns the commit at which each ref is deployed.
 fn commit() -> Digest {
     Digest::from_bytes([7; 32])
 }
 
-/// The record of its deployment.
+/// Returns the bytes of the record `deploy` of each ref.
 fn record(rt: &impl Abort, alloc: Global) -> Blob {
     let data = DeployData {
         origin: RemoteName::parse(alloc, b"lab").expect(rt, "a remote"),
@@ -28,7 +28,7 @@ fn record(rt: &impl Abort, alloc: Global) -> Blob {
     data.write(alloc).expect(rt, "memory")
 }
 
-/// A host with these bytes as each record.
+/// Returns a host with these bytes as each record.
 fn host_with(rt: &impl Abort, alloc: Global, record: Blob) -> WideHost {
     WideHost {
         commit: commit().write(alloc).expect(rt, "memory"),
@@ -36,7 +36,7 @@ fn host_with(rt: &impl Abort, alloc: Global, record: Blob) -> WideHost {
     }
 }
 
-/// Whether the last ref by its bytes is this one, and at the commit.
+/// Returns whether the last ref by its bytes is this one, deployed at the commit.
 fn ends_with(state: &State, name: &str) -> bool {
     match state.refs.as_slice().last() {
         Some(row) => row.name.as_str() == name && row.commit == commit(),
@@ -44,7 +44,7 @@ fn ends_with(state: &State, name: &str) -> bool {
     }
 }
 
-/// Whether all refs and all overrides are there.
+/// Returns whether the state has all refs and all overrides.
 fn is_whole(state: &State) -> bool {
     state.refs.len() == APPS as usize
         && state.overrides.len() == APPS as usize
@@ -73,7 +73,7 @@ fn many_refs_are_opened(rt: HostRuntime) {
     assert!(rt; is_whole);
 }
 
-/// The path that doesn't read.
+/// Returns the damaged path, if that is the error.
 fn damaged_path(end: OpenEnd) -> Option<Path> {
     match end {
         OpenEnd::Damaged(path) => Some(path),
@@ -81,7 +81,7 @@ fn damaged_path(end: OpenEnd) -> Option<Path> {
     }
 }
 
-/// Whether the path that doesn't read is that of the first application.
+/// Returns whether the damaged path is that of the first application.
 fn is_first(end: OpenEnd) -> bool {
     match damaged_path(end) {
         Some(path) => path.text() == "app/org.x.A0/x86_64/1/active",
@@ -89,7 +89,7 @@ fn is_first(end: OpenEnd) -> bool {
     }
 }
 
-/// No record reads.
+/// Each record is empty, and so is damaged.
 #[test]
 fn the_first_damage_is_told(rt: HostRuntime) {
     let mut host = host_with(&rt, rt.alloc(), Blob::from_vec(Vec::new(rt.alloc())));

@@ -1,10 +1,10 @@
-//! The record beside a commit, where it is long.
+//! Tests of the record beside a commit's tree, for long bytes.
 
 use dep_states::{DeployData, DeployError};
 use std::alloc::Global;
 use std::panic::Expect;
 
-/// Whether bytes are no record.
+/// Returns whether the bytes are refused as a record.
 fn is_no_record(alloc: Global, bytes: &[u8]) -> bool {
     match DeployData::read(alloc, bytes) {
         Ok(_data) => false,
@@ -12,7 +12,7 @@ fn is_no_record(alloc: Global, bytes: &[u8]) -> bool {
     }
 }
 
-/// 100 KiB of zero bytes are no record: a record has a digest.
+/// 100 KiB of zero bytes are no record, since a record has a digest.
 #[test]
 fn a_long_record_is_refused(rt: HostRuntime) {
     let bytes = vec![in rt.alloc(); b'\0'; 100 << 10].expect(&rt, "memory");

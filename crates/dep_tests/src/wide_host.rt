@@ -1,4 +1,4 @@
-//! A host that shows many deployed refs.
+//! A host with many deployed refs.
 ghost use Rattle.std.specs.Prelude.{◌≤◌, length, IfOk, IsOk, IsErr, IsErrOf};
 ghost use Rattle.fp_host.specs.Reads.{AreNames, HasBits};
 
@@ -7,24 +7,25 @@ use fp_host::{Host, HostError, Path, Stat, copy_out};
 use fp_system::sorted_names;
 use std::alloc::{AllocError, Global};
 
-/// How many applications are deployed, and how many overrides there are.
+/// The number of deployed applications, and of overrides.
 pub const APPS: u32 = 1_100;
 
-/// What each override says.
+/// The text of each override.
 const OVERRIDE: &[u8] = b"[Context]\nshared=network;\n";
 
-/// A host that shows 1,100 applications, each deployed at the same commit, and 1,100 overrides.
-/// What stands at a path follows from how many elements it has, and from the last one. It tells
-/// nothing, forgets what is changed, and never fails.
+/// A host with 1,100 applications, each deployed at the same commit, and 1,100 overrides. What is
+/// at a path follows from its first name, its last name and its number of elements. The host
+/// doesn't report its content, ignores all changes, and never fails, except that memory may run
+/// out.
 #[derive(Drop)]
 pub struct WideHost {
-    /// The digits of the commit.
+    /// The hexadecimal digits of the commit, which are the text of each link `active`.
     pub commit: Text,
-    /// The bytes of the record beside the commit's tree.
+    /// The bytes of the record `deploy` beside each commit's tree.
     pub record: Blob,
 }
 
-/// What stands at a path.
+/// What is at a path.
 #[derive(Clone, Copy)]
 enum Place {
     Absent,
@@ -34,7 +35,8 @@ enum Place {
     Override,
 }
 
-/// What stands below `app`, as `app/ID/ARCH/BRANCH/COMMIT/deploy`.
+/// Returns what is at a path of the form `app/ID/ARCH/BRANCH/COMMIT/deploy`, or at one of its
+/// ancestors.
 fn place_of_app(path: &Path) -> Place {
     match path.len() {
         1..=4 => Place::Folder,
@@ -45,7 +47,7 @@ fn place_of_app(path: &Path) -> Place {
     }
 }
 
-/// What stands at the path: there are applications and overrides, and nothing else.
+/// Returns what is at the path. There are applications and overrides, and nothing else.
 fn place_of(path: &Path) -> Place {
     if path.text().starts_with("app") {
         return place_of_app(path);
@@ -59,7 +61,7 @@ fn place_of(path: &Path) -> Place {
     }
 }
 
-/// A file of these bytes.
+/// Returns the status of a file with these bytes.
 fn stat_of(bytes: &[u8]) -> Stat
     ensures { HasBits result }
 {
@@ -70,12 +72,12 @@ fn stat_of(bytes: &[u8]) -> Stat
     }
 }
 
-/// The name of this number.
+/// Returns the name with this number.
 fn numbered_name(alloc: Global, number: u32) -> Result<Text, AllocError> {
     Ok(Text::from_string(format!(in alloc; "org.x.A{number}")?))
 }
 
-/// The IDs of the applications.
+/// Returns the IDs of the applications, which are also the names of the overrides.
 fn ids(alloc: Global) -> Result<Vec<Text>, AllocError> {
     let mut names = Vec::new(alloc);
     for number in 0..APPS {
@@ -84,12 +86,13 @@ fn ids(alloc: Global) -> Result<Vec<Text>, AllocError> {
     Ok(names)
 }
 
-/// A name alone.
+/// Returns this one name.
 fn one_name(alloc: Global, name: &str) -> Result<Vec<Text>, AllocError> {
     Ok(vec![in alloc; Text::from_str(alloc, name)?]?)
 }
 
-/// The names in a folder whose path has this many elements: IDs, the one arch, or the one branch.
+/// Returns the names in a directory whose path has this many elements: the IDs below `app` and
+/// `overrides`, then the one arch, then the one branch.
 fn names_at(alloc: Global, elements: usize) -> Result<Vec<Text>, AllocError> {
     match elements {
         1 => ids(alloc),
@@ -99,7 +102,7 @@ fn names_at(alloc: Global, elements: usize) -> Result<Vec<Text>, AllocError> {
 }
 
 impl WideHost {
-    /// What stands at the path.
+    /// Returns the status of the path.
     fn stat_at(&self, path: &Path) -> Stat
         ensures { HasBits result }
     {
@@ -112,7 +115,7 @@ impl WideHost {
         }
     }
 
-    /// The bytes of the file at the path; what is no file has none.
+    /// Returns the bytes of the file at the path; none if it isn't a file.
     fn bytes_at(&self, path: &Path) -> &[u8] {
         match place_of(path) {
             Place::Record => self.record.as_slice(),

@@ -5,6 +5,6 @@ use Rattle.fp_small.specs.Places.{repo}
 use Rattle.ost_prune.specs.Prune.{WasPruned}
 use Rattle.ost_prune.specs.Texts.{AreWhole}
 
--- Where the orders of the commits to keep have no fault, what none of them used is gone.
+-- If no commit to keep has a fault, the objects that none of them uses were pruned
 pub record IsPruned (keep : List (List ℕ)) (u w : View) : Type 0 where
   pub was : AreWhole repo keep u → (number : ℕ) × WasPruned repo keep number u w

@@ -1,4 +1,4 @@
--- An installation that is settled.
+-- Tidying of an installation.
 use Rattle.std.specs.Prelude.{◌≡◌, ◌≢◌, ◌⊎◌, ◌++◌, ◌∷◌, [], ℕ, List, true, Some, Contains}
 use Rattle.fp_host.specs.Paths.{Elements, Slot, absent, dir, IsAbove}
 use Rattle.fp_host.specs.View.{View}
@@ -27,15 +27,15 @@ use Rattle.dep_states.specs.Links.{Links}
 use Rattle.dep_states.specs.Sound.{Keeps, Opens, IsOld}
 use Rattle.dep_states.specs.Settled.{Settled, Used, HasBytes, HasOrigin}
 
--- the state has the ref, from this remote
+-- The state has the ref from this remote
 pub record IsFrom (s : State) (origin : List ℕ) (name : Ref) : Type 0 where
   pub row : RefRow
   pub has : row_at s name ≡ Some row
   pub is : row.origin ≡ origin
 
--- What a name may come to hold: anything below `repo/tmp`; a file where a ref of the state has its
--- ref file, and folders above it. Absent may come what belongs to no kept commit, the files of
--- layout 1, other ref files, and objects.
+-- Tidying may give the name `q` this entry: anything below `repo/tmp`; a ref file for a ref of the
+-- state, and directories above it; or absent, for the directory of a commit that the state doesn't
+-- keep and all below it, for the files of layout 1, for other ref files, and for objects
 pub data MayTidy (s : State) (q : Elements) (e : Slot) : Type 0 where
   some_work : IsAbove tmp q → MayTidy s q e
   commit_gone : (name : Ref) (commit : List ℕ) → is_ref name ≡ true → is_digest commit ≡ true
@@ -52,11 +52,11 @@ pub data MayTidy (s : State) (q : Elements) (e : Slot) : Type 0 where
   object_gone : (d : List ℕ) (kind : ObjKind) → is_digest d ≡ true → q ≡ object_path repo d kind
       → e ≡ absent → MayTidy s q e
 
--- At every moment: what every stop left before it leaves now, a name is what it was or what tidying
--- makes of it, and where all is settled no name changes and no new file has a byte. Each object
--- that a kept commit uses is as it was. Each file that was there keeps its mode and its bytes, one
--- that comes to a commit's folder is a record or was put below the store's objects, and nothing is
--- printed.
+-- Tidying at each moment. If every crash left the state `s` before, it still does, each object that
+-- a kept commit uses is unchanged, and if nothing was left to tidy, no name changes and each new
+-- file is empty. No names change but those of `MayTidy`, each file keeps its mode and its bytes,
+-- and nothing is printed. A file that is new in a commit's directory is the record `deploy`, or was
+-- put below the store's objects.
 pub record Tidies (s : State) (u w : View) : Type 0 where
   pub opens : Opens s u → Opens s w
   pub names : (q : Elements) → (w.names q ≡ u.names q) ⊎ MayTidy s q (w.names q)
@@ -68,7 +68,8 @@ pub record Tidies (s : State) (u w : View) : Type 0 where
   pub links : Links u w
   pub printed : w.printed ≡ u.printed
 
--- All is settled, and every stop leaves what stands. Each new file that has bytes came to where it
+-- Tidying succeeded: every crash leaves exactly the present content, and nothing is left to tidy if
+-- every crash left the state `s` before. Each new file that has bytes was put at a path where it
 -- lasts, and no object was made.
 pub record WasTidied (s : State) (u w : View) : Type 0 where
   pub settled : Opens s u → Settled (shows w)
@@ -76,7 +77,7 @@ pub record WasTidied (s : State) (u w : View) : Type 0 where
   pub shares : SharesAs IsLasting u w
   pub creates : Creates repo NoObject u w
 
--- Settled, but that work may be left in `repo/tmp`
+-- Nothing is left to tidy, except that temporary files may be left in `repo/tmp`
 pub record SettledButWork (disk : Disk) : Type 0 where
   pub used : (d : List ℕ) (kind : ObjKind) → is_digest d ≡ true
       → disk (object_path repo d kind) ≢ gone → Used disk d kind
@@ -88,7 +89,8 @@ pub record SettledButWork (disk : Disk) : Type 0 where
       → disk (ref_file origin name) ≢ gone → HasOrigin disk name origin
   pub no_old : disk config ≢ gone → (disk remotes_conf ≡ gone) × (disk pins_file ≡ gone)
 
--- Settled, but that work may be left in `repo/tmp`, and that this ref may lack its file
+-- Nothing is left to tidy, except that temporary files may be left in `repo/tmp`, and that this ref
+-- may lack its ref file
 pub record SettledButRef (name : Ref) (disk : Disk) : Type 0 where
   pub used : (d : List ℕ) (kind : ObjKind) → is_digest d ≡ true
       → disk (object_path repo d kind) ≢ gone → Used disk d kind
@@ -100,8 +102,8 @@ pub record SettledButRef (name : Ref) (disk : Disk) : Type 0 where
       → is_ref other ≡ true → disk (ref_file origin other) ≢ gone → HasOrigin disk other origin
   pub no_old : disk config ≢ gone → (disk remotes_conf ≡ gone) × (disk pins_file ≡ gone)
 
--- where an operation on the settings or on an override works: `config`, the overrides, and the
--- folders of work
+-- The path is one where an operation on the settings or on an override works: `config`, `overrides`
+-- and below it, `repo`, or `repo/tmp` and below it
 pub data IsSmallPlace (p : Elements) : Type 0 where
   is_config : p ≡ config → IsSmallPlace p
   is_layer : IsWithin overrides_folder p → IsSmallPlace p

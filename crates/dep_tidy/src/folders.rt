@@ -1,4 +1,4 @@
-//! The folders of commits.
+//! Clearing the directories of commits that aren't kept.
 ghost use Rattle.std.specs.Prelude.{◌≡◌, ◌∷◌, [], true, OnOk, IsErrOf};
 ghost use Rattle.fp_host.specs.OverHost.{AtReturn, FailsOnly};
 ghost use Rattle.fp_host.specs.Frame.{Frame, NoPath};
@@ -15,8 +15,8 @@ use fp_name::{Digest, RefName};
 use fp_small::{State, clear, names_in};
 use std::alloc::Global;
 
-/// Takes away what has this name in the ref's branch directory, where it is the folder of a commit
-/// that the state doesn't keep.
+/// Clears the path with this name in the ref's branch directory, if the name is that of a commit
+/// that the state doesn't keep. Other names stay.
 fn clear_name<H: Host>(
     alloc: Global,
     host: &mut H,
@@ -44,8 +44,7 @@ fn clear_name<H: Host>(
     clear(alloc, host, &path)
 }
 
-/// Takes away each folder in the ref's branch directory that is of a commit that the state doesn't
-/// keep.
+/// Clears each commit's directory in the ref's branch directory, unless the state keeps the commit.
 fn clear_ref<H: Host>(
     alloc: Global,
     host: &mut H,
@@ -69,7 +68,8 @@ fn clear_ref<H: Host>(
     Ok(())
 }
 
-/// The same at a path at which a branch directory may stand.
+/// Clears each commit's directory that is directly below this path, unless the state keeps the
+/// commit. Does nothing if the path isn't that of a ref's branch directory.
 fn clear_branch<H: Host>(
     alloc: Global,
     host: &mut H,
@@ -89,8 +89,8 @@ fn clear_branch<H: Host>(
     }
 }
 
-/// Takes away each folder of a commit that the state doesn't keep, in every branch directory, also
-/// of a ref that the state doesn't have.
+/// Clears each directory of a commit that the state doesn't keep, in every branch directory, even
+/// those of refs that the state doesn't have.
 pub(crate) fn clear_folders<H: Host>(
     alloc: Global,
     host: &mut H,

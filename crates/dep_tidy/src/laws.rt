@@ -1,4 +1,4 @@
-//! Laws of settled installations. Each is the contract of a function that does nothing.
+//! Laws of tidy installations. Each law is the contract of a function with an empty body.
 ghost use Rattle.std.specs.Prelude.{◌≡◌, ◌≢◌, ◌⊎◌, ◌↔◌, ◌++◌, ◌∷◌, [], ℕ, List, Contains};
 ghost use Rattle.fp_host.specs.Paths.{Elements, Slot};
 ghost use Rattle.fp_host.specs.Outcome.{Disk, gone};
@@ -15,23 +15,25 @@ ghost use Rattle.dep_states.specs.Settled.{Settled, HasBytes};
 ghost use Rattle.dep_tidy.specs.Kept.{kept_of};
 ghost use Rattle.dep_tidy.specs.Tidy.{MayTidy, SettledButWork, SettledButRef, IsSmallPlace};
 
-/// An image is settled where it is settled but for work, and no work is left.
+/// States that an image is `Settled` exactly if it is `SettledButWork` and nothing is below
+/// `repo/tmp`.
 pub fn settled_is_without_work()
     ensures { (disk : Disk) → Settled disk
         ↔ (SettledButWork disk
         × ((x : List ℕ) (rest : Elements) → disk (rest ++ (x ∷ tmp)) ≡ gone)) }
 {}
 
-/// An image that differs from another in `config`, in overrides and in work alone is settled but
-/// for work where the other is. It has no `config` beside files of layout 1.
+/// States that an image stays `SettledButWork` if nothing changes but `config`, `overrides`,
+/// `repo`, `repo/tmp`, and what is below `overrides` and `repo/tmp`. If there are files of layout
+/// 1, `config` must not be new.
 pub fn small_changes_leave_the_rest_settled()
     ensures { (i j : Disk) → ((p : Elements) → (IsSmallPlace p → ⊥) → j p ≡ i p)
         → (j config ≢ gone → (i config ≢ gone) ⊎ ((i remotes_conf ≡ gone) × (i pins_file ≡ gone)))
         → SettledButWork i → SettledButWork j }
 {}
 
-/// An image is settled but for work where it is so but for the file of a ref too, and that file
-/// stands; and where it is settled but for work, it is so whatever the ref.
+/// States that an image is `SettledButWork` if it is `SettledButRef` and that ref has its ref file,
+/// and that an image that is `SettledButWork` is `SettledButRef` for each ref.
 pub fn a_ref_with_its_file_is_settled()
     ensures with_file { (disk : Disk) (name : Ref) → SettledButRef name disk
         → ((row : RefRow) → ref_seen disk name ≡ there row
@@ -41,13 +43,13 @@ pub fn a_ref_with_its_file_is_settled()
         → SettledButRef name disk }
 {}
 
-/// The commits that rows keep are those of each row: its commit and the one before it.
+/// States that the commits that rows keep are each row's commit and its previous one.
 pub fn rows_keep_their_commits()
     ensures { (rows : List RefRow) (commit : List ℕ) → Contains (kept_of rows) commit
         ↔ ((row : RefRow) × Contains rows row × IsKeptBy row commit) }
 {}
 
-/// Tidying leaves the names of `config` and of the overrides alone.
+/// States that tidying changes neither `config` nor `overrides`, nor any name below `overrides`.
 pub fn settings_arent_tidied()
     ensures config { (s : State) (e : Slot) → MayTidy s config e → ⊥ }
     ensures overrides { (s : State) (q : Elements) (e : Slot) → IsWithin overrides_folder q

@@ -1,4 +1,4 @@
-//! An installation that is settled: nothing is left in it but what its state needs.
+//! Tidying an installation: removing all that its state doesn't need.
 #![tactic(auto)]
 
 mod folders;

@@ -1,4 +1,4 @@
-//! The files of layout 1.
+//! Removing the files of layout 1.
 ghost use Rattle.std.specs.Prelude.{OnOk, IsErrOf};
 ghost use Rattle.fp_host.specs.OverHost.{AtEachMoment, AtReturn, FailsOnly};
 ghost use Rattle.dep_tidy.specs.Steps.{TakesOld, HasNoOld, CanTakeOld};
@@ -8,7 +8,8 @@ use fp_host::{Host, HostEnd, Stat};
 use fp_small::take_away;
 use std::alloc::Global;
 
-/// Where `config` is there, takes the files of layout 1 away.
+/// Removes the files of layout 1, `remotes.conf` and `pins`, if `config` exists. Otherwise they
+/// stay, since they are the settings then.
 pub(crate) fn take_old_files<H: Host>(alloc: Global, host: &mut H) -> Result<(), HostEnd>
     ensures any_moment { AtEachMoment H.Host host.old host.new TakesOld }
     ensures on_success { OnOk result (AtReturn H.Host host.old host.new (λ u w. HasNoOld w)) }

@@ -1,4 +1,4 @@
-//! Objects that no kept commit uses.
+//! Pruning objects that no kept commit uses.
 ghost use Rattle.std.specs.Prelude.{◌≡◌, OnOk, IsErrOf};
 ghost use Rattle.fp_host.specs.OverHost.{AtEachMoment, AtReturn, FailsOnly};
 ghost use Rattle.fp_small.specs.Places.{repo};
@@ -13,8 +13,8 @@ use fp_small::State;
 use ost_prune::prune;
 use std::alloc::Global;
 
-/// Takes away each object of the store that no commit uses which the state keeps. Where an object
-/// of such a commit is missing or damaged, none is taken away: all else is settled.
+/// Prunes the objects of the store that aren't used by any commit that the state keeps. If an
+/// object of such a commit is missing or damaged, prunes nothing and succeeds.
 pub(crate) fn prune_unused<H: Host>(
     alloc: Global,
     host: &mut H,

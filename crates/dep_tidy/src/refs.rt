@@ -1,4 +1,4 @@
-//! The files of refs.
+//! The ref files of the store.
 ghost use Rattle.std.specs.Prelude.{◌≡◌, ◌↔◌, ◌∷◌, [], true, IsTrue, OnOk, IfOk, IsErrOf};
 ghost use Rattle.fp_host.specs.OverHost.{AtEachMoment, AtReturn, FailsOnly};
 ghost use Rattle.fp_host.specs.Frame.{Frame, NoPath};
@@ -19,7 +19,8 @@ use fp_small::{RefRow, State};
 use ost_refs::{RefFile, RefPlace, drop_ref, list_refs, read_ref, write_ref};
 use std::alloc::{AllocError, Global};
 
-/// Whether the place is one for a ref of the state, or one of the store's own.
+/// Returns whether the place of a ref file is for a ref that the state has from that remote, or is
+/// below `refs/heads`.
 fn is_wanted(state: &State, place: &RefPlace) -> bool
     ensures wanted { IsTrue result ↔ IsWanted state.now place.now }
     ensures good { HasGoodNames place.now }
@@ -30,7 +31,8 @@ fn is_wanted(state: &State, place: &RefPlace) -> bool
     }
 }
 
-/// Drops the ref file at the place, where it isn't one of the state's.
+/// Removes the ref file at the place, unless the state has that ref from that remote. Files below
+/// `refs/heads` stay.
 fn drop_other<H: Host>(
     alloc: Global,
     host: &mut H,
@@ -52,7 +54,7 @@ fn drop_other<H: Host>(
     drop_ref(alloc, host, root, place)
 }
 
-/// Drops each file of a remote's ref that the state doesn't have from that remote.
+/// Removes each ref file of a remote's ref that the state doesn't have from that remote.
 pub(crate) fn drop_others<H: Host>(
     alloc: Global,
     host: &mut H,
@@ -74,7 +76,7 @@ pub(crate) fn drop_others<H: Host>(
     Ok(())
 }
 
-/// Where the row's ref has its file. The row's names and its commit are good.
+/// Returns the place of the ref file of the row.
 fn place_of(row: &RefRow) -> Result<RefPlace, AllocError>
     ensures place { IfOk result (λ place. place ≡ Remote row.now.origin row.now.name) }
     ensures remote { is_remote_name row.now.origin ≡ true }
@@ -86,7 +88,7 @@ fn place_of(row: &RefRow) -> Result<RefPlace, AllocError>
     Ok(RefPlace::Remote(row.origin.copy()?, row.name.copy()?))
 }
 
-/// Whether the file says this commit.
+/// Returns whether the ref file has this commit.
 fn says(file: RefFile, commit: &Digest) -> bool
     ensures { IsTrue result ↔ (file ≡ DigestOf commit.now) }
 {
@@ -96,7 +98,7 @@ fn says(file: RefFile, commit: &Digest) -> bool
     }
 }
 
-/// Writes the row's ref file, where it says something else.
+/// Writes the row's ref file, unless it has the row's commit already.
 fn write_file<H: Host>(
     alloc: Global,
     host: &mut H,
@@ -117,7 +119,8 @@ fn write_file<H: Host>(
     write_ref(alloc, host, root, &place, &row.commit)
 }
 
-/// Writes the file of this ref, where the state has the ref and the file says something else.
+/// Writes the ref file of this ref, unless it has the deployed commit already. Does nothing if the
+/// state doesn't have the ref.
 pub(crate) fn write_file_of<H: Host>(
     alloc: Global,
     host: &mut H,
@@ -139,7 +142,7 @@ pub(crate) fn write_file_of<H: Host>(
     }
 }
 
-/// Writes the ref files of the state that say something else, or aren't there.
+/// Writes the ref file of each ref of the state, unless it has the deployed commit already.
 pub(crate) fn write_files<H: Host>(
     alloc: Global,
     host: &mut H,

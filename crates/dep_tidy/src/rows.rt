@@ -12,7 +12,7 @@ use fp_name::{Digest, RefName, RemoteName};
 use fp_small::{Previous, RefRow, State};
 use std::alloc::{AllocError, Global};
 
-/// The row of the ref, where there is one.
+/// Returns the row of the ref; `None` if there is none.
 pub(crate) fn row_of<'a>(rows: &'a [RefRow], name: &RefName) -> Option<&'a RefRow>
     ensures row { option_copied result ≡ at_name ref_key rows.now (ref_text name.now) }
     ensures good { is_ref name.now ≡ true }
@@ -26,7 +26,7 @@ pub(crate) fn row_of<'a>(rows: &'a [RefRow], name: &RefName) -> Option<&'a RefRo
     None
 }
 
-/// Whether this is the commit of before.
+/// Returns whether this is the previous commit.
 fn is_previous(previous: &Option<Previous>, commit: &Digest) -> bool
     ensures { IsTrue result ↔ IsPrevious previous.now commit.now }
 {
@@ -36,14 +36,14 @@ fn is_previous(previous: &Option<Previous>, commit: &Digest) -> bool
     }
 }
 
-/// Whether the row keeps the commit.
+/// Returns whether the row keeps the commit, as its own or as its previous one.
 fn is_kept_by(row: &RefRow, commit: &Digest) -> bool
     ensures { IsTrue result ↔ IsKeptBy row.now commit.now }
 {
     row.commit == *commit || is_previous(&row.previous, commit)
 }
 
-/// Whether the state keeps the commit of the ref.
+/// Returns whether the state keeps the commit of the ref, as its own or as its previous one.
 pub(crate) fn is_kept(state: &State, name: &RefName, commit: &Digest) -> bool
     ensures { IsTrue result ↔ KeptIn state.now name.now commit.now }
 {
@@ -53,7 +53,7 @@ pub(crate) fn is_kept(state: &State, name: &RefName, commit: &Digest) -> bool
     }
 }
 
-/// Whether the state has the ref from this remote.
+/// Returns whether the state has the ref from this remote.
 pub(crate) fn is_from(state: &State, origin: &RemoteName, name: &RefName) -> bool
     ensures has { IsTrue result ↔ IsFrom state.now origin.now name.now }
     ensures remote { is_remote_name origin.now ≡ true }
@@ -66,7 +66,7 @@ pub(crate) fn is_from(state: &State, origin: &RemoteName, name: &RefName) -> boo
     }
 }
 
-/// Adds the commits that the row keeps.
+/// Adds the commits that the row keeps: its own, and then its previous one.
 fn add_kept(row: &RefRow, kept: &mut Vec<Digest>) -> Result<(), AllocError>
     ensures { OnOk result (kept.new.items ≡ kept.old.items ++ kept_by row.now) }
 {
@@ -77,7 +77,7 @@ fn add_kept(row: &RefRow, kept: &mut Vec<Digest>) -> Result<(), AllocError>
     Ok(())
 }
 
-/// The commits that the rows keep: each row's commit, and the one before it.
+/// Returns the commits that the rows keep: of each row its own, and then its previous one.
 pub(crate) fn kept_of(alloc: Global, rows: &[RefRow]) -> Result<Vec<Digest>, AllocError>
     ensures { IfOk result (λ kept. kept.items ≡ kept_of rows.now) }
 {

@@ -1,4 +1,4 @@
-//! An opened installation that is settled.
+//! Tidying an opened installation.
 ghost use Rattle.std.specs.Prelude.{◌≡◌, IfOk, OnOk, IsErrOf};
 ghost use Rattle.fp_host.specs.OverHost.{AtEachMoment, AtReturn, FailsOnly};
 ghost use Rattle.fp_host.specs.Frame.{Frame, NoPath};
@@ -22,11 +22,11 @@ use fp_name::RefName;
 use fp_small::{State, repo_path};
 use std::alloc::Global;
 
-/// Settles the installation, which keeps the state that was opened: syncs, takes away the work that
-/// was left in `repo/tmp`, the folders of commits that the state doesn't keep, where `config` is
-/// there the files of layout 1, and the ref files of refs that it doesn't have; writes those that
-/// say something else; takes away the objects that no kept commit uses; and syncs. Every stop
-/// leaves the state.
+/// Tidies the installation: syncs; clears everything below `repo/tmp`; clears the directories of
+/// commits that the state doesn't keep; removes the files of layout 1 if `config` exists; removes
+/// the ref files of refs that the state doesn't have; writes those that don't have their ref's
+/// commit; prunes the objects that no kept commit uses; and syncs. The state stays as it is: every
+/// crash leaves it.
 pub fn tidy<H: Host>(alloc: Global, host: &mut H, opened: Opened) -> Result<Opened, HostEnd>
     ensures state { IfOk result (λ o. o ≡ opened) }
     ensures any_moment { AtEachMoment H.Host host.old host.new (Tidies opened) }
@@ -39,8 +39,9 @@ pub fn tidy<H: Host>(alloc: Global, host: &mut H, opened: Opened) -> Result<Open
     Ok(opened)
 }
 
-/// Takes away the work that was left in `repo/tmp`, and nothing else, for an installation that is
-/// settled but for it: after an operation that changes no commit. Nothing is synced.
+/// Clears everything below `repo/tmp`, and does nothing else. That is enough after an operation
+/// that changes no commit, if nothing was left to tidy before it. Syncs nothing. The state stays as
+/// it is.
 pub fn tidy_work<H: Host>(alloc: Global, host: &mut H, opened: Opened) -> Result<Opened, HostEnd>
     ensures state { IfOk result (λ o. o ≡ opened) }
     ensures frame { Frame (GoneBelow tmp) (AbsentBelow tmp) NoPath
@@ -55,9 +56,9 @@ pub fn tidy_work<H: Host>(alloc: Global, host: &mut H, opened: Opened) -> Result
     Ok(opened)
 }
 
-/// Writes the file of this ref and takes away the work that was left in `repo/tmp`, and nothing
-/// else, for an installation that is settled but for them: after a ref came to it. It syncs where it
-/// writes the file.
+/// Writes the ref file of this ref, unless it has the deployed commit already; clears everything
+/// below `repo/tmp`; and does nothing else. That is enough after an install of the ref, if nothing
+/// was left to tidy before it. Syncs only if it writes the file. The state stays as it is.
 pub fn tidy_added<H: Host>(
     alloc: Global,
     host: &mut H,
@@ -76,7 +77,7 @@ pub fn tidy_added<H: Host>(
     Ok(opened)
 }
 
-/// The file of the ref, and the work.
+/// Writes the ref file of this ref, and clears everything below `repo/tmp`.
 fn settle_added<H: Host>(
     alloc: Global,
     host: &mut H,
@@ -95,7 +96,7 @@ fn settle_added<H: Host>(
     empty_work(alloc, host)
 }
 
-/// All that is done after the first sync, and the last one.
+/// Does all steps of tidying after the first sync, including the last sync.
 fn settle<H: Host>(alloc: Global, host: &mut H, state: &State) -> Result<(), HostEnd>
     ensures any_moment { AtEachMoment H.Host host.old host.new
         (λ u w. IsSteady u → Tidies state.now u w) }
@@ -111,7 +112,8 @@ fn settle<H: Host>(alloc: Global, host: &mut H, state: &State) -> Result<(), Hos
     Ok(host.sync()?)
 }
 
-/// Takes away what was left: work, folders of commits, and files of layout 1.
+/// Clears what was left: everything below `repo/tmp`, directories of commits that aren't kept, and
+/// the files of layout 1.
 fn clear_left<H: Host>(alloc: Global, host: &mut H, state: &State) -> Result<(), HostEnd>
     ensures any_moment { AtEachMoment H.Host host.old host.new
         (λ u w. IsSteady u → Steadily state.now u w) }
@@ -126,7 +128,8 @@ fn clear_left<H: Host>(alloc: Global, host: &mut H, state: &State) -> Result<(),
     take_old_files(alloc, host)
 }
 
-/// Drops the ref files that aren't the state's, and writes those that say something else.
+/// Removes the ref files of refs that the state doesn't have, and writes those that don't have
+/// their ref's commit.
 fn settle_refs<H: Host>(
     alloc: Global,
     host: &mut H,

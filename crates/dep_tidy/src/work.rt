@@ -1,4 +1,4 @@
-//! Work that was left.
+//! Clearing temporary files.
 ghost use Rattle.std.specs.Prelude.{OnOk, IsErrOf};
 ghost use Rattle.fp_host.specs.OverHost.{AtReturn, FailsOnly};
 ghost use Rattle.fp_host.specs.Frame.{Frame, NoPath};
@@ -9,7 +9,7 @@ use fp_host::{Host, HostEnd};
 use fp_small::{clear_below, tmp_path};
 use std::alloc::Global;
 
-/// Takes away what is in `repo/tmp`.
+/// Clears everything below `repo/tmp`.
 pub(crate) fn empty_work<H: Host>(alloc: Global, host: &mut H) -> Result<(), HostEnd>
     ensures frame { Frame (GoneBelow tmp) (AbsentBelow tmp) NoPath
         (H.moments host.old) (H.moments host.new) }

@@ -1,4 +1,4 @@
--- Which objects operations make in the store.
+-- The objects that operations make in the store.
 use Rattle.std.specs.Prelude.{◌≡◌, ℕ, List, [], ◌∷◌, true, None, map}
 use Rattle.fp_host.specs.Remote.{Holdings}
 use Rattle.fp_host.specs.View.{View}
@@ -15,24 +15,24 @@ use Rattle.dep_states.specs.After.{Done}
 use Rattle.dep_states.specs.Effects.{Effect, effect_of, brings, writes}
 use Rattle.fl_change.specs.World.{World, supplied, world_after}
 
--- of the order of a commit, by what is supplied, the object is one that isn't had
+-- The object is in the commit's order by the objects of `supply`, and `own` doesn't have it
 pub record Lacks (supply own : Have) (commit : List ℕ) (o : List ℕ × ObjKind) : Type 0 where
   pub digits : is_digest o.0 ≡ true
   pub ordered : In (map place_name (order supply commit)) o
   pub lacked : own o.0 o.1 ≡ None
 
--- What brings a commit lacks the objects of it that are supplied and not had.
+-- The effect brings a commit that has the object by the objects of `from`, and `own` doesn't have
+-- it
 abbrev pub LacksBy : Have → Have → Effect → List ℕ × ObjKind → Type 0
 LacksBy from own (brings name remote commit) o = Lacks from own commit o
 LacksBy from own (writes write) o = ⊥
 
--- An install or an update lacks the objects of its commit that the world hasn't. No other operation
--- lacks one.
+-- The operation lacks the object: it brings a commit that has it, and the world doesn't have it
 abbrev pub LacksFor : Holdings → World → Op → List ℕ × ObjKind → Type 0
 LacksFor held x op o = LacksBy (supplied held x op) x.have (effect_of op) o
 
--- From u to w these operations make objects one after another: each just those that it lacks over
--- the world that those before it leave, and where none is left no object is made.
+-- From `u` to `w`, the operations make objects one after another, each exactly those that it lacks
+-- in the world that the previous ones leave. After the last operation, no object is made.
 abbrev pub CreatesInTurn : Holdings → World → List Done → View → View → Type 0
 CreatesInTurn held x [] u w = Creates repo NoObject u w
 CreatesInTurn held x (done ∷ rest) u w =

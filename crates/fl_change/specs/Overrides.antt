@@ -1,4 +1,4 @@
--- What options make of an override.
+-- Overrides that are changed by options.
 use Rattle.std.specs.Prelude.{ℕ, List, [], ◌++◌, length, nat_le, Option, Some, None, if◌then◌else◌}
 use Rattle.std.specs.Option.{option_map_or}
 use Rattle.fp_base.specs.declared.what.What.TheVariants.{Override}
@@ -15,24 +15,25 @@ use Rattle.fl_context.specs.Latest.{merged}
 use Rattle.fl_override.specs.Written.{file_with}
 use Rattle.fl_options.specs.Options.{layer_of}
 
--- the file of an override, which is empty where there is none
+-- The groups of the override with this name; none if there is no such override
 abbrev pub file_named : List OverrideRow → List ℕ → List Group
 file_named rows name = option_map_or (λ row. row.file) (at_name override_key rows name) []
 
--- what the file of an override mentions, and then the options
+-- The mentions in the groups of an override, followed by those of the options
 abbrev pub mentioned : List Group → List (List ℕ) → List Mention
 mentioned file options = file_mentions sources.Override file ++ layer_of options
 
--- of each permission the last mention, written as an override
+-- The groups of an override that has, of each permission, the last mention in the old groups
+-- followed by the options
 unfoldable pub changed_file : List Group → List (List ℕ) → List Group
 changed_file file options = file_with (merged (mentioned file options))
 
--- an override changed by options
+-- The override with this name, changed by the options
 abbrev pub changed_row : List OverrideRow → List ℕ → List (List ℕ) → OverrideRow
 changed_row rows name options =
     record { name = name; file = changed_file (file_named rows name) options }
 
--- the text of an override has at most 1 MiB
+-- The refusal of an override whose text has more than 1 MiB
 abbrev pub long_refusal : OverrideRow → Option Refusal
 long_refusal row = if nat_le (length (text_of row.file)) small_most then None
     else Some (Limit Override (length (text_of row.file)))

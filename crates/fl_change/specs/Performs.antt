@@ -1,4 +1,4 @@
--- What a command does over an installation that was opened.
+-- The effect of a command on an opened installation.
 use Rattle.std.specs.Prelude.{◌≡◌, Bool, true, false, Option, ◌++◌, List, Some, None, Result, Ok, Err, IsErrOf}
 use Rattle.fp_host.specs.Causes.{IsCaused}
 use Rattle.fp_host.specs.Frame.{AtEnd}
@@ -33,13 +33,15 @@ use Rattle.fl_change.specs.Created.{LacksFor, CreatesInTurn}
 use Rattle.fl_change.specs.declared.end.RunEnd.{RunEnd}
 use Rattle.fl_change.specs.declared.end.RunEnd.TheVariants.{Refused, Fault, RemoteFault, NoMemory}
 
--- these pieces of the answer, which come first, were printed
+-- The pieces `said`, which are the first ones of the answer, were printed. The line of the answer's
+-- refusal counts as its last piece.
 pub record Printed (a : Answer) (said : List Piece) (u w : View) : Type 0 where
   pub left : List Piece
   pub pieces : lines_of a ≡ said ++ left
   pub printed : w.printed ≡ u.printed ++ pieces_text said
 
--- the image shows the state after a prefix of the operations that holds the acknowledged ones
+-- The image shows the state after a prefix of the answer's operations, with at least the
+-- acknowledged ones, and is sound
 pub record IsSome (a : Answer) (acknowledged : List Done) (s : State) (disk : Disk) : Type 0 where
   pub done : List Done
   pub undone : List Done
@@ -49,10 +51,10 @@ pub record IsSome (a : Answer) (acknowledged : List Done) (s : State) (disk : Di
   pub shown : Shows disk (after_all s done)
   pub sound : Sound disk
 
--- At every moment: the first pieces are said, each file that was there is as it was, and every stop
--- leaves the state after a prefix of the operations. Where there are none, and nothing is pulled,
--- names only changed by tidying; and where all was settled besides, no name changed and no new file
--- has a byte.
+-- A command with this answer, at each moment. Its first pieces were printed, each file keeps its
+-- mode and its bytes, and every crash leaves the state after a prefix of its operations, with at
+-- least those that these pieces acknowledge. If it is idle (`IsIdle`), names change only by
+-- tidying; if nothing was left to tidy either, no name changes, and each new file is empty.
 pub record Performs (a : Answer) (s : State) (v w : View) : Type 0 where
   pub said : List Piece
   pub so_far : Printed a said v w
@@ -61,17 +63,17 @@ pub record Performs (a : Answer) (s : State) (v w : View) : Type 0 where
   pub still : IsIdle a → Settled (shows v) → IsStill v w
   pub some : (disk : Disk) → Leaves w disk → IsSome a (ops_in said) s disk
 
--- every outcome shows the world's state and is Sound, and what the state's commits use are the
--- world's objects
+-- Every crash leaves a sound image of the world's state, and the objects that the state's commits
+-- use are exactly those of the world
 pub record Holds (x : World) (v : View) : Type 0 where
   pub opens : Opens x.state v
   pub have : x.have ≡ used_of x.state (store repo (shows v))
 
--- All that isn't the line of a refusal was printed, every stop leaves the state after all
--- operations, and all is settled: where there are none, and nothing is pulled, if it was before.
--- Where one of them set it, `config` has just its text; else it is as it was. Where nothing was
--- pulled before a refusal, each new file that has bytes came to a lasting name, and each operation
--- in turn made just the objects that it lacked.
+-- The whole answer was given, but for the line of its refusal. Every crash leaves the state after
+-- all operations. Nothing is left to tidy; for an idle answer, only if nothing was before. If an
+-- operation wrote `config`, it has exactly its text, else it keeps its entry. Unless a refusal
+-- abandoned a pull, each new file that has bytes was put at a path where it lasts, and each
+-- operation in turn made exactly the objects that it lacked.
 pub record IsDone (held : Holdings) (a : Answer) (x : World) (v w : View) : Type 0 where
   pub printed : w.printed ≡ v.printed ++ pieces_text a.pieces
   pub only_tidied : IsIdle a → OnlyTidied x.state v w
@@ -83,12 +85,16 @@ pub record IsDone (held : Holdings) (a : Answer) (x : World) (v w : View) : Type
   pub shares : IsUnpulled a.refusal → SharesAs IsLasting v w
   pub creates : IsUnpulled a.refusal → CreatesInTurn held x (ops_of a) v w
 
--- every stop leaves the state after the acknowledged operations
+-- The command ended early: the first pieces of its answer were printed, and every crash leaves the
+-- state after the operations that these acknowledge
 pub record IsHalted (a : Answer) (s : State) (v w : View) : Type 0 where
   pub said : List Piece
   pub so_far : Printed a said v w
   pub opens : Opens (after_all s (ops_in said)) w
 
+-- The end of a command with this answer. After success and after a refusal the whole answer was
+-- given. After a fault of a remote, and if memory ran out, every crash leaves the state after the
+-- acknowledged operations. A fault of the host promises nothing.
 abbrev pub Performed : Holdings → Answer → World → Result State RunEnd → View → View → Type 0
 Performed held a x (Ok t) v w =
     (a.refusal ≡ None) × (t ≡ after_all x.state (ops_of a)) × IsDone held a x v w
@@ -97,7 +103,7 @@ Performed held a x (Err Fault) v w = Unit {0}
 Performed held a x (Err RemoteFault) v w = IsHalted a x.state v w
 Performed held a x (Err NoMemory) v w = IsHalted a x.state v w
 
--- where the whole answer was given, all is settled
+-- After success and after a refusal, nothing is left to tidy
 abbrev pub SettlesBy : Result State RunEnd → View → Type 0
 SettlesBy (Ok t) w = Settled (shows w)
 SettlesBy (Err (Refused refusal)) w = Settled (shows w)
@@ -105,11 +111,13 @@ SettlesBy (Err Fault) w = Unit {0}
 SettlesBy (Err RemoteFault) w = Unit {0}
 SettlesBy (Err NoMemory) w = Unit {0}
 
--- so it is over an installation of this state, where the remotes tell what they hold
+-- If the remotes report their content and every crash left the state `s`, nothing is left to tidy
+-- after success and after a refusal
 abbrev pub SettlesOver : Option Holdings → State → Result State RunEnd → View → View → Type 0
 SettlesOver holds s r v w = AreTold holds → Opens s v → SettlesBy r w
 
--- What tells whether an operation was done tells it besides of those of an answer that was given.
+-- After success and after a refusal, `after` is true exactly if `before` is or the answer has an
+-- operation
 abbrev pub Acted : Answer → Result State RunEnd → Bool → Bool → Type 0
 Acted a (Ok t) before after = after ≡ has_acted before (ops_of a)
 Acted a (Err (Refused refusal)) before after = after ≡ has_acted before (ops_of a)
@@ -117,12 +125,15 @@ Acted a (Err Fault) before after = Unit {0}
 Acted a (Err RemoteFault) before after = Unit {0}
 Acted a (Err NoMemory) before after = Unit {0}
 
--- So it is over an installation that is ready, by what the remotes hold, where they tell it.
+-- If the remotes report their content and the view `v` before is `Ready`, the command performs, up
+-- to the view `w`, the answer of `f` for the world of `v`
 pub record PerformsOver (Ready : View → Type 0) (holds : Option Holdings)
     (f : Holdings → World → Answer) (s : State) (v w : View) : Type 0 where
   pub performs : (held : Holdings) → holds ≡ Some held → Ready v
       → Performs (f held (world_at s v)) s v w
 
+-- If the remotes report their content and the view `v` before is `Ready`, the command ended as
+-- `Performed` states for the answer of `f` over the world of `v`, and `Acted` holds
 pub record PerformedOver (Ready : View → Type 0) (holds : Option Holdings)
     (f : Holdings → World → Answer) (s : State) (before after : Bool)
     (r : Result State RunEnd) (v w : View) : Type 0 where
@@ -133,15 +144,16 @@ pub record PerformedOver (Ready : View → Type 0) (holds : Option Holdings)
 
 -- ---- what is outside
 
--- one of these operations brings a commit
+-- One of these operations brings a commit
 abbrev pub AsksBy : (Op → Type 0) → Type 0
 AsksBy May = (op : Op) × May op × Brings op
 
--- where one of these operations brings a commit, the remotes tell what they hold
+-- If one of these operations brings a commit, the remotes report their content
 abbrev pub AreToldFor : (Op → Type 0) → Option Holdings → Type 0
 AreToldFor May holds = AsksBy May → AreTold holds
 
--- where it was done, every stop leaves the state that was answered; where it was refused, some state
+-- If every crash left the state `s`: after success, every crash leaves the state of the result, and
+-- after a refusal some state
 abbrev pub OpensBy : State → Result State RunEnd → View → View → Type 0
 OpensBy s (Ok t) v w = Opens s v → Opens t w
 OpensBy s (Err (Refused refusal)) v w = Opens s v → (t : State) × Opens t w
@@ -149,15 +161,17 @@ OpensBy s (Err Fault) v w = Unit {0}
 OpensBy s (Err RemoteFault) v w = Unit {0}
 OpensBy s (Err NoMemory) v w = Unit {0}
 
--- so much changes; where a commit is brought, over an installation that every stop leaves in this
--- state and Sound
+-- Names and files change only as `Changes` allows for these operations. If one of them brings a
+-- commit, this is promised only if every crash left the state `s`.
 abbrev pub ChangesFrom : (Op → Type 0) → State → View → View → Type 0
 ChangesFrom May s v w = (AsksBy May → Opens s v) → Changes May v w
 
--- Work that does these operations alone. The remotes stay as they are, and each fault is that
--- outside's own: of the host over an installation that every stop leaves in this state and Sound.
--- Where no commit is brought the remotes aren't asked, and else what is known of the installation
--- is known where they tell what they hold.
+-- A call that does only these operations, from `u` before it to `w` after it, on a host that
+-- reports its content. Each moment relates by `R`, and the end by `Q`, to the view before the call.
+-- If every crash left the state `s` at the start, the host's fault comes only if its count of
+-- faults rose. The content of the remotes stays the same, and they are asked only if an operation
+-- brings a commit; then what is known of the installation is known only if they report their
+-- content.
 pub record Works (May : Op → Type 0) (s : State) (R Q : View → View → Type 0)
     (result : Result State RunEnd) (u w : Outside) : Type 0 where
   pub goes : Goes u.told w.told R Q
@@ -170,40 +184,41 @@ pub record Works (May : Op → Type 0) (s : State) (R Q : View → View → Type
   pub unasked : (AsksBy May → ⊥) → (w.remote_faults ≡ u.remote_faults)
       × (IsErrOf result RemoteFault → ⊥)
 
--- work with this answer, and what tells before and after it whether an operation was done
+-- A call with the answer of `f`, with the values of `acted` before and after it
 abbrev pub Acts : (View → Type 0) → (Op → Type 0) → (Holdings → World → Answer) → State
     → Bool → Bool → Result State RunEnd → Outside → Outside → Type 0
 Acts Ready May f s before after result u w = Works May s (PerformsOver Ready u.holdings f s)
     (PerformedOver Ready u.holdings f s before after result) result u w
 
--- every stop leaves this state and Sound, and all is settled
+-- Every crash leaves a sound image of the state `s`, and nothing is left to tidy
 pub record Rests (s : State) (v : View) : Type 0 where
   pub opens : Opens s v
   pub settled : Settled (shows v)
 
 -- ---- one operation
 
--- it alone
+-- Holds of the operation `op` alone
 abbrev pub Just : Op → Op → Type 0
 Just op o = o ≡ op
 
--- the operation with the timestamp that it brings
+-- The operation, with the timestamp of the commit that it brings
 abbrev pub done_of : Op → Holdings → World → Done
 done_of op held x = done_with (supplied held x op) op
 
--- this holds of a ref that the operation adds
+-- If the operation is an install, `Is` holds of its ref
 abbrev pub OfAdded : Op → (Ref → Type 0) → Type 0
 OfAdded (Install name remote commit) Is = Is name
 OfAdded _ Is = Unit {0}
 
--- What is settled before it is tidied after an operation: all but work, where no commit changes; and
--- all but work and the file of the ref, where one is added.
+-- All that may be left to tidy after an operation: if it changes no commit, temporary files in
+-- `repo/tmp`; if it is an install, also the file of its ref
 pub record IsNearlySettled (op : Op) (disk : Disk) : Type 0 where
   pub kept : keeps_commits op ≡ true → SettledButWork disk
   pub added : OfAdded op (λ name. SettledButRef name disk)
 
--- An operation is done and its line printed; it isn't tidied after it. Each new file that has bytes
--- came to a lasting name, and just the objects were made that the operation lacked.
+-- An operation was done and its line was printed, but it wasn't tidied after it. Every crash leaves
+-- the new state. Each new file that has bytes was put at a path where it lasts, and exactly the
+-- objects were made that the operation lacked.
 pub record WasDone (held : Holdings) (op : Op) (s t : State) (v w : View) : Type 0 where
   pub allowed : op_refusal (supplied held (world_at s v) op) op ≡ None
   pub state : t ≡ state_after s (done_of op held (world_at s v))
@@ -216,18 +231,22 @@ pub record WasDone (held : Holdings) (op : Op) (s t : State) (v w : View) : Type
   pub shares : SharesAs IsLasting v w
   pub creates : Creates repo (LacksFor held (world_at s v) op) v w
 
--- Where that was settled, all is. Each new file that has bytes came to a lasting name, and no object
--- was made.
+-- The installation was tidied after the operation: if no more was left to tidy than
+-- `IsNearlySettled` allows, nothing is. Each new file that has bytes was put at a path where it
+-- lasts, and no object was made.
 pub record WasTidiedAfter (op : Op) (s : State) (u w : View) : Type 0 where
   pub settled : Opens s u → IsNearlySettled op (shows u) → Settled (shows w)
   pub shares : SharesAs IsLasting u w
   pub creates : Creates repo NoObject u w
 
+-- The end of one operation without the tidying after it
 abbrev pub WasDoneBy : Holdings → Op → State → Result State RunEnd → View → View → Type 0
 WasDoneBy held op s (Ok t) v w = WasDone held op s t v w
 WasDoneBy held op s (Err e) v w =
     Performed held (op_over op held (world_at s v)) (world_at s v) (Err e) v w
 
+-- If the remotes report their content, and every crash left the state `s` with nothing to tidy, the
+-- operation ended as `WasDoneBy` states
 pub record DoneOver (holds : Option Holdings) (op : Op) (s : State) (r : Result State RunEnd)
     (v w : View) : Type 0 where
   pub done : (held : Holdings) → holds ≡ Some held → Rests s v → WasDoneBy held op s r v w

@@ -1,4 +1,4 @@
--- What changes answer over a world, one after another.
+-- The answers of changes in a world, one after another.
 use Rattle.std.specs.Prelude.{◌≡◌, ◌⊎◌, ℕ, List, [], ◌∷◌, Option}
 use Rattle.fp_host.specs.Remote.{Holdings}
 use Rattle.fp_keyfile.specs.declared.group.Group.{Group}
@@ -21,34 +21,39 @@ use Rattle.fl_change.specs.Refs.{install_over, update_over, update_all_over, uni
 
 -- ---- operations of a kind
 
+-- The operation is an uninstall
 abbrev pub IsUninstall : Op → Type 0
 IsUninstall op = (name : Ref) × (op ≡ ops.Uninstall name)
 
+-- The operation is a rollback of this ref
 abbrev pub IsRollback : Ref → Op → Type 0
 IsRollback name op = (commit : List ℕ) × (op ≡ ops.Rollback name commit)
 
+-- The operation sets the override with this name
 abbrev pub IsOverride : List ℕ → Op → Type 0
 IsOverride name op =
     (file : List Group) × (op ≡ ops.SetOverride (record { name = name; file = file }))
 
--- an override is set to this row
+-- The answer of setting an override to this row, unless its text is too long
 abbrev pub override_answer : OverrideRow → Answer
 override_answer row = unless (long_refusal row) (op_answer (ops.SetOverride row))
 
 -- ---- the table of changes
 
--- what a change answers, with its refusals in their order, and the operations that it may do
+-- A change: its answer in a world, and the operations that it may do
 pub record Turn : Type 1 where
   pub over : Holdings → World → Answer
   pub may : Op → Type 0
 
+-- The change with this answer and these operations
 abbrev pub turn : (Holdings → World → Answer) → (Op → Type 0) → Turn
 turn over may = record { over = over; may = may }
 
--- one operation, where nothing speaks against it in the state
+-- The change that does this one operation, unless the state refuses it
 abbrev pub asked : (State → Option Refusal) → Op → Turn
 asked refusal op = turn (λ held x. unless (refusal x.state) (op_answer op)) (λ other. other ≡ op)
 
+-- The answer and the operations of each change
 abbrev pub turn_of : Change → Turn
 turn_of (Pin pin) = asked (λ s. add_pin_refusal s.pins pin) (ops.AddPin pin)
 turn_of (Unpin pin) = asked (λ s. drop_pin_refusal s.pins pin) (ops.DropPin pin)
@@ -65,34 +70,39 @@ turn_of (OverrideChange name options) =
     turn (λ held x. override_answer (changed_row x.state.overrides name options)) (IsOverride name)
 turn_of (OverrideReset name) = turn (reset_over name) (λ op. op ≡ ops.DropOverride name)
 
+-- The answer of a change in a world
 abbrev pub change_over : Change → Holdings → World → Answer
 change_over change held x = (turn_of change).over held x
 
+-- The change may do this operation
 abbrev pub OpsOf : Change → Op → Type 0
 OpsOf change op = (turn_of change).may op
 
 -- ---- changes in turn
 
--- changes one after another, up to the first refusal
+-- The answer of changes, one after another up to the first refusal
 abbrev pub in_turn : List Change → Holdings → World → Answer
 in_turn changes held x = each_over change_over changes held x
 
--- an installation of layout 1 is migrated before anything else is done with it
+-- The answer of the migration that comes before changes: it is done in layout 1, and nothing is
+-- done in layout 2
 abbrev pub by_layout : Layout → Answer
 by_layout One = op_answer ops.Migrate
 by_layout Two = nothing
 
+-- The answer of the migration of a world
 abbrev pub migrating : Holdings → World → Answer
 migrating held x = by_layout x.state.layout
 
+-- The answer of a command's changes: the migration, and the changes one after another
 abbrev pub changing : List Change → Holdings → World → Answer
 changing changes held x = then_over held x (migrating held x) (in_turn changes held)
 
--- the operations that changes may do
+-- One of the changes may do this operation
 abbrev pub OpsOfAny : List Change → Op → Type 0
 OpsOfAny [] op = ⊥
 OpsOfAny (change ∷ changes) op = OpsOf change op ⊎ OpsOfAny changes op
 
--- the installation may be migrated before them
+-- A command with these changes may do this operation: the migration, or one of a change
 abbrev pub MayDo : List Change → Op → Type 0
 MayDo changes op = (op ≡ ops.Migrate) ⊎ OpsOfAny changes op

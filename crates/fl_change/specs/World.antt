@@ -1,4 +1,4 @@
--- What a command works on: the state of the installation, and the objects that it has.
+-- Worlds, on which commands work: the state of the installation, and the objects that it has.
 use Rattle.std.specs.Prelude.{ℕ, List, [], ◌∷◌, Bool, ◌&&◌, None, if◌then◌else◌}
 use Rattle.std.specs.List.{list_any}
 use Rattle.std.specs.Str.{bytes_eq}
@@ -20,55 +20,62 @@ use Rattle.op_change.specs.Applied.{url_of}
 
 -- ---- the objects that commits use
 
--- the object stands at this place of an order
+-- Tests whether the place of an order has this object
 abbrev pub is_at : List ℕ → ObjKind → Place → Bool
 is_at d kind p = bytes_eq p.digest d && is_kind p.kind kind
 
--- the commits that a state keeps: of each ref its commit and the previous one
+-- The commits that a state keeps: of each ref its commit and its previous one
 abbrev pub kept_commits : State → List (List ℕ)
 kept_commits s = kept_of s.refs
 
--- the object stands in the order of a commit that the state keeps
+-- Tests whether the object is in the order of a commit that the state keeps
 abbrev pub is_used : State → Have → List ℕ → ObjKind → Bool
 is_used s have d kind =
     list_any (λ commit. list_any (is_at d kind) (order have commit)) (kept_commits s)
 
--- of these objects those that the state's commits use
+-- The objects of `have` that the commits of the state use
 unfoldable pub used_of : State → Have → Have
 used_of s have d kind = if is_used s have d kind then have d kind else None
 
 -- ---- worlds
 
+-- The state of an installation, and the objects that its commits use
 pub record World : Type 0 where
   pub state : State
   pub have : Have
 
--- An object that no kept commit uses counts as absent: it is taken away before a command works.
+-- The world of a state and the objects of a store. An object that no kept commit uses counts as
+-- absent, since tidying prunes it before the first operation.
 abbrev pub world : State → Have → World
 world s have = record { state = s; have = used_of s have }
 
--- the world of an image that shows this state
+-- The world of an image that shows this state
 abbrev pub world_in : State → Disk → World
 world_in s disk = world s (store repo disk)
 
+-- The world of the present content of a view that shows this state
 abbrev pub world_at : State → View → World
 world_at s v = world_in s (shows v)
 
 -- ---- what operations make of a world
 
--- what brings a commit begins with the objects of its remote beside those that are there
+-- The objects that an effect starts with: those of the world, and if it brings a commit, those of
+-- its remote where the world has none
 abbrev pub supplied_by : Holdings → World → Effect → Have
 supplied_by held x (brings name origin commit) =
     supply x.have (remote held (url_of x.state origin))
 supplied_by held x (writes write) = x.have
 
+-- The objects that an operation starts with: those of the world, and if it brings a commit, those
+-- of its remote where the world has none
 abbrev pub supplied : Holdings → World → Op → Have
 supplied held x op = supplied_by held x (effect_of op)
 
+-- The world after an operation: the new state, with those of the objects that its commits use
 abbrev pub world_after : Holdings → World → Done → World
 world_after held x done = world (state_after x.state done) (supplied held x done.op)
 
--- the world after operations in turn
+-- The world after operations, one after another
 abbrev pub worlds_after : Holdings → World → List Done → World
 worlds_after held x [] = x
 worlds_after held x (done ∷ more) = worlds_after held (world_after held x done) more

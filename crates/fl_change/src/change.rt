@@ -1,4 +1,4 @@
-//! What changes the installation.
+//! Making changes to an opened installation.
 ghost use Rattle.std.specs.Prelude.{◌≡◌, Option, false, IfOk};
 ghost use Rattle.fp_host.specs.OverHost.{AtReturn};
 ghost use Rattle.fp_small.specs.declared.state.Layout.TheVariants.{Two};
@@ -31,10 +31,11 @@ use fp_small::{Layout, Op};
 use std::alloc::Global;
 use std::thread::Threads;
 
-/// Makes the changes on an opened installation, one after another up to the first refusal. It is
-/// tidied and migrated before; not where they are the update of all, and this has nothing to do and
-/// finds no work that was left. `acted` is set once an operation was done. Whatever the end but Ok,
-/// the installation is opened again before anything else is done with it.
+/// Makes changes to an opened installation, one after another up to the first refusal. First tidies
+/// the installation, and migrates it from layout 1. Skips all that for an update of all and nothing
+/// else, if the layout is 2, `repo/tmp` is empty, and the remote of each deployed ref offers its
+/// deployed commit. Sets `acted` once an operation was done and tidied after, and never clears it.
+/// After an error, the installation must be opened again before anything else is done with it.
 pub fn change_all<H: Host, R: Remotes>(
     rt: &(impl Threads + Sync),
     alloc: Global,
@@ -45,14 +46,16 @@ pub fn change_all<H: Host, R: Remotes>(
     changes: &[Change],
 ) -> Result<Opened, RunEnd>
     requires good { IsGood opened }
-    // At every moment the first pieces of the answer were printed, and a stop leaves the state
-    // after a prefix of its operations that holds those that these pieces acknowledge. Where all but
-    // the line of a refusal was printed, `acted` tells whether there are such operations.
+    // At each moment, the first pieces of the answer were printed, and a crash leaves the state
+    // after a prefix of its operations, with at least those that these pieces acknowledge. After
+    // success and after a refusal, `acted` is true exactly if it was before or an operation was
+    // done.
     ensures acts { Acts (Opens opened) (MayDo changes.now) (changing changes.now)
         opened acted.old acted.new result
         (around H.Host R.Remotes host.old remotes.old)
         (around H.Host R.Remotes host.new remotes.new) }
-    // Where they aren't the update of all, all is settled then, also where no operation was done.
+    // Unless the changes are an update of all and nothing else, nothing is left to tidy after
+    // success and after a refusal, even if no operation was done.
     ensures settles { updates_all changes.now ≡ false → AtReturn H.Host host.old host.new
         (SettlesOver (R.holds remotes.old) opened result) }
 {
@@ -65,7 +68,7 @@ pub fn change_all<H: Host, R: Remotes>(
     tidy_and_change(rt, alloc, host, remotes, acted, opened, changes)
 }
 
-/// Tidies and migrates the installation, and makes the changes.
+/// Tidies the installation, migrates it from layout 1, and makes the changes.
 fn tidy_and_change<H: Host, R: Remotes>(
     rt: &(impl Threads + Sync),
     alloc: Global,
@@ -88,7 +91,7 @@ fn tidy_and_change<H: Host, R: Remotes>(
     do_each(rt, alloc, host, remotes, acted, current, changes)
 }
 
-/// Migrates an installation of layout 1.
+/// Migrates an installation of layout 1 to layout 2, and leaves one of layout 2 as it is.
 fn migrate<H: Host, R: Remotes>(
     rt: &(impl Threads + Sync),
     alloc: Global,
@@ -135,7 +138,7 @@ fn do_each<H: Host, R: Remotes>(
     Ok(current)
 }
 
-/// Makes one change, where nothing speaks against it.
+/// Makes one change, unless it is refused.
 fn do_change<H: Host, R: Remotes>(
     rt: &(impl Threads + Sync),
     alloc: Global,
@@ -199,7 +202,7 @@ fn do_change<H: Host, R: Remotes>(
     }
 }
 
-/// Does the operation that is asked for, where nothing speaks against it.
+/// Does the operation that a change asks for, unless the change was refused.
 fn do_asked<H: Host, R: Remotes>(
     rt: &(impl Threads + Sync),
     alloc: Global,

@@ -1,4 +1,4 @@
-//! Whether an update of all has nothing to do.
+//! Checking whether an update of all has nothing to do.
 ghost use Rattle.std.specs.Prelude.{◌≡◌, true, IfOk, IsErrOf, Some, Err};
 ghost use Rattle.std.specs.List.{list_all};
 ghost use Rattle.std.specs.Str.{bytes_eq};
@@ -21,7 +21,7 @@ use ost_head::offer;
 use ost_walk::PullEnd;
 use std::alloc::Global;
 
-/// Whether the update of all is asked for, and nothing else.
+/// Returns whether the changes are an update of all, and nothing else.
 pub(crate) fn is_update_of_all(changes: &[Change]) -> bool
     ensures { result ≡ updates_all changes.now }
 {
@@ -31,14 +31,15 @@ pub(crate) fn is_update_of_all(changes: &[Change]) -> bool
     }
 }
 
-/// Whether this commit of a ref is deployed.
+/// Returns whether the row's deployed commit is `commit`.
 fn is_commit(row: &RefRow, commit: &Digest) -> bool
     ensures { result ≡ bytes_eq row.now.commit commit.now }
 {
     row.commit == *commit
 }
 
-/// What is refused isn't offered; a fault ends the question.
+/// Converts the error of an offer: a refusal means that the commit isn't offered, and a fault of
+/// the remote stays an error. A fault of the host, which an offer never has, becomes `NoMemory`.
 fn declined(end: PullEnd) -> Result<bool, RemoteError>
     ensures { result ≡ spec.declined end }
 {
@@ -49,7 +50,7 @@ fn declined(end: PullEnd) -> Result<bool, RemoteError>
     }
 }
 
-/// Whether a deployed ref stands at what this remote offers.
+/// Returns whether the remote offers the ref's deployed commit; false if it doesn't offer the ref.
 fn is_offered<R: Remotes>(
     alloc: Global,
     remotes: &mut R,
@@ -68,7 +69,8 @@ fn is_offered<R: Remotes>(
     }
 }
 
-/// Whether a deployed ref stands at what the remote that it comes from offers.
+/// Returns whether the remote that the ref comes from offers its deployed commit; false if the
+/// remote is gone or doesn't offer the ref.
 fn is_current<R: Remotes>(
     alloc: Global,
     remotes: &mut R,
@@ -87,7 +89,7 @@ fn is_current<R: Remotes>(
     }
 }
 
-/// Whether each deployed ref stands at what the remote that it comes from offers.
+/// Returns whether, for each row, the remote that its ref comes from offers its deployed commit.
 fn are_current<R: Remotes>(
     alloc: Global,
     remotes: &mut R,
@@ -108,7 +110,7 @@ fn are_current<R: Remotes>(
     Ok(true)
 }
 
-/// Whether no work was left in `repo/tmp`.
+/// Returns whether `repo/tmp` has no names in it.
 fn has_no_work<H: Host>(alloc: Global, host: &mut H) -> Result<bool, HostEnd>
     ensures unchanged { ChangesNothing H.Host host.old host.new }
     ensures fault_has_cause { FailsAlone H.Host host.old host.new (IsErrOf result HostEnd.Fault) }
@@ -117,8 +119,9 @@ fn has_no_work<H: Host>(alloc: Global, host: &mut H) -> Result<bool, HostEnd>
     Ok(names_in(alloc, host, &work)?.as_slice().is_empty())
 }
 
-/// Whether an update of all has nothing to do, and finds no work that was left. Nothing else of the
-/// store is looked at.
+/// Returns whether an update of all has nothing to do: the layout is 2, `repo/tmp` is empty, and
+/// the remote of each deployed ref offers its deployed commit. Reads nothing else of the
+/// installation, and changes nothing.
 pub(crate) fn is_idle<H: Host, R: Remotes>(
     alloc: Global,
     host: &mut H,

@@ -1,4 +1,4 @@
-//! How a change ends that isn't done.
+//! The errors of work on an installation.
 ghost use Rattle.std.specs.Prelude.{◌≡◌};
 
 use dep_open::OpenEnd;
@@ -8,16 +8,16 @@ use op_change::ApplyEnd;
 use ost_walk::PullEnd;
 use std::alloc::AllocError;
 
-/// How work on an installation ends where it isn't done.
+/// The reason why work on an installation wasn't completed.
 #[derive(Drop)]
 pub enum RunEnd {
-    /// Something speaks against it.
+    /// The work is refused.
     Refused(Refusal),
     /// A call of the host failed.
     Fault,
     /// A call of the remotes failed.
     RemoteFault,
-    /// There was no memory.
+    /// Memory ran out.
     NoMemory,
 }
 

@@ -1,4 +1,4 @@
-//! What the state has.
+//! Lookups in a state, and their refusals.
 ghost use Rattle.std.specs.Prelude.{◌≡◌, option_map, IfOk};
 ghost use Rattle.fp_small.specs.Config.{name_of};
 ghost use Rattle.fp_small.specs.declared.refusal.Refusal.TheVariants as refusals;
@@ -14,7 +14,7 @@ use fp_name::{Digest, RefName, RemoteName};
 use fp_small::{Refusal, RemoteRow, State};
 use std::alloc::AllocError;
 
-/// The remote of this name, where there is one.
+/// Returns a copy of the remote with this name; `None` if the state has none.
 pub(crate) fn copy_remote(state: &State, name: &RemoteName) -> Result<Option<RemoteRow>, AllocError>
     ensures { IfOk result (λ row. row ≡ at_name name_of state.now.remotes name.now) }
 {
@@ -24,7 +24,7 @@ pub(crate) fn copy_remote(state: &State, name: &RemoteName) -> Result<Option<Rem
     }
 }
 
-/// The remote of this name.
+/// Returns a copy of the remote with this name. Errs with `NoSuchRemote` if the state has none.
 pub(crate) fn known_remote(state: &State, name: &RemoteName) -> Result<RemoteRow, RunEnd>
     ensures { IsSaid (or_refuse (refusals.NoSuchRemote name.now)
         (at_name name_of state.now.remotes name.now)) result }
@@ -37,7 +37,7 @@ pub(crate) fn known_remote(state: &State, name: &RemoteName) -> Result<RemoteRow
     }
 }
 
-/// A ref that is deployed isn't installed again.
+/// Checks that the ref isn't deployed. Errs with `AlreadyInstalled` if it is.
 pub(crate) fn try_new(state: &State, name: &RefName) -> Result<(), RunEnd>
     ensures { IsTried (installed_refusal name.now (row_at state.now name.now)) result }
 {
@@ -47,7 +47,8 @@ pub(crate) fn try_new(state: &State, name: &RefName) -> Result<(), RunEnd>
     }
 }
 
-/// The remote that a deployed ref comes from.
+/// Returns the name of the remote that a deployed ref comes from. Errs with `NotInstalled` if the
+/// ref isn't deployed.
 pub(crate) fn origin_of(state: &State, name: &RefName) -> Result<RemoteName, RunEnd>
     ensures { IsSaid (or_refuse (refusals.NotInstalled name.now)
         (option_map (λ row. row.origin) (row_at state.now name.now))) result }
@@ -58,7 +59,8 @@ pub(crate) fn origin_of(state: &State, name: &RefName) -> Result<RemoteName, Run
     }
 }
 
-/// The commit that a deployed ref was at before.
+/// Returns the previous commit of a deployed ref. Errs with `NotInstalled` if the ref isn't
+/// deployed, and with `NoPrevious` if it has no previous commit.
 pub(crate) fn previous_of(state: &State, name: &RefName) -> Result<Digest, RunEnd>
     ensures { IsSaid (previous_in name.now (row_at state.now name.now)) result }
 {
@@ -71,7 +73,7 @@ pub(crate) fn previous_of(state: &State, name: &RefName) -> Result<Digest, RunEn
     }
 }
 
-/// A runtime that is named has to be there.
+/// Checks that the runtime, if one is named, is deployed. Errs with `RuntimeMissing` if it isn't.
 pub(crate) fn try_runtime(state: &State, runtime: &Option<RefName>) -> Result<(), RunEnd>
     ensures { IsTried (missing_refusal state.now runtime.now) result }
 {

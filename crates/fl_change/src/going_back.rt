@@ -1,4 +1,4 @@
-//! Rollbacks.
+//! Rolling a ref back.
 ghost use Rattle.std.specs.Prelude.{◌≡◌, IfOk};
 ghost use Rattle.fp_small.specs.declared.state.Layout.TheVariants.{Two};
 ghost use Rattle.ost_walk.specs.Ends.{around};
@@ -18,7 +18,9 @@ use fp_small::Op;
 use std::alloc::Global;
 use std::thread::Threads;
 
-/// Puts a ref back to the commit that it was at before, whose runtime has to be there.
+/// Rolls a ref back to its previous commit. Errs with `NotInstalled` if the ref isn't deployed,
+/// with `NoPrevious` if it has no previous commit, with the refusal of that commit's metadata, and
+/// with `RuntimeMissing` if this metadata names a runtime that isn't deployed; in this order.
 pub(crate) fn roll_back<H: Host, R: Remotes>(
     rt: &(impl Threads + Sync),
     alloc: Global,

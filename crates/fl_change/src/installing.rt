@@ -1,4 +1,4 @@
-//! Installs, and the operations of a target.
+//! Installing a ref, and doing the operations of a plan.
 ghost use Rattle.std.specs.Prelude.{◌≡◌, true, IfOk};
 ghost use Rattle.std.specs.List.{AllByRecursion};
 ghost use Rattle.fp_small.specs.Config.{name_of};
@@ -49,7 +49,7 @@ pub(crate) fn do_ops<H: Host, R: Remotes>(
     Ok(current)
 }
 
-/// Brings a ref from a remote, with all that comes along.
+/// Installs or updates a ref from a remote, with the runtime and the extensions that the plan has.
 pub(crate) fn bring_target<H: Host, R: Remotes>(
     rt: &(impl Threads + Sync),
     alloc: Global,
@@ -74,7 +74,8 @@ pub(crate) fn bring_target<H: Host, R: Remotes>(
     do_ops(rt, alloc, host, remotes, acted, opened, plan.as_slice())
 }
 
-/// Installs a ref from the remote of this name.
+/// Installs a ref from the remote with this name. Errs with `NoSuchRemote` if the state has no such
+/// remote, and with `AlreadyInstalled` if the ref is deployed.
 pub(crate) fn install<H: Host, R: Remotes>(
     rt: &(impl Threads + Sync),
     alloc: Global,

@@ -1,5 +1,5 @@
-//! Laws of worlds, of changes in turn, and of what changes of the settings answer. Each is the
-//! contract of a function that does nothing.
+//! Laws of worlds, of changes one after another, and of changes of the settings. Each law is the
+//! contract of a function with an empty body.
 ghost use Rattle.std.specs.Prelude.{◌≡◌, ◌≤◌, ◌<◌, ◌+◌, ℕ, List, [], ◌∷◌, true, false, length, Some, None};
 ghost use Rattle.fp_base.specs.declared.object.ObjKind.{ObjKind};
 ghost use Rattle.fp_base.specs.declared.what.What.TheVariants as whats;
@@ -29,8 +29,8 @@ ghost use Rattle.fl_change.specs.Settings.{first_from};
 ghost use Rattle.fl_change.specs.Turns.{change_over, changing, in_turn};
 ghost use Rattle.fl_change.specs.Premises.{after_piece, done_piece};
 
-/// A world has the objects of the orders of its state's commits as they are, and it has nothing
-/// else: what it has is all used. Operations make of its state what they make of a state.
+/// States that a world has exactly the objects that the commits of its state use, and that
+/// operations change its state as they change any state.
 pub fn worlds_have_what_is_used()
     ensures used { (s : State) (have : Have) (commit : List ℕ) (p : Place)
         → In (kept_commits s) commit → In (order have commit) p
@@ -42,8 +42,9 @@ pub fn worlds_have_what_is_used()
         → (worlds_after held x ops).state ≡ after_all x.state ops }
 {}
 
-/// Changes go in turn. After one that does nothing the next is done over the same world, after one
-/// that does an operation over the world that this leaves. One that is refused ends them.
+/// States how changes are made one after another. After a change that does nothing, the next one is
+/// made in the same world; after one that does an operation, in the world that this leaves. A
+/// refused change ends them.
 pub fn changes_go_in_turn()
     ensures none { (held : Holdings) (x : World) → in_turn [] held x ≡ nothing }
     ensures stays { (held : Holdings) (x : World) (change : Change) (more : List Change)
@@ -58,8 +59,8 @@ pub fn changes_go_in_turn()
         → in_turn (change ∷ more) held x ≡ refusal_answer refusal }
 {}
 
-/// An installation of layout 1 is migrated before the first change, even before one that is
-/// refused. One of layout 2 isn't.
+/// States that an installation of layout 1 is migrated before the first change, even if that is
+/// refused, and that one of layout 2 isn't migrated.
 pub fn migration_comes_first()
     ensures migrates { (held : Holdings) (x : World) (more : List Change) (next : Answer)
         → x.state.layout ≡ One → in_turn more held (world_after held x (plain ops.Migrate)) ≡ next
@@ -68,8 +69,8 @@ pub fn migration_comes_first()
         → changing more held x ≡ in_turn more held x }
 {}
 
-/// Nothing is pulled before a change is refused for what the state says, as for a pin that stands.
-/// What an operation is refused for is found in what is pulled.
+/// States that nothing is pulled for a change that the state refuses, as for a pin that exists
+/// already. The refusals of an operation are found in what is pulled.
 pub fn some_refusals_pull_nothing()
     ensures pin { (held : Holdings) (x : World) (pin : List ℕ)
         → is_among x.state.pins pin ≡ true
@@ -78,7 +79,8 @@ pub fn some_refusals_pull_nothing()
         → op_refusal have op ≡ Some refusal → IsUnpulled (Some refusal) → ⊥ }
 {}
 
-/// A pattern is pinned once, and there are at most 1,024. One that isn't there isn't taken away.
+/// States that a pattern is pinned unless it is pinned already or there are 1,024 pins, and that it
+/// is unpinned if it is pinned.
 pub fn pins_answer()
     ensures exists { (held : Holdings) (x : World) (pin : List ℕ)
         → is_among x.state.pins pin ≡ true
@@ -98,7 +100,8 @@ pub fn pins_answer()
         → change_over (changes.Unpin pin) held x ≡ op_answer (ops.DropPin pin) }
 {}
 
-/// A remote is added once, and there are at most 256. One that isn't there isn't modified.
+/// States that a remote is added unless its name exists already or there are 256 remotes, and that
+/// it is modified if it exists.
 pub fn remotes_answer()
     ensures exists { (held : Holdings) (x : World) (row : RemoteRow)
         → has_name name_of x.state.remotes row.name ≡ true
@@ -120,8 +123,8 @@ pub fn remotes_answer()
         → change_over (changes.RemoteModify row) held x ≡ op_answer (ops.ModifyRemote row) }
 {}
 
-/// A remote that isn't there isn't deleted, nor is one that a deployed ref comes from: the first
-/// such ref is told.
+/// States that a remote is deleted if it exists and no deployed ref comes from it. The refusal
+/// names the first ref that does.
 pub fn deleted_remotes_answer()
     ensures absent { (held : Holdings) (x : World) (name : List ℕ)
         → has_name name_of x.state.remotes name ≡ false

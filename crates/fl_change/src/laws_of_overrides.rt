@@ -1,5 +1,5 @@
-//! Laws of what changes of overrides by options answer. Each is the contract of a function that
-//! does nothing.
+//! Laws of overrides that are changed by options. Each law is the contract of a function with an
+//! empty body.
 ghost use Rattle.std.specs.Prelude.{◌≡◌, ◌<◌, ◌≤◌, ℕ, List, [], ◌∷◌, ◌++◌, true, codes};
 ghost use Rattle.fp_base.specs.declared.what.What.TheVariants as whats;
 ghost use Rattle.fp_host.specs.Remote.{Holdings};
@@ -20,7 +20,7 @@ ghost use Rattle.fl_change.specs.Overrides.{changed_file};
 ghost use Rattle.fl_change.specs.Turns.{change_over};
 ghost use Rattle.fl_change.specs.Premises.{override_len, override_with};
 
-/// An override is changed by options, unless its text had more than 1 MiB then.
+/// States that an override is changed by options, unless its text would have more than 1 MiB.
 pub fn changed_overrides_answer()
     ensures limit { (held : Holdings) (x : World) (name : List ℕ) (options : List (List ℕ))
         → small_most < override_len x name options
@@ -32,15 +32,16 @@ pub fn changed_overrides_answer()
         ≡ op_answer (ops.SetOverride (override_with x name options)) }
 {}
 
-/// A changed override reads back, of each permission, as the last mention of the old one and the
-/// options joined.
+/// States that a changed override has, of each permission, the last mention in the old override
+/// followed by the options.
 pub fn changed_overrides_have_the_last()
     ensures { (file : List Group) (options : List (List ℕ)) (p : Permission) → is_good file ≡ true
         → last_mention (file_mentions sources.Override (changed_file file options)) p
         ≡ last_mention (file_mentions sources.Override file ++ layer_of options) p }
 {}
 
-/// Options make an override where there is none, and the last one decides.
+/// States that options create an override if there is none, and that the last option for a
+/// permission counts.
 pub fn sample_options_make_overrides()
     ensures denied { text_of (changed_file [] (codes "--unshare=network" ∷ []))
         ≡ codes "[Context]\nshared=!network;\n" }

@@ -1,5 +1,5 @@
-//! Laws of what changes of refs and of overrides answer. Each is the contract of a function that
-//! does nothing.
+//! Laws of changes of refs, and of resets of overrides. Each law is the contract of a function with
+//! an empty body.
 ghost use Rattle.std.specs.Prelude.{◌≡◌, ℕ, List, [], ◌∷◌, ◌++◌, map, true, false, Some, None, Ok, Err, Contains, codes};
 ghost use Rattle.fp_base.specs.declared.object.ObjKind.{ObjKind};
 ghost use Rattle.fp_base.specs.declared.object.ObjKind.TheVariants as kinds;
@@ -42,9 +42,9 @@ ghost use Rattle.fl_change.specs.Sample as sample;
 ghost use Rattle.fl_change.specs.Turns.{change_over};
 ghost use Rattle.fl_change.specs.Premises.{Does, GoesBackTo, IsDeployedFrom, IsOfNoOffer, MayInstall, NamesRuntime, after_piece, done_piece, drops_over, remote_named, targets_over};
 
-/// Operations go in turn. Each prints its line, and the next one works on the world that it leaves.
-/// The first whose commit is refused ends them: nothing is printed of those that would come after
-/// it.
+/// States how operations are done one after another. Each prints its line, and the next is done in
+/// the world that it leaves. The first whose commit is refused ends them, and nothing is printed
+/// for those after it.
 pub fn operations_go_in_turn()
     ensures none { (held : Holdings) (x : World) → ops_over [] held x ≡ nothing }
     ensures done { (held : Holdings) (x : World) (op : Op) (more : List Op) (d : Done)
@@ -55,8 +55,8 @@ pub fn operations_go_in_turn()
         → ops_over (op ∷ more) held x ≡ refusal_answer refusal }
 {}
 
-/// An install is refused for its remote first, then for its ref, which may not be deployed, and
-/// then for what the plan is refused for. Else the operations of the plan are done.
+/// States the refusals of an install in their order: the remote doesn't exist, the ref is deployed,
+/// or the plan is refused. Otherwise the operations of the plan are done.
 pub fn installs_answer()
     ensures no_remote { (held : Holdings) (x : World) (remote : List ℕ) (name : Ref)
         → remote_named x remote ≡ None
@@ -77,9 +77,10 @@ pub fn installs_answer()
         → change_over (changes.Install remote name) held x ≡ ops_over plan held x }
 {}
 
-/// An update of a ref is refused for the ref first, which has to be deployed, then for the remote
-/// that it comes from, and then for what the plan is refused for: here a ref that isn't offered is
-/// refused too. Where there is nothing to do, nothing is printed.
+/// States the refusals of an update of one ref in their order: the ref isn't deployed, the remote
+/// that it comes from doesn't exist, or the plan is refused, for example because the remote doesn't
+/// offer the ref. Otherwise the operations of the plan are done. If there are none, nothing is
+/// printed.
 pub fn updates_answer()
     ensures not_installed { (held : Holdings) (x : World) (name : Ref)
         → row_at x.state name ≡ None
@@ -102,9 +103,8 @@ pub fn updates_answer()
         → change_over (changes.UpdateOne name) held x ≡ nothing }
 {}
 
-/// Of an update of all that is installed, a target whose remote is gone is skipped, and so is one
-/// that its remote doesn't offer. Any other refusal is one here too: that a remote has the wrong
-/// mode is no reason to skip.
+/// States what an update of all does for one ref. The ref is skipped if its remote is gone or
+/// doesn't offer it. Any other refusal is final, as that of a remote with the wrong mode.
 pub fn targets_answer()
     ensures remote_gone { (held : Holdings) (x : World) (name : Ref) (row : RefRow)
         → row_at x.state name ≡ Some row → remote_named x row.origin ≡ None
@@ -127,9 +127,9 @@ pub fn targets_answer()
         → target_over name held x ≡ ops_over plan held x }
 {}
 
-/// An update of all goes through the targets that are there at its start. After one that is skipped
-/// the next is asked over the same world, after one that is brought over the world with it. A
-/// target that is refused ends the update.
+/// States how an update of all goes on. It updates the refs that are deployed at its start. After a
+/// ref that is skipped or has no update, the next one is updated in the same world; after one that
+/// is updated, in the world that this leaves. A ref that is refused ends the update.
 pub fn updates_of_all_go_on()
     ensures begins { (held : Holdings) (x : World)
         → change_over changes.UpdateAll held x ≡ targets_over (targets_of x.state None) held x }
@@ -149,8 +149,8 @@ pub fn updates_of_all_go_on()
         → targets_over (name ∷ more) held x ≡ refusal_answer refusal }
 {}
 
-/// A ref that isn't deployed isn't uninstalled, nor is a runtime that a deployed application names:
-/// the first such is told.
+/// States that a ref is uninstalled if it is deployed and no deployed application names it as its
+/// runtime. The refusal names the first application that does.
 pub fn uninstalls_answer()
     ensures not_installed { (held : Holdings) (x : World) (name : Ref)
         → row_at x.state name ≡ None
@@ -165,8 +165,8 @@ pub fn uninstalls_answer()
         → change_over (changes.Uninstall name) held x ≡ op_answer (ops.Uninstall name) }
 {}
 
-/// The runtimes that nothing needs at the start are taken away one after another, without a further
-/// question. Where there are none, nothing is printed.
+/// States that the runtimes that nothing needs at the start are uninstalled one after another, and
+/// are not checked again in between. If there are none, nothing is printed.
 pub fn unused_runtimes_go()
     ensures begins { (held : Holdings) (x : World)
         → change_over changes.UninstallUnused held x
@@ -179,9 +179,9 @@ pub fn unused_runtimes_go()
         (drops_over more held (world_after held x (plain (ops.Uninstall name)))) }
 {}
 
-/// A rollback is refused for a ref that isn't deployed, then for one that has no previous commit,
-/// then for what is wrong with the metadata of that commit, and then for the runtime that this
-/// metadata names, where it isn't there.
+/// States the refusals of a rollback in their order: the ref isn't deployed, it has no previous
+/// commit, the metadata of that commit is refused, or the runtime that this metadata names isn't
+/// deployed.
 pub fn rollbacks_answer()
     ensures not_installed { (held : Holdings) (x : World) (name : Ref)
         → row_at x.state name ≡ None
@@ -210,8 +210,7 @@ pub fn rollbacks_answer()
         ≡ op_answer (ops.Rollback name previous.commit) }
 {}
 
-/// An override that is there is taken away. Where there is none, nothing is done and nothing is
-/// printed.
+/// States that a reset removes the override if there is one; otherwise it does and prints nothing.
 pub fn resets_answer()
     ensures none { (held : Holdings) (x : World) (name : List ℕ)
         → at_name override_key x.state.overrides name ≡ None
@@ -221,10 +220,10 @@ pub fn resets_answer()
         → change_over (changes.OverrideReset name) held x ≡ op_answer (ops.DropOverride name) }
 {}
 
-/// A runtime is installed from a remote that offers it with all its objects: its line is printed,
-/// and it is deployed. After that the same install is refused, an update of all has nothing to do
-/// and prints nothing, a rollback has no commit to go back to, and an uninstall leaves the state of
-/// before.
+/// States what is done with a sample runtime that a remote offers with all its objects. Its install
+/// prints its line and deploys it. After that, the same install is refused, an update of all does
+/// and prints nothing, a rollback is refused since there is no previous commit, and an uninstall
+/// leads back to the first state.
 pub fn sample_runtime_is_installed()
     ensures done { change_over (changes.Install (codes "hub") platform) sample.holdings sample.fresh
         ≡ done_answer sample.install }
@@ -242,8 +241,9 @@ pub fn sample_runtime_is_installed()
     ensures idle { change_over changes.UpdateAll sample.holdings sample.installed ≡ nothing }
 {}
 
-/// A runtime is updated from the same remote, by an update of the ref and by one of all: the commit
-/// of before becomes the previous one. An older commit that the remote offers is refused by both.
+/// States that a sample runtime is updated from its remote, both by an update of the ref and by an
+/// update of all, and that its old commit becomes the previous one. If the remote offers an older
+/// commit, both are refused.
 pub fn sample_runtime_is_updated()
     ensures done { change_over (changes.UpdateOne platform) sample.holdings (sample.world_since 7)
         ≡ done_answer sample.update }
@@ -258,9 +258,9 @@ pub fn sample_runtime_is_updated()
         ≡ refusal_answer (refusals.Older platform 8 7) }
 {}
 
-/// An install or an update lacks the objects of its commit's order that the world hasn't, and no
-/// other operation lacks one. The runtime's install lacks the object of its commit, but where the
-/// runtime is installed.
+/// States that an install lacks exactly the objects of its commit that the world doesn't have, and
+/// an uninstall none. The install of the sample runtime lacks its commit object, unless the runtime
+/// is installed already.
 pub fn operations_lack_what_is_not_there()
     ensures lacked { (held : Holdings) (x : World) (name : Ref) (origin commit : List ℕ)
         (o : List ℕ × ObjKind) → is_digest o.0 ≡ true
@@ -281,8 +281,9 @@ pub fn operations_lack_what_is_not_there()
         → ⊥ }
 {}
 
-/// Operations make objects in turn: each just those that it lacks over the world that those before
-/// it leave. Where there is no operation, no file comes to a name below the store's objects.
+/// States that operations make objects one after another, each exactly those that it lacks in the
+/// world that the previous ones leave. If there is no operation, no file is put below the store's
+/// `objects`.
 pub fn operations_create_what_is_lacked()
     ensures none { (held : Holdings) (x : World) (v : View) → CreatesInTurn held x [] v v }
     ensures alone { (held : Holdings) (x : World) (d : Done) (u w : View) → KeepsFiles u w

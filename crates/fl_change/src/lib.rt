@@ -1,4 +1,4 @@
-//! Changes of an opened installation, one after another.
+//! Making changes to an opened installation, one after another.
 #![tactic(auto)]
 
 mod change;

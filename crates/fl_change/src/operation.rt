@@ -1,4 +1,4 @@
-//! One operation, its line, and the tidying after it.
+//! Doing one operation, printing its line, and tidying after it.
 ghost use Rattle.std.specs.Prelude.{◌≡◌, ◌⊎◌, ℕ, IfOk, IsErrOf, OnOk};
 ghost use Rattle.fp_host.specs.OverHost.{AtEachMoment, AtReturn, FailsOnly};
 ghost use Rattle.fp_small.specs.declared.state.Layout.TheVariants.{Two};
@@ -22,8 +22,9 @@ use op_change::apply;
 use std::alloc::Global;
 use std::thread::Threads;
 
-/// Does one operation, says its line once it is done, and tidies after it. The line is made before.
-/// `acted` is set once all that is done.
+/// Does one operation, prints its line once it is done, and tidies after it. Makes the line before
+/// the operation, so that memory can't run out between the two. Sets `acted` once all that is done.
+/// Condition: the state allows the operation, and the file of an override has at most 1 MiB.
 pub(crate) fn do_op<H: Host, R: Remotes>(
     rt: &(impl Threads + Sync),
     alloc: Global,
@@ -59,7 +60,7 @@ pub(crate) fn do_op<H: Host, R: Remotes>(
     Ok(tidied)
 }
 
-/// Does one operation, and says its line once it is done.
+/// Does one operation, and prints its line once it is done.
 fn do_and_say<H: Host, R: Remotes>(
     rt: &(impl Threads + Sync),
     alloc: Global,
@@ -86,8 +87,8 @@ fn do_and_say<H: Host, R: Remotes>(
     Ok(done)
 }
 
-/// Tidies after an operation. One that changes no commit left no more than work in `repo/tmp`, and an
-/// install besides a ref without its file, so nothing else is looked at.
+/// Tidies after an operation. An operation that changes no commit leaves at most temporary files in
+/// `repo/tmp`, and an install also a ref without its file. After these, nothing else is looked at.
 fn tidy_after<H: Host>(
     alloc: Global,
     host: &mut H,
@@ -110,7 +111,7 @@ fn tidy_after<H: Host>(
     }
 }
 
-/// Whether the operation changes no commit of an installation of layout 2.
+/// Returns whether the operation changes no commit: it is one on pins, remotes or an override.
 fn keeps_commits(op: &Op) -> bool
     ensures { result ≡ op_keeps_commits op.now }
 {

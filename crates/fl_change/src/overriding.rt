@@ -1,4 +1,4 @@
-//! Overrides.
+//! Changing and resetting overrides.
 ghost use Rattle.std.specs.Prelude.{◌≡◌, true, length, IfOk};
 ghost use Rattle.fp_small.specs.declared.state.Layout.TheVariants.{Two};
 ghost use Rattle.ost_walk.specs.Ends.{around};
@@ -28,10 +28,11 @@ use fp_small::{MOST_TEXT_BYTES, Op, OverrideRow, Refusal, State};
 use std::alloc::{AllocError, Global};
 use std::thread::Threads;
 
-/// The most bytes of the text of an override.
+/// The maximum length of the text of an override in bytes, 1 MiB.
 const OVERRIDE_MOST: usize = MOST_TEXT_BYTES as usize;
 
-/// What an override mentions, of each permission the last: nothing, where there is none.
+/// Returns, of each permission, the last mention in the override with this name; none if there is
+/// no such override.
 fn mentioned_in(alloc: Global, rows: &[OverrideRow], name: &Text) -> Result<OverrideSet, AllocError>
     ensures { IfOk result (λ set. (p : Permission) → value_in set p ≡ last_mention
         (file_mentions sources.Override (file_named rows.now name.now)) p) }
@@ -42,7 +43,7 @@ fn mentioned_in(alloc: Global, rows: &[OverrideRow], name: &Text) -> Result<Over
     }
 }
 
-/// The file of an override, changed by options.
+/// Returns the groups of the override with this name, changed by options.
 fn changed_file(
     alloc: Global,
     rows: &[OverrideRow],
@@ -59,7 +60,7 @@ fn changed_file(
     set.to_keyfile(alloc)
 }
 
-/// An override, changed by options.
+/// Returns the override with this name, changed by options.
 fn changed_row(
     alloc: Global,
     rows: &[OverrideRow],
@@ -75,7 +76,7 @@ fn changed_row(
     })
 }
 
-/// The size of the text of an override.
+/// Returns the length of the text of an override in bytes.
 fn text_size(row: &OverrideRow) -> Result<usize, AllocError>
     ensures size { IfOk result (λ n. n ≡ length (text_of row.now.file)) }
     ensures good { is_good row.now.file ≡ true }
@@ -84,7 +85,8 @@ fn text_size(row: &OverrideRow) -> Result<usize, AllocError>
     Ok(row.file.write()?.as_str().len())
 }
 
-/// An override is changed by options, where its text isn't too long then.
+/// Returns the operation that sets the override with this name, changed by options. Errs with
+/// `Limit` if its text would have more than 1 MiB.
 pub(crate) fn change_override(
     alloc: Global,
     state: &State,
@@ -107,7 +109,7 @@ pub(crate) fn change_override(
     Ok(Op::SetOverride(row))
 }
 
-/// Takes an override away, where there is one.
+/// Removes the override with this name; does nothing if there is none.
 pub(crate) fn reset<H: Host, R: Remotes>(
     rt: &(impl Threads + Sync),
     alloc: Global,

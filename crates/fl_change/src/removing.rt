@@ -1,4 +1,4 @@
-//! Uninstalls.
+//! Uninstalling refs.
 ghost use Rattle.std.specs.Prelude.{◌≡◌, ◌≢◌, None, IfOk};
 ghost use Rattle.fp_small.specs.declared.state.Layout.TheVariants.{Two};
 ghost use Rattle.ost_walk.specs.Ends.{around};
@@ -22,7 +22,8 @@ use fp_small::{Op, Refusal};
 use std::alloc::Global;
 use std::thread::Threads;
 
-/// Takes a ref away, unless a deployed application names it as its runtime.
+/// Uninstalls a ref. Errs with `NotInstalled` if it isn't deployed, and with `RuntimeInUse` if a
+/// deployed application names it as its runtime.
 pub(crate) fn uninstall<H: Host, R: Remotes>(
     rt: &(impl Threads + Sync),
     alloc: Global,
@@ -51,7 +52,7 @@ pub(crate) fn uninstall<H: Host, R: Remotes>(
     }
 }
 
-/// Takes a deployed ref away.
+/// Uninstalls a deployed ref.
 fn take_away<H: Host, R: Remotes>(
     rt: &(impl Threads + Sync),
     alloc: Global,
@@ -75,7 +76,7 @@ fn take_away<H: Host, R: Remotes>(
     do_op(rt, alloc, host, remotes, acted, opened, &op)
 }
 
-/// Takes the runtimes away that nothing keeps.
+/// Uninstalls the runtimes that no application, no pin and no extension point keeps.
 pub(crate) fn uninstall_unused<H: Host, R: Remotes>(
     rt: &(impl Threads + Sync),
     alloc: Global,
@@ -98,7 +99,7 @@ pub(crate) fn uninstall_unused<H: Host, R: Remotes>(
     drop_each(rt, alloc, host, remotes, acted, opened, names.as_slice())
 }
 
-/// Takes these refs away, one after another.
+/// Uninstalls these refs one after another, and passes over those that aren't deployed.
 fn drop_each<H: Host, R: Remotes>(
     rt: &(impl Threads + Sync),
     alloc: Global,
@@ -124,7 +125,7 @@ fn drop_each<H: Host, R: Remotes>(
     Ok(current)
 }
 
-/// Takes a ref away, where it is deployed.
+/// Uninstalls a ref; does nothing if it isn't deployed.
 fn drop_one<H: Host, R: Remotes>(
     rt: &(impl Threads + Sync),
     alloc: Global,

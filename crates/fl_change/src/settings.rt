@@ -1,4 +1,4 @@
-//! Changes of the settings.
+//! Changing pins and remotes.
 ghost use Rattle.std.specs.Prelude.{◌≡◌, IfOk};
 ghost use Rattle.fp_small.specs.declared.op.Op.TheVariants as ops;
 ghost use Rattle.fl_change.specs.Settings.{add_pin_refusal, drop_pin_refusal, add_remote_refusal, remote_refusal, drop_remote_refusal};
@@ -14,13 +14,14 @@ use fp_small::{
     MOST_PINS, MOST_REMOTES, Op, RefRow, Refusal, RemoteRow, State, has_pin, has_remote,
 };
 
-/// One pin more than there may be.
+/// One more than the maximum number of pins.
 const TOO_MANY_PINS: u64 = MOST_PINS as u64 + 1;
 
-/// One remote more than there may be.
+/// One more than the maximum number of remotes.
 const TOO_MANY_REMOTES: u64 = MOST_REMOTES as u64 + 1;
 
-/// A pin is added, where it isn't there and where there are few enough.
+/// Returns the operation that adds a pin. Errs with `PinExists` if the state has it, and with
+/// `Limit` if the state has 1,024 pins.
 pub(crate) fn add_pin(state: &State, pin: &PinPattern) -> Result<Op, RunEnd>
     ensures asked { IsAsked (add_pin_refusal state.now.pins pin.now) (ops.AddPin pin.now) result }
     ensures plain { IfOk result (IsPlain state.now) }
@@ -38,7 +39,7 @@ pub(crate) fn add_pin(state: &State, pin: &PinPattern) -> Result<Op, RunEnd>
     Ok(Op::AddPin(pin.copy()?))
 }
 
-/// A pin is dropped that is there.
+/// Returns the operation that drops a pin. Errs with `NoSuchPin` if the state doesn't have it.
 pub(crate) fn drop_pin(state: &State, pin: &PinPattern) -> Result<Op, RunEnd>
     ensures asked { IsAsked (drop_pin_refusal state.now.pins pin.now) (ops.DropPin pin.now) result }
     ensures plain { IfOk result (IsPlain state.now) }
@@ -49,7 +50,8 @@ pub(crate) fn drop_pin(state: &State, pin: &PinPattern) -> Result<Op, RunEnd>
     Ok(Op::DropPin(pin.copy()?))
 }
 
-/// A remote is added, where it isn't there and where there are few enough.
+/// Returns the operation that adds a remote. Errs with `RemoteExists` if the state has one with its
+/// name, and with `Limit` if the state has 256 remotes.
 pub(crate) fn add_remote(state: &State, row: &RemoteRow) -> Result<Op, RunEnd>
     ensures asked { IsAsked (add_remote_refusal state.now.remotes row.now.name)
         (ops.AddRemote row.now) result }
@@ -69,7 +71,7 @@ pub(crate) fn add_remote(state: &State, row: &RemoteRow) -> Result<Op, RunEnd>
     Ok(Op::AddRemote(row.copy()?))
 }
 
-/// A remote that isn't there.
+/// Checks that a remote with this name exists. Errs with `NoSuchRemote` if it doesn't.
 fn try_remote(remotes: &[RemoteRow], name: &RemoteName) -> Result<(), RunEnd>
     ensures { IsTried (remote_refusal remotes.now name.now) result }
 {
@@ -80,7 +82,8 @@ fn try_remote(remotes: &[RemoteRow], name: &RemoteName) -> Result<(), RunEnd>
     Ok(())
 }
 
-/// A remote gets another URL.
+/// Returns the operation that gives a remote this URL. Errs with `NoSuchRemote` if there is no
+/// remote with its name.
 pub(crate) fn modify_remote(state: &State, row: &RemoteRow) -> Result<Op, RunEnd>
     ensures asked { IsAsked (remote_refusal state.now.remotes row.now.name)
         (ops.ModifyRemote row.now) result }
@@ -90,7 +93,7 @@ pub(crate) fn modify_remote(state: &State, row: &RemoteRow) -> Result<Op, RunEnd
     Ok(Op::ModifyRemote(row.copy()?))
 }
 
-/// The first ref that comes from the remote.
+/// Returns the first row whose ref comes from the remote.
 fn first_from<'a>(rows: &'a [RefRow], remote: &RemoteName) -> Option<&'a RefRow>
     ensures { option_copied result ≡ find (λ row. bytes_eq row.origin remote.now) rows.now }
 {
@@ -98,7 +101,8 @@ fn first_from<'a>(rows: &'a [RefRow], remote: &RemoteName) -> Option<&'a RefRow>
         .find(|row| row.origin.as_str() == remote.as_str())
 }
 
-/// A remote is dropped from which no ref comes.
+/// Returns the operation that drops a remote. Errs with `NoSuchRemote` if it doesn't exist, and
+/// with `RemoteInUse` if a deployed ref comes from it.
 pub(crate) fn drop_remote(state: &State, name: &RemoteName) -> Result<Op, RunEnd>
     ensures asked { IsAsked (drop_remote_refusal state.now name.now)
         (ops.DropRemote name.now) result }

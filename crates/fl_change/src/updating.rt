@@ -1,4 +1,4 @@
-//! Updates.
+//! Updating refs.
 ghost use Rattle.std.specs.Prelude.{◌≡◌, Bool, true, IfOk};
 ghost use Rattle.fp_small.specs.Config.{name_of};
 ghost use Rattle.fp_small.specs.Order.{has_name};
@@ -24,7 +24,8 @@ use ost_walk::PullEnd;
 use std::alloc::Global;
 use std::thread::Threads;
 
-/// Updates one ref, from the remote that it comes from.
+/// Updates one ref from the remote that it comes from. Errs with `NotInstalled` if it isn't
+/// deployed, and with `NoSuchRemote` if that remote is gone.
 pub(crate) fn update_one<H: Host, R: Remotes>(
     rt: &(impl Threads + Sync),
     alloc: Global,
@@ -48,7 +49,7 @@ pub(crate) fn update_one<H: Host, R: Remotes>(
     bring_target(rt, alloc, host, remotes, acted, opened, &remote, name)
 }
 
-/// Updates all that is installed: the runtimes, and then the applications.
+/// Updates all deployed refs: first the runtimes, then the applications.
 pub(crate) fn update_all<H: Host, R: Remotes>(
     rt: &(impl Threads + Sync),
     alloc: Global,
@@ -95,7 +96,8 @@ fn update_each<H: Host, R: Remotes>(
     Ok(current)
 }
 
-/// Updates one of all. It is passed over where the remote that it comes from isn't there any more.
+/// Updates one ref in an update of all, and skips it if the remote that it comes from is gone. Does
+/// nothing if the ref isn't deployed.
 fn update_target<H: Host, R: Remotes>(
     rt: &(impl Threads + Sync),
     alloc: Global,
@@ -124,14 +126,15 @@ fn update_target<H: Host, R: Remotes>(
     }
 }
 
-/// Whether a remote that can be pulled from doesn't offer the ref.
+/// Returns whether the refusal is that a remote doesn't offer a ref.
 fn is_no_offer(refusal: &Refusal) -> bool
     ensures { result ≡ no_offer refusal.now }
 {
     matches!(refusal, Refusal::NoSuchRef { .. })
 }
 
-/// Updates one of all from this remote. It is passed over where the remote doesn't offer it.
+/// Updates one ref from the remote in an update of all, and skips it if the remote doesn't offer
+/// it.
 fn update_from<H: Host, R: Remotes>(
     rt: &(impl Threads + Sync),
     alloc: Global,
@@ -167,7 +170,7 @@ fn update_from<H: Host, R: Remotes>(
     }
 }
 
-/// Says that a ref is passed over. No operation is done.
+/// Prints that a ref is skipped, and does no operation.
 fn skip<H: Host, R: Remotes>(
     alloc: Global,
     host: &mut H,

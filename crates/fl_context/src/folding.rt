@@ -1,4 +1,4 @@
-//! Layers folded into what they grant.
+//! Folding layers into grants.
 
 ghost use Rattle.std.specs.Prelude.{◌≡◌, IfOk};
 ghost use Rattle.fl_meta.specs.declared.permission.Permission.{Permission};
@@ -10,7 +10,7 @@ use crate::latest::{Latest, copied, take_layer};
 use fl_meta::Layer;
 use std::alloc::{AllocError, Global};
 
-/// The last mention of each permission in all layers.
+/// Returns the last mention of each permission in all layers, in ascending order of permissions.
 #[tactic(auto, unfolding(crate::specs::Latest::merged, crate::specs::Latest::merged_onto))]
 fn merge(alloc: Global, layers: &[&Layer]) -> Result<Layer, AllocError>
     ensures merged { IfOk result (λ layer. layer ≡ merged (joined layers.now)) }
@@ -23,8 +23,8 @@ fn merge(alloc: Global, layers: &[&Layer]) -> Result<Layer, AllocError>
     copied(alloc, &latest)
 }
 
-/// What the layers grant: for each permission that they mention, the value of its last mention. A
-/// later layer goes before an earlier one.
+/// Returns the grants of layers: each permission that they mention, with the value of its last
+/// mention. A later layer takes precedence over an earlier one.
 pub fn fold(alloc: Global, layers: &[&Layer]) -> Result<Grants, AllocError>
     ensures last { IfOk result (λ grants. (p : Permission) → value_in grants p ≡ last_mention
         (joined layers.now) p) }

@@ -1,4 +1,4 @@
-//! What a sandbox is granted.
+//! The grants of a sandbox.
 
 ghost use Rattle.std.specs.Prelude.{◌≡◌, IfOk};
 ghost use Rattle.std.specs.Option.{option_copied};
@@ -9,7 +9,8 @@ use fl_meta::{Layer, Mention, Permission, Value};
 use std::alloc::AllocError;
 use std::marker::Model;
 
-/// The value of each permission that is mentioned, ascending by the order of permissions.
+/// The value of each mentioned permission, in ascending order of permissions. A value may be a
+/// denial.
 ///
 /// Contracts see the list of the mentions.
 #[derive(Drop)]
@@ -30,7 +31,7 @@ impl Model for Grants {
     ghost invariant = { λ g. IsAscending g.mentions };
 }
 
-/// Whether a value grants its permission: it isn't off, and isn't the bus level `none`.
+/// Returns whether a value grants its permission: it is neither `Off` nor the bus level `NoBus`.
 pub fn is_granted(value: &Value) -> bool
     ensures { result ≡ granting.is_granted value.now }
 {
@@ -38,7 +39,8 @@ pub fn is_granted(value: &Value) -> bool
 }
 
 impl Grants {
-    /// What a layer says that ascends, which takes no memory.
+    /// Turns a layer in ascending order, with one mention for each permission, into grants. It
+    /// doesn't allocate.
     pub fn from_layer(mentions: Layer) -> Self
         requires { IsAscending mentions }
         ensures { result ≡ mentions }
@@ -46,7 +48,7 @@ impl Grants {
         Grants { mentions }
     }
 
-    /// The mentions, one for each permission, ascending.
+    /// Returns the mentions, one for each permission, in ascending order.
     pub fn as_slice(&self) -> &[Mention]
         ensures mentions { result.now ≡ self.now }
         ensures ascending { IsAscending self.now }
@@ -54,7 +56,7 @@ impl Grants {
         self.mentions.as_slice()
     }
 
-    /// The same as a layer.
+    /// Returns the mentions as a layer, one for each permission, in ascending order.
     pub fn as_layer(&self) -> &Layer
         ensures mentions { result.now ≡ self.now }
         ensures ascending { IsAscending self.now }
@@ -62,7 +64,7 @@ impl Grants {
         &self.mentions
     }
 
-    /// The same as a layer of its own, which takes no memory.
+    /// Turns the grants into a layer of their mentions, in ascending order. It doesn't allocate.
     pub fn into_layer(self) -> Layer
         ensures mentions { result ≡ self }
         ensures ascending { IsAscending result }
@@ -70,7 +72,7 @@ impl Grants {
         self.mentions
     }
 
-    /// The value of a permission, and None where no layer mentions it.
+    /// Returns the value of a permission, or `None` if it isn't mentioned.
     pub fn value(&self, permission: &Permission) -> Option<&Value>
         ensures { option_copied result ≡ value_in self.now permission.now }
     {

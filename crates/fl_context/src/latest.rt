@@ -11,7 +11,7 @@ use std::collections::BTreeMap;
 /// The last value of each permission so far.
 pub(crate) type Latest<'a> = BTreeMap<&'a Permission, &'a Value>;
 
-/// Takes in the next mention.
+/// Records a mention as the last one of its permission.
 pub(crate) fn take_mention<'a>(
     latest: &mut Latest<'a>,
     mention: &'a Mention,
@@ -23,7 +23,7 @@ pub(crate) fn take_mention<'a>(
     Ok(())
 }
 
-/// Takes in the next layer.
+/// Records the mentions of a layer, in order.
 #[tactic(auto, unfolding(crate::specs::Latest::merged_onto))]
 pub(crate) fn take_layer<'a>(latest: &mut Latest<'a>, layer: &'a Layer) -> Result<(), AllocError>
     ensures { OnOk result (mentions_of latest.new ≡ merged_onto (mentions_of latest.old)
@@ -35,7 +35,7 @@ pub(crate) fn take_layer<'a>(latest: &mut Latest<'a>, layer: &'a Layer) -> Resul
     Ok(())
 }
 
-/// The mention of a permission.
+/// Returns a mention with copies of a permission and its value.
 fn mention_of(permission: &Permission, value: &Value) -> Result<Mention, AllocError>
     ensures { IfOk result (λ m. m ≡ record { permission = permission.now; value = value.now }) }
 {
@@ -45,7 +45,7 @@ fn mention_of(permission: &Permission, value: &Value) -> Result<Mention, AllocEr
     })
 }
 
-/// Copies of the last mentions.
+/// Copies the last mentions, in ascending order of permissions.
 pub(crate) fn copied(alloc: Global, latest: &Latest<'_>) -> Result<Layer, AllocError>
     ensures mentions { IfOk result (λ layer. layer ≡ mentions_of latest.now) }
     ensures ascending { IfOk result IsAscending }

@@ -1,4 +1,4 @@
-//! What layers of mentions grant: the last mention of a permission decides.
+//! Grants: what layers of mentions grant an application. The last mention of a permission decides.
 #![tactic(auto)]
 
 mod folding;

@@ -1,4 +1,4 @@
-//! The content of files of the installation's store.
+//! The content of files in the installation's store.
 ghost use Rattle.std.specs.Prelude.{◌≡◌, IfOk, IsErrOf};
 ghost use Rattle.fp_base.specs.declared.object.ObjKind.TheVariants as kinds;
 ghost use Rattle.fp_host.specs.OverHost.{ChangesNothing, FailsAlone};
@@ -14,10 +14,11 @@ use fp_small::repo_path;
 use ost_store::{Got, get, read_within};
 use std::alloc::Global;
 
-/// The most bytes that a desktop file has: 1 MiB.
+/// The maximum length of an exported desktop file in bytes, 1 MiB.
 const MOST_BYTES: u64 = 1024 * 1024;
 
-/// The content of a file, where it has at most 1 MiB.
+/// Reads the content of a file object; returns `None` if it is missing, a symlink or longer than 1
+/// MiB. Changes nothing.
 pub(crate) fn read_short<H: Host>(
     alloc: Global,
     host: &mut H,
@@ -32,7 +33,7 @@ pub(crate) fn read_short<H: Host>(
     read_within(alloc, host, &root, digest, MOST_BYTES)
 }
 
-/// Whether the object is a file.
+/// Returns whether the object exists and is a regular file. Changes nothing.
 pub(crate) fn is_file<H: Host>(
     alloc: Global,
     host: &mut H,

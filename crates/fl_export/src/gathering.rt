@@ -1,4 +1,4 @@
-//! What an application exports.
+//! The exports of an application.
 ghost use Rattle.std.specs.Prelude.{◌≡◌, ◌++◌, map, option_map, option_to_list, true, IfOk, OnOk, IsErrOf};
 ghost use Rattle.fp_host.specs.OverHost.{ChangesNothing, FailsAlone};
 ghost use Rattle.fp_host.specs.Paths.{is_element as is_name};
@@ -22,7 +22,7 @@ use fp_small::RefRow;
 use ost_object::{DirEntry, DirTree, FileEntry};
 use std::alloc::{AllocError, Global};
 
-/// The row of a desktop file with these bytes, where they are a key file.
+/// Returns the row of a desktop file with these bytes, or `None` if they aren't a key file.
 fn desktop_row(
     alloc: Global,
     name: &RefName,
@@ -43,7 +43,8 @@ fn desktop_row(
     }
 }
 
-/// The row of a file among the desktop files, where it is exported.
+/// Returns the row of a file in `export/share/applications`, or `None` if the file isn't exported.
+/// Changes nothing.
 fn desktop_of<H: Host>(
     alloc: Global,
     host: &mut H,
@@ -65,7 +66,7 @@ fn desktop_of<H: Host>(
     }
 }
 
-/// Adds the row that there is.
+/// Appends the row, if there is one.
 fn add_row(found: Option<ExportRow>, rows: &mut Vec<ExportRow>) -> Result<(), AllocError>
     ensures { OnOk result (rows.new.items ≡ rows.old.items ++ option_to_list found) }
 {
@@ -75,7 +76,7 @@ fn add_row(found: Option<ExportRow>, rows: &mut Vec<ExportRow>) -> Result<(), Al
     Ok(())
 }
 
-/// Adds the rows of these files, as desktop files.
+/// Appends the rows of the exported desktop files among these files. Changes nothing on the host.
 fn add_desktop_files<H: Host>(
     alloc: Global,
     host: &mut H,
@@ -96,7 +97,7 @@ fn add_desktop_files<H: Host>(
     Ok(())
 }
 
-/// The row of an icon.
+/// Returns the row of an icon.
 fn icon_row(alloc: Global, name: &RefName, size: &str, file: &str) -> Result<ExportRow, AllocError>
     requires size { is_name size.now ≡ true }
     requires file { is_name file.now ≡ true }
@@ -111,7 +112,8 @@ fn icon_row(alloc: Global, name: &RefName, size: &str, file: &str) -> Result<Exp
     })
 }
 
-/// The row of a file among the icons of a size, where it is exported.
+/// Returns the row of a file in the icons of a size, or `None` if the file isn't exported. Changes
+/// nothing.
 fn icon_of<H: Host>(
     alloc: Global,
     host: &mut H,
@@ -136,7 +138,7 @@ fn icon_of<H: Host>(
     }
 }
 
-/// Adds the rows of these files, as icons of a size.
+/// Appends the rows of the exported icons among these files of a size. Changes nothing on the host.
 fn add_icon_files<H: Host>(
     alloc: Global,
     host: &mut H,
@@ -159,7 +161,7 @@ fn add_icon_files<H: Host>(
     Ok(())
 }
 
-/// Adds the rows of the icons of a size.
+/// Appends the rows of the exported icons of a size. Changes nothing on the host.
 fn add_size<H: Host>(
     alloc: Global,
     host: &mut H,
@@ -183,7 +185,7 @@ fn add_size<H: Host>(
     }
 }
 
-/// Adds the rows of the icons of these sizes.
+/// Appends the rows of the exported icons of these sizes. Changes nothing on the host.
 fn add_sizes<H: Host>(
     alloc: Global,
     host: &mut H,
@@ -203,7 +205,7 @@ fn add_sizes<H: Host>(
     Ok(())
 }
 
-/// Adds the rows of the desktop files that a commit exports.
+/// Appends the rows of the desktop files that a commit exports. Changes nothing on the host.
 fn add_applications<H: Host>(
     alloc: Global,
     host: &mut H,
@@ -223,7 +225,7 @@ fn add_applications<H: Host>(
     }
 }
 
-/// Adds the rows of the icons that a commit exports.
+/// Appends the rows of the icons that a commit exports. Changes nothing on the host.
 fn add_icons<H: Host>(
     alloc: Global,
     host: &mut H,
@@ -243,7 +245,8 @@ fn add_icons<H: Host>(
     }
 }
 
-/// Adds the rows of a commit of an application.
+/// Appends the rows that an application's commit exports: the desktop files, then the icons.
+/// Changes nothing on the host.
 fn add_app<H: Host>(
     alloc: Global,
     host: &mut H,
@@ -261,7 +264,8 @@ fn add_app<H: Host>(
     add_icons(alloc, host, name, commit, rows)
 }
 
-/// Adds what the deployed commit of a row exports. A runtime exports nothing.
+/// Appends the rows that a deployed ref's commit exports. A runtime exports nothing. Changes
+/// nothing on the host.
 pub(crate) fn add_exports<H: Host>(
     alloc: Global,
     host: &mut H,

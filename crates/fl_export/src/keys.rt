@@ -1,4 +1,4 @@
-//! Which pairs of a desktop file are exported, by their keys.
+//! Selection of a desktop file's exported pairs, by their keys.
 ghost use Rattle.std.specs.Prelude.{◌≡◌, ◌&&◌, option_map};
 ghost use Rattle.std.specs.List.{list_all};
 ghost use Rattle.fp_keyfile.specs.Lines.{split_at};
@@ -6,14 +6,15 @@ ghost use Rattle.fl_export.specs.Keys as spec;
 
 use crate::rewriting::begins_with;
 
-/// A letter, a digit or `-`.
+/// Returns whether a byte may be in a key's name: an ASCII letter, a digit or `-`.
 fn is_name_byte(byte: u8) -> bool
     ensures { result ≡ spec.is_name_byte byte }
 {
     byte.is_ascii_alphanumeric() || byte == b'-'
 }
 
-/// A letter, a digit or one of `-`, `_`, `.` and `@`.
+/// Returns whether a byte may be in a key's locale: an ASCII letter, a digit or one of `-`, `_`,
+/// `.` and `@`.
 fn is_locale_byte(byte: u8) -> bool
     ensures { result ≡ spec.is_locale_byte byte }
 {
@@ -32,21 +33,21 @@ fn are_locale_bytes(bytes: &[u8]) -> bool
     bytes.iter().all(|byte| is_locale_byte(*byte))
 }
 
-/// Whether a text is the name of a key, without a locale.
+/// Returns whether a text is a key without a locale.
 fn is_name(text: &str) -> bool
     ensures { result ≡ spec.is_name text.now }
 {
     !text.is_empty() && are_name_bytes(text.as_bytes())
 }
 
-/// Whether a text is a locale.
+/// Returns whether a text is a locale.
 fn is_locale(text: &str) -> bool
     ensures { result ≡ spec.is_locale text.now }
 {
     !text.is_empty() && are_locale_bytes(text.as_bytes())
 }
 
-/// Whether a text is a locale and `]`.
+/// Returns whether a text is a locale followed by `]`.
 #[tactic(auto, unfolding(crate::specs::Keys::is_locale_end))]
 fn is_locale_end(text: &str) -> bool
     ensures { result ≡ spec.is_locale_end text.now }
@@ -57,7 +58,7 @@ fn is_locale_end(text: &str) -> bool
     }
 }
 
-/// What stands before the first `[`, and what stands after it.
+/// Splits a text at its first `[`, and returns what is before and after it.
 fn cut_at_bracket(text: &str) -> Option<(&str, &str)>
     ensures { option_map (λ x. (x.0.now, x.1.now)) result ≡ split_at 91 text.now }
 {
@@ -70,8 +71,9 @@ fn are_parts(name: &str, rest: &str) -> bool
     is_name(name) && is_locale_end(rest)
 }
 
-/// Whether a key has nothing but letters, digits and `-`, and at most one locale in brackets: of
-/// other keys desktops expand the values (`Icon[$e]`).
+/// Returns whether a key is `NAME` or `NAME[LOCALE]`, where NAME has only ASCII letters, digits and
+/// `-` (Desktop Entry Specification). Desktops may expand the values of other keys, such as
+/// `Icon[$e]`.
 fn is_plain(key: &str) -> bool
     ensures { result ≡ spec.is_plain key.now }
 {
@@ -81,31 +83,31 @@ fn is_plain(key: &str) -> bool
     }
 }
 
-/// Whether a desktop would run the value of this key outside the sandbox, or learn from it whose
-/// application it is.
+/// Returns whether a desktop would run the key's value outside the sandbox, or take it as the ID of
+/// the application that the file belongs to.
 fn is_foreign(key: &str) -> bool
     ensures { result ≡ spec.is_foreign key.now }
 {
     key == "X-GNOME-Bugzilla-ExtraInfoScript" || key == "X-Flatpak"
 }
 
-/// Whether the value says in which folder a desktop starts the launch, or that it starts a service
-/// on the bus in its place.
+/// Returns whether the key sets the directory in which a desktop starts the command, or makes a
+/// desktop start a D-Bus service instead of the command.
 fn is_misleading(key: &str) -> bool
     ensures { result ≡ spec.is_misleading key.now }
 {
     key == "Path" || key == "DBusActivatable"
 }
 
-/// Whether the value is a command that isn't rewritten: `TryExec`, which names a program of the
-/// application's own, and commands in a language.
+/// Returns whether the key's value is a command that isn't rewritten: `TryExec`, which names a
+/// program inside the application, and localised commands.
 fn is_other_command(key: &str) -> bool
     ensures { result ≡ spec.is_other_command key.now }
 {
     key == "TryExec" || begins_with(key, "Exec[") || begins_with(key, "TryExec[")
 }
 
-/// Whether pairs of this key are left out.
+/// Returns whether pairs with this key are left out.
 pub(crate) fn is_left_out(key: &str) -> bool
     ensures { result ≡ spec.is_left_out key.now }
 {

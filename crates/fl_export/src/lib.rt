@@ -1,4 +1,5 @@
-//! What a desktop needs to show the installed applications: the files that they export.
+//! The exports of installed applications: the desktop files and icons that a desktop needs to show
+//! them.
 #![tactic(auto)]
 
 mod contents;

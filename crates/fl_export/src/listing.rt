@@ -1,4 +1,4 @@
-//! All that is exported, in order.
+//! The list of all exports, in order.
 ghost use Rattle.std.specs.Prelude.{◌≡◌, IfOk, IsErrOf};
 ghost use Rattle.std.specs.BTreeMap.{values};
 ghost use Rattle.fp_host.specs.OverHost.{ChangesNothing, FailsAlone};
@@ -15,7 +15,8 @@ use fp_small::{RefRow, State, values_in_order};
 use std::alloc::{AllocError, Global};
 use std::collections::BTreeMap;
 
-/// What the deployed commits of these rows export, row by row.
+/// Returns the exports of the deployed commits of these refs, in the order of the refs. Changes
+/// nothing.
 fn all_exported<H: Host>(
     alloc: Global,
     host: &mut H,
@@ -33,7 +34,8 @@ fn all_exported<H: Host>(
     Ok(rows)
 }
 
-/// The rows by the texts of their paths. Of those of one path the first stays.
+/// Returns the rows by the texts of their paths. Of several rows with the same path, the first is
+/// kept.
 fn by_path(
     alloc: Global,
     mut rows: Vec<ExportRow>,
@@ -48,10 +50,11 @@ fn by_path(
     Ok(keyed)
 }
 
-/// What is exported of the installation's applications, ascending by the bytes of the paths, as its
-/// store has them: their desktop files in `share/applications`, rewritten, and links to their icons
-/// in `share/icons/hicolor`, where the name begins by the application's ID and `.` or `-`. Where
-/// two applications export one path, the first one's stays. Nothing changes.
+/// Returns what the installation's applications export according to its store, ascending by the
+/// bytes of the paths: desktop files in `share/applications`, rewritten, and symlinks to icons in
+/// `share/icons/hicolor`. Only files whose names begin with the application's ID and `.` or `-` are
+/// exported. If several refs export the same path, the export of the first is kept. Changes
+/// nothing.
 #[tactic(auto, unfolding(crate::specs::Exported::exported))]
 pub fn wanted<H: Host>(
     alloc: Global,

@@ -1,4 +1,4 @@
-//! Where exports stand.
+//! The paths of exports in an installation.
 ghost use Rattle.std.specs.Prelude.{◌≡◌, ◌++◌, IfOk};
 ghost use Rattle.fl_export.specs.Placed.{exports, places_of};
 
@@ -6,14 +6,14 @@ use crate::rows::ExportRow;
 use fp_host::Path;
 use std::alloc::{AllocError, Global};
 
-/// The folder of what is exported.
+/// Returns the path of the directory `exports`.
 pub(crate) fn exports_path(alloc: Global) -> Result<Path, AllocError>
     ensures { IfOk result (λ path. path ≡ exports) }
 {
     Path::root(alloc).child("exports")
 }
 
-/// The path in that folder.
+/// Returns the path below the directory `exports`.
 pub(crate) fn place_of(alloc: Global, path: &Path) -> Result<Path, AllocError>
     ensures { IfOk result (λ place. place ≡ path.now ++ exports) }
 {
@@ -23,7 +23,7 @@ pub(crate) fn place_of(alloc: Global, path: &Path) -> Result<Path, AllocError>
     }
 }
 
-/// The places of these rows.
+/// Returns the paths of these rows below `exports`.
 pub(crate) fn places_of(alloc: Global, rows: &[ExportRow]) -> Result<Vec<Path>, AllocError>
     ensures { IfOk result (λ places. places.items ≡ places_of rows.now) }
 {

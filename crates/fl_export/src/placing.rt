@@ -1,4 +1,4 @@
-//! Rows that are put at their places.
+//! Placing of exports below `exports`.
 ghost use Rattle.std.specs.Prelude.{◌↔◌, ◌∷◌, [], IsTrue, OnOk, IsErrOf};
 ghost use Rattle.fp_host.specs.OverHost.{AtEachMoment, AtReturn, FailsOnly};
 ghost use Rattle.fp_host.specs.Frame.{Frame, NoPath};
@@ -15,7 +15,7 @@ use fp_host::{Host, HostEnd, Path, Stat};
 use fp_small::{clear, make_above, replace};
 use std::alloc::Global;
 
-/// Whether a file may be put where this stands: nothing, or a file.
+/// Returns whether a file can be put over an entry with this status: it is absent or a file.
 fn may_stay(stat: &Stat) -> bool
     ensures { IsTrue result ↔ MayStay stat.now }
 {
@@ -25,7 +25,7 @@ fn may_stay(stat: &Stat) -> bool
     }
 }
 
-/// Takes a folder or a link away that stands at the place, with what is below it.
+/// Clears the path if it is a directory or a symlink. Leaves a file as it is.
 fn make_way<H: Host>(alloc: Global, host: &mut H, place: &Path) -> Result<(), HostEnd>
     ensures frame { Frame (GoneWithin place.now) (AbsentWithin place.now) NoPath
         (H.moments host.old) (H.moments host.new) }
@@ -40,7 +40,8 @@ fn make_way<H: Host>(alloc: Global, host: &mut H, place: &Path) -> Result<(), Ho
     clear(alloc, host, place)
 }
 
-/// Puts a file with these bytes there.
+/// Puts a file with these bytes and the permission bits 0644 at the path. Replaces a file
+/// atomically; clears a directory or symlink first.
 fn put_text<H: Host>(alloc: Global, host: &mut H, place: &Path, bytes: &Blob) -> Result<(), HostEnd>
     ensures any_moment { AtEachMoment H.Host host.old host.new
         (PutsAt place.now (what.Text bytes.now)) }
@@ -53,7 +54,8 @@ fn put_text<H: Host>(alloc: Global, host: &mut H, place: &Path, bytes: &Blob) ->
     replace(alloc, host, place, bytes.as_slice())
 }
 
-/// Puts a link with this text there.
+/// Puts a symlink with this text at the path. Clears the path first, so a crash may leave nothing
+/// there.
 fn put_link<H: Host>(alloc: Global, host: &mut H, place: &Path, text: &Text) -> Result<(), HostEnd>
     ensures any_moment { AtEachMoment H.Host host.old host.new
         (PutsAt place.now (what.Link text.now)) }
@@ -67,7 +69,7 @@ fn put_link<H: Host>(alloc: Global, host: &mut H, place: &Path, text: &Text) -> 
     Ok(host.symlink(text.as_str(), place)?)
 }
 
-/// Puts it there.
+/// Puts the export at the path.
 fn put<H: Host>(alloc: Global, host: &mut H, place: &Path, what: &ExportWhat) -> Result<(), HostEnd>
     ensures any_moment { AtEachMoment H.Host host.old host.new (PutsAt place.now what.now) }
     ensures on_success { OnOk result (AtReturn H.Host host.old host.new
@@ -81,7 +83,7 @@ fn put<H: Host>(alloc: Global, host: &mut H, place: &Path, what: &ExportWhat) ->
     }
 }
 
-/// Puts the row at its place, where something else stands there.
+/// Puts the row at its path below `exports`, unless it is there already.
 fn put_row<H: Host>(alloc: Global, host: &mut H, row: &ExportRow) -> Result<(), HostEnd>
     ensures any_moment { AtEachMoment H.Host host.old host.new (PutsRows (row.now ∷ [])) }
     ensures on_success { OnOk result (AtReturn H.Host host.old host.new (WerePut (row.now ∷ []))) }
@@ -95,7 +97,7 @@ fn put_row<H: Host>(alloc: Global, host: &mut H, row: &ExportRow) -> Result<(), 
     put(alloc, host, &place, &row.what)
 }
 
-/// Puts each of these rows at its place, where something else stands there.
+/// Puts each row at its path below `exports`, unless it is there already. Doesn't sync at the end.
 pub(crate) fn put_rows<H: Host>(
     alloc: Global,
     host: &mut H,

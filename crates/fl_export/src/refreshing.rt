@@ -1,4 +1,4 @@
-//! The folder `exports`, brought in step with the state.
+//! Refreshing of the directory `exports` from the state.
 ghost use Rattle.std.specs.Prelude.{OnOk, IsErrOf};
 ghost use Rattle.fp_host.specs.OverHost.{AtEachMoment, AtReturn, FailsOnly};
 ghost use Rattle.dep_states.specs.Sound.{Opens};
@@ -12,11 +12,13 @@ use fp_host::{Host, HostEnd};
 use fp_small::State;
 use std::alloc::Global;
 
-/// Makes the files and links at or below `exports` exactly those that are exported: takes those
-/// away that are exported no more, puts those there that are lacking or say something else, and
-/// syncs. What stands in the way of one goes, with what is below it; empty folders stay. Files are
-/// replaced as small files are. Where all is right already, no name and no file changes. It is for
-/// an installation that every stop leaves in this state and sound.
+/// Makes the files and symlinks at or below `exports` exactly the installation's exports, and
+/// syncs.
+///
+/// Removes files and symlinks that aren't exported any more, and puts those that are missing or
+/// differ. Clears what is in the way of an export, with everything below it; empty directories
+/// stay. Files are replaced atomically, symlinks aren't. If everything is in place already, no name
+/// and no file changes. The installation must be sound and in this state after every crash.
 pub fn refresh<H: Host>(alloc: Global, host: &mut H, state: &State) -> Result<(), HostEnd>
     ensures any_moment { AtEachMoment H.Host host.old host.new (Refreshes state.now) }
     ensures on_success { OnOk result (AtReturn H.Host host.old host.new (WasRefreshed state.now)) }

@@ -1,4 +1,4 @@
-//! Desktop files as they are exported, after the Desktop Entry Specification and Flatpak's own
+//! Rewriting of desktop files for export, after the Desktop Entry Specification and Flatpak's own
 //! exports.
 ghost use Rattle.std.specs.Prelude.{◌≡◌, ◌++◌, nat_eq, IfOk, OnOk, string_bytes};
 ghost use Rattle.std.specs.List.{list_all, starts_with};
@@ -11,7 +11,7 @@ use fp_keyfile::{Group, KeyError, KeyFile, Pair};
 use fp_name::RefName;
 use std::alloc::{AllocError, Global};
 
-/// What stands before the first space; all, where there is none.
+/// Returns the text before the first space, or all of it if there is none.
 fn first_word(value: &str) -> &str
     ensures { result.now ≡ spec.first_word value.now }
 {
@@ -21,7 +21,8 @@ fn first_word(value: &str) -> &str
     }
 }
 
-/// Whether a byte may stand in a command that is handed on.
+/// Returns whether a byte may be in a command that is handed on: an ASCII letter, a digit or one of
+/// `-_./+`.
 fn is_command_byte(byte: u8) -> bool
     ensures { result ≡ spec.is_command_byte byte }
 {
@@ -33,22 +34,23 @@ fn is_command_byte(byte: u8) -> bool
         || byte == b'+'
 }
 
-/// Whether all bytes may stand there.
+/// Returns whether all bytes may be in a command that is handed on.
 fn are_command_bytes(bytes: &[u8]) -> bool
     ensures { result ≡ list_all spec.is_command_byte bytes.now }
 {
     bytes.iter().all(|byte| is_command_byte(*byte))
 }
 
-/// Whether a word is handed on as a command: it isn't empty, and no desktop reads it as more than
-/// one.
+/// Returns whether a word is handed on as a command: it isn't empty, and no desktop can read it as
+/// other words.
 fn is_command(word: &str) -> bool
     ensures { result ≡ spec.is_command word.now }
 {
     !word.is_empty() && are_command_bytes(word.as_bytes())
 }
 
-/// The option that hands the word on as the command; none where it isn't handed on.
+/// Returns the option ` --command=WORD` that hands the word on, or an empty text if the word isn't
+/// handed on.
 fn command_option(alloc: Global, word: &str) -> Result<String, AllocError>
     ensures { IfOk result (λ option. string_bytes option ≡ spec.command_option word.now) }
 {
@@ -59,8 +61,8 @@ fn command_option(alloc: Global, word: &str) -> Result<String, AllocError>
     }
 }
 
-/// The command line by which a desktop launches the application, for what its own desktop file
-/// says.
+/// Returns the command line with which a desktop launches the application, for this value of `Exec`
+/// in the application's own desktop file.
 fn launch_line(alloc: Global, name: &RefName, value: &str) -> Result<String, AllocError>
     ensures { IfOk result (λ line. string_bytes line ≡ spec.launch_line name.now value.now) }
 {
@@ -69,7 +71,7 @@ fn launch_line(alloc: Global, name: &RefName, value: &str) -> Result<String, All
     format!(in alloc; "fpk launch {app}{option}")
 }
 
-/// Whether the text begins so.
+/// Returns whether the text begins with the prefix.
 #[tactic(auto, using(std::proofs::lemmas::Str::Pattern::starts_text))]
 pub(crate) fn begins_with(text: &str, prefix: &str) -> bool
     ensures { result ≡ starts_with nat_eq text.now prefix.now }
@@ -77,7 +79,7 @@ pub(crate) fn begins_with(text: &str, prefix: &str) -> bool
     text.starts_with(prefix)
 }
 
-/// The pair, with the launch of the application where it is the command.
+/// Returns a copy of the pair; if its key is `Exec`, the value is the launch of the application.
 fn launching(alloc: Global, name: &RefName, pair: &Pair) -> Result<Pair, AllocError>
     ensures { IfOk result (λ p. p ≡ spec.launching name.now pair.now) }
 {
@@ -91,7 +93,7 @@ fn launching(alloc: Global, name: &RefName, pair: &Pair) -> Result<Pair, AllocEr
     })
 }
 
-/// Adds the pair as it is exported.
+/// Appends the pair as it is exported, unless it is left out.
 fn add_pair(
     alloc: Global,
     name: &RefName,
@@ -108,7 +110,7 @@ fn add_pair(
     Ok(())
 }
 
-/// The group as it is exported.
+/// Returns the group as it is exported.
 fn rewritten_group(alloc: Global, name: &RefName, group: &Group) -> Result<Group, AllocError>
     ensures { IfOk result (λ g. g ≡ spec.rewritten_group name.now group.now) }
 {
@@ -122,7 +124,7 @@ fn rewritten_group(alloc: Global, name: &RefName, group: &Group) -> Result<Group
     })
 }
 
-/// The groups as they are exported.
+/// Returns the groups as they are exported.
 fn rewritten_file(alloc: Global, name: &RefName, file: &[Group]) -> Result<Vec<Group>, AllocError>
     ensures { IfOk result (λ groups. groups.items ≡ spec.rewritten_file name.now file.now) }
 {
@@ -133,24 +135,26 @@ fn rewritten_file(alloc: Global, name: &RefName, file: &[Group]) -> Result<Vec<G
     Ok(groups)
 }
 
-/// The text of the file as it is exported.
+/// Returns the text of the file as it is exported.
 fn rewritten_text(alloc: Global, name: &RefName, file: &KeyFile) -> Result<Blob, AllocError>
     ensures { IfOk result (λ text. text ≡ text_of (spec.rewritten_file name.now file.now)) }
 {
-    // Its text is that of a ref, which a value may hold.
+    // For the proof: the name's text is a valid ref, which can be in a key file's value.
     let _ref_text = name.as_str();
     let groups = rewritten_file(alloc, name, file.groups().as_slice())?;
     let text = KeyFile::from_groups(Items::from_vec(groups)).write()?;
     Ok(Blob::from_vec(text.into_string().into_bytes()))
 }
 
-/// The desktop file as it is exported for the application: the value of each `Exec` is `fpk launch
-/// REF --command=WORD`, WORD being what stood before its first space. The option is left out where
-/// the word is empty or has anything but ASCII letters, digits and `-_./+`: a desktop reads `%i`,
-/// quotes, `$` and backslashes as other words. Left out are the pairs `TryExec`, `Exec[..]`,
-/// `TryExec[..]`, `Path`, `DBusActivatable`, `X-Flatpak`, `X-GNOME-Bugzilla-ExtraInfoScript`, and
-/// those whose key has anything but letters, digits and `-`, and at most one `[LOCALE]`. None
-/// exactly where the bytes are no key file.
+/// Rewrites a desktop file for export by the application. Returns `None` exactly if the bytes
+/// aren't a key file.
+///
+/// The value of each `Exec` becomes `fpk launch REF --command=WORD`, where WORD is the text before
+/// the first space of the old value. The option is left out if WORD is empty or has anything but
+/// ASCII letters, digits and `-_./+`, because a desktop reads `%i`, quotes, `$` and backslashes as
+/// other words. Pairs are left out if their key is `TryExec`, `Exec[..]`, `TryExec[..]`, `Path`,
+/// `DBusActivatable`, `X-Flatpak` or `X-GNOME-Bugzilla-ExtraInfoScript`, or has anything but
+/// letters, digits and `-`, and at most one `[LOCALE]`.
 #[tactic(auto, unfolding(crate::specs::Rewritten::rewritten))]
 pub fn rewrite(alloc: Global, bytes: &[u8], name: &RefName) -> Result<Option<Blob>, AllocError>
     ensures { IfOk result (λ text. text ≡ spec.rewritten bytes.now name.now) }

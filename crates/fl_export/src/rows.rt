@@ -1,24 +1,24 @@
-//! What is exported.
+//! The rows of exports.
 use fp_base::{Blob, Text};
 use fp_host::Path;
 use fp_name::RefName;
 
-/// What stands at a path that is exported.
+/// The export at a path.
 #[derive(Debug, Drop)]
 pub enum ExportWhat {
     /// A file with these bytes and the permission bits 0644.
     Text(Blob),
-    /// A link with this text.
+    /// A symlink with this text.
     Link(Text),
 }
 
-/// A path below the folder `exports`, by the application that exports it.
+/// An exported path, with the application that exports it.
 #[derive(Debug, Drop)]
 pub struct ExportRow {
-    /// The path below the folder.
+    /// The path below the directory `exports`.
     pub path: Path,
     /// The ref of the application.
     pub name: RefName,
-    /// What stands at the path.
+    /// The file or symlink at the path.
     pub what: ExportWhat,
 }

@@ -1,4 +1,4 @@
-//! What stands at a place already.
+//! Checks of whether an export is in place already.
 ghost use Rattle.std.specs.Prelude.{◌≡◌, IfOk, IsErrOf};
 ghost use Rattle.fp_host.specs.OverHost.{AtReturn, ChangesNothing, FailsAlone};
 ghost use Rattle.fp_host.specs.Outcome.{shows};
@@ -10,7 +10,7 @@ use fp_host::{Host, HostEnd, Path, Stat};
 use fp_small::{FILE_MODE, Loaded, load};
 use std::alloc::Global;
 
-/// Whether a file with these permission bits is there.
+/// Returns whether the path is a file with the permission bits 0644. Changes nothing.
 fn has_bits<H: Host>(host: &mut H, place: &Path) -> Result<bool, HostEnd>
     ensures unchanged { ChangesNothing H.Host host.old host.new }
     ensures tells { IfOk result (λ has. AtReturn H.Host host.old host.new
@@ -23,7 +23,7 @@ fn has_bits<H: Host>(host: &mut H, place: &Path) -> Result<bool, HostEnd>
     }
 }
 
-/// Whether a file with these bytes is there.
+/// Returns whether the path is a file with these bytes. Changes nothing.
 fn has_bytes<H: Host>(
     alloc: Global,
     host: &mut H,
@@ -41,7 +41,8 @@ fn has_bytes<H: Host>(
     }
 }
 
-/// Whether both are so.
+/// Returns whether the path is a file with these bytes and the permission bits 0644. Changes
+/// nothing.
 fn is_text<H: Host>(
     alloc: Global,
     host: &mut H,
@@ -60,7 +61,7 @@ fn is_text<H: Host>(
     }
 }
 
-/// Whether a link with this text is there.
+/// Returns whether the path is a symlink with this text. Changes nothing.
 fn is_link<H: Host>(alloc: Global, host: &mut H, place: &Path, text: &Text) -> Result<bool, HostEnd>
     ensures unchanged { ChangesNothing H.Host host.old host.new }
     ensures tells { IfOk result (λ is. AtReturn H.Host host.old host.new
@@ -73,7 +74,7 @@ fn is_link<H: Host>(alloc: Global, host: &mut H, place: &Path, text: &Text) -> R
     }
 }
 
-/// Whether it stands there.
+/// Returns whether the export is at the path. Changes nothing.
 pub(crate) fn is_there<H: Host>(
     alloc: Global,
     host: &mut H,

@@ -1,4 +1,4 @@
-//! Files and links that are exported no more.
+//! Removal of files and symlinks that aren't exported any more.
 ghost use Rattle.std.specs.Prelude.{◌≡◌, ◌↔◌, IsTrue, OnOk, IsErrOf, Contains};
 ghost use Rattle.fp_host.specs.OverHost.{AtEachMoment, AtReturn, FailsOnly};
 ghost use Rattle.fp_host.specs.Paths.{dir, IsAbove};
@@ -13,11 +13,11 @@ use fp_host::{Host, HostEnd, Path, Stat};
 use fp_small::{MOST_ELEMENTS, take_away};
 use std::alloc::Global;
 
-/// No path below `exports` is more folders deep: a path of an installation has at most one element
-/// more.
+/// The maximum depth of a path below `exports`: one less than the maximum number of elements of a
+/// path, since `exports` is one.
 const MOST_LEVELS: usize = MOST_ELEMENTS - 1;
 
-/// Whether the path is one of these.
+/// Returns whether the path is in the list.
 fn has_path(paths: &[Path], path: &Path) -> bool
     ensures { IsTrue result ↔ Contains paths.now path.now }
 {
@@ -29,14 +29,14 @@ fn has_path(paths: &[Path], path: &Path) -> bool
     false
 }
 
-/// Whether the two paths are one.
+/// Returns whether the two paths are equal.
 fn is_same(path: &Path, other: &Path) -> bool
     ensures { IsTrue result ↔ (path.now ≡ other.now) }
 {
     path.is(other)
 }
 
-/// Takes the file or link at the path away, where that is none of the places.
+/// Removes the file or symlink at the path, unless it is in `places`.
 fn sweep_path<H: Host>(host: &mut H, places: &[Path], path: &Path) -> Result<(), HostEnd>
     ensures any_moment { AtEachMoment H.Host host.old host.new (SweepsAt path.now places.now) }
     ensures on_success { OnOk result (AtReturn H.Host host.old host.new
@@ -50,7 +50,8 @@ fn sweep_path<H: Host>(host: &mut H, places: &[Path], path: &Path) -> Result<(),
     take_away(host, path)
 }
 
-/// Takes away what is stale at the path, and at most `depth` folders below it.
+/// Removes the files and symlinks at or below the path, except those in `places`. Errs if anything
+/// is more than `depth` levels below the path.
 #[cycle(sweep)]
 fn sweep_within<H: Host>(
     alloc: Global,
@@ -75,7 +76,8 @@ fn sweep_within<H: Host>(
     }
 }
 
-/// Takes away what is stale in the folder, at most `depth` folders below it.
+/// Removes the files and symlinks below the directory, except those in `places`. Errs if anything
+/// is more than `depth` levels below it.
 #[cycle(sweep)]
 fn sweep_names<H: Host>(
     alloc: Global,
@@ -104,12 +106,13 @@ fn sweep_names<H: Host>(
     Ok(())
 }
 
-/// Takes each file and link at or below `exports` away that is at none of the places.
+/// Removes the files and symlinks at or below `exports`, except those in `places`. Errs if a path
+/// below `exports` has more than 128 elements. Leaves directories, also empty ones.
 pub(crate) fn sweep<H: Host>(alloc: Global, host: &mut H, places: &[Path]) -> Result<(), HostEnd>
     ensures any_moment { AtEachMoment H.Host host.old host.new (Cleans places.now) }
     ensures on_success { OnOk result (AtReturn H.Host host.old host.new
         (λ u w. HasNoStale places.now w)) }
-    // No path below `exports` was deeper.
+    // No path below `exports` had more than 128 elements at the entry.
     ensures reach { OnOk result (AtReturn H.Host host.old host.new
         (λ u w. Reaches exports MOST_LEVELS u)) }
     ensures fault_has_cause { FailsOnly H.Host host.old host.new

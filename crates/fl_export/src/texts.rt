@@ -1,4 +1,4 @@
-//! The names of what is exported, and the texts of links to it.
+//! The names of exports, and the texts of symlinks to them.
 ghost use Rattle.std.specs.Prelude.{◌≡◌, ◌∷◌, [], true, IfOk};
 ghost use Rattle.fp_host.specs.Paths.{is_element as is_name};
 ghost use Rattle.fl_export.specs.Texts as spec;
@@ -9,13 +9,13 @@ use fp_host::{Path, is_element};
 use fp_name::RefName;
 use std::alloc::{AllocError, Global};
 
-/// From the folder of the icons of a size to the installation's own.
+/// The path from the directory of an exported icon up to the installation's root.
 const UP: &str = "../../../../../../";
 
-/// From the folder of a ref to what its deployed commit exports.
+/// The path from the directory of a ref to the exports of its deployed commit.
 const ACTIVE: &str = "/active/export/";
 
-/// Whether a text begins by `.` or `-`.
+/// Returns whether a text begins with `.` or `-`.
 fn begins_by_mark(text: &[u8]) -> bool
     ensures { result ≡ spec.begins_by_mark text.now }
 {
@@ -25,8 +25,8 @@ fn begins_by_mark(text: &[u8]) -> bool
     }
 }
 
-/// Whether a file is one that an application may export: its name is one of a path, and begins by
-/// the application's ID and `.` or `-`.
+/// Returns whether an application may export a file with this name: it is a valid path element that
+/// begins with the application's ID and `.` or `-`.
 pub(crate) fn is_own(name: &RefName, file: &str) -> bool
     ensures { result ≡ spec.is_own name.now file.now }
 {
@@ -34,7 +34,7 @@ pub(crate) fn is_own(name: &RefName, file: &str) -> bool
     is_element(file) && begins_with(file, id) && begins_by_mark(&file.as_bytes()[id.len()..])
 }
 
-/// Whether it is the name of a desktop file.
+/// Returns whether a file name ends in `.desktop`.
 #[tactic(auto, using(std::proofs::lemmas::Str::Pattern::ends_text))]
 pub(crate) fn is_desktop(file: &str) -> bool
     ensures { result ≡ spec.is_desktop file.now }
@@ -42,7 +42,7 @@ pub(crate) fn is_desktop(file: &str) -> bool
     file.ends_with(".desktop")
 }
 
-/// The path of a desktop file.
+/// Returns the path of an exported desktop file below `exports`: `share/applications/FILE`.
 pub(crate) fn desktop_path(alloc: Global, file: &str) -> Result<Path, AllocError>
     requires { is_name file.now ≡ true }
     ensures { IfOk result (λ path. path ≡ spec.desktop_path file.now) }
@@ -51,7 +51,7 @@ pub(crate) fn desktop_path(alloc: Global, file: &str) -> Result<Path, AllocError
     share.child("applications")?.child(file)
 }
 
-/// The path of an icon.
+/// Returns the path of an exported icon below `exports`: `share/icons/hicolor/SIZE/apps/FILE`.
 pub(crate) fn icon_path(alloc: Global, size: &str, file: &str) -> Result<Path, AllocError>
     requires size { is_name size.now ≡ true }
     requires file { is_name file.now ≡ true }
@@ -62,7 +62,8 @@ pub(crate) fn icon_path(alloc: Global, size: &str, file: &str) -> Result<Path, A
     folder.child(file)
 }
 
-/// The text of the link to an icon.
+/// Returns the text of the symlink at the path of an exported icon: it leads to the same path below
+/// `active/export` in the directory of the ref.
 pub(crate) fn icon_text(alloc: Global, name: &RefName, path: &Path) -> Result<Text, AllocError>
     ensures { IfOk result (λ text. text ≡ spec.link_text name.now path.now) }
 {

@@ -1,5 +1,5 @@
-//! The directories of a commit, as the installation's store has them. What is missing or doesn't
-//! read has nothing in it.
+//! The directories of a commit in the installation's store. A directory that is missing or isn't
+//! valid counts as absent.
 ghost use Rattle.std.specs.Prelude.{◌≡◌, ◌∷◌, [], map, option_map, option_and_then, IfOk, IsErrOf, codes};
 ghost use Rattle.fp_base.specs.declared.object.ObjKind.TheVariants as kinds;
 ghost use Rattle.fp_host.specs.OverHost.{ChangesNothing, FailsAlone};
@@ -22,7 +22,7 @@ use ost_object::{DirEntry, DirTree, ObjectError, commit_root, read_dirtree};
 use ost_store::{Got, get};
 use std::alloc::{AllocError, Global};
 
-/// The dirtree of these bytes, where they are one.
+/// Parses a dirtree object; returns `None` if the bytes aren't one.
 fn tree_in(alloc: Global, bytes: &Blob) -> Result<Option<DirTree>, AllocError>
     ensures { IfOk result (λ tree. option_map tree_view tree ≡ tree_of bytes.now) }
 {
@@ -33,7 +33,8 @@ fn tree_in(alloc: Global, bytes: &Blob) -> Result<Option<DirTree>, AllocError>
     }
 }
 
-/// The digest of the root's dirtree of the commit of these bytes, where they are one.
+/// Parses a commit object, and returns the digest of its root's dirtree, or `None` if the bytes
+/// aren't a commit.
 fn root_in(alloc: Global, bytes: &Blob) -> Result<Option<Digest>, AllocError>
     ensures { IfOk result (λ root. root ≡ root_tree (commit_of bytes.now)) }
 {
@@ -44,7 +45,8 @@ fn root_in(alloc: Global, bytes: &Blob) -> Result<Option<Digest>, AllocError>
     }
 }
 
-/// The dirtree of this digest.
+/// Reads the dirtree with this digest; returns `None` if it is missing or not valid. Changes
+/// nothing.
 fn read_tree<H: Host>(
     alloc: Global,
     host: &mut H,
@@ -62,7 +64,8 @@ fn read_tree<H: Host>(
     }
 }
 
-/// The digest of the root's dirtree of the commit.
+/// Reads the commit, and returns the digest of its root's dirtree, or `None` if the commit is
+/// missing or not valid. Changes nothing.
 fn read_root<H: Host>(
     alloc: Global,
     host: &mut H,
@@ -80,7 +83,7 @@ fn read_root<H: Host>(
     }
 }
 
-/// The dirtree of this digest, where there is a digest.
+/// Reads the dirtree with this digest, if there is a digest. Changes nothing.
 fn tree_there<H: Host>(
     alloc: Global,
     host: &mut H,
@@ -97,7 +100,7 @@ fn tree_there<H: Host>(
     }
 }
 
-/// The root of the commit.
+/// Reads the root directory of the commit. Changes nothing.
 fn root_of<H: Host>(
     alloc: Global,
     host: &mut H,
@@ -112,7 +115,7 @@ fn root_of<H: Host>(
     tree_there(alloc, host, root)
 }
 
-/// The dirtree's digest of the directory of this name among these.
+/// Returns the digest of the dirtree of the first directory with this name in the list.
 fn find_tree(dirs: &[DirEntry], name: &str) -> Option<Digest>
     ensures { result ≡ option_map dir_tree (find_dir name.now (map dir_row dirs.now)) }
 {
@@ -124,7 +127,7 @@ fn find_tree(dirs: &[DirEntry], name: &str) -> Option<Digest>
     None
 }
 
-/// The dirtree's digest of the directory of this name in a directory.
+/// Returns the digest of the dirtree of the subdirectory with this name, if there is one.
 fn digest_below(tree: &Option<DirTree>, name: &str) -> Option<Digest>
     ensures { result ≡ digest_below name.now (option_map tree_view tree.now) }
 {
@@ -134,7 +137,7 @@ fn digest_below(tree: &Option<DirTree>, name: &str) -> Option<Digest>
     }
 }
 
-/// The directory of this name in a directory.
+/// Reads the subdirectory with this name, if there is one. Changes nothing.
 fn enter<H: Host>(
     alloc: Global,
     host: &mut H,
@@ -151,7 +154,7 @@ fn enter<H: Host>(
     tree_there(alloc, host, digest)
 }
 
-/// The directory `export/share` of the commit.
+/// Reads the directory `export/share` of the commit. Changes nothing.
 fn share_of<H: Host>(
     alloc: Global,
     host: &mut H,
@@ -168,7 +171,7 @@ fn share_of<H: Host>(
     enter(alloc, host, &export, "share")
 }
 
-/// The directory of the desktop files of the commit: `export/share/applications`.
+/// Reads the directory of the commit's desktop files, `export/share/applications`. Changes nothing.
 pub(crate) fn applications_of<H: Host>(
     alloc: Global,
     host: &mut H,
@@ -184,7 +187,7 @@ pub(crate) fn applications_of<H: Host>(
     enter(alloc, host, &share, "applications")
 }
 
-/// The directory of the icons of the commit: `export/share/icons/hicolor`.
+/// Reads the directory of the commit's icons, `export/share/icons/hicolor`. Changes nothing.
 pub(crate) fn hicolor_of<H: Host>(
     alloc: Global,
     host: &mut H,
@@ -201,7 +204,7 @@ pub(crate) fn hicolor_of<H: Host>(
     enter(alloc, host, &icons, "hicolor")
 }
 
-/// The directory `apps` in a directory.
+/// Reads the subdirectory `apps` of a directory. Changes nothing.
 pub(crate) fn apps_in<H: Host>(
     alloc: Global,
     host: &mut H,

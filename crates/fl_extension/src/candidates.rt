@@ -14,7 +14,8 @@ use fp_name::{NameError, RefKind, RefName};
 use std::alloc::{AllocError, Global};
 use std::collections::BTreeSet;
 
-/// Adds the ref of a version, where the version is a branch.
+/// Appends the runtime's ref at the branch of this version. Does nothing if the version isn't a
+/// branch.
 fn push_candidate(
     out: &mut Vec<RefName>,
     name: &str,
@@ -25,7 +26,7 @@ fn push_candidate(
     requires arch { grammar.is_arch arch.now ≡ true }
     ensures refs { OnOk result (out.new.items ≡ out.old.items ++ spec.candidate_of name.now arch.now
         version.now) }
-    // What is no branch takes no memory.
+    // A version that isn't a branch allocates nothing.
     ensures error { OnErr result (grammar.is_branch version.now ≡ true) }
 {
     match RefName::new(*out.allocator(), RefKind::Runtime, name, arch, version) {
@@ -38,7 +39,8 @@ fn push_candidate(
     }
 }
 
-/// Adds the ref of a version, where the version is a branch and wasn't seen before.
+/// Appends the runtime's ref at the branch of this version. Does nothing if the version isn't a
+/// branch or was seen before.
 fn push_new<'a>(
     out: &mut Vec<RefName>,
     seen: &mut BTreeSet<&'a str>,
@@ -59,7 +61,7 @@ fn push_new<'a>(
     Ok(())
 }
 
-/// Adds the refs of the entries of a list, equal ones once.
+/// Appends the refs at the branches that a list names, each of them once.
 fn push_entries(
     out: &mut Vec<RefName>,
     name: &str,
@@ -81,8 +83,8 @@ fn push_entries(
     Ok(())
 }
 
-/// The refs that the group's extension may be, in the order in which they are tried, each of them
-/// once.
+/// Returns the refs that may be the group's extension, in the order in which they are tried, each
+/// of them once: at the branches of `versions`, else at that of `version`, else at the ref's own.
 #[tactic(auto, unfolding(crate::specs::Points::candidates_of))]
 pub(crate) fn candidates_of(
     alloc: Global,

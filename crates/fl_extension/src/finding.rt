@@ -1,4 +1,4 @@
-//! The candidate of a point that is installed.
+//! Finding the candidate of a point that is installed.
 
 ghost use Rattle.std.specs.Prelude.{◌≡◌};
 ghost use Rattle.std.specs.Option.{option_copied};
@@ -8,14 +8,14 @@ use crate::point::Point;
 use fp_name::RefName;
 use fp_small::{RefRow, State};
 
-/// Whether the state has the ref.
+/// Returns whether a ref is deployed in this state.
 pub fn has_ref(state: &State, name: &RefName) -> bool
     ensures { result ≡ spec.has_ref state.now name.now }
 {
     state.refs.as_slice().iter().any(|row| row.name == *name)
 }
 
-/// The row of a ref, where it is deployed.
+/// Returns the row of a ref, or `None` if it isn't deployed.
 pub fn row_of<'a>(state: &'a State, name: &RefName) -> Option<&'a RefRow>
     ensures { option_copied result ≡ spec.row_of state.now name.now }
 {
@@ -23,7 +23,8 @@ pub fn row_of<'a>(state: &'a State, name: &RefName) -> Option<&'a RefRow>
     rows.find(|row| row.name == *name)
 }
 
-/// The place of the first of the point's candidates that is in the state, which takes no memory.
+/// Returns the index of the point's first candidate that is deployed, or `None` if none is.
+/// Allocates nothing.
 pub fn found_place(point: &Point, state: &State) -> Option<usize>
     ensures { result ≡ spec.found_place point.now state.now }
 {
@@ -31,7 +32,7 @@ pub fn found_place(point: &Point, state: &State) -> Option<usize>
     candidates.position(|name| has_ref(state, name))
 }
 
-/// The ref that is found for a point.
+/// Returns the point's first candidate that is deployed, or `None` if none is.
 pub fn found_ref<'a>(state: &State, point: &'a Point) -> Option<&'a RefName>
     ensures { option_copied result ≡ spec.found_ref state.now point.now }
 {

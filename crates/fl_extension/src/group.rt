@@ -1,4 +1,4 @@
-//! What a group of metadata says, read by its keys.
+//! Reading the keys of a metadata group.
 
 ghost use Rattle.std.specs.Prelude.{◌≡◌};
 ghost use Rattle.std.specs.List.{list_all};
@@ -8,7 +8,7 @@ ghost use Rattle.fl_extension.specs.Points as spec;
 use fp_host::are_elements;
 use fp_keyfile::{Group, is_key_byte};
 
-/// Whether the key has the value `true`.
+/// Returns whether the key has the value `true`.
 pub(crate) fn is_on(group: &Group, key: &str) -> bool
     ensures { result ≡ spec.is_on group.now key.now }
 {
@@ -18,21 +18,21 @@ pub(crate) fn is_on(group: &Group, key: &str) -> bool
     }
 }
 
-/// Whether no byte is `=` or a control character.
+/// Returns whether no byte is `=` or a control character.
 fn are_plain(text: &str) -> bool
     ensures { result ≡ list_all keys.is_key_byte text.now }
 {
     text.bytes().all(|byte| is_key_byte(byte))
 }
 
-/// Whether the byte is a space or a tab.
+/// Returns whether a byte is a space or a tab.
 fn is_blank(byte: u8) -> bool
     ensures { result ≡ keys.is_blank byte }
 {
     byte == b' ' || byte == b'\t'
 }
 
-/// Whether the last byte is a space or a tab.
+/// Returns whether the last byte is a space or a tab.
 fn ends_in_blank(bytes: &[u8]) -> bool
     ensures { result ≡ keys.ends_so keys.is_blank bytes.now }
 {
@@ -42,8 +42,8 @@ fn ends_in_blank(bytes: &[u8]) -> bool
     }
 }
 
-/// Whether an extension may be mounted at the text: a path that isn't the root, without `=` and
-/// control characters, and without a space or a tab at its end.
+/// Returns whether a text is a directory in which an extension may be mounted: a path other than
+/// the root, without `=` and control characters, and without a space or a tab at its end.
 pub(crate) fn is_directory(text: &str) -> bool
     ensures { result ≡ spec.is_directory text.now }
 {

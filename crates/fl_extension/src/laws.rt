@@ -1,5 +1,5 @@
-//! Laws of the words that the contracts use, for crates that build on them. Each is the contract of
-//! a function that does nothing.
+//! Laws of the definitions in the contracts, for crates that build on them. Each law is the
+//! contract of a function with an empty body.
 
 ghost use Rattle.std.specs.Prelude.{◌≡◌, ◌↔◌, ◌∷◌, ◌++◌, [], ℕ, List, true, false, map, codes, Contains, IsTrue};
 ghost use Rattle.std.specs.List.{flat_map, list_all, list_any};
@@ -12,8 +12,8 @@ ghost use Rattle.fp_name.specs.Refs.{Ref};
 ghost use Rattle.fl_extension.specs.Points.{branch_of, candidates_of, each_once, is_directory, name_of, point_of, points_of};
 ghost use Rattle.fl_extension.specs.declared.point.Point.{Point};
 
-/// The points of a key file are those of its groups, and ascend by their names. No other list is
-/// so.
+/// States that the points of a key file are those of its groups, ascending by their names, and that
+/// no other list is this.
 pub fn points_ascend()
     ensures ascending { (file : List Group) (r : Ref) → IsTrue (is_good file) → is_ascending
         (map name_of (points_of file r)) ≡ true }
@@ -25,8 +25,8 @@ pub fn points_ascend()
         → points ≡ points_of file r }
 {}
 
-/// No two candidates of a point have one branch. Of a list of versions each stands once, at its
-/// first place.
+/// States that no two candidates of a point have the same branch, and that of a list of versions
+/// each counts once, at its first position.
 pub fn candidates_stand_once()
     ensures branches { (g : Group) (r : Ref) (name : List ℕ) → are_distinct (map branch_of
         (candidates_of g r name)) ≡ true }
@@ -37,8 +37,8 @@ pub fn candidates_stand_once()
         codes "2" ∷ codes "1" ∷ codes "3" ∷ [] }
 {}
 
-/// What a launch writes of a directory, after a `/`, is a key of a key file. One that ends in a blank
-/// isn't taken.
+/// States that the path that a launch writes for a directory, after a `/`, is a key of a key file,
+/// and that a text with a blank at its end is no directory.
 pub fn directories_are_keys()
     ensures key { (front directory : List ℕ) → list_all is_key_byte front ≡ true → is_directory
         directory ≡ true → is_key (47 ∷ (front ++ directory)) ≡ true }

@@ -1,4 +1,4 @@
-//! Extension points: what metadata says of the extensions of an application or a runtime.
+//! Extension points: the metadata of an application or a runtime about its extensions.
 #![tactic(auto)]
 
 mod candidates;

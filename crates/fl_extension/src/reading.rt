@@ -1,4 +1,4 @@
-//! The extension points of a key file.
+//! Reading the extension points of a key file.
 
 ghost use Rattle.std.specs.Prelude.{◌≡◌, ◌++◌, true, map, IfOk, OnOk, OnErr};
 ghost use Rattle.std.specs.List.{flat_map};
@@ -16,7 +16,7 @@ use fp_keyfile::{Group, KeyFile};
 use fp_name::{AppId, RefName, is_id};
 use std::alloc::{AllocError, Global};
 
-/// The point of a group with this name and this directory.
+/// Makes the point of a group with this NAME and directory.
 fn point_with(
     alloc: Global,
     group: &Group,
@@ -36,7 +36,7 @@ fn point_with(
     })
 }
 
-/// Adds the point of a group with this name, where it is one.
+/// Appends the point of a group with this NAME. Does nothing if the group isn't a valid one.
 fn push_named(
     out: &mut Vec<Point>,
     group: &Group,
@@ -60,7 +60,7 @@ fn push_named(
     }
 }
 
-/// Adds the point that a group says, where it says one.
+/// Appends the point of a group. Does nothing if the group isn't a valid group `Extension NAME`.
 #[tactic(auto, using(crate::proofs::Having::has_more), unfolding(crate::specs::Points::point_of))]
 fn push_point(out: &mut Vec<Point>, group: &Group, of: &RefName) -> Result<(), AllocError>
     ensures points { OnOk result (out.new.items ≡ out.old.items ++ spec.point_of of.now group.now) }
@@ -72,7 +72,7 @@ fn push_point(out: &mut Vec<Point>, group: &Group, of: &RefName) -> Result<(), A
     }
 }
 
-/// The points of the groups, in the order of the groups.
+/// Returns the points of the groups, in the order of the groups.
 fn points_in(alloc: Global, groups: &[Group], of: &RefName) -> Result<Vec<Point>, AllocError>
     ensures points { IfOk result (λ points. points.items ≡ flat_map (spec.point_of of.now)
         groups.now) }
@@ -85,7 +85,7 @@ fn points_in(alloc: Global, groups: &[Group], of: &RefName) -> Result<Vec<Point>
     Ok(points)
 }
 
-/// Puts the points in the order of their names.
+/// Sorts points by the bytes of their names, which are distinct.
 fn sort_by_name(points: &mut Vec<Point>)
     requires { are_distinct (map spec.name_of points.old.items) ≡ true }
     ensures { points.new.items ≡ sorted_by spec.name_of points.old.items }
@@ -93,19 +93,20 @@ fn sort_by_name(points: &mut Vec<Point>)
     points.sort_unstable_by(|a, b| a.name.as_str().cmp(b.name.as_str()));
 }
 
-/// The extension points that the metadata of a ref says, ascending by the bytes of their names,
-/// after flatpak-metadata(5).
+/// Returns the extension points in the metadata of a ref, ascending by the bytes of their names, as
+/// flatpak-metadata(5) describes.
 ///
-/// A group `Extension NAME` is a point where NAME is an ID, `directory` is a path that isn't the
-/// root, without `=` and control characters and without a blank at its end, and `subdirectories`
-/// isn't `true`. Its candidates are the runtimes NAME of the ref's architecture at the branches that
-/// `versions` lists, or else at the branch `version`, or else at the ref's own; what is no branch is
-/// left out, and a branch that comes again counts at its first place alone. `versions` is cut as a
-/// list of permissions. The point is automatic unless `no-autodownload` is `true`.
+/// A group `Extension NAME` is a point if NAME is an ID, `directory` is a path other than the root,
+/// without `=` and control characters and without a space or tab at its end, and `subdirectories`
+/// isn't `true`. Its candidates are the runtimes NAME of the ref's architecture at the branches
+/// that `versions` lists, or else at the branch `version`, or else at the ref's own. A version that
+/// isn't a branch is left out, and a branch that is listed again counts only at its first position.
+/// `versions` is split as a list of permissions. The point is automatic unless `no-autodownload` is
+/// `true`.
 #[tactic(auto, unfolding(crate::specs::Points::points_of))]
 pub fn points(alloc: Global, file: &KeyFile, of: &RefName) -> Result<Items<Point>, AllocError>
     ensures points { IfOk result (λ points. points ≡ spec.points_of file.now of.now) }
-    // Memory runs out only where there is a point.
+    // Memory runs out only if there is a point.
     ensures error { OnErr result (spec.HasPoint (flat_map (spec.point_of of.now) file.now)) }
 {
     let mut points = points_in(alloc, file.groups().as_slice(), of)?;

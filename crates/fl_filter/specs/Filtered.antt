@@ -1,4 +1,4 @@
--- What a filter answers over a recording.
+-- The lines that a filter prints for a recording.
 use Rattle.std.specs.Prelude.{ℕ, List, [], ◌∷◌, ◌++◌, map, reverse, codes, Option, option_map}
 use Rattle.hex.specs.Hex.{encode_lower}
 use Rattle.fp_small.specs.declared.refusal.Refusal.{Refusal}
@@ -10,21 +10,22 @@ use Rattle.bus_proxy.specs.declared.out.Out.{Out}
 use Rattle.bus_proxy.specs.Arrivals.{End, events, end_of}
 use Rattle.bus_proxy.specs.Outs.{setting, forwarded}
 
--- lines, and the refusal that ends them
+-- Lines, and the refusal that ends them, if there is one
 pub record Filtered : Type 0 where
   pub lines : List (List ℕ)
   pub refusal : Option Refusal
 
--- the line of a message: the side to which it goes, and its bytes
+-- The line of a message: the side to which it goes, and its bytes
 abbrev pub out_text : Out → List ℕ
 out_text out = side_word out.to ++ (codes " " ++ (encode_lower out.bytes ++ 10 ∷ []))
 
--- a side's message breaks a rule, after this number of whole messages of that side
+-- The refusal of a side's message that breaks a rule, with the number of whole messages of that
+-- side before it
 abbrev pub broken : End → Refusal
 broken end = BadMessage end.0 end.1 end.2
 
--- A line for each message that the policy lets through, shortens or answers; and the end of the
--- recording, where it isn't clean.
+-- The output of filtering a recording: a line for each message that the policy forwards, shortens
+-- or answers; and a refusal, if a message breaks a rule or the recording ends within one
 abbrev pub filtered : List PolicyRule → Recording → Filtered
 filtered rules recording = record {
   lines = map out_text (forwarded (setting rules recording.client recording.owners)

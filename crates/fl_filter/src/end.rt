@@ -1,4 +1,4 @@
-//! How a filter ends where not all of the recording was filtered.
+//! The error of filtering a recording.
 ghost use Rattle.std.specs.Prelude.{◌≡◌};
 
 use bus_proxy::FilterError;
@@ -6,7 +6,7 @@ use fp_host::HostEnd;
 use fp_small::Refusal;
 use std::alloc::AllocError;
 
-/// How a filter ends where not all of the recording was filtered.
+/// The error of filtering a recording.
 #[derive(Drop)]
 pub enum FilterEnd {
     /// A message breaks a rule, or the recording ends within one.

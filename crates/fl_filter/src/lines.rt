@@ -7,7 +7,8 @@ use fl_lines::side_word;
 use fp_base::Text;
 use std::alloc::{AllocError, Global};
 
-/// The side to which a message goes, a space, and its bytes in lower-case hexadecimal.
+/// Returns the line of a message: the side to which it goes, a space, its bytes in lower-case
+/// hexadecimal, and a newline.
 pub(crate) fn out_line(alloc: Global, out: &Out) -> Result<Text, AllocError>
     ensures { IfOk result (λ line. line ≡ out_text out.now) }
 {

@@ -1,4 +1,4 @@
-//! Printing what a filter gives.
+//! Printing of the messages that a filter sends.
 ghost use Rattle.std.specs.Prelude.{[], ◌∷◌, List, ℕ, option_map, IfOk, OnOk, IsErrOf, IsTrue};
 ghost use Rattle.std.specs.Option.{ForSome};
 ghost use Rattle.fp_host.specs.OverHost.{FailsAlone};
@@ -20,11 +20,13 @@ use bus_stream::Recording;
 use fp_host::{Host, HostEnd};
 use std::alloc::{AllocError, Global};
 
-/// Filters a recording by a policy, as xdg-dbus-proxy(1) does, and prints each message that goes to
-/// a side: `bus HEX` or `client HEX`, a line each, in order. A message that breaks a rule of the
-/// D-Bus specification is refused after the lines of those before it; so is one that the
-/// recording's end cuts. Each line is printed as its message comes, so what is kept are the tables
-/// of the filter and the message at hand.
+/// Filters a recording by a policy, as xdg-dbus-proxy(1) does, apart from the differences that
+/// `docs/GUIDE.md` lists. Prints a line for each message that goes to a side, in order: `bus HEX`
+/// or `client HEX`.
+///
+/// A message that breaks a rule is refused after the lines of the messages before it, and so is one
+/// that the recording's end cuts. Each line is printed before the next message is taken, so only
+/// the filter's tables and the current message are in memory besides the recording.
 pub fn filter_recording<H: Host>(
     alloc: Global,
     host: &mut H,
@@ -45,7 +47,7 @@ pub fn filter_recording<H: Host>(
     finish(&filter)
 }
 
-/// The filter of a recording, to which nothing is fed yet.
+/// Creates the filter of a recording, before it is fed. Errs only if memory runs out.
 fn filter_of(alloc: Global, policy: Policy, recording: &Recording) -> Result<Filter, AllocError>
     requires client { ForSome recording.now.client (λ name. IsTrue (is_unique name)) }
     ensures { IfOk result (λ filter. FilterAt filter

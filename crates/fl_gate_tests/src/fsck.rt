@@ -17,10 +17,10 @@ use std::panic::Expect;
 use std::process::Abort;
 use std::thread::Threads;
 
-/// Where the remote is.
+/// The URL of the remote.
 const URL: &str = "file:///srv/lab";
 
-/// A file of the root, with its number as its name and its content.
+/// Makes a file in the root directory, with its number in decimal as its name and its content.
 fn file(rt: &impl Abort, alloc: Global, number: u32) -> TreeRow {
     let digits = format!(in alloc; "{number}").expect(rt, "memory");
     TreeRow::File {
@@ -30,7 +30,7 @@ fn file(rt: &impl Abort, alloc: Global, number: u32) -> TreeRow {
     }
 }
 
-/// Forty such files: one byte or two.
+/// Makes 40 files, of one or two bytes each.
 fn files(rt: &impl Abort, alloc: Global) -> Vec<TreeRow> {
     let mut rows = Vec::new(alloc);
     for number in 0..40 {
@@ -39,13 +39,13 @@ fn files(rt: &impl Abort, alloc: Global) -> Vec<TreeRow> {
     rows
 }
 
-/// Their commit.
+/// Builds the commit of the 40 files.
 fn built_commit<T: Threads + Sync + Abort>(rt: &T, alloc: Global) -> Built {
     let name = RefName::parse(alloc, b"app/org.example.App/x86_64/stable").expect(rt, "a ref");
     commit_tree(rt, alloc, &files(rt, alloc), &name, "subject", 7).expect(rt, "a commit")
 }
 
-/// What a remote holds of an object.
+/// Returns the remote's node for an object.
 fn node_of(object: &Object) -> Result<MemNode, AllocError> {
     match object {
         Object::Meta(bytes) => Ok(MemNode::File {
@@ -60,7 +60,7 @@ fn node_of(object: &Object) -> Result<MemNode, AllocError> {
     }
 }
 
-/// Puts an object into the remote.
+/// Puts an object into the remote, if the node can be put there.
 fn put(rt: &impl Abort, alloc: Global, remotes: &mut MemRemotes, made: &BuiltObject) {
     let root = Path::root(alloc);
     let path = path_of(alloc, &root, &made.digest, made.kind).expect(rt, "memory");
@@ -70,7 +70,7 @@ fn put(rt: &impl Abort, alloc: Global, remotes: &mut MemRemotes, made: &BuiltObj
     }
 }
 
-/// A remote that has the objects.
+/// Makes a remote that has the commit's objects.
 fn remote_of(rt: &impl Abort, alloc: Global, built: &Built) -> MemRemotes {
     let mut remotes = MemRemotes::new(alloc).expect(rt, "memory");
     for made in built.objects.as_slice() {
@@ -79,7 +79,7 @@ fn remote_of(rt: &impl Abort, alloc: Global, built: &Built) -> MemRemotes {
     remotes
 }
 
-/// Pulls the commit into the store at `repo` with a gate, and answers whether that was done.
+/// Pulls the commit into the store at `repo` with a gate, and returns whether that succeeded.
 fn is_pulled<G: Gate + Sync>(
     rt: &(impl Threads + Sync + Abort),
     alloc: Global,
@@ -95,7 +95,7 @@ fn is_pulled<G: Gate + Sync>(
     pull_gated(rt, alloc, host, remotes, &root, URL, commit, &work, gate).is_ok()
 }
 
-/// The names of the objects.
+/// Returns the digests of the commit's objects.
 fn names_of(rt: &impl Abort, alloc: Global, built: &Built) -> Items<Digest> {
     let mut names = Vec::new(alloc);
     for made in built.objects.as_slice() {
@@ -104,7 +104,7 @@ fn names_of(rt: &impl Abort, alloc: Global, built: &Built) -> Items<Digest> {
     Items::from_vec(names)
 }
 
-/// Runs `fsck` with a gate, and answers its status.
+/// Runs `fsck` with a gate, and returns its exit status.
 fn fsck_status<T: Threads + Sync + Abort, H: Host, R: Remotes, G: Gate + Sync>(
     rt: &T,
     alloc: Global,
@@ -120,7 +120,7 @@ fn fsck_status<T: Threads + Sync + Abort, H: Host, R: Remotes, G: Gate + Sync>(
 }
 
 /// The commit, its dirtree, its dirmeta and 40 files are 43 objects. They are one batch, of the
-/// pull and of `fsck`, each half of it sees the other at work, and the halves show their names.
+/// pull and of `fsck`. Each half of it sees the other at work, and the gate is shown all digests.
 #[test]
 fn both_halves_are_at_work(rt: HostRuntime) {
     let alloc = rt.alloc();

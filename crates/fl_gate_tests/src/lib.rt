@@ -1,4 +1,4 @@
-//! Tests of what a run does with its gate, and of made remotes.
+//! Tests of a gate in a pull and in `fsck`, and of generated remotes.
 #![tactic(auto)]
 
 #[cfg(test)]

@@ -1,17 +1,19 @@
-//! A gate whose halves look for each other, and show what they found.
+//! A gate that detects whether both halves of a batch are at work at the same time.
 
 use fp_base::Items;
 use fp_name::Digest;
 use par_digest::Gate;
 use std::sync::atomic::{AtomicBool, AtomicU64, Ordering};
 
-/// How often a half looks for the other one.
+/// The maximum number of times that a half checks whether the other one has started.
 const TURNS: u64 = 1_000_000_000;
 
-/// What one half told.
+/// The observations of one half.
 #[derive(Drop)]
 struct Side {
+    /// Whether the half has started.
     has_come: AtomicBool,
+    /// Whether the half saw that the other one has started.
     saw_other: AtomicBool,
 }
 
@@ -23,7 +25,8 @@ impl Side {
         }
     }
 
-    /// Comes, and looks for the other half.
+    /// Marks this half as started, and waits until the other one has started, for at most `TURNS`
+    /// turns.
     fn meet(&self, other: &Side) {
         self.has_come.store(true, Ordering::SeqCst);
         for _ in 0..TURNS {
@@ -35,9 +38,10 @@ impl Side {
     }
 }
 
-/// A gate whose two halves each look, as they begin, whether the other one has begun: a thousand
-/// million looks at most. So one thread that hashes both can't see both. It counts how many of the
-/// digests that are wanted the halves show.
+/// A gate that detects whether both halves are at work at the same time. Each half waits at its
+/// start until the other one has started, for at most 1,000,000,000 turns. If one thread does one
+/// half after the other, the first doesn't see the second. The gate also counts the wanted digests
+/// that it is shown.
 #[derive(Drop)]
 pub struct MeetingGate {
     wanted: Items<Digest>,
@@ -47,7 +51,7 @@ pub struct MeetingGate {
 }
 
 impl MeetingGate {
-    /// A gate to which no half has come.
+    /// Makes a gate that no half has reached yet.
     pub fn new(wanted: Items<Digest>) -> Self {
         MeetingGate {
             wanted,
@@ -57,8 +61,8 @@ impl MeetingGate {
         }
     }
 
-    /// Whether each half saw the other one, and they showed as many digests that are wanted as
-    /// there are of these.
+    /// Returns whether each half saw the other one, and the gate was shown as many wanted digests
+    /// as there are.
     pub fn have_met(&self) -> bool {
         self.first.saw_other.load(Ordering::SeqCst)
             && self.second.saw_other.load(Ordering::SeqCst)

@@ -1,11 +1,11 @@
-//! What the made remotes hold, against what the `ostree` command makes of the same trees.
+//! The content of generated remotes, compared to what the `ostree` command makes of the same trees.
 
 use fl_gen::{GenRemotes, exercise_commands};
 use fp_host::{Path, Remotes};
 use std::alloc::Global;
 use std::test::Fail;
 
-/// The digits in the ref's file at the url.
+/// Reads the commit's digest, in hexadecimal, from the file of a ref at the URL.
 fn commit_at(
     alloc: Global,
     remotes: &mut GenRemotes,
@@ -20,7 +20,7 @@ fn commit_at(
 }
 
 /// `ostree commit --no-xattrs --owner-uid=0 --owner-gid=0 --subject=gen --timestamp=@1` gives the
-/// first digest, and with `@2` the second.
+/// first digest, and with `--timestamp=@2` the second.
 #[test]
 fn as_ostree(rt: HostRuntime) -> Result<(), Fail> {
     let alloc = rt.alloc();
@@ -42,8 +42,8 @@ fn as_ostree(rt: HostRuntime) -> Result<(), Fail> {
     Ok(())
 }
 
-/// One remote, four installs, another url, an update, two applications with odd numbers, and the
-/// unused runtimes.
+/// For four applications there are ten commands: a new remote, four installs, the remote's new URL,
+/// an update of all, two uninstalls, and the uninstall of unused runtimes.
 #[test]
 fn ten_commands(rt: HostRuntime) -> Result<(), Fail> {
     assert!(rt; exercise_commands(rt.alloc(), 4)?.len() == 10);

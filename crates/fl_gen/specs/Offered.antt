@@ -1,4 +1,4 @@
--- What is offered at a url.
+-- The offers of a remote at a URL.
 use Rattle.std.specs.Prelude.{◌≡◌, ℕ, List, Some, None, Ok}
 use Rattle.fp_host.specs.Remote.{Holdings}
 use Rattle.fp_base.specs.declared.object.ObjKind.{ObjKind}
@@ -13,8 +13,8 @@ use Rattle.ost_refs.specs.Offers.{offered}
 use Rattle.fl_gen.specs.declared.filling.TheConstants.{SUBJECT}
 use Rattle.fl_gen.specs.Made.{Ware}
 
--- The remote at the url, whatever its name, offers the commit of the ware's rows under its ref,
--- without a fault and with its objects.
+-- Any remote with the URL, whatever its name, offers the commit of the tree under the ref. The
+-- commit has no fault, and all of its objects are there.
 pub record Offers (held : Holdings) (url : List ℕ) (version : ℕ) (w : Ware) : Type 0 where
   pub built : Built
   pub shows : BuiltCommit w.rows w.name SUBJECT.now version built

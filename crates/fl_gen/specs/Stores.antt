@@ -19,97 +19,105 @@ use Rattle.ost_export.specs.Exports.{config_path, config_text, ref_path}
 use Rattle.fl_gen.specs.declared.filling.TheConstants.{SUBJECT}
 use Rattle.fl_gen.specs.Made.{Ware, file_mode}
 
--- ---- what stands in a store
+-- ---- the entries of a store
 
--- a path, and the file or link that stands there
+-- A path, and the node of the file or link at it
 abbrev pub Entry : Type 0
 Entry = Elements × Spot
 
--- what is listed first for the path
+-- The node of the first entry for the path; None if there is none
 abbrev pub entry_spot : List Entry → Elements → Option Spot
 entry_spot [] q = None
 entry_spot (e ∷ es) q = if path_eq q e.0 then Some e.1 else entry_spot es q
 
--- an entry stands below the path
+-- Tests whether some entry is below the path
 abbrev pub has_below : List Entry → Elements → Bool
 has_below es q = list_any (λ e. is_above q e.0) es
 
+-- The node; without one, a directory if something is below it, or nothing
 abbrev pub spot_by : Option Spot → Bool → Spot
 spot_by (Some spot) below = spot
 spot_by None below = if below then folder else gone
 
--- the entries, folders above them, and nothing else
+-- The disk with the entries, directories above them, and nothing else
 abbrev pub disk_of : List Entry → Disk
 disk_of es q = spot_by (entry_spot es q) (has_below es q)
 
--- each entry is found at its path: where two have one path, they are the same
+-- Each entry is found at its path: two entries with the same path are equal
 pub record AreSettled (es : List Entry) : Type 0 where
   pub each : (e : Entry) → In es e → entry_spot es e.0 ≡ Some e.1
 
--- ---- what an offer puts there
+-- ---- the entries for an offer
 
--- a ref, and the commit that is offered under it
+-- A ref, and the commit that is offered under it
 pub record Offer : Type 0 where
   pub name : Ref
   pub built : Built
 
+-- The node of a file with these bytes
 abbrev pub file_spot : List ℕ → Spot
 file_spot bytes = holds 0 file_mode bytes
 
+-- The node of an object's file or link
 abbrev pub object_spot : Object → Spot
 object_spot (objects.Meta bytes) = file_spot bytes
 object_spot (objects.File mode bytes) = holds 0 mode bytes
 object_spot (objects.Link text) = points text
 
+-- The file `config`
 abbrev pub config_entry : Entry
 config_entry = (config_path [], file_spot config_text)
 
+-- The file of the ref, which contains the commit
 abbrev pub ref_entry : Ref → List ℕ → Entry
 ref_entry name commit = (ref_path [] name, file_spot (ref_bytes commit))
 
+-- The object, at the path of its name
 abbrev pub object_entry : BuiltObject → Entry
 object_entry o = (object_path [] o.digest o.kind, object_spot o.object)
 
+-- The ref of an offer, and the objects of its commit
 abbrev pub offer_entries : Offer → List Entry
 offer_entries o = ref_entry o.name o.built.commit ∷ map object_entry o.built.objects
 
--- `config`, the refs, and the objects
+-- The entries of a store: `config`, the refs, and the objects
 abbrev pub store_entries : List Offer → List Entry
 store_entries offers = config_entry ∷ flat_map offer_entries offers
 
--- ---- stores of wares
+-- ---- stores of refs with their trees
 
--- a link's text is one
+-- Tests whether the object's text is valid as a symlink's, if the object is a symlink
 abbrev pub has_link_text : Object → Bool
 has_link_text (objects.Meta bytes) = true
 has_link_text (objects.File mode bytes) = true
 has_link_text (objects.Link text) = is_link_text text
 
--- permission bits are within 07777 (octal)
+-- Tests whether the object's permission bits are within 0o7777, if the object is a file
 abbrev pub object_bits : Object → Bool
 object_bits (objects.Meta bytes) = true
 object_bits (objects.File mode bytes) = leb mode PERMISSION_BITS
 object_bits (objects.Link text) = true
 
--- an object reads back from where it stands
+-- The object reads back from its node
 abbrev pub Reads : BuiltObject → Type 0
 Reads o = object_at o.kind (object_spot o.object) ≡ Some o.object
 
--- The commit of the ware's rows, with the subject of all commits and the version as its time.
+-- The offer is the commit of the ref's tree, with the subject of all commits. The version is the
+-- commit's timestamp.
 pub record IsOfferOf (version : ℕ) (w : Ware) (o : Offer) : Type 0 where
   pub name : o.name ≡ w.name
   pub built : BuiltCommit w.rows w.name SUBJECT.now version o.built
   pub digits : is_digest o.built.commit ≡ true
   pub reads : AllByRecursion Reads o.built.objects
 
--- one for each ware, in order
+-- There is one offer for each ref and its tree, in order
 abbrev pub AreOffersOf : ℕ → List Ware → List Offer → Type 0
 AreOffersOf version [] [] = Unit {0}
 AreOffersOf version [] (o ∷ os) = ⊥
 AreOffersOf version (w ∷ ws) [] = ⊥
 AreOffersOf version (w ∷ ws) (o ∷ os) = IsOfferOf version w o × AreOffersOf version ws os
 
--- The disk is a store that offers just the commits of these wares.
+-- The disk is a store that offers these refs, with the commits of their trees, and no others
 pub record IsStoreOf (version : ℕ) (ws : List Ware) (disk : Disk) : Type 0 where
   pub offers : List Offer
   pub offered : AreOffersOf version ws offers

@@ -1,4 +1,4 @@
-//! The commands that are run over the generator's remotes.
+//! The commands that are run over the generated remotes.
 ghost use Rattle.std.specs.Prelude.{◌≡◌, ◌++◌, ◌/◌, ◌<◌, ◌^◌, IfOk, OnOk};
 ghost use Rattle.fl_gen.specs.Made.{each_of};
 ghost use Rattle.fl_gen.specs.Exercise.{exercise_changes, gen_at, install_of, uninstall_of};
@@ -10,7 +10,7 @@ use fp_base::Items;
 use fp_small::RemoteRow;
 use std::alloc::{AllocError, Global};
 
-/// The remote `gen` at this url.
+/// Returns the remote `gen` with this URL.
 fn remote_at(alloc: Global, url: &str) -> Result<RemoteRow, AllocError>
     ensures { IfOk result (λ row. row ≡ gen_at url.now) }
 {
@@ -19,7 +19,7 @@ fn remote_at(alloc: Global, url: &str) -> Result<RemoteRow, AllocError>
     Ok(RemoteRow { name, url })
 }
 
-/// The install of the application with this number.
+/// Returns the install of the application with this number.
 fn install(alloc: Global, number: usize) -> Result<Change, AllocError>
     ensures { IfOk result (λ change. change ≡ install_of number) }
 {
@@ -28,7 +28,7 @@ fn install(alloc: Global, number: usize) -> Result<Change, AllocError>
     Ok(Change::Install { remote, name })
 }
 
-/// Adds the install of each application.
+/// Appends the installs of this many applications.
 fn push_installs(alloc: Global, changes: &mut Items<Change>, apps: usize) -> Result<(), AllocError>
     ensures { OnOk result (changes.new ≡ changes.old ++ each_of install_of apps) }
 {
@@ -38,7 +38,7 @@ fn push_installs(alloc: Global, changes: &mut Items<Change>, apps: usize) -> Res
     Ok(())
 }
 
-/// Adds the uninstall of each application with an odd number below the end.
+/// Appends the uninstalls of the applications with odd numbers, among this many.
 fn push_uninstalls(
     alloc: Global,
     changes: &mut Items<Change>,
@@ -53,9 +53,9 @@ fn push_uninstalls(
     Ok(())
 }
 
-/// What is run over the generator's remotes: the remote `gen` is added at the first url, each
-/// application is installed, the remote moves to the second url, all is updated, the applications
-/// with odd numbers are uninstalled, and then the runtimes that are unused.
+/// Returns the commands that are run over the generated remotes. They add the remote `gen` with the
+/// first URL, install each application, change the remote's URL to the second, update all,
+/// uninstall the applications with odd numbers, and then the runtimes that nothing needs.
 pub fn exercise_commands(alloc: Global, apps: u32) -> Result<Items<Change>, AllocError>
     ensures { IfOk result (λ changes. changes ≡ exercise_changes apps) }
 {

@@ -1,4 +1,4 @@
-//! Stores that offer the commits of the generator.
+//! Stores that offer the generator's commits.
 ghost use Rattle.std.specs.Prelude.{◌≡◌, ◌≤◌, ◌<◌, ◌^◌, ◌∷◌, [], map, true, IfOk, OnOk, codes};
 ghost use Rattle.std.specs.List.{AllByRecursion};
 ghost use Rattle.fp_name.specs.Hex.{is_digest};
@@ -27,7 +27,7 @@ use std::thread::Threads;
 /// The subject of each commit.
 const SUBJECT: &str = "gen";
 
-/// A file of these bytes.
+/// Returns a file with these bytes.
 fn file_of(bytes: Blob) -> Leaf
     ensures spot { leaf_spot result ≡ file_spot bytes }
     ensures bits { leaf_bits result ≡ true }
@@ -38,7 +38,7 @@ fn file_of(bytes: Blob) -> Leaf
     }
 }
 
-/// The bytes of a ref's file: 64 digits and a newline.
+/// Returns the bytes of a ref's file: 64 lower-case hexadecimal digits and a newline.
 fn ref_bytes(alloc: Global, commit: &Digest) -> Result<Blob, AllocError>
     ensures bytes { IfOk result (λ bytes. bytes ≡ ref_bytes commit.now) }
     ensures digits { is_digest commit.now ≡ true }
@@ -49,7 +49,7 @@ fn ref_bytes(alloc: Global, commit: &Digest) -> Result<Blob, AllocError>
     Ok(Blob::from_vec(bytes))
 }
 
-/// Puts the file of a ref that has this commit.
+/// Adds the file of a ref that is at this commit.
 fn put_ref(
     alloc: Global,
     store: &mut Store,
@@ -66,7 +66,8 @@ fn put_ref(
     store.put(path, file_of(bytes))
 }
 
-/// The file or link of an object, where it is one that reads back: a link's text is one.
+/// Returns the file or link of an object. Errs with `AllocError` if a link's text isn't valid as a
+/// symlink's.
 fn leaf_of(object: &Object) -> Result<Leaf, AllocError>
     ensures spot { IfOk result (λ leaf. leaf_spot leaf ≡ object_spot object.now) }
     ensures text { OnOk result (has_link_text object.now ≡ true) }
@@ -88,7 +89,7 @@ fn leaf_of(object: &Object) -> Result<Leaf, AllocError>
     }
 }
 
-/// Puts an object at its name.
+/// Adds an object at the path of its name.
 fn put_object(alloc: Global, store: &mut Store, object: &BuiltObject) -> Result<(), AllocError>
     requires { IsNamed object.now }
     ensures put { OnOk result (Adds (object_entry object.now ∷ []) store.old.rows.items
@@ -99,7 +100,7 @@ fn put_object(alloc: Global, store: &mut Store, object: &BuiltObject) -> Result<
     store.put(path, leaf_of(&object.object)?)
 }
 
-/// Puts objects at their names.
+/// Adds objects at the paths of their names.
 fn put_objects(alloc: Global, store: &mut Store, objects: &[BuiltObject]) -> Result<(), AllocError>
     requires { AllByRecursion IsNamed objects.now }
     ensures put { OnOk result (Adds (map object_entry objects.now) store.old.rows.items
@@ -112,7 +113,7 @@ fn put_objects(alloc: Global, store: &mut Store, objects: &[BuiltObject]) -> Res
     Ok(())
 }
 
-/// Offers the commit of these rows under the ref. Rows that make none count as out of memory.
+/// Adds the commit of these rows and its ref. Errs with `AllocError` if the rows make no commit.
 fn offer(
     rt: &(impl Threads + Sync),
     alloc: Global,
@@ -131,7 +132,7 @@ fn offer(
     put_objects(alloc, store, built.objects.as_slice())
 }
 
-/// A store that offers nothing.
+/// Returns a store that offers nothing. It has the file `config`.
 fn bare_store(alloc: Global, version: u64) -> Result<Store, AllocError>
     ensures { IfOk result (λ store. Stocks version [] store.rows.items) }
 {
@@ -142,7 +143,7 @@ fn bare_store(alloc: Global, version: u64) -> Result<Store, AllocError>
     Ok(store)
 }
 
-/// Offers the runtimes.
+/// Adds the runtimes, each with its ref.
 fn offer_runtimes(
     rt: &(impl Threads + Sync),
     alloc: Global,
@@ -162,7 +163,7 @@ fn offer_runtimes(
     Ok(())
 }
 
-/// Offers this number of applications.
+/// Adds this number of applications, each with its ref.
 fn offer_apps(
     rt: &(impl Threads + Sync),
     alloc: Global,
@@ -183,7 +184,8 @@ fn offer_apps(
     Ok(())
 }
 
-/// The store of the generator, in this version, for this number of applications.
+/// Returns the generator's store in this version, with all runtimes and this number of
+/// applications.
 pub(crate) fn made_store(
     rt: &(impl Threads + Sync),
     alloc: Global,

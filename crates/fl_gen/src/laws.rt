@@ -1,4 +1,5 @@
-//! Laws of the generator. Each is the contract of a function that does nothing.
+//! Laws of the generator. Each law is the contract of a function with an empty body, or with one
+//! that only cites other laws.
 ghost use Rattle.std.specs.Prelude.{◌≡◌, ◌<◌, ◌%◌, ℕ, List, [], ◌∷◌, length, take, codes};
 ghost use Rattle.fp_host.specs.Remote.{Holdings};
 ghost use Rattle.fp_name.specs.Refs.{Ref, ref_text};
@@ -14,8 +15,8 @@ ghost use Rattle.fl_gen.specs.Exercise.{exercise_changes, gen_at, install_of};
 
 use ost_export::laws::exports_are_offers;
 
-/// The generator's remotes offer each runtime and each application: in the first version at the
-/// first url, and in the second version at the second.
+/// States that the generated remotes offer each runtime and each application: in the first version
+/// at the first URL, and in the second version at the second.
 pub fn what_is_generated_is_offered()
     ensures runtimes { (apps : ℕ) (held : Holdings) → IsGenerated apps held → (r : ℕ) → r < RUNTIMES
         → Offers held first_url 1 (runtime_ware 1 r) × Offers held second_url 2 (runtime_ware 2 r) }
@@ -25,15 +26,15 @@ pub fn what_is_generated_is_offered()
     exports_are_offers();
 }
 
-/// What the commands install are applications of the generator, which are so offered, at the first
-/// url when they are installed, and at the second when all is updated. So are their runtimes.
+/// States that each install among the commands is of one of the generated applications, from the
+/// remote `gen`.
 pub fn what_is_installed_is_generated()
     ensures { (apps : ℕ) (remote : List ℕ) (name : Ref)
         → In (exercise_changes apps) (changes.Install remote name)
         → (k : ℕ) × (k < apps) × (name ≡ app_ref k) × (remote ≡ codes "gen") }
 {}
 
-/// The commands for one application and for four.
+/// States the commands for one application and for four.
 pub fn commands_of_few_applications()
     ensures one { exercise_changes 1 ≡ changes.RemoteAdd (gen_at (codes "file:///gen/1"))
         ∷ changes.Install (codes "gen") (app_ref 0)
@@ -48,7 +49,7 @@ pub fn commands_of_few_applications()
         ∷ changes.UninstallUnused ∷ [] }
 {}
 
-/// Names, texts and bytes that are made.
+/// States examples of generated names, texts and bytes.
 pub fn what_is_made_of_small_numbers()
     ensures refs { ref_text (runtime_ref 3) ≡ codes "runtime/org.gen.Run3/x86_64/1" }
     ensures apps { ref_text (app_ref 63) ≡ codes "app/org.gen.App63/x86_64/1" }
@@ -63,7 +64,7 @@ pub fn what_is_made_of_small_numbers()
     ensures kept { start_at 280 3 2 8 ≡ 304 }
 {}
 
-/// How much is made, as numbers, and the subject of each commit.
+/// States the amounts that the generator makes, and the subject of each commit.
 pub fn limits_as_numbers()
     ensures runtimes { RUNTIMES ≡ 4 }
     ensures libraries { LIBRARIES ≡ 32 }

@@ -1,4 +1,4 @@
-//! Made remotes: what the generator's stores hold, and the commands that are run over them.
+//! Remotes that are generated in memory for exercises, and the commands that are run over them.
 #![tactic(auto)]
 
 mod commands;

@@ -1,22 +1,22 @@
-//! How much is made.
+//! The amounts that the generator makes.
 
-/// How many runtimes there are.
+/// The number of runtimes.
 pub(crate) const RUNTIMES: usize = 4;
 
-/// How many libraries a runtime has.
+/// The number of files that a runtime has besides `metadata`.
 pub(crate) const LIBRARIES: usize = 32;
 
-/// How many files of its own an application has.
+/// The number of files that belong to one application, besides `metadata`.
 pub(crate) const OWN_FILES: usize = 64;
 
-/// How many files each application has that are one and the same in all.
+/// The number of files that each application has and that are the same in all.
 pub(crate) const SHARED_FILES: usize = 16;
 
-/// How many files of a series differ with the version: the first ones.
+/// The number of files, the first ones of a series, that differ between the versions.
 pub(crate) const CHANGED_FILES: usize = 8;
 
-/// The bytes of each file, but for `metadata`.
+/// The number of bytes of each file but `metadata`.
 pub(crate) const FILE_BYTES: usize = 4_096;
 
-/// The least number that no byte of such a file is.
+/// The end of the range of the bytes in a generated file: each is below it.
 pub(crate) const BYTE_END: usize = 251;

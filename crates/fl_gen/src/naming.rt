@@ -1,4 +1,4 @@
-//! The names of what is made.
+//! The names, paths and metadata of generated refs.
 ghost use Rattle.std.specs.Prelude.{◌≡◌, ◌∷◌, IfOk, codes, string_bytes};
 ghost use Rattle.fp_name.specs.Refs.{ref_with};
 ghost use Rattle.fl_gen.specs.Made as made;
@@ -9,15 +9,15 @@ use fp_host::Path;
 use fp_name::{RefKind, RefName, RemoteName, RemoteUrl};
 use std::alloc::{AllocError, Global};
 
-/// The word and the number.
+/// Returns a word and a number without a space between them.
 pub(crate) fn numbered(alloc: Global, word: &str, number: usize) -> Result<String, AllocError>
     ensures { IfOk result (λ name. string_bytes name ≡ made.numbered word.now number) }
 {
     format!(in alloc; "{word}{number}")
 }
 
-/// The path with one element more. A name that may be no element of a path counts as out of memory;
-/// none is made.
+/// Returns a path with one more element. Errs with `AllocError` also for a bad element, which the
+/// generator never makes.
 fn path_below(above: &Path, name: &str) -> Result<Path, AllocError>
     ensures { IfOk result (λ path. path ≡ name.now ∷ above.now) }
 {
@@ -27,22 +27,22 @@ fn path_below(above: &Path, name: &str) -> Result<Path, AllocError>
     }
 }
 
-/// The path of this name at the root.
+/// Returns the path of this name at the root.
 pub(crate) fn path_at_root(alloc: Global, name: &str) -> Result<Path, AllocError>
     ensures { IfOk result (λ path. path ≡ made.at_root name.now) }
 {
     path_below(&Path::root(alloc), name)
 }
 
-/// The path of this name in `files`.
+/// Returns the path of this name in the directory `files`.
 pub(crate) fn path_in_files(alloc: Global, name: &str) -> Result<Path, AllocError>
     ensures { IfOk result (λ path. path ≡ made.in_files name.now) }
 {
     path_below(&path_at_root(alloc, "files")?, name)
 }
 
-/// The ref of this kind and ID, for `x86_64` and of branch 1. An ID that is none counts as out of
-/// memory; none is made.
+/// Returns the ref of this kind and ID, for the architecture `x86_64` and the branch `1`. Errs with
+/// `AllocError` also for a bad ID, which the generator never makes.
 fn ref_of(alloc: Global, kind: RefKind, id: &str) -> Result<RefName, AllocError>
     ensures { IfOk result (λ name. name ≡ ref_with kind id.now (codes "x86_64") (codes "1")) }
 {
@@ -52,7 +52,7 @@ fn ref_of(alloc: Global, kind: RefKind, id: &str) -> Result<RefName, AllocError>
     }
 }
 
-/// The ref of the runtime with this number.
+/// Returns the ref of the runtime with this number.
 pub(crate) fn runtime_ref(alloc: Global, number: usize) -> Result<RefName, AllocError>
     ensures { IfOk result (λ name. name ≡ made.runtime_ref number) }
 {
@@ -60,7 +60,7 @@ pub(crate) fn runtime_ref(alloc: Global, number: usize) -> Result<RefName, Alloc
     ref_of(alloc, RefKind::Runtime, &id)
 }
 
-/// The ref of the application with this number.
+/// Returns the ref of the application with this number.
 pub(crate) fn app_ref(alloc: Global, number: usize) -> Result<RefName, AllocError>
     ensures { IfOk result (λ name. name ≡ made.app_ref number) }
 {
@@ -68,7 +68,7 @@ pub(crate) fn app_ref(alloc: Global, number: usize) -> Result<RefName, AllocErro
     ref_of(alloc, RefKind::App, &id)
 }
 
-/// The file `metadata` of the runtime with this number.
+/// Returns the file `metadata` of the runtime with this number.
 pub(crate) fn runtime_metadata(alloc: Global, number: usize) -> Result<Blob, AllocError>
     ensures { IfOk result (λ bytes. bytes ≡ made.runtime_metadata number) }
 {
@@ -76,7 +76,7 @@ pub(crate) fn runtime_metadata(alloc: Global, number: usize) -> Result<Blob, All
     Blob::from_slice(alloc, text.as_bytes())
 }
 
-/// The file `metadata` of the application with this number, which runs on one of the runtimes.
+/// Returns the file `metadata` of the application with this number. It names one of the runtimes.
 pub(crate) fn app_metadata(alloc: Global, number: usize) -> Result<Blob, AllocError>
     ensures { IfOk result (λ bytes. bytes ≡ made.app_metadata number) }
 {
@@ -87,7 +87,7 @@ pub(crate) fn app_metadata(alloc: Global, number: usize) -> Result<Blob, AllocEr
     Blob::from_slice(alloc, text.as_bytes())
 }
 
-/// The name of the remote that the commands add.
+/// Returns the name of the remote that the commands add: `gen`.
 pub(crate) fn remote_name(alloc: Global) -> Result<RemoteName, AllocError>
     ensures { IfOk result (λ name. name ≡ codes "gen") }
 {
@@ -97,7 +97,7 @@ pub(crate) fn remote_name(alloc: Global) -> Result<RemoteName, AllocError>
     }
 }
 
-/// A url. What is none counts as out of memory; none is made.
+/// Parses a URL. Errs with `AllocError` also for a bad one, which the generator never makes.
 pub(crate) fn url_of(alloc: Global, text: &str) -> Result<RemoteUrl, AllocError>
     ensures { IfOk result (λ url. url ≡ text.now) }
 {

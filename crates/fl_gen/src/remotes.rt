@@ -1,4 +1,4 @@
-//! The generator's remotes.
+//! The generated remotes.
 ghost use Rattle.std.specs.Prelude.{◌≡◌, ◌≤◌, IfOk, Some};
 ghost use Rattle.std.specs.Option.{option_copied};
 ghost use Rattle.fp_host.specs.Remote.{Holdings};
@@ -11,14 +11,14 @@ use fp_host::{Node, Path, RemoteError, Remotes};
 use std::alloc::{AllocError, Global};
 use std::thread::Threads;
 
-/// Where the first version is.
+/// The URL of the store with the first version.
 pub(crate) const FIRST_URL: &str = "file:///gen/1";
 
-/// Where the second version is.
+/// The URL of the store with the second version.
 pub(crate) const SECOND_URL: &str = "file:///gen/2";
 
-/// The remotes of the generator: two stores, which offer the same refs in two versions. They hold
-/// nothing else, and never fail.
+/// Generated remotes: two stores that offer the same refs, in two versions, at two URLs. No other
+/// URL has anything. A call fails only if memory runs out.
 #[derive(Drop)]
 pub struct GenRemotes {
     first: Store,
@@ -26,8 +26,8 @@ pub struct GenRemotes {
 }
 
 impl GenRemotes {
-    /// The remotes for this number of applications: at each of two urls a store of the runtimes and
-    /// these applications.
+    /// Generates the remotes, with the runtimes and this number of applications, at most 64, in
+    /// each of two stores.
     pub fn new(rt: &(impl Threads + Sync), alloc: Global, apps: u32) -> Result<Self, AllocError>
         requires { apps ≤ MOST_APPS }
         ensures holds { IfOk result
@@ -40,7 +40,7 @@ impl GenRemotes {
         Ok(GenRemotes { first, second })
     }
 
-    /// The store at the url.
+    /// Returns the store at a URL, if there is one.
     fn store(&self, url: &str) -> Option<&Store>
         ensures { option_copied result ≡ at_urls self.now.first self.now.second url.now }
     {

@@ -1,4 +1,4 @@
-//! A store in memory: what stands at its paths.
+//! Stores in memory: files and links by their paths.
 ghost use Rattle.std.specs.Prelude.{◌≡◌, ◌≤◌, ◌↔◌, ◌∷◌, [], ◌++◌, true, None, IsTrue, IfOk, IfSome, OnOk, IsErrOf, length};
 ghost use Rattle.std.specs.List.{list_all, list_any};
 ghost use Rattle.std.specs.Option.{option_copied};
@@ -12,7 +12,7 @@ use fp_base::{Blob, Text};
 use fp_host::{Node, Path, RemoteError, copy_out};
 use std::alloc::{AllocError, Global};
 
-/// What stands at a path that is no folder.
+/// A file or a link of a store.
 #[derive(Drop)]
 pub(crate) enum Leaf {
     /// A file's permission bits, at most 0o7777, and its bytes.
@@ -21,22 +21,21 @@ pub(crate) enum Leaf {
     Link(Text),
 }
 
-/// A path, and what stands there.
+/// A path, and the file or link at it.
 #[derive(Drop)]
 pub(crate) struct Row {
     path: Path,
     leaf: Leaf,
 }
 
-/// A store: files and links by their paths, each of which stands once. There are folders above
-/// them.
+/// A store: files and links by their paths, each path once. The paths above them are directories.
 #[derive(Drop)]
 pub(crate) struct Store {
     rows: Vec<Row>,
     ghost bits: { list_all has_bits rows.items ≡ true },
 }
 
-/// Whether it is a file with these permission bits and bytes.
+/// Returns whether a leaf is a file with these permission bits and bytes.
 fn is_file(leaf: &Leaf, mode: u32, bytes: &[u8]) -> bool
     ensures { IsTrue result ↔ (leaf_spot leaf.now ≡ holds 0 mode bytes.now) }
 {
@@ -49,7 +48,7 @@ fn is_file(leaf: &Leaf, mode: u32, bytes: &[u8]) -> bool
     }
 }
 
-/// Whether it is a link with this text.
+/// Returns whether a leaf is a link with this text.
 fn is_link(leaf: &Leaf, text: &str) -> bool
     ensures { IsTrue result ↔ (leaf_spot leaf.now ≡ points text.now) }
 {
@@ -59,7 +58,7 @@ fn is_link(leaf: &Leaf, text: &str) -> bool
     }
 }
 
-/// Whether the two are one file or one link.
+/// Returns whether two leaves are the same file or the same link.
 fn are_same(a: &Leaf, b: &Leaf) -> bool
     ensures { IsTrue result ↔ (leaf_spot b.now ≡ leaf_spot a.now) }
 {
@@ -69,7 +68,7 @@ fn are_same(a: &Leaf, b: &Leaf) -> bool
     }
 }
 
-/// Whether the two are one file or one link; where they aren't, memory is said to be lacking.
+/// Checks that two leaves are the same. Errs with `AllocError` if they differ.
 fn agree(there: &Leaf, leaf: &Leaf) -> Result<(), AllocError>
     ensures { OnOk result (leaf_spot there.now ≡ leaf_spot leaf.now) }
 {
@@ -80,28 +79,28 @@ fn agree(there: &Leaf, leaf: &Leaf) -> Result<(), AllocError>
     }
 }
 
-/// The row of the path.
+/// Returns the row of a path, if there is one.
 fn find<'a>(rows: &'a [Row], path: &Path) -> Option<&'a Row>
     ensures { option_copied result ≡ row_at rows.now path.now }
 {
     rows.iter().find(|row| path.is(&row.path))
 }
 
-/// Whether the row is below the path.
+/// Returns whether a row is below a path.
 fn is_below(row: &Row, path: &Path) -> bool
     ensures { result ≡ is_below path.now row.now }
 {
     path.is_above(&row.path)
 }
 
-/// Whether a row is below the path.
+/// Returns whether some row is below a path.
 fn is_folder(rows: &[Row], path: &Path) -> bool
     ensures { result ≡ list_any (is_below path.now) rows.now }
 {
     rows.iter().any(|row| is_below(row, path))
 }
 
-/// What stands in a row, or else a folder or nothing.
+/// Returns the node of a row: its file or link. Without a row it is a directory or absent.
 fn node_of(row: Option<&Row>, is_folder: bool) -> Result<Node, RemoteError>
     requires { IfSome row (λ r. has_bits r.now ≡ true) }
     ensures node { IfOk result
@@ -125,7 +124,7 @@ fn node_of(row: Option<&Row>, is_folder: bool) -> Result<Node, RemoteError>
     }
 }
 
-/// Bytes of a row's file; a link has none.
+/// Copies bytes of a row's file into a buffer, and returns their number. A link has none.
 fn read_row(row: &Row, at: u64, into: &mut [u8]) -> usize
     ensures came { CameFrom (bytes_of (held_of (leaf_spot row.now.leaf))) at into.new result }
     ensures bound { result ≤ length into.old }
@@ -137,7 +136,7 @@ fn read_row(row: &Row, at: u64, into: &mut [u8]) -> usize
 }
 
 impl Store {
-    /// Nothing.
+    /// Creates an empty store.
     pub(crate) fn new(alloc: Global) -> Self
         ensures { result.rows.items ≡ [] }
     {
@@ -146,8 +145,8 @@ impl Store {
         }
     }
 
-    /// Puts a file or a link at the path. What is there already has to be the same; where it isn't,
-    /// since two objects have one digest, that counts as out of memory.
+    /// Adds a file or a link at a path. Errs with `AllocError` if another one is already there,
+    /// which happens only if two objects have the same digest.
     pub(crate) fn put(&mut self, path: Path, leaf: Leaf) -> Result<(), AllocError>
         requires { leaf_bits leaf ≡ true }
         ensures { OnOk result (Adds ((path, leaf_spot leaf) ∷ []) self.old.rows.items
@@ -162,7 +161,7 @@ impl Store {
         }
     }
 
-    /// What stands at the path.
+    /// Returns the node at a path. Errs only if memory runs out.
     pub(crate) fn node(&self, path: &Path) -> Result<Node, RemoteError>
         ensures node { IfOk result (IsNode (held_of (disk_of_rows self.now.rows.items path.now))) }
         ensures bits { IfOk result HasNodeBits }
@@ -172,8 +171,8 @@ impl Store {
         node_of(find(&self.rows, path), is_folder)
     }
 
-    /// Copies bytes of the file at the path, from a place on, as many as there is room for; what is
-    /// no file has none.
+    /// Copies bytes of the file at a path, from this offset on, into a buffer, and returns their
+    /// number. It is 0 if there is no file at the path.
     pub(crate) fn read_at(&self, path: &Path, at: u64, into: &mut [u8]) -> usize
         ensures came { CameFrom (bytes_of (held_of (disk_of_rows self.now.rows.items path.now))) at
             into.new result }

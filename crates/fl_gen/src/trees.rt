@@ -10,7 +10,7 @@ use fp_small::FILE_MODE;
 use ost_commit::TreeRow;
 use std::alloc::{AllocError, Global};
 
-/// The rows of a tree that has no more than the file `metadata`.
+/// Returns the rows of a tree that has only the file `metadata`.
 fn with_metadata(alloc: Global, bytes: Blob) -> Result<Items<TreeRow>, AllocError>
     ensures { IfOk result (λ rows. rows ≡ made.metadata_row bytes ∷ []) }
 {
@@ -24,7 +24,7 @@ fn with_metadata(alloc: Global, bytes: Blob) -> Result<Items<TreeRow>, AllocErro
     Ok(rows)
 }
 
-/// The rows of the runtime with this number, in this version.
+/// Returns the rows of the runtime with this number, in this version.
 pub(crate) fn runtime_rows(
     alloc: Global,
     version: usize,
@@ -44,7 +44,7 @@ pub(crate) fn runtime_rows(
     Ok(rows)
 }
 
-/// Adds the link to the rows.
+/// Appends the link `files/link` to the rows. Its target is `f0`.
 fn push_link(alloc: Global, rows: &mut Items<TreeRow>) -> Result<(), AllocError>
     ensures { OnOk result (rows.new ≡ rows.old ++ made.link_row ∷ []) }
 {
@@ -53,7 +53,7 @@ fn push_link(alloc: Global, rows: &mut Items<TreeRow>) -> Result<(), AllocError>
     rows.push(TreeRow::Link { path, target })
 }
 
-/// The rows of the application with this number, in this version.
+/// Returns the rows of the application with this number, in this version.
 pub(crate) fn app_rows(
     alloc: Global,
     version: usize,

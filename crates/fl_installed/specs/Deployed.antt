@@ -1,4 +1,4 @@
--- The file `metadata` of a deployed commit, as it stands in the commit's folder.
+-- The file `metadata` in the directory of a deployed commit.
 use Rattle.std.specs.Prelude.{◌≡◌, ◌++◌, ℕ, List, Option, Some, None}
 use Rattle.fp_host.specs.Paths.{Elements}
 use Rattle.fp_host.specs.Moments.{Moments}
@@ -13,36 +13,36 @@ use Rattle.ost_store.specs.Reads.{if_within}
 use Rattle.dep_states.specs.Names.{commit_dir}
 use Rattle.fl_installed.specs.Files.{metadata_file}
 
--- what there is of each commit of a ref: the bytes of its file `metadata`
+-- The bytes of the file `metadata` by ref and commit; none if there is no such file
 abbrev pub DeployedFiles : Type 0
 DeployedFiles = Ref → List ℕ → Option (List ℕ)
 
--- the bytes of a file of at most 1 MiB; nothing, a folder, a link and a longer file have none
+-- The bytes of a file of at most 1 MiB; none for a longer file and for any other node
 abbrev pub short_file : Spot → Option (List ℕ)
 short_file gone = None
 short_file folder = None
 short_file (points text) = None
 short_file (holds id mode bytes) = if_within MOST_METADATA_FILE_BYTES bytes
 
--- where the file stands
+-- The path of the file `metadata` in the directory of a ref's commit
 abbrev pub metadata_path : Ref → List ℕ → Elements
 metadata_path name commit = metadata_name ++ commit_dir name commit
 
--- those that stand on a disk
+-- The files `metadata` on a disk
 abbrev pub deployed_files : Disk → DeployedFiles
 deployed_files disk name commit = short_file (disk (metadata_path name commit))
 
--- those that the objects of a store give, whether or not they are deployed
+-- The files `metadata` in a store, whether or not their commits are deployed
 abbrev pub stored_files : Have → DeployedFiles
 stored_files have name commit = metadata_file have commit
 
--- a host that tells what it holds has these files
+-- The host reports its content, and has these files `metadata`
 pub record Deploys (told : Option Moments) (files : DeployedFiles) : Type 0 where
   pub moments : Moments
   pub told_is : told ≡ Some moments
   pub is : files ≡ deployed_files (shows moments.now)
 
--- the bytes that were loaded, where it was a file that isn't too long
+-- The loaded bytes; none if the path wasn't a file of at most the maximum length
 abbrev pub bytes_loaded : Loaded → Option (List ℕ)
 bytes_loaded (loaded.Bytes bytes) = Some bytes
 bytes_loaded loaded.Absent = None

@@ -1,4 +1,4 @@
--- The file `metadata` of a commit.
+-- The file `metadata` of a commit in a store.
 use Rattle.std.specs.Prelude.{ℕ, List, [], Option, Some, None, unwrap_or, option_and_then, Result, Ok, Err}
 use Rattle.fp_base.specs.declared.object.ObjKind.TheVariants as kinds
 use Rattle.fp_host.specs.declared.host.HostEnd.{HostEnd}
@@ -15,13 +15,13 @@ use Rattle.ost_walk.specs.declared.ends.WalkEnd.TheVariants as walks
 use Rattle.ost_walk.specs.declared.found.Found.{Found}
 use Rattle.ost_walk.specs.declared.found.Found.TheVariants as found
 
--- the digest of the file or link that was found
+-- The digest of what was found, if it is a file or a symlink
 abbrev pub digest_of : Found → Option (List ℕ)
 digest_of (found.File d) = Some d
 digest_of found.Dir = None
 digest_of found.Nothing = None
 
--- the same of a walk; there is none where it was refused
+-- The digest of what a lookup found; none if it was refused
 abbrev pub digest_in : Result Found WalkEnd → Result (Option (List ℕ)) HostEnd
 digest_in (Ok found) = Ok (digest_of found)
 digest_in (Err (walks.Refused fault)) = Ok None
@@ -29,26 +29,27 @@ digest_in (Err walks.HostFault) = Err host_ends.Fault
 digest_in (Err walks.RemoteFault) = Err host_ends.Fault
 digest_in (Err walks.NoMemory) = Err host_ends.NoMemory
 
+-- The value, unless there is a fault
 abbrev pub unless_faulty : {A : Type 0} → Option (Place × Fault) → Option A → Option A
 unless_faulty None a = a
 unless_faulty (Some fault) a = None
 
--- the digest of `metadata` in the root of a commit, where neither the commit nor its root's dirtree
--- has a fault
+-- The digest of the file or symlink `metadata` in the root of a commit, if neither the commit nor
+-- the dirtree of its root has a fault
 unfoldable pub metadata_digest : Have → List ℕ → Option (List ℕ)
 metadata_digest have commit =
     unless_faulty (look_fault have commit metadata_name) (file_in (look have commit metadata_name))
 
--- the content of a file of at most 1 MiB
+-- The content of a regular file of at most 1 MiB
 abbrev pub short_content : Option Object → Option (List ℕ)
 short_content object = content_within MOST_METADATA_FILE_BYTES object
 
--- The file `metadata` of a commit, where it is a file of at most 1 MiB. Whether its content has its
--- digest isn't asked.
+-- The file `metadata` of a commit, if it is a regular file of at most 1 MiB; whether its content
+-- matches its digest doesn't matter
 unfoldable pub metadata_file : Have → List ℕ → Option (List ℕ)
 metadata_file have commit =
     option_and_then (λ d. short_content (have d kinds.File)) (metadata_digest have commit)
 
--- its bytes, none where there is no such file
+-- The bytes of the file `metadata` of a commit; empty if there is no such file
 abbrev pub metadata_in : Have → List ℕ → List ℕ
 metadata_in have commit = unwrap_or (metadata_file have commit) []

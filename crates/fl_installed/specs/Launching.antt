@@ -1,4 +1,4 @@
--- The launch of an installed application, with the options of a user.
+-- The launch of an installed application with a user's options.
 use Rattle.std.specs.Prelude.{ℕ, List, Result, Ok, Err}
 use Rattle.fp_name.specs.Refs.{Ref}
 use Rattle.fp_small.specs.declared.refusal.Refusal.{Refusal}
@@ -12,15 +12,17 @@ use Rattle.fl_launch.specs.declared.launching.LaunchText.{LaunchText}
 use Rattle.fl_installed.specs.declared.parts.LaunchParts.{LaunchParts}
 use Rattle.fl_installed.specs.Parts.{parts_in}
 
--- what the five layers grant: the last mention of each permission decides
+-- The permissions of a launch: the last mention of each permission in its five layers
 abbrev pub grants_with : State → Ref → List (List ℕ) → LaunchParts → List Mention
 grants_with state name options parts =
     granted_by (all_mentions state name.id parts.app.meta parts.runtime.meta (layer_of options))
 
+-- The text of a launch with these permissions
 abbrev pub text_with : State → Ref → List (List ℕ) → LaunchParts → List Mention → List ℕ
 text_with state name options parts grants = launch_text state name parts.app.meta parts.app.points
     parts.runtime.points (last_command options) grants
 
+-- The launch of an application with these parts and options
 unfoldable pub launch_of : State → Ref → List (List ℕ) → LaunchParts → LaunchText
 launch_of state name options parts =
     record {
@@ -28,12 +30,13 @@ launch_of state name options parts =
       grants = grants_with state name options parts;
     }
 
+-- The launch of an application with these parts, unless they were refused
 abbrev pub with_parts : State → Ref → List (List ℕ) → Result LaunchParts Refusal
     → Result LaunchText Refusal
 with_parts state name options (Ok parts) = Ok (launch_of state name options parts)
 with_parts state name options (Err refusal) = Err refusal
 
--- The launch, or the first refusal: the application isn't installed, or its metadata doesn't read;
--- its runtime isn't there, or that one's metadata doesn't read.
+-- The launch of an installed application, or the first refusal: the application isn't installed,
+-- its metadata isn't valid, its runtime isn't installed, or the runtime's metadata isn't valid
 unfoldable pub launch_in : DeployedFiles → State → Ref → List (List ℕ) → Result LaunchText Refusal
 launch_in files state name options = with_parts state name options (parts_in files state name)

@@ -1,4 +1,4 @@
-//! The file `metadata` of a deployed commit, in the commit's folder.
+//! The file `metadata` in the directory of a deployed commit.
 ghost use Rattle.std.specs.Prelude.{◌≡◌, IfOk, IsErrOf};
 ghost use Rattle.fp_host.specs.OverHost.{ChangesNothing, FailsAlone};
 ghost use Rattle.fl_installed.specs.Deployed as spec;
@@ -11,14 +11,14 @@ use fp_small::{Loaded, load};
 use ost_model::MOST_METADATA_FILE_BYTES;
 use std::alloc::{AllocError, Global};
 
-/// The path of the file `metadata` in the folder of a commit of the ref.
+/// Returns the path of the file `metadata` in the directory of a ref's commit.
 fn metadata_path(alloc: Global, name: &RefName, commit: &Digest) -> Result<Path, AllocError>
     ensures { IfOk result (λ path. path ≡ spec.metadata_path name.now commit.now) }
 {
     commit_path(alloc, name, commit)?.child("metadata")
 }
 
-/// The bytes that were loaded, where it was a file that isn't too long.
+/// Returns the loaded bytes, or `None` if the path wasn't a file of at most the maximum length.
 fn bytes_loaded(loaded: Loaded) -> Option<Blob>
     ensures { result ≡ spec.bytes_loaded loaded }
 {
@@ -28,8 +28,8 @@ fn bytes_loaded(loaded: Loaded) -> Option<Blob>
     }
 }
 
-/// The file `metadata` that stands in the folder of a commit of the ref, where it is a file of at
-/// most 1 MiB. Nothing changes, and no more than that is read of it.
+/// Reads the file `metadata` in the directory of a ref's commit. Returns `None` if it isn't a file
+/// of at most 1 MiB; a longer one isn't read. Changes nothing.
 pub(crate) fn deployed_file<H: Host>(
     alloc: Global,
     host: &mut H,

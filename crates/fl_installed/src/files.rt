@@ -1,4 +1,4 @@
-//! The file `metadata` of a commit.
+//! The file `metadata` of a commit in the store.
 ghost use Rattle.std.specs.Prelude.{◌≡◌, None, IfOk, IsErrOf};
 ghost use Rattle.fp_base.specs.declared.object.ObjKind.TheVariants as kinds;
 ghost use Rattle.fp_host.specs.OverHost.{ChangesNothing, FailsAlone};
@@ -20,7 +20,7 @@ use ost_store::read_within;
 use ost_walk::{Found, Places, WalkEnd, look};
 use std::alloc::Global;
 
-/// What stands at a path of a commit, by the store alone.
+/// Looks up a path of a commit in the store alone, without a remote. Changes nothing.
 fn look_there<H: Host>(
     alloc: Global,
     host: &mut H,
@@ -41,7 +41,7 @@ fn look_there<H: Host>(
     look(alloc, host, &mut remotes, places, commit, path)
 }
 
-/// The digest of what was found, where it is a file or a link.
+/// Returns the digest of what was found, if it is a file or a symlink.
 fn digest_of(found: Found) -> Option<Digest>
     ensures { result ≡ spec.digest_of found }
 {
@@ -51,7 +51,8 @@ fn digest_of(found: Found) -> Option<Digest>
     }
 }
 
-/// The same of a walk; None where it was refused.
+/// Returns the digest of what a lookup found, or `None` if it found no file or symlink, or was
+/// refused.
 fn digest_in(looked: Result<Found, WalkEnd>) -> Result<Option<Digest>, HostEnd>
     ensures { result ≡ spec.digest_in looked }
 {
@@ -63,8 +64,8 @@ fn digest_in(looked: Result<Found, WalkEnd>) -> Result<Option<Digest>, HostEnd>
     }
 }
 
-/// The digest of the file or link `metadata` in the root of a commit, where neither the commit nor
-/// its root's dirtree has a fault.
+/// Returns the digest of `metadata` in the root of a commit. Returns `None` if it isn't a file or
+/// symlink, or if the commit or the dirtree of its root is missing or not valid. Changes nothing.
 fn find_metadata<H: Host>(
     alloc: Global,
     host: &mut H,
@@ -80,7 +81,8 @@ fn find_metadata<H: Host>(
     digest_in(look_there(alloc, host, &places, commit, &path))
 }
 
-/// The content of a file of the store, where it has at most 1 MiB.
+/// Reads the content of a file object in the store. Returns `None` if it is missing, a symlink, or
+/// longer than 1 MiB. Changes nothing.
 fn read_short<H: Host>(
     alloc: Global,
     host: &mut H,
@@ -95,10 +97,9 @@ fn read_short<H: Host>(
     read_within(alloc, host, &root, digest, MOST_METADATA_FILE_BYTES)
 }
 
-/// The file `metadata` in the root of a commit, as the installation's store has it, where it is a
-/// file of at most 1 MiB. Nothing changes, and no more than that is read of it. None where the
-/// commit or its root's dirtree has a fault, and so where it isn't there; whether the file's name
-/// is true isn't looked at.
+/// Reads the file `metadata` in the root of a commit from the installation's store. Returns `None`
+/// if it isn't a file of at most 1 MiB, or if the commit or the dirtree of its root is missing or
+/// not valid. Doesn't check that the content matches its digest. Changes nothing.
 pub fn metadata_file<H: Host>(
     alloc: Global,
     host: &mut H,
@@ -115,9 +116,9 @@ pub fn metadata_file<H: Host>(
     }
 }
 
-/// The bytes of the file `metadata` in the root of a commit, as the installation's store has it;
-/// none where there is no such file of at most 1 MiB, or where the commit or its root's dirtree has
-/// a fault. Nothing changes.
+/// Reads the file `metadata` in the root of a commit from the installation's store. Returns no
+/// bytes if it isn't a file of at most 1 MiB, or if the commit or the dirtree of its root is
+/// missing or not valid. Changes nothing.
 pub fn read_metadata<H: Host>(alloc: Global, host: &mut H, commit: &Digest) -> Result<Blob, HostEnd>
     ensures unchanged { ChangesNothing H.Host host.old host.new }
     ensures tells { (have : Have) → Stores repo (H.moments host.old) have

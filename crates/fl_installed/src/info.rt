@@ -1,4 +1,4 @@
-//! What is told of the metadata of a ref.
+//! The description of a ref by its metadata, as `info` prints it.
 ghost use Rattle.std.specs.Prelude.{◌≡◌, true, IfOk, IsErrOf};
 ghost use Rattle.fp_host.specs.OverHost.{ChangesNothing, FailsAlone};
 ghost use Rattle.fp_keyfile.specs.KeyFile.{are_distinct, file_of};
@@ -20,16 +20,16 @@ use fp_name::{Digest, RefName};
 use fp_small::Refusal;
 use std::alloc::{AllocError, Global};
 
-/// What is told of the metadata of a ref.
+/// The part of a ref's metadata that `info` prints.
 #[derive(Drop)]
 pub struct Info {
     /// The runtime of an application.
     pub runtime: Option<RefName>,
-    /// The names of its extensions, those of the groups `Extension NAME`, ascending by their bytes.
+    /// The names of the extensions, from the groups `Extension NAME`, ascending by their bytes.
     pub extensions: Items<Text>,
 }
 
-/// The refusal of metadata that breaks a rule.
+/// Returns the refusal of metadata that breaks a rule: `BadMetadata` with line 0.
 pub(crate) fn broken(name: &RefName, rule: MetaRule) -> Result<Refusal, AllocError>
     ensures { IfOk result (λ refusal. refusal ≡ spec.broken name.now rule) }
 {
@@ -40,7 +40,8 @@ pub(crate) fn broken(name: &RefName, rule: MetaRule) -> Result<Refusal, AllocErr
     })
 }
 
-/// What a key file says as the metadata of a ref, or the first rule that it breaks.
+/// Reads a key file as the metadata of a ref, or returns `BadMetadata` with the first rule that it
+/// breaks.
 fn by_rules(
     alloc: Global,
     name: &RefName,
@@ -50,7 +51,7 @@ fn by_rules(
         (meta_of (meta_kind name.now.kind) file.now)) }
     ensures once { IfOk result spec.NamesOnce }
 {
-    // Each of its groups has a name of its own.
+    // For the proof: the groups of a key file have distinct names.
     let _groups = file.groups();
     match Meta::read(alloc, file, meta_kind(name.kind())) {
         Ok(meta) => Ok(Ok(meta)),
@@ -59,7 +60,8 @@ fn by_rules(
     }
 }
 
-/// What the bytes say as the metadata of a ref, or what is wrong with them.
+/// Parses the bytes as the metadata of a ref, or returns `BadMetadata`: with the line if they
+/// aren't a key file, else with line 0.
 pub(crate) fn by_lines(
     alloc: Global,
     name: &RefName,
@@ -79,7 +81,8 @@ pub(crate) fn by_lines(
     }
 }
 
-/// What a file says as the metadata of a ref, or what is wrong with it, also where there is none.
+/// Parses a file as the metadata of a ref, or returns `BadMetadata`, with the rule `absent` and
+/// line 0 if there is no file.
 fn by_file(
     alloc: Global,
     name: &RefName,
@@ -94,11 +97,12 @@ fn by_file(
     }
 }
 
-/// The metadata of a commit of a ref, as the installation's store has it, or `BadMetadata`: with
-/// the rule `absent` of line 0, where the commit has no file `metadata` of at most 1 MiB or where
-/// the commit or its root's dirtree has a fault; with the line and the rule, where it is no key
-/// file; with line 0 and the rule, where it doesn't say what the metadata of its kind has to say.
-/// Nothing changes.
+/// Reads the metadata of a ref's commit from the installation's store.
+///
+/// Returns `BadMetadata` if it isn't valid: with the rule `absent` and line 0, if the commit has no
+/// file `metadata` of at most 1 MiB, or if the commit or the dirtree of its root is missing or not
+/// valid; with the line and the rule, if the file isn't a key file; or with line 0 and the rule, if
+/// it isn't valid metadata of the ref's kind. Changes nothing.
 #[tactic(auto, unfolding(crate::specs::Described::described))]
 pub fn described<H: Host>(
     alloc: Global,
@@ -109,7 +113,7 @@ pub fn described<H: Host>(
     ensures unchanged { ChangesNothing H.Host host.old host.new }
     ensures tells { (have : Have) → Stores repo (H.moments host.old) have
         → IfOk result (λ meta. meta ≡ spec.described have name.now commit.now) }
-    // No extension is named twice.
+    // No extension occurs twice.
     ensures once { IfOk result spec.NamesOnce }
     ensures fault_has_cause { FailsAlone H.Host host.old host.new (IsErrOf result HostEnd.Fault) }
 {
@@ -117,7 +121,7 @@ pub fn described<H: Host>(
     Ok(by_file(alloc, name, file)?)
 }
 
-/// Puts the names in order.
+/// Sorts the names by their bytes.
 fn sort_names(names: &mut Vec<Text>)
     requires { are_distinct names.old.items ≡ true }
     ensures { names.new.items ≡ sorted_by (λ name. name) names.old.items }
@@ -125,7 +129,7 @@ fn sort_names(names: &mut Vec<Text>)
     names.sort_unstable_by(|a, b| a.as_str().cmp(b.as_str()));
 }
 
-/// What is told of metadata.
+/// Returns the description of a ref with this metadata.
 fn info_of(meta: Meta) -> Info
     requires { are_distinct meta.extensions ≡ true }
     ensures { result ≡ spec.info_of meta }
@@ -143,7 +147,7 @@ fn info_of(meta: Meta) -> Info
     }
 }
 
-/// What is told of the metadata that was read, unless it was refused.
+/// Returns the description of a ref, unless its metadata was refused.
 fn as_info(meta: Result<Meta, Refusal>) -> Result<Info, Refusal>
     requires { spec.NamesOnce meta }
     ensures { result ≡ spec.as_info meta }
@@ -154,9 +158,11 @@ fn as_info(meta: Result<Meta, Refusal>) -> Result<Info, Refusal>
     }
 }
 
-/// What is told of the metadata of a deployed commit of a ref, by the file `metadata` in the
-/// commit's folder, or `BadMetadata`: with the rule `absent` of line 0, where no file of at most
-/// 1 MiB stands there, and else as `described` says it. Nothing changes.
+/// Reads the description of a deployed ref from the file `metadata` in the directory of its commit.
+///
+/// Returns `BadMetadata` if it isn't valid: with the rule `absent` and line 0, if there is no file
+/// of at most 1 MiB; with the line and the rule, if the file isn't a key file; or with line 0 and
+/// the rule, if it isn't valid metadata of the ref's kind. Changes nothing.
 pub fn info_in<H: Host>(
     alloc: Global,
     host: &mut H,

@@ -15,7 +15,7 @@ use fp_name::RefName;
 use fp_small::{Refusal, State};
 use std::alloc::{AllocError, Global};
 
-/// The text of a command, where there is one.
+/// Returns the text of a command, if there is one.
 fn command_text(command: &Option<Text>) -> Option<&str>
     ensures { option_copied result ≡ command.now }
 {
@@ -25,7 +25,7 @@ fn command_text(command: &Option<Text>) -> Option<&str>
     }
 }
 
-/// The launch that stands on these parts.
+/// Returns the launch of an application with these parts and the user's options.
 #[tactic(auto, unfolding(crate::specs::Launching::launch_of))]
 fn launch_of(
     alloc: Global,
@@ -55,7 +55,7 @@ fn launch_of(
     Ok(launch)
 }
 
-/// The launch that stands on the parts, unless they were refused.
+/// Returns the launch of an application with these parts, unless they were refused.
 fn with_parts(
     alloc: Global,
     state: &State,
@@ -73,10 +73,12 @@ fn with_parts(
     }
 }
 
-/// The launch of an installed application with the options of a user, after flatpak-run(1): its
-/// text, and what it grants; or the first refusal, which is that of `parts_in`. The two files
-/// `metadata` are read in the folders of the deployed commits, and nothing changes. A word that is
-/// no option says nothing.
+/// Returns the launch of an installed application with a user's options, after flatpak-run(1): its
+/// text and its permissions. Words that aren't options are ignored. Reads the files `metadata` of
+/// the application and its runtime in the directories of their deployed commits. Changes nothing.
+///
+/// Returns the first refusal, if any: `NotInstalled` or `BadMetadata` of the application, or
+/// `RuntimeMissing` or `BadMetadata` of its runtime.
 #[tactic(auto, unfolding(crate::specs::Launching::launch_in))]
 pub fn launch_in<H: Host>(
     alloc: Global,

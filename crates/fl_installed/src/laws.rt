@@ -1,5 +1,5 @@
-//! Laws of the words that the contracts use, for crates that build on them. Each is the contract of
-//! a function that does nothing.
+//! Laws of the definitions in the contracts, for crates that build on them. Each law is the
+//! contract of a function with an empty body.
 ghost use Rattle.std.specs.Prelude.{◌≡◌, ◌+◌, [], ℕ, List, length, map, Some, None, Ok, Err};
 ghost use Rattle.fp_base.specs.declared.meta_rule.MetaRule.TheVariants as rules;
 ghost use Rattle.fp_host.specs.Outcome.{gone, folder, holds, points};
@@ -12,15 +12,16 @@ ghost use Rattle.fl_installed.specs.Standing.{StandingIsRead, StandingIsStored, 
 ghost use Rattle.fl_installed.specs.Users.{first_user, runtime_at, installed_metas, installed_points};
 ghost use Rattle.fl_installed.specs.Sample as sample;
 
-/// What the store tells of the file `metadata` of a commit that stands in a folder is the file
-/// there, which reads. So what is told by the one and by the other is the same.
+/// States that the file `metadata` in the directory where a commit is checked out is valid, has at
+/// most 1 MiB, and has the bytes of the commit's file in the store.
 pub fn metadata_is_what_stands()
     ensures read { StandingIsRead }
     ensures stored { StandingIsStored }
 {}
 
-/// The file `metadata` of a commit without a fault depends on the objects of its order, and what is
-/// told of the deployed commits depends on their files.
+/// States that the file `metadata` of a valid commit depends only on the objects in the commit's
+/// order, and that users of runtimes, metadata and extension points of the deployed refs depend
+/// only on their files `metadata`.
 pub fn what_is_said_depends_on_the_objects()
     ensures metadata { MetadataIsLocal }
     ensures user { UserIsLocal }
@@ -28,27 +29,27 @@ pub fn what_is_said_depends_on_the_objects()
     ensures points { PointsAreLocal }
 {}
 
-/// What is named is a runtime, and an application names it.
+/// States that only applications name runtimes, and that they name nothing else.
 pub fn applications_name_runtimes()
     ensures { ApplicationsName }
 {}
 
-/// In a small installation: what its commits say.
+/// States which files `metadata` the commits of a small installation have.
 pub fn small_installation()
     ensures first { metadata_file sample.have sample.first_commit ≡ Some sample.first_metadata }
     ensures second { metadata_file sample.have sample.second_commit ≡ Some sample.second_metadata }
-    // A commit whose root can't be read has no file, nor has one that isn't there.
+    // A commit has no file if its root can't be read, or if the commit itself is missing.
     ensures without_tree { metadata_file sample.without_tree sample.first_commit ≡ None }
     ensures absent { metadata_file sample.have [] ≡ None }
-    // A runtime's commit names none, whatever it says.
+    // A runtime's commit names no runtime, whatever its metadata contains.
     ensures runtime { runtime_at sample.have sample.other sample.second_commit ≡ None }
 {}
 
-/// In the same installation: who uses a runtime, which runtimes its applications name, and which
-/// extension points its refs have.
+/// States which application of the small installation uses a runtime first, which runtimes its
+/// applications name, and which extension points its refs have.
 pub fn small_installation_is_used()
     ensures base { first_user sample.have sample.base sample.rows ≡ Some sample.first }
-    // Two applications name it. The first is told.
+    // Two applications name this runtime. The first one is returned.
     ensures platform { first_user sample.have sample.platform sample.rows ≡ Some sample.second }
     ensures none { first_user sample.have sample.other sample.rows ≡ None }
     ensures metas { map sample.runtime_of (installed_metas sample.have sample.rows)
@@ -57,8 +58,8 @@ pub fn small_installation_is_used()
         ≡ sample.points }
 {}
 
-/// In the same installation, where the deployed files are those of the store: what is told of a
-/// commit, or what is wrong with it.
+/// States how commits of the small installation are described or refused, if the deployed files are
+/// those of the store.
 pub fn small_installation_is_described()
     ensures info { info_in (stored_files sample.have) sample.second sample.second_commit
         ≡ Ok (record { runtime = Some sample.platform; extensions = sample.names }) }
@@ -68,8 +69,8 @@ pub fn small_installation_is_described()
         ≡ Err (broken sample.other rules.Group) }
 {}
 
-/// A file `metadata` has at most 1 MiB, in the store and where it is deployed. Nothing else that may
-/// stand there is one.
+/// States that a file `metadata` is read if it has at most 1 MiB, both in the store and in a
+/// commit's directory. There, an absent path, a directory and a symlink count as no file.
 pub fn files_are_short()
     ensures most { (mode : ℕ) (bytes : List ℕ) → length bytes ≡ MOST_METADATA_FILE_BYTES
         → short_content (Some (objects.File mode bytes)) ≡ Some bytes }

@@ -1,4 +1,4 @@
-//! What the metadata of commits says, and what the deployed commits of an installation say.
+//! The metadata of commits, and the launch of an installed application.
 #![tactic(auto)]
 
 mod deployed;

@@ -1,4 +1,4 @@
-//! What all deployed commits say.
+//! The metadata and the extension points of all deployed commits.
 ghost use Rattle.std.specs.Prelude.{◌≡◌, ◌++◌, IfOk, OnOk, IsErrOf, option_to_list};
 ghost use Rattle.fp_host.specs.OverHost.{ChangesNothing, FailsAlone};
 ghost use Rattle.fp_small.specs.Places.{repo};
@@ -17,7 +17,8 @@ use fp_name::RefName;
 use fp_small::{RefRow, State};
 use std::alloc::{AllocError, Global};
 
-/// The ref and its metadata of these bytes, where they read.
+/// Returns the ref with the metadata that these bytes are, or `None` if they aren't valid metadata
+/// of its kind.
 fn named_meta(
     alloc: Global,
     name: &RefName,
@@ -31,8 +32,8 @@ fn named_meta(
     }
 }
 
-/// The application of the row and the metadata of its deployed commit, where it reads. A runtime's
-/// commit isn't read.
+/// Returns the application with the metadata of its deployed commit, or `None` if the metadata
+/// isn't valid. Returns `None` for a runtime, whose commit isn't read. Changes nothing.
 fn meta_at<H: Host>(
     alloc: Global,
     host: &mut H,
@@ -50,7 +51,7 @@ fn meta_at<H: Host>(
     Ok(named_meta(alloc, &row.name, &metadata)?)
 }
 
-/// Adds what there is.
+/// Appends the metadata, if there is any.
 fn add_meta(
     found: Option<(RefName, Meta)>,
     metas: &mut Items<(RefName, Meta)>,
@@ -63,7 +64,7 @@ fn add_meta(
     }
 }
 
-/// The applications of these rows with their metadata.
+/// Returns the applications of these rows with their metadata, in order. Changes nothing.
 fn metas_of<H: Host>(
     alloc: Global,
     host: &mut H,
@@ -82,9 +83,9 @@ fn metas_of<H: Host>(
     Ok(metas)
 }
 
-/// The deployed applications with the metadata of their commits, each once, in the order of the
-/// state, as the installation's store has them. One whose metadata doesn't read is left out.
-/// Nothing changes.
+/// Returns each deployed application once, with the metadata of its commit, in the order of the
+/// state, read from the installation's store. Leaves out applications whose metadata isn't valid.
+/// Changes nothing.
 pub fn metas<H: Host>(
     alloc: Global,
     host: &mut H,
@@ -98,7 +99,7 @@ pub fn metas<H: Host>(
     metas_of(alloc, host, state.refs.as_slice())
 }
 
-/// The ref of the row and the extension points that its deployed commit says.
+/// Returns the ref of the row with the extension points of its deployed commit. Changes nothing.
 fn points_at<H: Host>(
     alloc: Global,
     host: &mut H,
@@ -114,7 +115,7 @@ fn points_at<H: Host>(
     Ok((row.name.copy()?, points))
 }
 
-/// The refs of these rows with their extension points.
+/// Returns the refs of these rows with their extension points, in order. Changes nothing.
 fn points_of<H: Host>(
     alloc: Global,
     host: &mut H,
@@ -132,8 +133,8 @@ fn points_of<H: Host>(
     Ok(points)
 }
 
-/// The deployed refs with the extension points that their commits say, each once, in the order of
-/// the state, as the installation's store has them. Nothing changes.
+/// Returns each deployed ref once, with the extension points of its commit, in the order of the
+/// state, read from the installation's store. Changes nothing.
 pub fn points<H: Host>(
     alloc: Global,
     host: &mut H,

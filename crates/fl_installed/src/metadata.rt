@@ -1,4 +1,4 @@
-//! What the bytes of a file `metadata` say.
+//! Parsing of a file `metadata`.
 ghost use Rattle.std.specs.Prelude.{◌≡◌, IfOk};
 ghost use Rattle.fp_keyfile.specs.KeyFile.{file_of};
 ghost use Rattle.fl_installed.specs.Metadata as spec;
@@ -10,7 +10,7 @@ use fp_keyfile::{KeyError, KeyFile};
 use fp_name::RefName;
 use std::alloc::{AllocError, Global};
 
-/// The key file of these bytes; one without a group where they don't read.
+/// Parses a key file. Bytes that aren't one give a key file without groups.
 fn read_lines(alloc: Global, bytes: &Blob) -> Result<KeyFile, AllocError>
     ensures { IfOk result (λ file. file ≡ spec.groups_in (file_of bytes.now)) }
 {
@@ -21,8 +21,8 @@ fn read_lines(alloc: Global, bytes: &Blob) -> Result<KeyFile, AllocError>
     }
 }
 
-/// The metadata of a ref, where the bytes are that: lines of a key file that say what the metadata
-/// of its kind has to say.
+/// Parses the metadata of a ref. Returns `None` if the bytes aren't a key file that is valid
+/// metadata of the ref's kind.
 #[tactic(auto, unfolding(crate::specs::Metadata::meta_said))]
 pub fn meta_said(alloc: Global, name: &RefName, metadata: &Blob) -> Result<Option<Meta>, AllocError>
     ensures { IfOk result (λ meta. meta ≡ spec.meta_said name.now metadata.now) }
@@ -35,7 +35,8 @@ pub fn meta_said(alloc: Global, name: &RefName, metadata: &Blob) -> Result<Optio
     }
 }
 
-/// The runtime that an application's metadata names; None for a runtime's.
+/// Returns the runtime that an application's metadata names. Returns `None` for a runtime, and if
+/// the metadata isn't valid.
 #[tactic(auto, unfolding(crate::specs::Metadata::runtime_named))]
 pub fn runtime_named(
     alloc: Global,
@@ -52,7 +53,7 @@ pub fn runtime_named(
     }
 }
 
-/// The extension points of a ref, by its metadata.
+/// Returns the extension points in the metadata of a ref. Bytes that aren't a key file have none.
 #[tactic(auto, unfolding(crate::specs::Metadata::points_in))]
 pub fn points_in(alloc: Global, name: &RefName, metadata: &Blob) -> Result<Items<Point>, AllocError>
     ensures { IfOk result (λ points. points ≡ spec.points_in name.now metadata.now) }

@@ -1,4 +1,4 @@
-//! What a launch stands on, read from the folders of deployed commits.
+//! The metadata that a launch needs, read from the directories of deployed commits.
 ghost use Rattle.std.specs.Prelude.{◌≡◌, IfOk, IsErrOf};
 ghost use Rattle.fp_host.specs.OverHost.{ChangesNothing, FailsAlone};
 ghost use Rattle.fl_installed.specs.Deployed.{DeployedFiles, Deploys};
@@ -15,25 +15,25 @@ use fp_name::{Digest, RefName};
 use fp_small::{Refusal, State};
 use std::alloc::{AllocError, Global};
 
-/// What the metadata of a deployed ref says.
+/// The metadata of a deployed ref.
 #[derive(Drop)]
 pub struct DeployedMeta {
-    /// Its runtime, its command and its permissions.
+    /// The runtime, the command and the permissions.
     pub meta: Meta,
-    /// Its extension points, ascending by the bytes of their names.
+    /// The extension points, ascending by the bytes of their names.
     pub points: Items<Point>,
 }
 
-/// What a launch stands on.
+/// The metadata that a launch needs.
 #[derive(Drop)]
 pub struct LaunchParts {
-    /// The application, whose metadata names a runtime.
+    /// The application's metadata, which names a runtime.
     pub app: DeployedMeta,
-    /// That runtime.
+    /// The metadata of the runtime that the application names.
     pub runtime: DeployedMeta,
 }
 
-/// Metadata with these extension points, unless it was refused.
+/// Adds extension points to metadata, unless it was refused.
 fn with_points(meta: Result<Meta, Refusal>, points: Items<Point>) -> Result<DeployedMeta, Refusal>
     ensures { result ≡ spec.with_points points meta }
 {
@@ -43,8 +43,8 @@ fn with_points(meta: Result<Meta, Refusal>, points: Items<Point>) -> Result<Depl
     }
 }
 
-/// What a file says as the metadata of a ref, with the extension points that it says, or its
-/// refusal, also where there is no file.
+/// Parses a file as the metadata of a ref with its extension points, or returns `BadMetadata`, also
+/// if there is no file.
 fn said_by(
     alloc: Global,
     name: &RefName,
@@ -62,7 +62,8 @@ fn said_by(
     }
 }
 
-/// What the file `metadata` in the folder of a deployed commit of the ref says, or its refusal.
+/// Reads the metadata of a ref from the directory of its deployed commit, or returns `BadMetadata`.
+/// Changes nothing.
 fn deployed<H: Host>(
     alloc: Global,
     host: &mut H,
@@ -78,7 +79,8 @@ fn deployed<H: Host>(
     Ok(said_by(alloc, name, file)?)
 }
 
-/// What the deployed commit of the application says, or `NotInstalled`.
+/// Reads the metadata of a deployed application, or returns `NotInstalled` or `BadMetadata`.
+/// Changes nothing.
 #[tactic(auto, unfolding(crate::specs::Parts::app_in))]
 fn app_in<H: Host>(
     alloc: Global,
@@ -97,7 +99,8 @@ fn app_in<H: Host>(
     }
 }
 
-/// What the deployed commit of a runtime says, or `RuntimeMissing`.
+/// Reads the metadata of a deployed runtime, or returns `RuntimeMissing` or `BadMetadata`. Changes
+/// nothing.
 #[tactic(auto, unfolding(crate::specs::Parts::runtime_in))]
 fn runtime_in<H: Host>(
     alloc: Global,
@@ -116,7 +119,8 @@ fn runtime_in<H: Host>(
     }
 }
 
-/// What the deployed commit of the runtime says that the application's metadata names.
+/// Reads the metadata of the runtime that the application's metadata names, or returns a refusal;
+/// `BadMetadata` with the rule `runtime`, if it names none. Changes nothing.
 #[tactic(auto, unfolding(crate::specs::Parts::runtime_of))]
 fn runtime_of<H: Host>(
     alloc: Global,
@@ -137,7 +141,7 @@ fn runtime_of<H: Host>(
     }
 }
 
-/// An application with its runtime, unless that one was refused.
+/// Pairs an application with its runtime, unless the runtime was refused.
 fn with_runtime(
     app: DeployedMeta,
     runtime: Result<DeployedMeta, Refusal>,
@@ -152,7 +156,7 @@ fn with_runtime(
     }
 }
 
-/// An application with the runtime that it names, unless either was refused.
+/// Pairs an application with the runtime that it names, unless either was refused. Changes nothing.
 fn with_app<H: Host>(
     alloc: Global,
     host: &mut H,
@@ -175,10 +179,12 @@ fn with_app<H: Host>(
     }
 }
 
-/// What a launch of the application stands on, as the state and the files `metadata` of the deployed
-/// commits have it, or the first refusal of these: `NotInstalled`; `BadMetadata` of the application;
-/// `RuntimeMissing`, where the runtime that it names isn't installed; and `BadMetadata` of the
-/// runtime. Nothing changes.
+/// Reads the metadata that a launch of the application needs, from the state and the directories of
+/// the deployed commits.
+///
+/// Returns the first refusal, if any: `NotInstalled` or `BadMetadata` of the application; then
+/// `RuntimeMissing`, if the runtime that it names isn't installed, or `BadMetadata` of the runtime.
+/// Changes nothing.
 #[tactic(auto, unfolding(crate::specs::Parts::parts_in))]
 pub fn parts_in<H: Host>(
     alloc: Global,

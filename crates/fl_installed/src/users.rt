@@ -15,7 +15,7 @@ use fp_name::{Digest, RefKind, RefName};
 use fp_small::{RefRow, State};
 use std::alloc::Global;
 
-/// Whether the ref is that of an application.
+/// Returns whether the ref is an application's.
 pub(crate) fn is_app(name: &RefName) -> bool
     ensures { result ≡ pins.is_app name.now }
 {
@@ -25,8 +25,8 @@ pub(crate) fn is_app(name: &RefName) -> bool
     }
 }
 
-/// The runtime that a commit of a ref names, as the installation's store has it. None for a
-/// runtime's commit, and where the commit's metadata doesn't read. Nothing changes.
+/// Returns the runtime that a ref's commit names, read from the installation's store. Returns
+/// `None` for a runtime's commit, and if the metadata is missing or not valid. Changes nothing.
 pub fn runtime_at<H: Host>(
     alloc: Global,
     host: &mut H,
@@ -42,7 +42,7 @@ pub fn runtime_at<H: Host>(
     Ok(runtime_named(alloc, name, &metadata)?)
 }
 
-/// Whether it is this ref.
+/// Returns whether `other` is the ref `name`; false if `other` is `None`.
 fn is_name(name: &RefName, other: Option<&RefName>) -> bool
     ensures { result ≡ spec.is_name name.now (option_copied other.entry) }
 {
@@ -52,8 +52,8 @@ fn is_name(name: &RefName, other: Option<&RefName>) -> bool
     }
 }
 
-/// Whether the deployed commit of the row names the runtime. A runtime's commit names none, and
-/// isn't read.
+/// Returns whether the deployed commit of the row names the runtime. A runtime's commit names none,
+/// and isn't read. Changes nothing.
 fn names_it<H: Host>(
     alloc: Global,
     host: &mut H,
@@ -72,7 +72,7 @@ fn names_it<H: Host>(
     Ok(is_name(runtime, named.as_ref()))
 }
 
-/// The first ref of these rows whose deployed commit names the runtime.
+/// Returns the first ref of these rows whose deployed commit names the runtime. Changes nothing.
 fn first_among<H: Host>(
     alloc: Global,
     host: &mut H,
@@ -92,8 +92,8 @@ fn first_among<H: Host>(
     Ok(None)
 }
 
-/// The first application, in the order of the state, whose deployed commit names the runtime.
-/// Nothing changes.
+/// Returns the first application, in the order of the state, whose deployed commit names the
+/// runtime. Changes nothing.
 pub fn first_user<H: Host>(
     alloc: Global,
     host: &mut H,

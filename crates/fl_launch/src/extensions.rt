@@ -1,4 +1,4 @@
-//! The extensions that a launch names.
+//! The extensions in a launch's text.
 
 ghost use Rattle.std.specs.Prelude.{◌≡◌, ◌++◌, IfOk, OnOk, string_bytes};
 ghost use Rattle.fl_launch.specs.Extensions as spec;
@@ -9,7 +9,7 @@ use fp_name::RefName;
 use fp_small::State;
 use std::alloc::{AllocError, Global};
 
-/// The text of a ref's commit.
+/// Returns the deployed commit of a ref in hexadecimal, or an empty text if the ref isn't deployed.
 pub(crate) fn commit_of(alloc: Global, state: &State, name: &RefName) -> Result<Text, AllocError>
     ensures { IfOk result (λ text. text ≡ spec.commit_of state.now name.now) }
 {
@@ -19,7 +19,7 @@ pub(crate) fn commit_of(alloc: Global, state: &State, name: &RefName) -> Result<
     }
 }
 
-/// Adds the extension of a point, where one is found.
+/// Appends `NAME=COMMIT;` of the extension that is found for a point, if there is one.
 fn push_extension(
     alloc: Global,
     out: &mut String,
@@ -39,7 +39,7 @@ fn push_extension(
     out.push(';')
 }
 
-/// The extensions of points, `NAME=COMMIT;` for each that is found.
+/// Returns the extensions of these points: `NAME=COMMIT;` for each point for which one is found.
 #[tactic(auto, unfolding(crate::specs::Extensions::extensions_of))]
 pub(crate) fn extensions_of(
     alloc: Global,

@@ -21,7 +21,8 @@ const UNKNOWN_LISTS: [PermList; 6] = [
     PermList::UnknownSystemBus,
 ];
 
-/// The key of a list in the group `Unknown`. The known lists have other groups.
+/// Returns the key of a list of unknown permissions in the group `Unknown`. Returns an empty text
+/// for the other lists, which are written in other groups.
 fn unknown_key(list: PermList) -> &'static str
     ensures { result.now ≡ spec.unknown_key list }
 {
@@ -31,14 +32,14 @@ fn unknown_key(list: PermList) -> &'static str
     }
 }
 
-/// Whether the permission of a mention is known and granted.
+/// Returns whether the mention grants a known permission.
 fn gives_known(mention: &Mention) -> bool
     ensures { result ≡ spec.gives_known mention.now }
 {
     mention.permission.list.place() < 9 && is_granted(&mention.value)
 }
 
-/// The granted permissions.
+/// Returns the mentions that grant a permission.
 fn granted(alloc: Global, grants: &[Mention]) -> Result<Vec<Mention>, AllocError>
     ensures { IfOk result (λ kept. kept.items ≡ spec.granted grants.now) }
 {
@@ -51,7 +52,7 @@ fn granted(alloc: Global, grants: &[Mention]) -> Result<Vec<Mention>, AllocError
     Ok(kept)
 }
 
-/// The granted permissions that are known.
+/// Returns the mentions that grant a known permission.
 fn known(alloc: Global, grants: &[Mention]) -> Result<Vec<Mention>, AllocError>
     ensures { IfOk result (λ kept. kept.items ≡ spec.known grants.now) }
 {
@@ -64,7 +65,7 @@ fn known(alloc: Global, grants: &[Mention]) -> Result<Vec<Mention>, AllocError>
     Ok(kept)
 }
 
-/// Adds the pair of a list of unknown permissions, where it has names.
+/// Appends the pair of a list of unknown permissions, unless the list is empty.
 fn push_unknown(
     pairs: &mut Items<Pair>,
     list: PermList,
@@ -83,7 +84,7 @@ fn push_unknown(
     })
 }
 
-/// The pairs of the lists of unknown permissions.
+/// Returns the pairs of the lists of unknown permissions.
 fn unknown_pairs(alloc: Global, mentions: &[Mention]) -> Result<Items<Pair>, AllocError>
     ensures { IfOk result (λ pairs. pairs ≡ spec.unknown_pairs mentions.now) }
 {
@@ -94,8 +95,8 @@ fn unknown_pairs(alloc: Global, mentions: &[Mention]) -> Result<Items<Pair>, All
     Ok(pairs)
 }
 
-/// The groups of the granted permissions: the known ones as in an override, and then the unknown
-/// ones.
+/// Returns the groups of the granted permissions: the known ones as in an override, then the group
+/// `Unknown` with the others.
 #[tactic(auto, unfolding(crate::specs::Granted::granted_groups))]
 pub(crate) fn granted_groups(alloc: Global, grants: &[Mention]) -> Result<Items<Group>, AllocError>
     ensures { IfOk result (λ groups. groups ≡ spec.granted_groups grants.now) }
@@ -106,7 +107,7 @@ pub(crate) fn granted_groups(alloc: Global, grants: &[Mention]) -> Result<Items<
     Ok(groups)
 }
 
-/// Whether the socket of the session bus is granted.
+/// Returns whether the socket `session-bus` is granted.
 #[tactic(auto, unfolding(crate::specs::Granted::has_session_bus))]
 pub(crate) fn has_session_bus(alloc: Global, grants: &Grants) -> Result<bool, AllocError>
     ensures { IfOk result (λ has. has ≡ spec.has_session_bus grants.now) }

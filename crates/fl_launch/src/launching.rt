@@ -1,4 +1,4 @@
-//! The launch of an application.
+//! The text of an application's launch.
 
 ghost use Rattle.std.specs.Prelude.{◌≡◌, ◌++◌, [], IsSome, IfOk, OnOk, string_bytes};
 ghost use Rattle.std.specs.Option.{option_copied};
@@ -20,16 +20,16 @@ use fp_name::RefName;
 use fp_small::State;
 use std::alloc::{AllocError, Global};
 
-/// What a launch says of a sandbox.
+/// The description of a launch's sandbox.
 #[derive(Drop)]
 pub struct LaunchText {
-    /// The text, in the manner of the file `/.flatpak-info` of flatpak-run(1).
+    /// The text, in the style of the file `/.flatpak-info` (flatpak-run(1)).
     pub text: Text,
-    /// What the sandbox is granted.
+    /// The last mention of each permission, which grants or denies it, ascending.
     pub grants: Grants,
 }
 
-/// The command of the words, else that of the metadata.
+/// Returns the command of the options, or else that of the metadata.
 fn command_of<'a>(word: Option<&'a str>, app: &'a Meta) -> Option<&'a str>
     ensures { option_copied result ≡ spec.command_of (option_copied word.entry) app.now.command }
 {
@@ -40,7 +40,7 @@ fn command_of<'a>(word: Option<&'a str>, app: &'a Meta) -> Option<&'a str>
     }
 }
 
-/// Adds the line of the command, where there is one.
+/// Appends the line of the command, if there is one.
 fn push_command(out: &mut String, command: Option<&str>) -> Result<(), AllocError>
     ensures { OnOk result (string_bytes out.new ≡ string_bytes out.old ++ spec.command_line
         (option_copied command.entry)) }
@@ -51,7 +51,7 @@ fn push_command(out: &mut String, command: Option<&str>) -> Result<(), AllocErro
     }
 }
 
-/// Adds the group of the application.
+/// Appends the group `Application`.
 #[tactic(auto, unfolding(crate::specs::Launch::application))]
 fn push_application(
     out: &mut String,
@@ -68,7 +68,8 @@ fn push_application(
     push_command(out, command)
 }
 
-/// Adds the lines that say what the application and its runtime are.
+/// Appends the header of the group `Instance`, and the lines with the commits of the application
+/// and its runtime, the architecture and the branch.
 #[tactic(auto, unfolding(crate::specs::Launch::commits))]
 fn push_commits(
     alloc: Global,
@@ -89,7 +90,8 @@ fn push_commits(
     push_line(out, "branch", name.branch())
 }
 
-/// Adds the lines that name the extensions.
+/// Appends the lines with the extensions of the application and of its runtime; leaves out a line
+/// without extensions.
 #[tactic(auto, unfolding(crate::specs::Launch::extension_lines))]
 fn push_extensions(
     alloc: Global,
@@ -107,7 +109,8 @@ fn push_extensions(
     push_line_if(out, "runtime-extensions", &of_runtime)
 }
 
-/// Adds the line that says whether the session bus goes through a proxy.
+/// Appends the line that records whether the session bus goes through a proxy: it does, unless the
+/// socket `session-bus` is granted.
 #[tactic(auto, unfolding(crate::specs::Launch::proxy_line))]
 fn push_proxy(alloc: Global, out: &mut String, grants: &Grants) -> Result<(), AllocError>
     ensures { OnOk result (string_bytes out.new ≡ string_bytes out.old ++ spec.proxy_line
@@ -121,7 +124,7 @@ fn push_proxy(alloc: Global, out: &mut String, grants: &Grants) -> Result<(), Al
     push_line(out, "session-bus-proxy", word)
 }
 
-/// The text of a launch with this runtime and this command.
+/// Returns the text of a launch with this runtime, command and permissions.
 fn text_with(
     alloc: Global,
     state: &State,
@@ -146,14 +149,15 @@ fn text_with(
     Ok(out)
 }
 
-/// The launch of an application with extension points.
+/// Returns the launch of an application with extension points. The application's metadata has to
+/// name a runtime.
 ///
 /// Its text has the groups `Application` and `Instance`, in which `app-extensions` and
-/// `runtime-extensions` name the extension that is found for each point, then the granted
-/// permissions as an override is written, with a group `Unknown` for those that aren't known, and
-/// last the group `Mounts` with a line for each extension that is found. What is granted is the
-/// last mention of each permission, in the metadata of the runtime and of the application, the
-/// global override, the application's, and the words.
+/// `runtime-extensions` list the extension that is found for each point; then the granted
+/// permissions, written as in an override, with a group `Unknown` for those that aren't known; and
+/// last the group `Mounts` with a line for each extension that is found. The last mention of a
+/// permission decides, in this order: the metadata of the runtime and of the application, the
+/// global override, the application's override, and the options.
 #[tactic(auto, unfolding(crate::specs::Launch::launch_text))]
 pub fn launch_extended(
     alloc: Global,
@@ -193,7 +197,8 @@ pub fn launch_extended(
     })
 }
 
-/// The launch of an application without extension points.
+/// Returns the launch of an application, as `launch_extended` does if there are no extension
+/// points.
 pub fn launch(
     alloc: Global,
     state: &State,

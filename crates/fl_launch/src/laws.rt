@@ -1,5 +1,5 @@
-//! Laws of the words that the contracts use, for crates that build on them. Each is the contract of
-//! a function that does nothing.
+//! Laws of the definitions in the contracts, for crates that build on them. Each law is the
+//! contract of a function with an empty body.
 
 ghost use Rattle.std.specs.Prelude.{◌≡◌, ◌++◌, ℕ, true, codes, List};
 ghost use Rattle.std.specs.List.{list_any};
@@ -20,8 +20,8 @@ ghost use Rattle.fl_launch.specs.Extensions.{mounts_of, mount_lines};
 ghost use Rattle.fl_launch.specs.Groups.{TextIsOfGroups, GroupsReadBack, LaunchReadsBack, MountReadsBack};
 ghost use Rattle.fl_launch.specs.Policies.{AreRules, IsBus};
 
-/// What files mention on a bus are patterns with levels, and so is what can be written, both
-/// together, and what they grant.
+/// States that the mentions of a bus are patterns with levels, if they come from a file, can be
+/// written, are several such lists joined, or are what such mentions grant.
 pub fn grants_are_rules()
     ensures files { (bus : TheList) (source : TheSource) (file : List Group) → IsBus bus → AreRules
         bus (file_mentions source file) }
@@ -33,8 +33,8 @@ pub fn grants_are_rules()
         grants → ((p : Permission) → value_in grants p ≡ last_mention all p) → AreRules bus grants }
 {}
 
-/// What layers grant: the last mention of each permission, the permissions ascending. No other list
-/// is so.
+/// States that layers grant the last mention of each permission, with the permissions ascending,
+/// and that no other list does.
 pub fn grants_are_the_last_mentions()
     ensures last { (mentions : List Mention) (p : Permission) → value_in (granted_by mentions) p ≡
         last_mention mentions p }
@@ -44,29 +44,30 @@ pub fn grants_are_the_last_mentions()
         → grants ≡ granted_by mentions }
 {}
 
-/// The text of a launch is that of the groups of a key file, with the mounts after it. Where names,
-/// commits and the command can be values of a key file, and what is granted can be written, these
-/// groups read back as they are: no value is read as another line.
+/// States that the text of a launch is that of a key file's groups, followed by the mounts. The
+/// groups read back unchanged, so no value is read as another line, if names, commits and the
+/// command are valid values of a key file, and the permissions can be written.
 pub fn texts_are_of_groups()
     ensures text { TextIsOfGroups }
     ensures back { GroupsReadBack }
 {}
 
-/// A launch of refs, digests and values reads back, where what is mentioned can be written, as what
-/// files and options mention can: no value is read as another line.
+/// States that the groups of a launch read back unchanged, so no value is read as another line, if
+/// its refs, digests and values are valid and the mentions can be written, as those of files and
+/// options can.
 pub fn launches_read_back()
     ensures { LaunchReadsBack }
 {}
 
-/// The line of a mount reads back as the directory below `/app` or `/usr`, and the ref: it is no
-/// other line.
+/// States that the line of a mount reads back as the directory below `/app` or `/usr`, and the ref,
+/// and as no other line.
 pub fn mounts_read_back()
     ensures app { MountReadsBack (codes "/app/") }
     ensures runtime { MountReadsBack (codes "/usr/") }
 {}
 
-/// The lines of the mounts ascend by their bytes, so each stands once. They are those of the points
-/// of the application and of the runtime, and no others.
+/// States that the lines of the mounts ascend strictly by their bytes, and are exactly those of the
+/// points of the application and of the runtime.
 pub fn mounts_ascend()
     ensures ascending { (state : TheState) (app_points runtime_points : List ThePoint) →
         is_ascending (mount_lines state app_points runtime_points) ≡ true }

@@ -1,4 +1,4 @@
-//! The layers of a launch, folded.
+//! The layers of a launch's permissions.
 
 ghost use Rattle.std.specs.Prelude.{◌≡◌, IfOk};
 ghost use Rattle.std.specs.List.{find};
@@ -13,7 +13,7 @@ use fl_meta::{Layer, Meta, Source, mentions_of};
 use fp_small::{OverrideRow, State};
 use std::alloc::{AllocError, Global};
 
-/// The override of a name, where there is one.
+/// Returns the override with this name, if there is one.
 fn override_row<'a>(state: &'a State, name: &str) -> Option<&'a OverrideRow>
     ensures { option_copied result ≡ find (λ row. bytes_eq row.name name.now)
         state.now.overrides }
@@ -22,7 +22,7 @@ fn override_row<'a>(state: &'a State, name: &str) -> Option<&'a OverrideRow>
     rows.find(|row| row.name.as_str() == name)
 }
 
-/// What the override of a name mentions, where there is one.
+/// Returns the mentions of the override with this name; none if there is no such override.
 #[tactic(auto, unfolding(crate::specs::Layers::override_of))]
 fn override_of(alloc: Global, state: &State, name: &str) -> Result<Layer, AllocError>
     ensures { IfOk result (λ layer. layer ≡ spec.override_of state.now name.now) }
@@ -33,7 +33,7 @@ fn override_of(alloc: Global, state: &State, name: &str) -> Result<Layer, AllocE
     }
 }
 
-/// What five layers grant, the earliest first.
+/// Returns the last mention of each permission in five layers, the earliest first.
 fn fold_five<'a>(
     alloc: Global,
     runtime: &'a Layer,
@@ -52,8 +52,9 @@ fn fold_five<'a>(
     Ok(grants)
 }
 
-/// What the layers of a launch grant, the earliest first: the metadata of the runtime and of the
-/// application, the global override and the application's, and the words.
+/// Returns the last mention of each permission in the layers of a launch, the earliest first: the
+/// metadata of the runtime and of the application, the global override, the application's override,
+/// and the options.
 pub(crate) fn grants_of(
     alloc: Global,
     state: &State,

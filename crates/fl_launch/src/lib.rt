@@ -1,4 +1,4 @@
-//! The launch of an application: what its sandbox is made of, as text, and what it may do on the
+//! The launch of an application: the text that describes its sandbox, and its policies on the D-Bus
 //! buses.
 #![tactic(auto)]
 

@@ -1,4 +1,4 @@
-//! Where a launch mounts extensions.
+//! The mount points of extensions in a launch's text.
 
 ghost use Rattle.std.specs.Prelude.{◌≡◌, ◌++◌, IfOk, OnOk, string_bytes};
 ghost use Rattle.fl_launch.specs.Extensions as extensions;
@@ -12,7 +12,8 @@ use fp_small::State;
 use std::alloc::{AllocError, Global};
 use std::collections::BTreeSet;
 
-/// The line that says where an extension is mounted.
+/// Returns the line of an extension's mount: the directory below `/app/` or `/usr/`, `=`, and the
+/// ref.
 fn mount_line(
     alloc: Global,
     front: &str,
@@ -28,7 +29,7 @@ fn mount_line(
     Ok(Text::from_string(line))
 }
 
-/// Puts the mount of a point among the lines, where an extension is found.
+/// Adds the mount of a point to the lines, if an extension is found for it.
 #[tactic(auto, unfolding(crate::specs::Extensions::with_lines))]
 fn add_mount(
     alloc: Global,
@@ -48,7 +49,7 @@ fn add_mount(
     Ok(())
 }
 
-/// Puts the mounts of points among the lines.
+/// Adds the mounts of these points to the lines.
 #[tactic(auto, unfolding(crate::specs::Extensions::with_lines))]
 fn add_mounts(
     alloc: Global,
@@ -66,7 +67,7 @@ fn add_mounts(
     Ok(())
 }
 
-/// The lines of the mounts, in the order of their bytes, each of them once.
+/// Returns the lines of all mounts, strictly ascending by their bytes.
 #[tactic(auto, unfolding(crate::specs::Extensions::mount_lines))]
 fn mount_lines(
     alloc: Global,
@@ -83,7 +84,7 @@ fn mount_lines(
     Ok(lines)
 }
 
-/// Adds a line.
+/// Appends a line and its newline.
 fn push_closed(out: &mut String, line: &Text) -> Result<(), AllocError>
     ensures { OnOk result (string_bytes out.new ≡ string_bytes out.old ++ spec.closed_line
         line.now) }
@@ -92,7 +93,7 @@ fn push_closed(out: &mut String, line: &Text) -> Result<(), AllocError>
     out.push('\n')
 }
 
-/// Adds the group of the mounts, where there are lines.
+/// Appends the group `Mounts` with these lines. Does nothing if there is no line.
 #[tactic(auto, unfolding(crate::specs::Launch::mounts))]
 fn push_lines(out: &mut String, lines: &BTreeSet<Text>) -> Result<(), AllocError>
     ensures { OnOk result (string_bytes out.new ≡ string_bytes out.old ++ spec.mounts
@@ -108,7 +109,7 @@ fn push_lines(out: &mut String, lines: &BTreeSet<Text>) -> Result<(), AllocError
     Ok(())
 }
 
-/// Adds the group of the mounts, where an extension is found.
+/// Appends the group `Mounts`. Does nothing if no extension is found.
 pub(crate) fn push_mounts(
     alloc: Global,
     out: &mut String,

@@ -1,4 +1,4 @@
-//! What a launched application may do on the buses.
+//! The policies of a launched application on the D-Bus buses.
 
 ghost use Rattle.std.specs.Prelude.{◌≡◌, ◌++◌, ◌∷◌, [], true, IfOk, OnOk};
 ghost use Rattle.bus_policy.specs.Levels as levels;
@@ -11,7 +11,7 @@ use fl_meta::{Mention, PermList, Value, is_pattern};
 use fp_name::AppId;
 use std::alloc::{AllocError, Global};
 
-/// The level that a value says.
+/// Returns the level of a bus permission's value.
 fn level_of(value: &Value) -> Level
     ensures { result ≡ spec.level_of value.now }
 {
@@ -23,7 +23,7 @@ fn level_of(value: &Value) -> Level
     }
 }
 
-/// Whether a mention grants a pattern of names on the bus.
+/// Returns whether a mention grants a pattern of names on the bus.
 fn is_on_bus(bus: PermList, mention: &Mention) -> bool
     ensures { result ≡ spec.is_on_bus bus mention.now }
 {
@@ -32,7 +32,7 @@ fn is_on_bus(bus: PermList, mention: &Mention) -> bool
         && is_pattern(mention.permission.name.as_str())
 }
 
-/// Adds a rule that gives a level to a pattern.
+/// Adds a rule that gives a pattern a level.
 fn add_rule(
     alloc: Global,
     policy: &mut Policy,
@@ -49,7 +49,7 @@ fn add_rule(
     }
 }
 
-/// Adds the rule of a mention, where it grants a pattern of the bus.
+/// Adds the rule of a mention, if it grants a pattern of names on the bus.
 fn add_mention(
     alloc: Global,
     policy: &mut Policy,
@@ -65,7 +65,7 @@ fn add_mention(
     add_rule(alloc, policy, pattern, level_of(&mention.value))
 }
 
-/// Adds a rule for each granted pattern of the bus.
+/// Adds a rule for each granted pattern of names on the bus.
 fn add_mentions(
     alloc: Global,
     policy: &mut Policy,
@@ -80,7 +80,7 @@ fn add_mentions(
     Ok(())
 }
 
-/// Adds the rule by which an application owns its ID and all names below it.
+/// Adds the rule that lets an application own its ID and all names below it.
 #[tactic(auto, using(crate::proofs::Patterns::own_pattern))]
 fn add_own(alloc: Global, policy: &mut Policy, id: &AppId) -> Result<(), AllocError>
     ensures { OnOk result (policy.new ≡ policy.old ++ spec.rule (spec.own_pattern id.now) Level.Own
@@ -91,8 +91,8 @@ fn add_own(alloc: Global, policy: &mut Policy, id: &AppId) -> Result<(), AllocEr
     add_rule(alloc, policy, &pattern, Level::Own)
 }
 
-/// The policy of a launch on the session bus: the application owns its ID and the names below it,
-/// talks to the portals, and has each granted pattern at its level.
+/// Returns the policy of a launch on the session bus: the application may own its ID and the names
+/// below it, may talk to the portals, and has each granted pattern at its level.
 #[tactic(auto, unfolding(crate::specs::Policies::session_rules))]
 pub fn policy_of(alloc: Global, launch: &LaunchText, id: &AppId) -> Result<Policy, AllocError>
     ensures { IfOk result (λ policy. policy ≡ spec.session_rules id.now launch.now.grants) }
@@ -105,7 +105,8 @@ pub fn policy_of(alloc: Global, launch: &LaunchText, id: &AppId) -> Result<Polic
     Ok(policy)
 }
 
-/// The policy of a launch on the system bus: each granted pattern at its level, and nothing else.
+/// Returns the policy of a launch on the system bus: the application has each granted pattern at
+/// its level, and nothing else.
 pub fn policy_of_system(alloc: Global, launch: &LaunchText) -> Result<Policy, AllocError>
     ensures { IfOk result (λ policy. policy ≡ spec.system_rules launch.now.grants) }
 {

@@ -1,4 +1,4 @@
-//! The lines of a launch's text, which are those of a key file.
+//! Writing of a launch's text, line by line as in a key file.
 
 ghost use Rattle.std.specs.Prelude.{◌≡◌, ◌++◌, OnOk, string_bytes};
 ghost use Rattle.fp_keyfile.specs.KeyFile.{group_text, text_of};
@@ -7,7 +7,7 @@ ghost use Rattle.fl_launch.specs.Launch as spec;
 use fp_keyfile::Group;
 use std::alloc::AllocError;
 
-/// Adds the line of a group's name.
+/// Appends the header of a group, `[NAME]`.
 #[tactic(auto, unfolding(crate::specs::Launch::header))]
 pub(crate) fn push_header(out: &mut String, name: &str) -> Result<(), AllocError>
     ensures { OnOk result (string_bytes out.new ≡ string_bytes out.old ++ spec.header name.now) }
@@ -17,7 +17,7 @@ pub(crate) fn push_header(out: &mut String, name: &str) -> Result<(), AllocError
     out.push_str("]\n")
 }
 
-/// Adds the line of a pair.
+/// Appends the line of a pair, `KEY=VALUE`.
 #[tactic(auto, unfolding(crate::specs::Launch::line))]
 pub(crate) fn push_line(out: &mut String, key: &str, value: &str) -> Result<(), AllocError>
     ensures { OnOk result (string_bytes out.new ≡ string_bytes out.old ++ spec.line key.now
@@ -29,7 +29,7 @@ pub(crate) fn push_line(out: &mut String, key: &str, value: &str) -> Result<(), 
     out.push('\n')
 }
 
-/// Adds the line of a pair, where it has a value.
+/// Appends the line of a pair, unless the value is empty.
 #[tactic(auto, unfolding(crate::specs::Launch::line_if))]
 pub(crate) fn push_line_if(out: &mut String, key: &str, value: &str) -> Result<(), AllocError>
     ensures { OnOk result (string_bytes out.new ≡ string_bytes out.old ++ spec.line_if key.now
@@ -41,7 +41,7 @@ pub(crate) fn push_line_if(out: &mut String, key: &str, value: &str) -> Result<(
     push_line(out, key, value)
 }
 
-/// Adds the lines of a group.
+/// Appends the lines of a group.
 #[tactic(auto, unfolding(crate::specs::Launch::header, crate::specs::Launch::line))]
 fn push_group(out: &mut String, group: &Group) -> Result<(), AllocError>
     ensures { OnOk result (string_bytes out.new ≡ string_bytes out.old ++ group_text group.now) }
@@ -53,7 +53,7 @@ fn push_group(out: &mut String, group: &Group) -> Result<(), AllocError>
     Ok(())
 }
 
-/// Adds the lines of groups.
+/// Appends the lines of these groups.
 #[tactic(auto, unfolding(fp_keyfile::specs::KeyFile::text_of))]
 pub(crate) fn push_groups(out: &mut String, groups: &[Group]) -> Result<(), AllocError>
     ensures { OnOk result (string_bytes out.new ≡ string_bytes out.old ++ text_of groups.now) }

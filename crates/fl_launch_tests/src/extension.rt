@@ -1,4 +1,4 @@
-//! Metadata files with the points that they have, worked out from the rules by hand.
+//! Metadata files and their extension points, worked out by hand from the rules.
 
 use crate::given::{key_file, ref_name, row_of};
 use crate::rows::{agree, agree_at};
@@ -10,27 +10,29 @@ use std::alloc::{AllocError, Global};
 use std::panic::Expect;
 use std::process::Abort;
 
-/// The ref whose metadata the tables have.
+/// The ref that the metadata in the tables belongs to.
 const OF: &str = "app/org.x.App/x86_64/stable";
 
+/// Appends `NAME DIRECTORY auto: `, with `manual` for a point that isn't automatic.
 fn put_front(out: &mut String, point: &Point) -> Result<(), AllocError> {
     let kind = if point.auto { "auto" } else { "manual" };
     let directory = point.directory.as_str();
     write!(out, "{} {directory} {kind}: ", point.name.as_str())
 }
 
+/// Appends a candidate and a space.
 fn put_candidate(out: &mut String, candidate: &RefName) -> Result<(), AllocError> {
     write!(out, "{} ", candidate.as_str())
 }
 
-/// Adds a space after each candidate.
+/// Appends the candidates, each followed by a space.
 fn put_candidates(rt: &impl Abort, out: &mut String, candidates: &[RefName]) {
     for candidate in candidates {
         put_candidate(out, candidate).expect(rt, "memory");
     }
 }
 
-/// Adds `NAME DIRECTORY auto: CANDIDATE .. CANDIDATE |`, with `manual` for a point that isn't
+/// Appends `NAME DIRECTORY auto: CANDIDATE .. CANDIDATE |`, with `manual` for a point that isn't
 /// automatic.
 fn put_point(rt: &impl Abort, out: &mut String, point: &Point) {
     put_front(out, point).expect(rt, "memory");
@@ -38,13 +40,13 @@ fn put_point(rt: &impl Abort, out: &mut String, point: &Point) {
     out.push('|').expect(rt, "memory");
 }
 
-/// The points that the metadata of a ref has.
+/// Returns the extension points in the metadata of a ref.
 fn points_of(rt: &impl Abort, alloc: Global, text: &str, of: &str) -> Items<Point> {
     let file = key_file(rt, alloc, text);
     points(alloc, &file, &ref_name(rt, alloc, of)).expect(rt, "memory")
 }
 
-/// Points as text.
+/// Returns the points as text.
 fn points_as_text(rt: &impl Abort, alloc: Global, points: &[Point]) -> String {
     let mut out = String::new(alloc);
     for point in points {
@@ -53,22 +55,22 @@ fn points_as_text(rt: &impl Abort, alloc: Global, points: &[Point]) -> String {
     out
 }
 
-/// Whether points are this text.
+/// Returns whether the points have this text.
 fn are_shown(rt: &impl Abort, alloc: Global, points: &[Point], want: &str) -> bool {
     points_as_text(rt, alloc, points).as_str() == want
 }
 
-/// Ends the test where the metadata of a ref has other points.
+/// Fails the test if the metadata of a ref has other points than these.
 fn agree_on(rt: &impl Abort, alloc: Global, text: &str, of: &str, want: &str) {
     let points = points_of(rt, alloc, text, of);
     agree(rt, text, are_shown(rt, alloc, points.as_slice(), want));
 }
 
-/// A metadata file of the usual kind.
+/// A typical metadata file.
 const USUAL: &str =
     "[Application]\nname=org.x.App\nruntime=org.x.Platform/x86_64/1\nsdk=org.x.Sdk/x86_64/1\ncommand=run\n\n[Context]\nshared=network;ipc;\n\n[Extension org.x.App.Locale]\ndirectory=share/locale\n\n[Build]\nbuilt-extensions=org.x.App.Locale;\n";
 
-/// Metadata of an application, and the points that it has.
+/// Metadata of an application, and its extension points.
 const POINTS: [(&str, &str); 19] = [
     ("", ""),
     ("[Application]\ndirectory=share\nversion=1\n", ""),
@@ -76,7 +78,7 @@ const POINTS: [(&str, &str); 19] = [
         USUAL,
         "org.x.App.Locale share/locale auto: runtime/org.x.App.Locale/x86_64/stable |",
     ),
-    // names: IDs, and nothing else
+    // names have to be IDs
     ("[Extension ]\ndirectory=share\n", ""),
     ("[Extension]\ndirectory=share\n", ""),
     ("[Extension org.x]\ndirectory=share\n", ""),
@@ -88,22 +90,22 @@ const POINTS: [(&str, &str); 19] = [
         "",
     ),
     ("[extension org.x.E]\ndirectory=share\n", ""),
-    // the order is that of the names, whatever that of the groups
+    // points are ordered by name, whatever the order of the groups
     (
         "[Extension org.x.c]\ndirectory=c\n[Extension org.x.B]\ndirectory=b\n[Extension org.x.c.a]\ndirectory=ca\n[Extension org.x.c-a]\ndirectory=d\n[Extension org.x.a]\ndirectory=a\n",
         "org.x.B b auto: runtime/org.x.B/x86_64/stable |org.x.a a auto: runtime/org.x.a/x86_64/stable |org.x.c c auto: runtime/org.x.c/x86_64/stable |org.x.c-a d auto: runtime/org.x.c-a/x86_64/stable |org.x.c.a ca auto: runtime/org.x.c.a/x86_64/stable |",
     ),
-    // a group that is no point leaves the others
+    // a group that isn't a point doesn't affect the others
     (
         "[Extension org.x.c]\ndirectory=c\n[Extension x]\ndirectory=x\n[Extension org.x.b]\n[Extension org.x.a]\ndirectory=a\n",
         "org.x.a a auto: runtime/org.x.a/x86_64/stable |org.x.c c auto: runtime/org.x.c/x86_64/stable |",
     ),
-    // a group that comes again goes on, and a key that comes again has its later value
+    // a repeated group is continued, and a repeated key has its last value
     (
         "[Extension org.x.E]\ndirectory=a\nversion=1\n[Other]\n[Extension org.x.E]\ndirectory=b\n",
         "org.x.E b auto: runtime/org.x.E/x86_64/1 |",
     ),
-    // switches are on at `true` alone
+    // switches are on only with the value `true`
     (
         "[Extension org.x.E]\ndirectory=e\nno-autodownload=true\n",
         "org.x.E e manual: runtime/org.x.E/x86_64/stable |",
@@ -120,7 +122,7 @@ const POINTS: [(&str, &str); 19] = [
         "[Extension org.x.E]\ndirectory=e\nsubdirectories=true\n",
         "",
     ),
-    // another group's keys don't count
+    // keys of another group don't count
     (
         "[Extension org.x.E]\ndirectory=e\n[Other]\nsubdirectories=true\nversion=2\nno-autodownload=true\n",
         "org.x.E e auto: runtime/org.x.E/x86_64/stable |",
@@ -138,7 +140,7 @@ fn points_of_metadata(rt: HostRuntime) {
     agree_on(&rt, rt.alloc(), text, of, want);
 }
 
-/// Texts of the key `directory`, and whether a group with each is a point.
+/// Values of the key `directory`, and whether a group with each is a point.
 const DIRECTORIES: [(&str, bool); 26] = [
     ("share", true),
     ("share/locale", true),
@@ -149,7 +151,7 @@ const DIRECTORIES: [(&str, bool); 26] = [
     ("\u{e9}", true),
     ("\\s", true),
     ("  share", true),
-    // the root, and what is no path
+    // the root, absolute paths, and paths with an empty element, `.` or `..`
     ("", false),
     ("/", false),
     ("/share", false),
@@ -160,7 +162,7 @@ const DIRECTORIES: [(&str, bool); 26] = [
     ("./share", false),
     ("share/../locale", false),
     ("share/.", false),
-    // what can't stand in a key, nor at its end
+    // characters that can't be in a key, or at its end
     ("share ", false),
     ("share/a\t", false),
     ("a=b", false),
@@ -170,23 +172,23 @@ const DIRECTORIES: [(&str, bool); 26] = [
     ("\u{1}", false),
 ];
 
-/// Texts one after another.
+/// Concatenates texts.
 fn joined_texts(rt: &impl Abort, alloc: Global, texts: &[&str]) -> String {
     texts.concat(alloc).expect(rt, "memory")
 }
 
-/// The group of a point with these keys.
+/// Returns the group of a point with these keys.
 fn group_of(rt: &impl Abort, alloc: Global, keys: &str) -> String {
     joined_texts(rt, alloc, &["[Extension org.x.E]\n", keys, "\n"])
 }
 
-/// How many points a group with these keys has.
+/// Returns the number of points that a group with these keys gives.
 fn count_points(rt: &impl Abort, alloc: Global, keys: &str) -> usize {
     let text = group_of(rt, alloc, keys);
     points_of(rt, alloc, &text, OF).as_slice().len()
 }
 
-/// Whether a group with this directory is a point.
+/// Returns whether a group with this directory is a point.
 fn is_directory(rt: &impl Abort, alloc: Global, directory: &str) -> bool {
     count_points(
         rt,
@@ -203,7 +205,7 @@ fn directories(rt: HostRuntime) {
     }
 }
 
-/// Keys of a point's group, and its candidates for an application of the branch `stable`.
+/// Keys of a point's group, and its candidates for an application with the branch `stable`.
 const CANDIDATES: [(&str, &str); 19] = [
     ("", "runtime/org.x.E/x86_64/stable "),
     ("version=2", "runtime/org.x.E/x86_64/2 "),
@@ -216,10 +218,10 @@ const CANDIDATES: [(&str, &str); 19] = [
         "versions=1;2;",
         "runtime/org.x.E/x86_64/1 runtime/org.x.E/x86_64/2 ",
     ),
-    // `versions` comes before `version`, wherever it stands
+    // `versions` takes precedence over `version`, in any order
     ("version=3\nversions=2", "runtime/org.x.E/x86_64/2 "),
     ("versions=2\nversion=3", "runtime/org.x.E/x86_64/2 "),
-    // what is no branch is left out, and nothing comes in its place
+    // entries that aren't branches are left out, and nothing replaces them
     (
         "versions=;2;;.1;a/b;22.08",
         "runtime/org.x.E/x86_64/2 runtime/org.x.E/x86_64/22.08 ",
@@ -229,22 +231,22 @@ const CANDIDATES: [(&str, &str); 19] = [
     ("version=3\nversions=.1", ""),
     ("version=", ""),
     ("version=.1", ""),
-    // `version` is no list
+    // `version` isn't a list
     ("version=2;1", ""),
-    // a blank is a part of its entry
+    // spaces and tabs belong to their entries
     ("versions=1; 2;\t3;4 ", "runtime/org.x.E/x86_64/1 "),
     ("version= 2", "runtime/org.x.E/x86_64/2 "),
-    // an entry that comes again counts at its first place
+    // a repeated entry counts at its first place
     ("versions=1;1", "runtime/org.x.E/x86_64/1 "),
     (
         "versions=2;1;.3;2;.3;1;3",
         "runtime/org.x.E/x86_64/2 runtime/org.x.E/x86_64/1 runtime/org.x.E/x86_64/3 ",
     ),
-    // a `;` after a backslash ends no entry
+    // a `;` after a backslash doesn't end an entry
     ("versions=1\\;2;3", "runtime/org.x.E/x86_64/3 "),
 ];
 
-/// Whether a point with these keys besides its directory has these candidates.
+/// Returns whether a point with these keys and a directory has these candidates.
 fn has_candidates(rt: &impl Abort, alloc: Global, keys: &str, want: &str) -> bool {
     let text = group_of(
         rt,
@@ -263,7 +265,7 @@ fn candidates(rt: HostRuntime) {
     }
 }
 
-/// The refs, which a space separates.
+/// Returns the rows of refs that are separated by spaces.
 fn refs_of(rt: &impl Abort, alloc: Global, names: &str) -> Items<RefRow> {
     let mut refs = Items::new(alloc);
     for name in names.split(' ') {
@@ -274,7 +276,7 @@ fn refs_of(rt: &impl Abort, alloc: Global, names: &str) -> Items<RefRow> {
     refs
 }
 
-/// A state with the refs.
+/// Returns a state with these refs.
 pub fn state_of(rt: &impl Abort, alloc: Global, names: &str) -> State {
     State {
         layout: Layout::Two,
@@ -285,7 +287,7 @@ pub fn state_of(rt: &impl Abort, alloc: Global, names: &str) -> State {
     }
 }
 
-/// Values of `versions`, the refs of a state, and the place of the candidate that is found.
+/// Values of `versions`, the refs of a state, and the index of the candidate that is found.
 const FOUND: [(&str, &str, Option<usize>); 9] = [
     ("2;1", "", None),
     ("2;1", "runtime/org.x.E/x86_64/1", Some(1)),
@@ -306,12 +308,13 @@ const FOUND: [(&str, &str, Option<usize>); 9] = [
         "app/org.x.E/x86_64/1 runtime/org.x.E/aarch64/2 runtime/org.x.E/x86_64/3 runtime/org.x.E.F/x86_64/2",
         None,
     ),
-    // places are those among the candidates
+    // indices count the candidates, not the entries
     (";.1;2;2;1", "runtime/org.x.E/x86_64/1", Some(1)),
     ("", "runtime/org.x.E/x86_64/stable", None),
 ];
 
-/// The place that is found for the one point, or how many there are.
+/// Returns the index that is found for the only point. Errs with the number of points if there
+/// isn't exactly one.
 fn found_in(points: &[Point], state: &State) -> Result<Option<usize>, usize> {
     match points {
         [point] => Ok(found_place(point, state)),
@@ -319,7 +322,8 @@ fn found_in(points: &[Point], state: &State) -> Result<Option<usize>, usize> {
     }
 }
 
-/// The place that is found for a point of these versions, which is the one point of the metadata.
+/// Returns the index of the candidate that is found for a point with these versions. Errs with the
+/// number of points if the metadata doesn't have exactly one.
 fn place_found(
     rt: &impl Abort,
     alloc: Global,
@@ -331,7 +335,7 @@ fn place_found(
     found_in(points_of(rt, alloc, &text, OF).as_slice(), state)
 }
 
-/// Whether this place is found in a state of these refs.
+/// Returns whether the candidate with this index is found in a state with these refs.
 fn is_found(
     rt: &impl Abort,
     alloc: Global,
@@ -352,11 +356,12 @@ fn found_candidates(rt: HostRuntime) {
     }
 }
 
+/// Appends a number with a head and a tail.
 fn put_numbered(text: &mut String, number: u32, head: &str, tail: &str) -> Result<(), AllocError> {
     write!(text, "{head}{number}{tail}")
 }
 
-/// Texts with the numbers from 0, one after another, each with a head and a tail.
+/// Returns the numbers from 0 to `count` - 1 as one text, each with a head and a tail.
 pub fn many(rt: &impl Abort, alloc: Global, count: u32, head: &str, tail: &str) -> String {
     let mut text = String::new(alloc);
     for number in 0..count {
@@ -365,8 +370,7 @@ pub fn many(rt: &impl Abort, alloc: Global, count: u32, head: &str, tail: &str) 
     text
 }
 
-/// The place that is found among 300 candidates in a state of 1,101 refs, of which the last is a
-/// candidate.
+/// A candidate is found among 300 in a state of 1,101 refs, of which only the last is a candidate.
 #[test]
 fn many_candidates(rt: HostRuntime) {
     let alloc = rt.alloc();
@@ -376,7 +380,7 @@ fn many_candidates(rt: HostRuntime) {
     assert!(rt; is_found(&rt, alloc, &versions, &refs, Some(299)));
 }
 
-/// How many candidates the one point has.
+/// Returns the number of candidates of the only point; 0 if there isn't exactly one point.
 fn candidate_count(points: &[Point]) -> usize {
     match points {
         [point] => point.candidates.as_slice().len(),
@@ -384,8 +388,8 @@ fn candidate_count(points: &[Point]) -> usize {
     }
 }
 
-/// 100,000 entries of `versions`, of which every tenth is another one: they are taken one after
-/// another, and not each beside each.
+/// 100,000 entries of `versions` with 10,000 distinct values. Comparing each entry to each other
+/// one would take too long.
 #[test]
 fn many_equal_candidates(rt: HostRuntime) {
     let alloc = rt.alloc();
@@ -411,7 +415,7 @@ fn long_version(rt: HostRuntime) {
     assert!(rt; is_so);
 }
 
-/// The groups of this many points.
+/// Returns the groups of this many points.
 pub fn many_groups(rt: &impl Abort, alloc: Global, count: u32) -> String {
     many(rt, alloc, count, "[Extension org.x.E", "]\ndirectory=e\n")
 }

@@ -1,4 +1,4 @@
-//! What the tests give.
+//! Refs, key files and rows for tests.
 
 use fp_keyfile::KeyFile;
 use fp_name::{Digest, RefName, RemoteName};
@@ -7,17 +7,17 @@ use std::alloc::Global;
 use std::panic::Expect;
 use std::process::Abort;
 
-/// The ref of the text.
+/// Parses a ref.
 pub fn ref_name(rt: &impl Abort, alloc: Global, text: &str) -> RefName {
     RefName::parse(alloc, text.as_bytes()).expect(rt, "a ref")
 }
 
-/// The key file of the text.
+/// Parses a key file.
 pub fn key_file(rt: &impl Abort, alloc: Global, text: &str) -> KeyFile {
     KeyFile::parse(alloc, text.as_bytes()).expect(rt, "a key file")
 }
 
-/// A row of the ref, whose commit has this byte 32 times.
+/// Returns the row of a ref, deployed at the commit whose digest is this byte 32 times.
 pub fn row_of(rt: &impl Abort, alloc: Global, name: &str, byte: u8) -> RefRow {
     RefRow {
         name: ref_name(rt, alloc, name),

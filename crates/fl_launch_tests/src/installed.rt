@@ -1,5 +1,4 @@
-//! A state of 1,100 refs over a host that holds nothing: what is asked of each ref comes to its
-//! end.
+//! Functions over a state of 1,100 refs and a host without content: each ends.
 
 use crate::extension::{many, state_of};
 use crate::given::ref_name;
@@ -20,19 +19,19 @@ use std::thread::Threads;
 /// The last of the refs.
 const LAST: &str = "app/org.x.A1099/x86_64/1";
 
-/// A state of 1,100 applications.
+/// Returns a state of 1,100 applications.
 fn many_applications(rt: &impl Abort, alloc: Global) -> State {
     let refs = many(rt, alloc, 1_100, "app/org.x.A", "/x86_64/1 ");
     state_of(rt, alloc, &refs)
 }
 
-/// An empty host.
+/// Returns an empty host.
 fn new_host(rt: &impl Abort, alloc: Global) -> MemHost {
     MemHost::new(alloc).expect(rt, "memory")
 }
 
-/// How many refs have metadata, how many are told with their points, and how many files are
-/// exported.
+/// Returns the number of refs with metadata, the number of refs that are listed with their points,
+/// and the number of exports.
 fn counts(rt: &impl Abort, alloc: Global, host: &mut MemHost, state: &State) -> [usize; 3] {
     let metas = metas(alloc, host, state).expect(rt, "metadata");
     let points = points(alloc, host, state).expect(rt, "points");
@@ -44,7 +43,7 @@ fn counts(rt: &impl Abort, alloc: Global, host: &mut MemHost, state: &State) -> 
     ]
 }
 
-/// Whether no ref is found to need this one, and the exported files are brought in step.
+/// Refreshes the exports, and returns whether no deployed application needs the runtime `name`.
 fn is_idle(
     rt: &impl Abort,
     alloc: Global,
@@ -70,7 +69,7 @@ fn nothing_is_found(rt: HostRuntime) {
     assert!(rt; counts == [0, 1_100, 0] && is_idle);
 }
 
-/// As many options.
+/// Returns 1,100 options.
 fn options(rt: &impl Abort, alloc: Global) -> Vec<Text> {
     let mut words = Vec::new(alloc);
     for _ in 0..1_100 {
@@ -80,8 +79,8 @@ fn options(rt: &impl Abort, alloc: Global) -> Vec<Text> {
     words
 }
 
-/// Whether an application whose commit is not there is refused, for what it consists of and for a
-/// launch.
+/// Returns whether an application whose commit is missing is refused, both by `launch_in` and by
+/// `parts_in`.
 fn is_refused(
     rt: &impl Abort,
     alloc: Global,
@@ -110,7 +109,7 @@ fn a_launch_is_refused(rt: HostRuntime) {
     assert!(rt; is_so);
 }
 
-/// Whether a ref that is installed needs no install.
+/// Returns whether an installed ref needs no install.
 fn is_there(rt: &impl Abort, alloc: Global, state: &State, name: &RefName) -> bool {
     let mut host = new_host(rt, alloc);
     let mut remotes = MemRemotes::new(alloc).expect(rt, "memory");
@@ -123,7 +122,7 @@ fn is_there(rt: &impl Abort, alloc: Global, state: &State, name: &RefName) -> bo
     is_so
 }
 
-/// Whether a ref that is installed can be taken away.
+/// Returns whether an installed ref can be uninstalled.
 fn can_go(alloc: Global, state: &State, name: &RefName) -> bool {
     let plan = RetirePlan::new(alloc, state, name);
     let is_so = plan.is_ok();
@@ -141,7 +140,7 @@ fn the_last_ref_is_there(rt: HostRuntime) {
     assert!(rt; is_there && can_go);
 }
 
-/// The remote of the name and the url.
+/// Returns the remote with this name and URL.
 fn remote_row(rt: &impl Abort, alloc: Global, name: &str, url: &str) -> RemoteRow {
     RemoteRow {
         name: RemoteName::parse(alloc, name.as_bytes()).expect(rt, "a remote"),
@@ -149,7 +148,7 @@ fn remote_row(rt: &impl Abort, alloc: Global, name: &str, url: &str) -> RemoteRo
     }
 }
 
-/// Adds 1,099 remotes at which nothing is, and then one that offers made applications.
+/// Adds 1,099 remotes without content, and then one that offers generated applications.
 fn add_remotes(rt: &impl Abort, alloc: Global, state: &mut State) {
     for number in 0..1_099 {
         let name = format!(in alloc; "r{number:04}").expect(rt, "memory");
@@ -160,7 +159,8 @@ fn add_remotes(rt: &impl Abort, alloc: Global, state: &mut State) {
     state.remotes.push(last).expect(rt, "memory");
 }
 
-/// How many operations an install from this remote is, where it is one of the state's.
+/// Returns the number of operations of an install from this remote; 0 if the remote isn't one of
+/// the state's.
 fn count_ops(
     rt: &(impl Abort + Threads + Sync),
     alloc: Global,
@@ -180,7 +180,8 @@ fn count_ops(
     count
 }
 
-/// The same of the last remote.
+/// Returns the number of operations of an install from the last remote of the state; 0 if there is
+/// none.
 fn count_ops_from_last(
     rt: &(impl Abort + Threads + Sync),
     alloc: Global,
@@ -193,7 +194,8 @@ fn count_ops_from_last(
     }
 }
 
-/// An install beside 1,100 refs, from the last of 1,100 remotes: of a runtime and an application.
+/// An install into a state of 1,100 refs, from the last of 1,100 remotes, is that of a runtime and
+/// an application.
 #[test]
 fn an_install_has_two_operations(rt: HostRuntime) {
     let alloc = rt.alloc();

@@ -1,5 +1,4 @@
-//! Launches that were worked out from the rules by hand: their texts, and the policies that they
-//! give.
+//! Launches worked out by hand from the rules: their texts and policies.
 
 ghost use Rattle.std.specs.Prelude.{IsTrue, IsSome};
 
@@ -18,25 +17,26 @@ use std::alloc::Global;
 use std::panic::Expect;
 use std::process::Abort;
 
-/// The application that is launched, and its runtime.
+/// The application that is launched.
 const APP: &str = "app/org.x.App/x86_64/stable";
 
+/// The runtime of the application.
 const RUNTIME: &str = "runtime/org.x.Platform/x86_64/1";
 
-/// An application's metadata of the usual kind.
+/// Typical metadata of an application.
 const USUAL: &str =
     "[Application]\nname=org.x.App\nruntime=org.x.Platform/x86_64/1\nsdk=org.x.Sdk/x86_64/1\ncommand=run\n\n[Context]\nshared=network;ipc;\nsockets=wayland;gizmo;\ndevices=dri;\nfilesystems=~/x:ro;~/x:rw;~/x:ro;\n\n[Session Bus Policy]\norg.foo.*=talk\n\n[Environment]\nA=b c\n\n[Extension org.x.App.Locale]\ndirectory=share/locale\n\n[Build]\nbuilt-extensions=org.x.App.Locale;\n";
 
-/// That of its runtime.
+/// The metadata of the runtime.
 const PLATFORM: &str = "[Runtime]\nname=org.x.Platform\n";
 
-/// The text of its launch, up to the branch.
+/// The text of the launch, up to the branch.
 const HEADING: &str =
     "[Application]\nname=org.x.App\nruntime=runtime/org.x.Platform/x86_64/1\ncommand=run\n[Instance]\napp-commit=0101010101010101010101010101010101010101010101010101010101010101\nruntime-commit=0202020202020202020202020202020202020202020202020202020202020202\narch=x86_64\nbranch=stable\n";
 
-/// What is given to a launch: the metadata of the runtime and of the application, the global
-/// override and the application's, the options, and the extensions that are installed. Spaces
-/// separate the last two.
+/// The input of a launch: the metadata of the runtime and of the application, the global override
+/// and the application's, the options, and the extensions that are installed. The last two are
+/// lists that are separated by spaces.
 #[derive(Clone, Copy)]
 struct Given<'a> {
     runtime: &'a str,
@@ -47,7 +47,7 @@ struct Given<'a> {
     installed: &'a str,
 }
 
-/// The usual application, and nothing besides.
+/// The typical application, and nothing else.
 const BARE: Given<'static> = Given {
     runtime: PLATFORM,
     app: USUAL,
@@ -57,13 +57,13 @@ const BARE: Given<'static> = Given {
     installed: "",
 };
 
-/// The usual application, where an extension is installed.
+/// The typical application with an installed extension.
 const WITH_LOCALE: Given<'static> = Given {
     installed: "runtime/org.x.App.Locale/x86_64/stable",
     ..BARE
 };
 
-/// Adds the rows of refs, which spaces separate.
+/// Appends the rows of refs that are separated by spaces.
 fn push_rows(rt: &impl Abort, alloc: Global, rows: &mut Vec<RefRow>, names: &str, byte: u8) {
     for name in names.split(' ') {
         if !name.is_empty() {
@@ -73,7 +73,7 @@ fn push_rows(rt: &impl Abort, alloc: Global, rows: &mut Vec<RefRow>, names: &str
     }
 }
 
-/// The rows of the application, of the extensions and of the runtime.
+/// Returns the rows of the application, the extensions and the runtime.
 fn rows_of(rt: &impl Abort, alloc: Global, installed: &str) -> Vec<RefRow> {
     let mut rows = Vec::new(alloc);
     push_rows(rt, alloc, &mut rows, APP, 1);
@@ -82,7 +82,7 @@ fn rows_of(rt: &impl Abort, alloc: Global, installed: &str) -> Vec<RefRow> {
     rows
 }
 
-/// Adds an override of the name.
+/// Appends an override with this name.
 fn push_override(
     rt: &impl Abort,
     alloc: Global,
@@ -95,7 +95,7 @@ fn push_override(
     rows.push(OverrideRow { name, file }).expect(rt, "memory");
 }
 
-/// The overrides that are given, and one of an application that isn't launched.
+/// Returns the given overrides, and one of an application that isn't launched.
 fn overrides_of(rt: &impl Abort, alloc: Global, given: &Given<'_>) -> Items<OverrideRow> {
     let mut rows = Items::new(alloc);
     push_override(rt, alloc, &mut rows, "global", given.global);
@@ -105,7 +105,7 @@ fn overrides_of(rt: &impl Abort, alloc: Global, given: &Given<'_>) -> Items<Over
     rows
 }
 
-/// A state with the refs and overrides that are given.
+/// Returns the state with the given refs and overrides.
 fn state_of(rt: &impl Abort, alloc: Global, given: &Given<'_>) -> State {
     State {
         layout: Layout::Two,
@@ -116,14 +116,14 @@ fn state_of(rt: &impl Abort, alloc: Global, given: &Given<'_>) -> State {
     }
 }
 
-/// What the metadata of a ref says.
+/// The metadata of a ref, with its extension points.
 #[derive(Drop)]
 struct Said {
     meta: Meta,
     points: Items<Point>,
 }
 
-/// What this metadata of a ref says.
+/// Parses the metadata of a ref.
 fn read(rt: &impl Abort, alloc: Global, text: &str, kind: MetaKind, of: &RefName) -> Said {
     let file = key_file(rt, alloc, text);
     Said {
@@ -132,7 +132,7 @@ fn read(rt: &impl Abort, alloc: Global, text: &str, kind: MetaKind, of: &RefName
     }
 }
 
-/// Adds the words of a text, which spaces separate.
+/// Appends the words of a text, which are separated by spaces.
 fn push_words(rt: &impl Abort, alloc: Global, words: &mut Vec<Text>, text: &str) {
     for word in text.split(' ') {
         let word = Text::from_str(alloc, word).expect(rt, "memory");
@@ -140,14 +140,14 @@ fn push_words(rt: &impl Abort, alloc: Global, words: &mut Vec<Text>, text: &str)
     }
 }
 
-/// What the options mention, which spaces separate.
+/// Returns the mentions of options that are separated by spaces.
 fn options_of(rt: &impl Abort, alloc: Global, options: &str) -> Layer {
     let mut words = Vec::new(alloc);
     push_words(rt, alloc, &mut words, options);
     layer_of(alloc, &words).expect(rt, "memory")
 }
 
-/// Whether the metadata names a runtime.
+/// Returns whether the metadata names a runtime.
 fn names_runtime(app: &Meta) -> bool
     ensures { IsTrue result → IsSome app.now.runtime }
 {
@@ -157,7 +157,7 @@ fn names_runtime(app: &Meta) -> bool
     }
 }
 
-/// The launch, where the metadata names a runtime.
+/// Returns the launch, if the metadata names a runtime.
 fn launch_on_runtime(
     rt: &impl Abort,
     alloc: Global,
@@ -185,7 +185,7 @@ fn launch_on_runtime(
     Some(launch.expect(rt, "memory"))
 }
 
-/// The launch of what is given in a state.
+/// Returns the launch of the input in a state, if the metadata names a runtime.
 fn launch_in(
     rt: &impl Abort,
     alloc: Global,
@@ -203,7 +203,7 @@ fn launch_in(
     launch
 }
 
-/// The launch of what is given.
+/// Returns the launch of the input.
 fn launch_of(rt: &impl Abort, alloc: Global, given: &Given<'_>) -> LaunchText {
     let state = state_of(rt, alloc, given);
     let launch = launch_in(rt, alloc, given, &state);
@@ -211,7 +211,7 @@ fn launch_of(rt: &impl Abort, alloc: Global, given: &Given<'_>) -> LaunchText {
     launch.expect(rt, "a runtime")
 }
 
-/// Whether the text of the launch is the heading and these lines.
+/// Returns whether the text of the launch is the heading and these lines.
 fn has_lines(rt: &impl Abort, alloc: Global, given: &Given<'_>, lines: &str) -> bool {
     let launch = launch_of(rt, alloc, given);
     let is_so = launch.text.as_str().strip_prefix(HEADING) == Some(lines);
@@ -219,21 +219,22 @@ fn has_lines(rt: &impl Abort, alloc: Global, given: &Given<'_>, lines: &str) -> 
     is_so
 }
 
-/// The lines of the usual launch after the heading.
+/// The lines of the typical launch after the heading.
 const LINES: &str =
     "session-bus-proxy=true\n[Context]\nshared=ipc;network;\nsockets=wayland;\ndevices=dri;\nfilesystems=~/x:ro;\n[Environment]\nA=b c\n[Session Bus Policy]\norg.foo.*=talk\n[Unknown]\nsockets=gizmo;\n";
 
-/// The same with the socket of the session bus.
+/// The lines of the typical launch after the heading, with the socket of the session bus.
 const LINES_WITH_BUS: &str =
     "session-bus-proxy=false\n[Context]\nshared=ipc;network;\nsockets=session-bus;wayland;\ndevices=dri;\nfilesystems=~/x:ro;\n[Environment]\nA=b c\n[Session Bus Policy]\norg.foo.*=talk\n[Unknown]\nsockets=gizmo;\n";
 
-/// The same with the extension.
+/// The lines of the typical launch after the heading, with the extension.
 const LINES_WITH_LOCALE: &str =
     "app-extensions=org.x.App.Locale=0303030303030303030303030303030303030303030303030303030303030303;\nsession-bus-proxy=true\n[Context]\nshared=ipc;network;\nsockets=wayland;\ndevices=dri;\nfilesystems=~/x:ro;\n[Environment]\nA=b c\n[Session Bus Policy]\norg.foo.*=talk\n[Unknown]\nsockets=gizmo;\n[Mounts]\n/app/share/locale=runtime/org.x.App.Locale/x86_64/stable\n";
 
-/// Much is given: each layer takes something away from those before it, and there are points of
-/// both with more than one candidate. Names ascend among the extensions, and whole lines among the
-/// mounts, where a space comes before `=` and a letter after it.
+/// A large input: each layer but the first revokes something that the previous ones grant, the
+/// application has several points, and the point of the runtime has several candidates. In the
+/// output, extensions ascend by name, but mounts by whole lines, in which a space is less than `=`,
+/// and a letter is greater.
 const MUCH: Given<'static> = Given {
     runtime: "[Runtime]\n[Context]\nshared=network;ipc\nfeatures=f;devel\n[Environment]\nC=3\nA=0\n[Session Bus Policy]\norg.foo=own\norg.bar=see\n[Extension org.x.P]\ndirectory=a\nversions=3;2;1\n",
     app: "[Application]\nname=org.x.App\nruntime=org.x.Platform/x86_64/1\ncommand=run\n[Context]\nshared=!network\nsockets=x11;session-bus\nfilesystems=~/y:create;host;!home;~/x:ro\npersistent=.b;.a\n[Environment]\nB=2\nA=1\n[System Bus Policy]\norg.c.d=talk\norg.e=Own\n[Extension org.x.c]\ndirectory=z b\n[Extension org.x.b]\ndirectory=z\n[Extension org.x.a]\ndirectory=zz\n[Extension org.x.d]\ndirectory=d\n",
@@ -243,10 +244,11 @@ const MUCH: Given<'static> = Given {
     installed: "runtime/org.x.P/x86_64/1 runtime/org.x.P/x86_64/2 runtime/org.x.a/x86_64/stable runtime/org.x.b/x86_64/stable runtime/org.x.c/x86_64/stable runtime/org.x.d/x86_64/1",
 };
 
+/// The lines of the launch of the large input after the heading.
 const MUCH_LINES: &str =
     "app-extensions=org.x.a=0303030303030303030303030303030303030303030303030303030303030303;org.x.b=0303030303030303030303030303030303030303030303030303030303030303;org.x.c=0303030303030303030303030303030303030303030303030303030303030303;\nruntime-extensions=org.x.P=0303030303030303030303030303030303030303030303030303030303030303;\nsession-bus-proxy=true\n[Context]\nshared=ipc;network;\ndevices=dri;\nfeatures=devel;\nfilesystems=host:ro;~/x:ro;~/y:create;\npersistent=.a;.b;\n[Environment]\nA=1\nB=\nC=3\nD=a;b=c\n[Session Bus Policy]\norg.bar=see\norg.g.*=talk\n[System Bus Policy]\norg.c.d=own\n[Unknown]\nshared=q;\nsystem-bus=org.e=Own;\n[Mounts]\n/app/z b=runtime/org.x.c/x86_64/stable\n/app/z=runtime/org.x.b/x86_64/stable\n/app/zz=runtime/org.x.a/x86_64/stable\n/usr/a=runtime/org.x.P/x86_64/2\n";
 
-/// What is given, and the lines after the heading.
+/// The input of launches, and the lines after the heading.
 const LAUNCHES: [(Given<'static>, &str); 4] = [
     (BARE, LINES),
     (
@@ -267,7 +269,7 @@ fn texts(rt: HostRuntime) {
     }
 }
 
-/// The text of a launch without extension points, with these options and another command.
+/// Returns the text of a launch without extension points, with these options and another command.
 fn plain_text(
     rt: &impl Abort,
     alloc: Global,
@@ -285,12 +287,13 @@ fn plain_text(
     Some(launch.expect(rt, "memory").text.into_string())
 }
 
-/// What metadata says besides its points.
+/// Parses metadata without its extension points.
 fn meta_of(rt: &impl Abort, alloc: Global, text: &str, kind: MetaKind) -> Meta {
     Meta::read(alloc, &key_file(rt, alloc, text), kind).expect(rt, "metadata")
 }
 
-/// The same of the usual application. Spaces separate the options.
+/// Returns the text of the typical application's launch without extension points, with another
+/// command. The options are separated by spaces.
 fn text_without_points(
     rt: &impl Abort,
     alloc: Global,
@@ -308,7 +311,7 @@ fn text_without_points(
     text
 }
 
-/// Whether a launch has the command that is given, and no points, where an extension is installed.
+/// Returns whether a launch has the given command, and no extensions, although one is installed.
 fn is_plain(text: &str) -> bool {
     text.contains("\ncommand=sh\n") && text.ends_with(LINES)
 }
@@ -321,12 +324,12 @@ fn plain_launch(rt: HostRuntime) {
     assert!(rt; is_plain(&text.expect(&rt, "a runtime")));
 }
 
-/// Whether a text has this number of lines, and these among them.
+/// Returns whether a text has this number of lines, and contains these two texts.
 fn has_among(text: &str, count: usize, first: &str, last: &str) -> bool {
     text.lines().count() == count && text.contains(first) && text.contains(last)
 }
 
-/// 1,100 variables stand in the text besides the 21 lines of the usual launch.
+/// 1,100 variables are in the text, besides the 21 lines of the typical launch.
 #[test]
 fn many_variables(rt: HostRuntime) {
     let state = state_of(&rt, rt.alloc(), &BARE);
@@ -337,7 +340,7 @@ fn many_variables(rt: HostRuntime) {
     assert!(rt; has_among(&text, 1_121, "\nV0=x\n", "\nV1099=x\n"));
 }
 
-/// A command of 100 KiB stands in the text.
+/// A command of 100 KiB is in the text.
 #[test]
 fn long_command(rt: HostRuntime) {
     let command = "c".repeat(rt.alloc(), 100 << 10).expect(&rt, "memory");
@@ -347,8 +350,8 @@ fn long_command(rt: HostRuntime) {
     assert!(rt; text.expect(&rt, "a runtime").contains(command.as_str()));
 }
 
-/// Whether the launch with these points and refs has this many lines, and mounts the extensions of
-/// the first point and of the last.
+/// Returns whether the launch with these points and refs has this many lines, and mounts the
+/// extensions of the first point and of the last.
 fn are_mounted(
     rt: &impl Abort,
     alloc: Global,
@@ -376,8 +379,8 @@ fn are_mounted(
     is_so
 }
 
-/// 1,100 extensions are mounted, a line each, besides the 21 lines of the usual launch, the line of
-/// the extensions and the head of the mounts.
+/// 1,100 extensions are mounted, with a line each, besides the 21 lines of the typical launch, the
+/// line of the extensions and the header of the mounts.
 #[test]
 fn many_mounts(rt: HostRuntime) {
     let groups = many_groups(&rt, rt.alloc(), 1_100);
@@ -385,7 +388,7 @@ fn many_mounts(rt: HostRuntime) {
     assert!(rt; are_mounted(&rt, rt.alloc(), &groups, &installed, 1_123));
 }
 
-/// The word of a level.
+/// Returns the word of a level.
 fn word_of(level: Level) -> &'static str {
     match level {
         Level::None => "none",
@@ -395,7 +398,7 @@ fn word_of(level: Level) -> &'static str {
     }
 }
 
-/// Whether a rule is `PATTERN=LEVEL`.
+/// Returns whether a rule is `PATTERN=LEVEL`.
 pub fn is_rule(rule: &PolicyRule, want: &str) -> bool {
     match &rule.grant {
         Grant::Level(level) => {
@@ -405,7 +408,7 @@ pub fn is_rule(rule: &PolicyRule, want: &str) -> bool {
     }
 }
 
-/// Whether these are the rules of a policy, in this order.
+/// Returns whether these are the rules of a policy, in this order.
 fn has_rules(policy: &Policy, want: &[&str]) -> bool {
     for (rule, want) in policy.rules().iter().zip(want) {
         if !is_rule(rule, want) {
@@ -415,7 +418,7 @@ fn has_rules(policy: &Policy, want: &[&str]) -> bool {
     policy.rules().len() == want.len()
 }
 
-/// The rules on the session bus of the launch where much is given.
+/// The rules on the session bus of the launch of the large input.
 const SESSION: [&str; 4] = [
     "org.x.App.*=own",
     "org.freedesktop.portal.*=talk",
@@ -423,17 +426,17 @@ const SESSION: [&str; 4] = [
     "org.g.*=talk",
 ];
 
-/// And those on the system bus.
+/// The rules on the system bus of the launch of the large input.
 const SYSTEM: [&str; 1] = ["org.c.d=own"];
 
-/// Whether a launch has these rules on the session bus.
+/// Returns whether a launch has the rules `SESSION` on the session bus.
 fn has_session(rt: &impl Abort, alloc: Global, launch: &LaunchText) -> bool {
     let id = AppId::parse(alloc, b"org.x.App").expect(rt, "an ID");
     let policy = policy_of(alloc, launch, &id).expect(rt, "memory");
     has_rules(&policy, &SESSION)
 }
 
-/// And these on the system bus.
+/// Returns whether a launch has the rules `SYSTEM` on the system bus.
 fn has_system(rt: &impl Abort, alloc: Global, launch: &LaunchText) -> bool {
     let policy = policy_of_system(alloc, launch).expect(rt, "memory");
     has_rules(&policy, &SYSTEM)
@@ -446,7 +449,8 @@ fn policies(rt: HostRuntime) {
     drop(launch);
 }
 
-/// How many rules a launch with these options has on the session bus, and on the system bus.
+/// Returns the numbers of rules that a launch with these options has on the session bus and on the
+/// system bus.
 fn count_rules(rt: &impl Abort, alloc: Global, options: &str) -> (usize, usize) {
     let launch = launch_of(rt, alloc, &Given { options, ..BARE });
     let id = AppId::parse(alloc, b"org.x.App").expect(rt, "an ID");
@@ -456,7 +460,7 @@ fn count_rules(rt: &impl Abort, alloc: Global, options: &str) -> (usize, usize) 
     (session.rules().len(), system.rules().len())
 }
 
-/// 1,100 names on each bus, besides the three rules of the usual launch on the session bus.
+/// 1,100 names on each bus, besides the three rules of the typical launch on the session bus.
 #[test]
 fn many_policy_rules(rt: HostRuntime) {
     let session = many(&rt, rt.alloc(), 1_100, "--talk-name=org.x.N", " ");

@@ -1,4 +1,4 @@
-//! Tests of extension points, of launches, of long files, and of words that are options or rules.
+//! Tests of extension points, launches, long files, and words that are options or rules.
 #![tactic(auto)]
 
 #[cfg(test)]

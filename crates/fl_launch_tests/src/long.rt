@@ -1,5 +1,4 @@
-//! Metadata and a desktop file of 100 KiB, and states of 1,100 rows: what has to be found in them
-//! or made of them.
+//! Metadata and a desktop file of more than 100 KiB, and states of 1,100 rows.
 
 use crate::extension::{many, state_of};
 use crate::given::{key_file, ref_name};
@@ -16,10 +15,10 @@ use std::alloc::Global;
 use std::panic::Expect;
 use std::process::Abort;
 
-/// The application.
+/// The ref of the application.
 const APP: &str = "app/org.x.App/x86_64/stable";
 
-/// Its metadata, with 1,100 points whose directories have 70 bytes.
+/// Returns the application's metadata, with 1,100 points whose directories have 70 bytes each.
 fn metadata(rt: &impl Abort, alloc: Global) -> Blob {
     let directory = "d".repeat(alloc, 70).expect(rt, "memory");
     let tail = ["]\ndirectory=", directory.as_str(), "\n"].concat(alloc);
@@ -30,7 +29,7 @@ fn metadata(rt: &impl Abort, alloc: Global) -> Blob {
     Blob::from_slice(alloc, text.as_bytes()).expect(rt, "memory")
 }
 
-/// How many extensions metadata names, or none.
+/// Returns the number of extensions that the metadata names; 0 if there is none.
 fn extensions_of(meta: &Option<Meta>) -> usize {
     match meta {
         Some(meta) => meta.extensions.as_slice().len(),
@@ -38,7 +37,7 @@ fn extensions_of(meta: &Option<Meta>) -> usize {
     }
 }
 
-/// Whether the metadata names all extensions.
+/// Returns whether the metadata names all 1,100 extensions.
 fn names_extensions(rt: &impl Abort, alloc: Global, name: &RefName, metadata: &Blob) -> bool {
     let meta = meta_said(alloc, name, metadata).expect(rt, "memory");
     let is_so = extensions_of(&meta) == 1_100;
@@ -46,7 +45,7 @@ fn names_extensions(rt: &impl Abort, alloc: Global, name: &RefName, metadata: &B
     is_so
 }
 
-/// Whether it names the runtime.
+/// Returns whether the metadata names the runtime.
 fn names_runtime(rt: &impl Abort, alloc: Global, name: &RefName, metadata: &Blob) -> bool {
     match runtime_named(alloc, name, metadata).expect(rt, "memory") {
         Some(runtime) => runtime.as_str() == "runtime/org.x.Platform/x86_64/1",
@@ -54,13 +53,14 @@ fn names_runtime(rt: &impl Abort, alloc: Global, name: &RefName, metadata: &Blob
     }
 }
 
-/// Whether it has all points.
+/// Returns whether the metadata has all 1,100 points.
 fn has_points(rt: &impl Abort, alloc: Global, name: &RefName, metadata: &Blob) -> bool {
     let points = points_in(alloc, name, metadata).expect(rt, "memory");
     points.as_slice().len() == 1_100
 }
 
-/// Whether all is found in metadata of 100 KiB and more.
+/// Returns whether the metadata has more than 100 KiB, and its runtime, extensions and points are
+/// read from it.
 fn is_read(rt: &impl Abort, alloc: Global, name: &RefName, metadata: &Blob) -> bool {
     metadata.len() > 100 << 10
         && names_extensions(rt, alloc, name, metadata)
@@ -74,7 +74,7 @@ fn long_metadata(rt: HostRuntime) {
     assert!(rt; is_read(&rt, rt.alloc(), &name, &metadata(&rt, rt.alloc())));
 }
 
-/// A desktop file of 1,100 actions with names of 70 bytes, where this is each command.
+/// Returns a desktop file of 1,100 actions with names of 70 bytes and this command.
 fn desktop(rt: &impl Abort, alloc: Global, command: &str) -> String {
     let name = "n".repeat(alloc, 70).expect(rt, "memory");
     let tail = ["]\nName=", &name, "\nExec=", command, "\n"].concat(alloc);
@@ -87,7 +87,7 @@ fn desktop(rt: &impl Abort, alloc: Global, command: &str) -> String {
         .expect(rt, "memory")
 }
 
-/// Whether a desktop file of 100 KiB and more becomes this one.
+/// Returns whether a desktop file of more than 100 KiB is rewritten as the other one.
 fn becomes(rt: &impl Abort, alloc: Global, text: &str, want: &str) -> bool {
     let rewritten = rewrite(alloc, text.as_bytes(), &ref_name(rt, alloc, APP));
     match rewritten.expect(rt, "memory") {
@@ -96,7 +96,7 @@ fn becomes(rt: &impl Abort, alloc: Global, text: &str, want: &str) -> bool {
     }
 }
 
-/// Each command becomes the launch of the application with the first word as its command.
+/// Each command is replaced by the launch of the application, with the first word as its command.
 #[test]
 fn long_desktop_file(rt: HostRuntime) {
     let own = "fpk launch app/org.x.App/x86_64/stable --command=run";
@@ -104,7 +104,7 @@ fn long_desktop_file(rt: HostRuntime) {
     assert!(rt; becomes(&rt, rt.alloc(), &desktop(&rt, rt.alloc(), "run %U"), &want));
 }
 
-/// Metadata of this many applications, which need a runtime that isn't installed.
+/// Returns the metadata of this many applications, which need a runtime that isn't installed.
 fn metas_of(rt: &impl Abort, alloc: Global, count: u32) -> Vec<(RefName, Meta)> {
     let file = key_file(rt, alloc, "[Application]\nruntime=org.x.Q/x86_64/1\n");
     let mut metas = Vec::new(alloc);
@@ -117,7 +117,7 @@ fn metas_of(rt: &impl Abort, alloc: Global, count: u32) -> Vec<(RefName, Meta)> 
     metas
 }
 
-/// No points of this many applications.
+/// Returns a list of this many applications without points.
 fn points_of(rt: &impl Abort, alloc: Global, count: u32) -> Vec<(RefName, Items<Point>)> {
     let mut points = Vec::new(alloc);
     for _ in 0..count {
@@ -127,8 +127,8 @@ fn points_of(rt: &impl Abort, alloc: Global, count: u32) -> Vec<(RefName, Items<
     points
 }
 
-/// How many runtimes are unused of a state, without points and with them, and how many an update
-/// of all is of.
+/// Returns the number of unused runtimes without regard to points, their number with regard to
+/// points, and the number of refs that an update of all includes.
 fn counts(rt: &impl Abort, alloc: Global, state: &State, others: u32) -> [usize; 3] {
     let metas = metas_of(rt, alloc, others);
     let points = points_of(rt, alloc, others);
@@ -143,7 +143,7 @@ fn counts(rt: &impl Abort, alloc: Global, state: &State, others: u32) -> [usize;
     ]
 }
 
-/// The same of a state with these refs.
+/// Returns the counts for a state with these refs.
 fn counts_of(rt: &impl Abort, alloc: Global, refs: &str, others: u32) -> [usize; 3] {
     let state = state_of(rt, alloc, refs);
     let counts = counts(rt, alloc, &state, others);
@@ -157,7 +157,7 @@ fn many_unused(rt: HostRuntime) {
     assert!(rt; counts_of(&rt, rt.alloc(), &refs, 1_100) == [1_100; 3]);
 }
 
-/// Puts an override without a permission.
+/// Adds an override without permissions.
 fn put_named(rt: &impl Abort, alloc: Global, rows: &mut Vec<OverrideRow>, name: String) {
     let row = OverrideRow {
         name: Text::from_string(name),
@@ -166,7 +166,7 @@ fn put_named(rt: &impl Abort, alloc: Global, rows: &mut Vec<OverrideRow>, name: 
     put_override(rows, row).expect(rt, "memory");
 }
 
-/// How many overrides there are where as many are put, each of another application.
+/// Returns the number of overrides after this many are added, each for another application.
 fn count_put(rt: &impl Abort, alloc: Global, count: u32) -> usize {
     let mut rows = Vec::new(alloc);
     for number in 0..count {

@@ -1,13 +1,13 @@
-//! How a test ends at a row of a table that is otherwise than it should be.
+//! The end of a test at a wrong row of a table.
 
 use std::process::Abort;
 
-/// Ends the test where this isn't so, and prints the row.
+/// Fails the test and prints the row, unless `is_so` is true.
 pub fn agree(rt: &impl Abort, row: &str, is_so: bool) {
     assert!(rt; is_so, "{row}");
 }
 
-/// The same for a row that is a number.
+/// Fails the test and prints the number of the row, unless `is_so` is true.
 pub fn agree_at(rt: &impl Abort, row: usize, is_so: bool) {
     assert!(rt; is_so, "row {row}");
 }

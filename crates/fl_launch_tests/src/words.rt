@@ -1,4 +1,4 @@
-//! Lists of 1,100 words, and words of 100 KiB: options, commands, and rules of a filter.
+//! Lists of 1,100 words, and words of 100 KiB: options, commands, and rules of the D-Bus filter.
 
 use crate::launch::is_rule;
 use bus_policy::PolicyRule;
@@ -9,14 +9,15 @@ use std::alloc::{AllocError, Global};
 use std::panic::Expect;
 use std::process::Abort;
 
-/// How many words there are in a list.
+/// The number of words in a list.
 const COUNT: usize = 1_100;
 
+/// Returns a word from a head and a number.
 fn numbered_word(alloc: Global, head: &str, number: usize) -> Result<Text, AllocError> {
     Ok(Text::from_string(format!(in alloc; "{head}{number}")?))
 }
 
-/// 1,100 words with this head, numbered from 0.
+/// Returns 1,100 words with this head, numbered from 0.
 fn words(rt: &impl Abort, alloc: Global, head: &str) -> Vec<Text> {
     let mut words = Vec::new(alloc);
     for number in 0..COUNT {
@@ -26,12 +27,13 @@ fn words(rt: &impl Abort, alloc: Global, head: &str) -> Vec<Text> {
     words
 }
 
-/// Whether a folder of the home is kept.
+/// Returns whether a mention keeps this directory of the home directory (`--persist`).
 fn is_kept(mention: &Mention, name: &str) -> bool {
     mention.permission.list == PermList::Persistent && mention.permission.name.as_str() == name
 }
 
-/// Whether there are as many mentions as words, the first and the last of them of these folders.
+/// Returns whether there are as many mentions as words, of which the first and the last keep these
+/// directories.
 fn are_kept(mentions: &[Mention], first: &str, last: &str) -> bool {
     match mentions {
         [from, .., to] => mentions.len() == COUNT && is_kept(from, first) && is_kept(to, last),
@@ -39,7 +41,7 @@ fn are_kept(mentions: &[Mention], first: &str, last: &str) -> bool {
     }
 }
 
-/// Whether there are as many rules as words, the first and the last of them these.
+/// Returns whether there are as many rules as words, of which the first and the last are these.
 fn are_rules(rules: &[PolicyRule], first: &str, last: &str) -> bool {
     match rules {
         [from, .., to] => rules.len() == COUNT && is_rule(from, first) && is_rule(to, last),
@@ -68,20 +70,20 @@ fn many_rules(rt: HostRuntime) {
     assert!(rt; are_rules(policy.rules(), "org.x.N0=see", "org.x.N1099=see"));
 }
 
-/// A word with this head, and 100 KiB after it.
+/// Returns a word of this head, followed by 100 KiB.
 fn long_word(rt: &impl Abort, alloc: Global, head: &str) -> Text {
     let rest = "/e".repeat(alloc, 50 << 10).expect(rt, "memory");
     Text::from_string([head, &rest].concat(alloc).expect(rt, "memory"))
 }
 
-/// Whether a word is one option, and one of a launch.
+/// Returns whether a word is one option, also of a launch.
 fn is_one_option(rt: &impl Abort, alloc: Global, word: &str) -> bool {
     is_option(alloc, word).expect(rt, "memory")
         && is_launch_option(alloc, word).expect(rt, "memory")
         && option_layer(alloc, word).expect(rt, "memory").len() == 1
 }
 
-/// How long the command is that a word names.
+/// Returns the length in bytes of the command that a word names.
 fn command_length(rt: &impl Abort, alloc: Global, word: Text) -> usize {
     match last_command(alloc, &[word]).expect(rt, "memory") {
         Some(command) => command.as_str().len(),
@@ -89,7 +91,7 @@ fn command_length(rt: &impl Abort, alloc: Global, word: Text) -> usize {
     }
 }
 
-/// Whether a word is one rule.
+/// Returns whether a word is one rule.
 fn is_one_rule(rt: &impl Abort, alloc: Global, word: Text) -> bool {
     let is_so = fl_options::is_rule(alloc, word.as_str()).expect(rt, "memory");
     let policy = policy_of(alloc, &[word]).expect(rt, "memory");

@@ -1,24 +1,25 @@
--- What is said of a refusal beside its line, for a reader: what it means and what helps. It goes by
--- how the line begins.
+-- The explanation of a refusal, for people: what it means and what helps. It is found by the
+-- beginning of the refusal's line.
 use Rattle.std.specs.Prelude.{ℕ, List, [], ◌∷◌, Option, Some, None, nat_eq, codes, if◌then◌else◌}
 use Rattle.std.specs.List.{starts_with}
 use Rattle.fl_lines.specs.declared.advice.Saying.{Saying}
 
--- how lines begin, and what is said of those
+-- A beginning of lines, and the explanation of the lines that begin with it
 pub record Said : Type 0 where
   pub begins : List ℕ
   pub says : List ℕ
 
+-- The row that a value of `Saying` in the code stands for
 abbrev pub said_in : Saying → Said
 said_in saying = record { begins = saying.begins.now; says = saying.says.now }
 
--- what the first of these says that a line begins like
+-- The explanation in the first row whose beginning the line has
 abbrev pub said_by : List Said → List ℕ → Option (List ℕ)
 said_by [] line = None
 said_by (said ∷ more) line =
     if starts_with nat_eq line said.begins then Some said.says else said_by more line
 
--- the table
+-- The explanations of all refusals
 abbrev pub refusals_said : List Said
 refusals_said =
     record {
@@ -159,6 +160,6 @@ refusals_said =
     }
     ∷ []
 
--- what is said of the line of a refusal
+-- The explanation of a refusal's line; None if the line begins like no refusal's
 abbrev pub advice_of : List ℕ → Option (List ℕ)
 advice_of line = said_by refusals_said line

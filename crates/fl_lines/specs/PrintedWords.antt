@@ -1,4 +1,4 @@
--- The words that enums are printed as.
+-- The words for enum values in printed lines.
 use Rattle.std.specs.Prelude.{ℕ, List, codes}
 use Rattle.fp_base.specs.declared.rule.Rule.{Rule}
 use Rattle.fp_base.specs.declared.rule.Rule.TheVariants as rules
@@ -15,7 +15,7 @@ use Rattle.fp_base.specs.declared.meta_rule.MetadataRule.TheVariants.{Key, Meta}
 use Rattle.fp_base.specs.declared.frame_rule.FrameRule.{FrameRule}
 use Rattle.fp_base.specs.declared.frame_rule.FrameRule.TheVariants as frames
 
--- the rule that an object breaks
+-- The word for the rule that an object breaks
 abbrev pub rule_word : Rule → List ℕ
 rule_word rules.Value = codes "value"
 rule_word rules.Parent = codes "parent"
@@ -29,7 +29,7 @@ rule_word rules.Owner = codes "owner"
 rule_word rules.Xattrs = codes "xattrs"
 rule_word rules.Kind = codes "kind"
 
--- what has a limit
+-- The word for what a limit applies to
 abbrev pub what_word : What → List ℕ
 what_word things.Pins = codes "pins"
 what_word things.Remotes = codes "remotes"
@@ -42,12 +42,12 @@ what_word things.Depth = codes "depth"
 what_word things.MetadataFile = codes "metadata-file"
 what_word things.Override = codes "override"
 
--- the side that sent a message
+-- The word for the side that sent a message
 abbrev pub side_word : Side → List ℕ
 side_word Client = codes "client"
 side_word Bus = codes "bus"
 
--- the rule that a line of a key file breaks
+-- The word for the rule that a line of a key file breaks
 abbrev pub key_rule_word : KeyRule → List ℕ
 key_rule_word keys.Text = codes "text"
 key_rule_word keys.Group = codes "group"
@@ -55,17 +55,18 @@ key_rule_word keys.Line = codes "line"
 key_rule_word keys.Key = codes "key"
 key_rule_word keys.NoGroup = codes "nogroup"
 
--- the rule that a metadata file breaks as a whole
+-- The word for the rule that a whole metadata file breaks
 abbrev pub meta_rule_word : MetaRule → List ℕ
 meta_rule_word metas.Absent = codes "absent"
 meta_rule_word metas.Group = codes "group"
 meta_rule_word metas.Runtime = codes "runtime"
 
+-- The word for the rule that a metadata file breaks, in one line or as a whole
 abbrev pub metadata_rule_word : MetadataRule → List ℕ
 metadata_rule_word (Key rule) = key_rule_word rule
 metadata_rule_word (Meta rule) = meta_rule_word rule
 
--- the rule that a message breaks
+-- The word for the rule that a D-Bus message breaks
 abbrev pub frame_rule_word : FrameRule → List ℕ
 frame_rule_word frames.Order = codes "order"
 frame_rule_word frames.ZeroType = codes "type"

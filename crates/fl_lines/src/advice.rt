@@ -1,16 +1,16 @@
-//! What a refusal means and what helps, for a reader.
+//! Explanations of refusals for people: what each means, and what helps.
 ghost use Rattle.std.specs.Prelude.{◌≡◌, map, nat_eq, option_map};
 ghost use Rattle.std.specs.List.{starts_with};
 ghost use Rattle.fl_lines.specs.Advice.{said_in, refusals_said, advice_of};
 
-/// What is said of lines that begin so.
+/// The explanation of all lines that begin with a text.
 struct Saying {
     begins: &'static str,
     says: &'static str,
 }
 
-/// What the line of a refusal means and what helps, in one sentence. `None` comes exactly where the
-/// line is none of a refusal.
+/// Returns what the line of a refusal means and what helps, or `None` if it begins like no
+/// refusal's line.
 pub fn advice_on(line: &str) -> Option<&'static str>
     ensures { option_map (λ t. t.now) result ≡ advice_of line.now }
 {
@@ -22,7 +22,7 @@ pub fn advice_on(line: &str) -> Option<&'static str>
     None
 }
 
-/// Whether a text begins so.
+/// Returns whether a text begins with another.
 #[tactic(auto, using(std::proofs::lemmas::Str::Pattern::starts_text))]
 fn begins_so(text: &str, beginning: &str) -> bool
     ensures { result ≡ starts_with nat_eq text.now beginning.now }
@@ -30,7 +30,7 @@ fn begins_so(text: &str, beginning: &str) -> bool
     text.starts_with(beginning)
 }
 
-/// What is said of each refusal.
+/// Returns the explanations of all refusals.
 fn sayings() -> &'static [Saying]
     ensures { map said_in result.now ≡ refusals_said }
 {

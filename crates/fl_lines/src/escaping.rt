@@ -1,11 +1,11 @@
-//! Texts that others made, as they are printed.
+//! Escaping of untrusted texts before they are printed.
 ghost use Rattle.std.specs.Prelude.{◌≡◌, ◌||◌, ◌==◌, ◌/◌, ◌%◌, ◌<◌, ◌++◌, ◌∷◌, [], false, is_ok, nat_lt, IfOk, OnOk, string_bytes, encode_utf8};
 ghost use Rattle.fl_lines.specs.Lines.{is_escaped, escape_of, escaped};
 
 use std::alloc::{AllocError, Global};
 
-/// The text in which each control byte (below 0x20, or 0x7f) and each backslash is a backslash and
-/// two lower-case hexadecimal digits.
+/// Returns a text with each control byte (below 0x20, or 0x7f) and each backslash replaced by a
+/// backslash and two lower-case hexadecimal digits.
 pub fn escape(alloc: Global, text: &str) -> Result<String, AllocError>
     ensures { IfOk result (λ t. string_bytes t ≡ escaped text.now) }
 {

@@ -5,8 +5,8 @@ ghost use Rattle.fl_lines.specs.Lines.{exercise_text};
 use fp_base::Text;
 use std::alloc::{AllocError, Global};
 
-/// The line of an exercise of this number, with how many applications and runtimes are deployed at
-/// its end.
+/// Returns the last line of an exercise: its number of applications, and the numbers of
+/// applications and runtimes that are deployed at its end.
 pub fn exercise_line(
     alloc: Global,
     count: u32,

@@ -1,4 +1,4 @@
-//! The lines of exported files.
+//! The lines for exported files.
 ghost use Rattle.std.specs.Prelude.{◌≡◌, IfOk};
 ghost use Rattle.fl_lines.specs.Lines.{export_line as line_of_export};
 
@@ -9,8 +9,7 @@ use fp_host::Path;
 use fp_name::RefName;
 use std::alloc::{AllocError, Global};
 
-/// The line of an exported file: its path below the folder of exported files, and the ref that
-/// exports it.
+/// Returns the line for an exported file: its path below `exports`, and the ref that exports it.
 pub fn export_line(alloc: Global, path: &Path, name: &RefName) -> Result<Text, AllocError>
     ensures { IfOk result (λ t. t ≡ line_of_export path.now name.now) }
 {

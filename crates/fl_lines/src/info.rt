@@ -1,4 +1,4 @@
-//! What is printed of one ref.
+//! The lines of `fpk info`.
 ghost use Rattle.std.specs.Prelude.{◌≡◌, ◌∷◌, ◌++◌, [], IfOk, OnOk, codes, flat_map, string_bytes};
 ghost use Rattle.std.specs.Option.{option_copied};
 ghost use Rattle.fl_lines.specs.Lines.{line_of, previous_text, row_text, runtime_text, extension_line, info_text};
@@ -10,8 +10,8 @@ use fp_name::RefName;
 use fp_small::{Previous, RefRow};
 use std::alloc::{AllocError, Global};
 
-/// What is known of a deployed ref, in lines: its row, the runtime that its metadata names, and its
-/// extensions by their names, in the order given.
+/// Returns the lines about a deployed ref: those of its row, the runtime that its metadata names,
+/// and the names of its extensions, in the order given.
 pub fn info_text(
     alloc: Global,
     row: &RefRow,
@@ -28,7 +28,8 @@ pub fn info_text(
     Ok(Text::from_string(text))
 }
 
-/// Puts after a text the lines of a row.
+/// Appends the lines of a row: the ref, its commit, its remote, its timestamp in seconds since
+/// 1970, and the previous commit, if one is known.
 fn push_row(alloc: Global, text: &mut String, row: &RefRow) -> Result<(), AllocError>
     ensures { OnOk result (string_bytes text.new ≡ string_bytes text.old ++ row_text row.now) }
 {
@@ -41,7 +42,7 @@ fn push_row(alloc: Global, text: &mut String, row: &RefRow) -> Result<(), AllocE
     push_previous(alloc, text, row.previous)
 }
 
-/// Puts after a text the line of the commit that a ref was at before, where there is one.
+/// Appends the line for the previous commit, if there is one.
 fn push_previous(
     alloc: Global,
     text: &mut String,
@@ -59,7 +60,7 @@ fn push_previous(
     }
 }
 
-/// Puts after a text the line of a runtime, where there is one.
+/// Appends the line for the runtime, if there is one.
 fn push_runtime(text: &mut String, runtime: Option<&RefName>) -> Result<(), AllocError>
     ensures { OnOk result (string_bytes text.new ≡ string_bytes text.old
         ++ runtime_text (option_copied runtime.entry)) }
@@ -70,7 +71,7 @@ fn push_runtime(text: &mut String, runtime: Option<&RefName>) -> Result<(), Allo
     }
 }
 
-/// Puts after a text a line for each extension.
+/// Appends a line for each extension.
 fn push_extensions(alloc: Global, text: &mut String, names: &[Text]) -> Result<(), AllocError>
     ensures { OnOk result (string_bytes text.new ≡ string_bytes text.old
         ++ flat_map extension_line names.now) }
@@ -81,7 +82,7 @@ fn push_extensions(alloc: Global, text: &mut String, names: &[Text]) -> Result<(
     Ok(())
 }
 
-/// Puts after a text the line of an extension.
+/// Appends the line for an extension. Its name is escaped.
 fn push_extension(alloc: Global, text: &mut String, name: &str) -> Result<(), AllocError>
     ensures { OnOk result (string_bytes text.new ≡ string_bytes text.old
         ++ extension_line name.now) }
@@ -90,7 +91,7 @@ fn push_extension(alloc: Global, text: &mut String, name: &str) -> Result<(), Al
     push_line(text, "extension", name.as_str())
 }
 
-/// Puts after a text the line of two words.
+/// Appends the line of two words.
 fn push_line(text: &mut String, first: &str, second: &str) -> Result<(), AllocError>
     ensures { OnOk result (string_bytes text.new ≡ string_bytes text.old
         ++ line_of (first.now ∷ second.now ∷ [])) }

@@ -1,5 +1,5 @@
-//! The lines that commands print: of what was done, of what is listed, and of refusals, and what is
-//! said of those for a reader.
+//! The lines that commands print: for operations, listings, a checked store and refusals; and the
+//! sentences that explain refusals.
 #![tactic(auto)]
 
 mod advice;

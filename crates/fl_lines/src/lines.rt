@@ -9,7 +9,7 @@ use fp_name::{Digest, PinPattern, RefName};
 use fp_small::{Op, RefRow, RemoteRow};
 use std::alloc::{AllocError, Global};
 
-/// The line of two words, which a space parts.
+/// Returns the line of two words with a space between them.
 pub(crate) fn line_of_two(alloc: Global, first: &str, second: &str) -> Result<Text, AllocError>
     ensures { IfOk result (λ t. t ≡ line_of (first.now ∷ second.now ∷ [])) }
 {
@@ -19,7 +19,7 @@ pub(crate) fn line_of_two(alloc: Global, first: &str, second: &str) -> Result<Te
     Ok(Text::from_string(text))
 }
 
-/// The line of three words.
+/// Returns the line of three words with a space between each two.
 pub(crate) fn line_of_three(
     alloc: Global,
     first: &str,
@@ -35,7 +35,7 @@ pub(crate) fn line_of_three(
     Ok(Text::from_string(text))
 }
 
-/// The line of three words and a number after the second.
+/// Returns the line of three words and a decimal number after the second.
 pub(crate) fn line_at(
     alloc: Global,
     first: &str,
@@ -55,7 +55,7 @@ pub(crate) fn line_at(
     Ok(Text::from_string(text))
 }
 
-/// Puts a space and a word after a text.
+/// Appends a space and a word.
 fn add_word(text: &mut String, word: &str) -> Result<(), AllocError>
     ensures { OnOk result (string_bytes text.new ≡ string_bytes text.old ++ 32 ∷ word.now) }
 {
@@ -63,14 +63,14 @@ fn add_word(text: &mut String, word: &str) -> Result<(), AllocError>
     text.push_str(word)
 }
 
-/// A number in decimal.
+/// Returns a number in decimal.
 pub(crate) fn decimal_of(alloc: Global, number: u64) -> Result<String, AllocError>
     ensures { IfOk result (λ t. string_bytes t ≡ decimal number) }
 {
     format!(in alloc; "{number}")
 }
 
-/// The line of some words and a number.
+/// Returns the line of some words and a decimal number.
 pub(crate) fn number_line(alloc: Global, words: &str, number: u64) -> Result<Text, AllocError>
     ensures { IfOk result (λ t. t ≡ line_of (words.now ∷ decimal number ∷ [])) }
 {
@@ -78,14 +78,14 @@ pub(crate) fn number_line(alloc: Global, words: &str, number: u64) -> Result<Tex
     line_of_two(alloc, words, number.as_str())
 }
 
-/// The line of some words and a ref.
+/// Returns the line of some words and a ref.
 pub(crate) fn ref_line(alloc: Global, words: &str, name: &RefName) -> Result<Text, AllocError>
     ensures { IfOk result (λ t. t ≡ line_of (words.now ∷ ref_text name.now ∷ [])) }
 {
     line_of_two(alloc, words, name.as_str())
 }
 
-/// The line of some words, a ref and a commit.
+/// Returns the line of some words, a ref and a commit.
 fn commit_line(
     alloc: Global,
     words: &str,
@@ -98,7 +98,7 @@ fn commit_line(
     line_of_three(alloc, words, name.as_str(), digits.as_str())
 }
 
-/// The hexadecimal digits of a digest.
+/// Returns the lower-case hexadecimal digits of a digest.
 pub fn digits_of(alloc: Global, digest: &Digest) -> Result<String, AllocError>
     ensures digits { IfOk result (λ t. string_bytes t ≡ hex digest.now) }
     ensures good { is_digest digest.now ≡ true }
@@ -107,7 +107,7 @@ pub fn digits_of(alloc: Global, digest: &Digest) -> Result<String, AllocError>
     digits.as_str().to_string(alloc)
 }
 
-/// An object by its name: DIGEST.KIND.
+/// Returns the name of an object: `DIGEST.KIND`.
 pub fn object_of(alloc: Global, digest: &Digest, kind: ObjKind) -> Result<String, AllocError>
     ensures { IfOk result (λ t. string_bytes t ≡ object_text digest.now kind) }
 {
@@ -117,7 +117,7 @@ pub fn object_of(alloc: Global, digest: &Digest, kind: ObjKind) -> Result<String
     Ok(text)
 }
 
-/// The line that acknowledges an operation.
+/// Returns the line that acknowledges an operation.
 pub fn op_line(alloc: Global, op: &Op) -> Result<Text, AllocError>
     ensures { IfOk result (λ t. t ≡ op_text op.now) }
 {
@@ -137,7 +137,7 @@ pub fn op_line(alloc: Global, op: &Op) -> Result<Text, AllocError>
     }
 }
 
-/// A line for each pattern, in the order given.
+/// Returns a line for each pattern, in the order given.
 pub fn pins_text(alloc: Global, pins: &[PinPattern]) -> Result<Text, AllocError>
     ensures { IfOk result (λ t. t ≡ pins_text pins.now) }
 {
@@ -149,7 +149,7 @@ pub fn pins_text(alloc: Global, pins: &[PinPattern]) -> Result<Text, AllocError>
     Ok(Text::from_string(text))
 }
 
-/// A line for each remote, in the order given: its name, a space and its URL.
+/// Returns a line for each remote, in the order given: its name, a space and its URL.
 pub fn remotes_text(alloc: Global, remotes: &[RemoteRow]) -> Result<Text, AllocError>
     ensures { IfOk result (λ t. t ≡ remotes_text remotes.now) }
 {
@@ -163,8 +163,8 @@ pub fn remotes_text(alloc: Global, remotes: &[RemoteRow]) -> Result<Text, AllocE
     Ok(Text::from_string(text))
 }
 
-/// A line for each ref, in the order given: the ref, the commit that it is at and the remote that
-/// it comes from.
+/// Returns a line for each ref, in the order given: the ref, its commit and the remote that it
+/// comes from.
 pub fn refs_text(alloc: Global, rows: &[RefRow]) -> Result<Text, AllocError>
     ensures { IfOk result (λ t. t ≡ refs_text rows.now) }
 {
@@ -175,7 +175,7 @@ pub fn refs_text(alloc: Global, rows: &[RefRow]) -> Result<Text, AllocError>
     Ok(Text::from_string(text))
 }
 
-/// Puts after a text the line of a deployed ref.
+/// Appends the line for a deployed ref.
 fn push_deployed(alloc: Global, text: &mut String, row: &RefRow) -> Result<(), AllocError>
     ensures { OnOk result (string_bytes text.new ≡ string_bytes text.old ++ deployed_line row.now) }
 {
@@ -186,7 +186,8 @@ fn push_deployed(alloc: Global, text: &mut String, row: &RefRow) -> Result<(), A
     text.push('\n')
 }
 
-/// The line of a ref that an update passes over, since its remote isn't there or doesn't offer it.
+/// Returns the line for a ref that an update of all skips, because its remote is gone or doesn't
+/// offer it.
 pub fn skipped_line(alloc: Global, name: &RefName) -> Result<Text, AllocError>
     ensures { IfOk result (λ t. t ≡ skipped_text name.now) }
 {

@@ -1,10 +1,10 @@
-//! The words that enums are printed as. None takes memory.
+//! The words for enum values in printed lines. None of these functions allocates.
 ghost use Rattle.std.specs.Prelude.{◌≡◌};
 ghost use Rattle.fl_lines.specs.PrintedWords.{rule_word as word_of_rule, what_word as word_of_what, side_word as word_of_side, key_rule_word as word_of_key_rule, meta_rule_word as word_of_meta_rule, metadata_rule_word as word_of_metadata_rule, frame_rule_word as word_of_frame_rule};
 
 use fp_base::{FrameRule, KeyRule, MetaRule, MetadataRule, Rule, Side, What};
 
-/// The rule that an object breaks.
+/// Returns the word for the rule that an object breaks.
 pub fn rule_word(rule: Rule) -> &'static str
     ensures { result.now ≡ word_of_rule rule }
 {
@@ -23,7 +23,7 @@ pub fn rule_word(rule: Rule) -> &'static str
     }
 }
 
-/// What has a limit.
+/// Returns the word for what a limit applies to.
 pub fn what_word(what: What) -> &'static str
     ensures { result.now ≡ word_of_what what }
 {
@@ -41,7 +41,7 @@ pub fn what_word(what: What) -> &'static str
     }
 }
 
-/// The side that sent a message.
+/// Returns the word for the side that sent a message.
 pub fn side_word(side: Side) -> &'static str
     ensures { result.now ≡ word_of_side side }
 {
@@ -51,7 +51,7 @@ pub fn side_word(side: Side) -> &'static str
     }
 }
 
-/// The rule that a line of a key file breaks.
+/// Returns the word for the rule that a line of a key file breaks.
 pub fn key_rule_word(rule: KeyRule) -> &'static str
     ensures { result.now ≡ word_of_key_rule rule }
 {
@@ -64,7 +64,7 @@ pub fn key_rule_word(rule: KeyRule) -> &'static str
     }
 }
 
-/// The rule that a metadata file breaks as a whole.
+/// Returns the word for the rule that a whole metadata file breaks.
 pub fn meta_rule_word(rule: MetaRule) -> &'static str
     ensures { result.now ≡ word_of_meta_rule rule }
 {
@@ -75,7 +75,7 @@ pub fn meta_rule_word(rule: MetaRule) -> &'static str
     }
 }
 
-/// The rule that a metadata file breaks.
+/// Returns the word for the rule that a metadata file breaks, in one line or as a whole.
 pub fn metadata_rule_word(rule: MetadataRule) -> &'static str
     ensures { result.now ≡ word_of_metadata_rule rule }
 {
@@ -85,7 +85,7 @@ pub fn metadata_rule_word(rule: MetadataRule) -> &'static str
     }
 }
 
-/// The rule that a message breaks.
+/// Returns the word for the rule that a D-Bus message breaks.
 pub fn frame_rule_word(rule: FrameRule) -> &'static str
     ensures { result.now ≡ word_of_frame_rule rule }
 {

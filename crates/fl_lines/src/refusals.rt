@@ -17,7 +17,7 @@ use fp_name::{Digest, RefName};
 use fp_small::Refusal;
 use std::alloc::{AllocError, Global};
 
-/// The line of a refusal: `error:`, what speaks against the command, and of what.
+/// Returns the line of a refusal: `error:`, the reason, and what it is about.
 pub fn refusal_line(alloc: Global, refusal: &Refusal) -> Result<Text, AllocError>
     ensures { IfOk result (λ t. t ≡ refusal_text refusal.now) }
 {
@@ -86,7 +86,8 @@ pub fn refusal_line(alloc: Global, refusal: &Refusal) -> Result<Text, AllocError
     }
 }
 
-/// The line of a remote of another mode.
+/// Returns the line for a remote whose repository isn't of the mode `bare-user-only`. The other
+/// mode is escaped.
 fn remote_mode_line(alloc: Global, remote: &str, mode: &str) -> Result<Text, AllocError>
     ensures { IfOk result (λ t. t ≡ line_of (codes "error: remote mode" ∷ remote.now ∷ escaped
         mode.now ∷ [])) }
@@ -95,7 +96,7 @@ fn remote_mode_line(alloc: Global, remote: &str, mode: &str) -> Result<Text, All
     line_of_three(alloc, "error: remote mode", remote, mode.as_str())
 }
 
-/// The line of a path that doesn't read.
+/// Returns the line for a damaged file of the installation. The path is escaped.
 fn damaged_line(alloc: Global, path: &Path) -> Result<Text, AllocError>
     ensures { IfOk result (λ t. t ≡ line_of (codes "error: damaged" ∷ escaped (path_text path.now)
         ∷ [])) }
@@ -104,7 +105,7 @@ fn damaged_line(alloc: Global, path: &Path) -> Result<Text, AllocError>
     line_of_two(alloc, "error: damaged", path.as_str())
 }
 
-/// The line of an object that isn't there.
+/// Returns the line of some words and an object.
 fn object_line(
     alloc: Global,
     words: &str,
@@ -117,7 +118,7 @@ fn object_line(
     line_of_two(alloc, words, object.as_str())
 }
 
-/// The line of an object that has a fault, with a word for it.
+/// Returns the line of some words, an object and a word for its fault.
 fn fault_line(
     alloc: Global,
     words: &str,
@@ -132,7 +133,7 @@ fn fault_line(
     line_of_three(alloc, words, object.as_str(), fault)
 }
 
-/// The line of an object that has another digest.
+/// Returns the line for an object whose bytes have another digest.
 fn corrupt_line(
     alloc: Global,
     digest: &Digest,
@@ -146,7 +147,7 @@ fn corrupt_line(
     fault_line(alloc, "error: corrupt object", digest, kind, got.as_str())
 }
 
-/// The line of bytes that are no value of a type.
+/// Returns the line for bytes that aren't the normal form of a value of a type.
 fn value_line(alloc: Global, digest: &Digest) -> Result<Text, AllocError>
     ensures { IfOk result (λ t. t ≡ line_of (codes "error: malformed object" ∷
         (hex digest.now ++ codes ".value") ∷ codes "value" ∷ [])) }
@@ -156,7 +157,7 @@ fn value_line(alloc: Global, digest: &Digest) -> Result<Text, AllocError>
     line_of_three(alloc, "error: malformed object", object.as_str(), "value")
 }
 
-/// The line of an object whose mode isn't taken.
+/// Returns the line for an object whose mode is refused.
 fn mode_line(alloc: Global, digest: &Digest, kind: ObjKind, mode: u32) -> Result<Text, AllocError>
     ensures { IfOk result (λ t. t ≡ line_of (codes "error: mode refused" ∷ object_text digest.now
         kind ∷ text_of_mode kind mode ∷ [])) }
@@ -165,7 +166,8 @@ fn mode_line(alloc: Global, digest: &Digest, kind: ObjKind, mode: u32) -> Result
     fault_line(alloc, "error: mode refused", digest, kind, mode.as_str())
 }
 
-/// The mode of an object in octal: of a file its permission bits alone.
+/// Returns the mode of an object in octal: the four digits of its permission bits for a file, six
+/// digits for other objects.
 fn mode_of(alloc: Global, kind: ObjKind, mode: u32) -> Result<String, AllocError>
     ensures { IfOk result (λ t. string_bytes t ≡ text_of_mode kind mode) }
 {
@@ -175,7 +177,7 @@ fn mode_of(alloc: Global, kind: ObjKind, mode: u32) -> Result<String, AllocError
     }
 }
 
-/// The six lowest octal digits of a mode.
+/// Returns the six lowest octal digits of a mode, the highest first.
 #[tactic(auto, unfolding(crate::specs::Lines::octal))]
 pub fn octal_of(alloc: Global, mode: u32) -> Result<String, AllocError>
     ensures { IfOk result (λ t. string_bytes t ≡ octal mode) }
@@ -186,7 +188,7 @@ pub fn octal_of(alloc: Global, mode: u32) -> Result<String, AllocError>
     format!(in alloc; "{high}{low}{bits}")
 }
 
-/// The four lowest octal digits of a mode.
+/// Returns the four lowest octal digits of a mode, the highest first: its permission bits.
 fn bits_of(alloc: Global, mode: u32) -> Result<String, AllocError>
     ensures { IfOk result (λ t. string_bytes t ≡ bits_text mode) }
 {
@@ -197,7 +199,7 @@ fn bits_of(alloc: Global, mode: u32) -> Result<String, AllocError>
     format!(in alloc; "{special}{user}{group}{others}")
 }
 
-/// The line of a commit whose root has an entry that bears the name of the record.
+/// Returns the line for a commit whose root has an entry with the reserved name `deploy`.
 fn commit_line(alloc: Global, commit: &Digest) -> Result<Text, AllocError>
     ensures { IfOk result (λ t. t ≡ line_of (codes "error: reserved name" ∷ hex commit.now ∷ [])) }
 {
@@ -205,7 +207,8 @@ fn commit_line(alloc: Global, commit: &Digest) -> Result<Text, AllocError>
     line_of_two(alloc, "error: reserved name", digits.as_str())
 }
 
-/// The line of a commit that is older than what is deployed.
+/// Returns the line for a remote's commit that is older than the deployed one. Both timestamps are
+/// in seconds since 1970.
 fn older_line(alloc: Global, name: &RefName, have: u64, offered: u64) -> Result<Text, AllocError>
     ensures { IfOk result (λ t. t ≡ line_of (codes "error: older" ∷ ref_text name.now ∷ decimal
         have ∷ decimal offered ∷ [])) }
@@ -214,7 +217,7 @@ fn older_line(alloc: Global, name: &RefName, have: u64, offered: u64) -> Result<
     line_at(alloc, "error: older", name.as_str(), have, offered.as_str())
 }
 
-/// The line of a limit.
+/// Returns the line for an exceeded limit.
 fn limit_line(alloc: Global, what: What, number: u64) -> Result<Text, AllocError>
     ensures { IfOk result (λ t. t ≡ line_of (codes "error: limit" ∷ word_of_what what ∷ decimal
         number ∷ [])) }

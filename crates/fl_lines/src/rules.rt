@@ -1,10 +1,10 @@
-//! The rules that the last words of refusals stand for. None takes memory.
+//! The rules that the last words of refusals stand for. None of these functions allocates.
 ghost use Rattle.std.specs.Prelude.{◌≡◌, IfSome};
 ghost use Rattle.fl_lines.specs.PrintedWords.{rule_word, key_rule_word, meta_rule_word, frame_rule_word};
 
 use fp_base::{FrameRule, KeyRule, MetaRule, Rule};
 
-/// The rule of objects that a word stands for.
+/// Returns the rule for objects that a word stands for, or `None`.
 pub fn object_rule(word: &str) -> Option<Rule>
     ensures { IfSome result (λ rule. rule_word rule ≡ word.now) }
 {
@@ -24,7 +24,7 @@ pub fn object_rule(word: &str) -> Option<Rule>
     }
 }
 
-/// The rule of a line of a key file that a word stands for.
+/// Returns the rule for lines of a key file that a word stands for, or `None`.
 pub fn key_rule(word: &str) -> Option<KeyRule>
     ensures { IfSome result (λ rule. key_rule_word rule ≡ word.now) }
 {
@@ -38,7 +38,7 @@ pub fn key_rule(word: &str) -> Option<KeyRule>
     }
 }
 
-/// The rule of a whole metadata file that a word stands for.
+/// Returns the rule for whole metadata files that a word stands for, or `None`.
 pub fn meta_rule(word: &str) -> Option<MetaRule>
     ensures { IfSome result (λ rule. meta_rule_word rule ≡ word.now) }
 {
@@ -50,7 +50,7 @@ pub fn meta_rule(word: &str) -> Option<MetaRule>
     }
 }
 
-/// The rule of messages that a word stands for.
+/// Returns the rule for D-Bus messages that a word stands for, or `None`.
 pub fn frame_rule(word: &str) -> Option<FrameRule>
     ensures { IfSome result (λ rule. frame_rule_word rule ≡ word.now) }
 {

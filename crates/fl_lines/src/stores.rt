@@ -1,4 +1,4 @@
-//! The lines of a store that was checked, and of one that was made.
+//! The lines for a checked store, and for an exported commit.
 ghost use Rattle.std.specs.Prelude.{◌≡◌, IfOk};
 ghost use Rattle.fl_lines.specs.Lines.{bad_text, stray_text, fsck_text, made_text};
 
@@ -9,7 +9,7 @@ use fp_host::Path;
 use fp_name::Digest;
 use std::alloc::{AllocError, Global};
 
-/// The line of an object that isn't what its name says.
+/// Returns the line for an object that doesn't match its name.
 pub fn bad_line(alloc: Global, digest: &Digest, kind: ObjKind) -> Result<Text, AllocError>
     ensures { IfOk result (λ t. t ≡ bad_text digest.now kind) }
 {
@@ -17,7 +17,7 @@ pub fn bad_line(alloc: Global, digest: &Digest, kind: ObjKind) -> Result<Text, A
     line_of_two(alloc, "bad", object.as_str())
 }
 
-/// The line of a file or link whose path is the name of no object.
+/// Returns the line for a file or link whose path isn't the name of an object.
 pub fn stray_line(alloc: Global, path: &Path) -> Result<Text, AllocError>
     ensures { IfOk result (λ t. t ≡ stray_text path.now) }
 {
@@ -25,7 +25,7 @@ pub fn stray_line(alloc: Global, path: &Path) -> Result<Text, AllocError>
     line_of_two(alloc, "stray", path.as_str())
 }
 
-/// The line of how many objects a store has, and how many of them are bad.
+/// Returns the line with the number of objects in a store, and of the bad ones among them.
 pub fn fsck_line(alloc: Global, objects: u64, bad: u64) -> Result<Text, AllocError>
     ensures { IfOk result (λ t. t ≡ fsck_text objects bad) }
 {
@@ -33,7 +33,7 @@ pub fn fsck_line(alloc: Global, objects: u64, bad: u64) -> Result<Text, AllocErr
     Ok(Text::from_string(text))
 }
 
-/// The line of the commit that was made.
+/// Returns the line for a commit that `fpk export` made.
 pub fn made_line(alloc: Global, commit: &Digest) -> Result<Text, AllocError>
     ensures { IfOk result (λ t. t ≡ made_text commit.now) }
 {

@@ -1,4 +1,4 @@
--- What making a remote does to a host, and what it leaves.
+-- The changes by making a remote, and the remote that is left.
 use Rattle.std.specs.Prelude.{Bool, true, ◌≡◌, ◌≢◌, ◌⊎◌, ℕ, List, [], ◌∷◌, Err, codes}
 use Rattle.fp_host.specs.Paths.{Elements, Slot, absent, dir, is_link_text, IsAbove}
 use Rattle.fp_host.specs.View.{View}
@@ -30,14 +30,15 @@ use Rattle.fl_lines.specs.Lines.{made_text}
 use Rattle.fl_make.specs.declared.end.MakeEnd.{MakeEnd}
 use Rattle.fl_make.specs.declared.end.MakeEnd.TheVariants.{BadRecord, Fault, NoMemory}
 
--- the folder of the store that is made for a remote
+-- The directory of the store that is made for a remote
 abbrev pub remote_store : List ℕ → Elements
 remote_store remote = remote ∷ codes "made" ∷ []
 
 -- ---- at every moment
 
--- What a name may come to hold: anything at or below the store's folder, where it is no place of
--- another ref, and below `repo/tmp`; and these, and those above them, may come to be folders.
+-- The entries that names may get: any at or below the store's directory, except at the paths of
+-- other refs, and any below `repo/tmp`; the store's directory, its ancestors, `repo` and `repo/tmp`
+-- may become directories
 pub data MayMake (remote : List ℕ) (r : Ref) (q : Elements) (e : Slot) : Type 0 where
   in_store : IsWithin (remote_store remote) q
       → ((place : RefPlace)
@@ -47,10 +48,11 @@ pub data MayMake (remote : List ℕ) (r : Ref) (q : Elements) (e : Slot) : Type 
   above_store : IsAbove q (remote_store remote) → e ≡ dir → MayMake remote r q e
   of_work : (q ≡ repo) ⊎ (q ≡ tmp) → e ≡ dir → MayMake remote r q e
 
--- Nothing is printed, each file that was there is as it was, and names change only so. Of the store
--- each other ref stays, and each object that was there. No file came to a commit's folder. Nothing
--- changes of bytes that describe no tree. Over a sound installation nothing changed yet, or every
--- stop leaves the state that was shown, and is sound.
+-- The making of a remote at each moment. Nothing is printed, each old file keeps its mode and
+-- bytes, and names change only as `MayMake` allows. The store's other refs, and its objects that
+-- existed, are unchanged. No file gets into a commit's directory of the installation. If the bytes
+-- describe no tree, nothing changes. Over a sound installation nothing changed yet, or each crash
+-- leaves the state that was shown, and a sound installation.
 pub record Makes (remote : List ℕ) (r : Ref) (bytes : List ℕ) (u w : View) : Type 0 where
   pub printed : w.printed ≡ u.printed
   pub files : KeepsFiles u w
@@ -65,11 +67,11 @@ pub record Makes (remote : List ℕ) (r : Ref) (bytes : List ℕ) (u w : View) :
   pub good : (w ≡ u) ⊎ IsRead (described bytes)
   pub opens : IsSound u → (s : State) → Shows (shows u) s → (w ≡ u) ⊎ Opens s w
 
--- ---- in the end
+-- ---- at the end
 
--- This is the line of the commit of what the bytes describe. It was exported into the store. What
--- was settled is settled. Each new file that has bytes came to a name in the store. The
--- installation's own store got no object.
+-- The remote was made, with this line for its commit. The commit of the tree that the bytes
+-- describe was exported into the store. A settled image stays settled. Each new file that isn't
+-- empty was put at a path below the store's directory. The installation's own store got no object.
 pub record WasMade (remote : List ℕ) (r : Ref) (bytes line : List ℕ) (u w : View) : Type 0 where
   pub built : Built
   pub described_by : IsDescribed bytes r built
@@ -79,18 +81,19 @@ pub record WasMade (remote : List ℕ) (r : Ref) (bytes line : List ℕ) (u w : 
   pub shares : Shares (IsAbove (remote_store remote)) u w
   pub creates : Creates repo NoObject u w
 
--- the first bad line of the bytes
+-- The cause of an end: `BadRecord` is returned only with the number of the first bad line
 abbrev pub IsMakeFault : List ℕ → MakeEnd → Type 0
 IsMakeFault bytes (BadRecord line) = described bytes ≡ Err line
 IsMakeFault bytes Fault = Unit {0}
 IsMakeFault bytes NoMemory = Unit {0}
 
--- Where it may be done: at the store's `config` and at the ref's place nothing stands, or a file;
--- and the folders above what is written are absent or folders.
+-- The remote can be made: the store's `config` and the path of the ref are absent or files, and the
+-- ancestors of everything that is written are absent or directories
 abbrev pub CanMake : List ℕ → Ref → View → Type 0
 CanMake remote r v = CanExport (remote_store remote) r v
 
--- a store may keep the object: a file's permission bits are good, and a link's text is one
+-- Tests whether a store may have the object: a file's permission bits and a symlink's text are
+-- valid
 abbrev pub is_keepable : Object → Bool
 is_keepable (objects.Meta bytes) = true
 is_keepable (objects.File mode bytes) = is_permission mode

@@ -1,4 +1,4 @@
-//! How it ends where no remote was made.
+//! The ends of making a remote that isn't made.
 ghost use Rattle.std.specs.Prelude.{◌≡◌};
 
 use fp_host::HostEnd;
@@ -7,15 +7,15 @@ use std::alloc::AllocError;
 use std::error::Error;
 use std::fmt;
 
-/// How it ends where no remote was made.
+/// The reason why a remote wasn't made.
 #[derive(Clone, Copy, Debug, PartialEq, Eq)]
 pub enum MakeEnd {
-    /// The line with this number, counted from 1, is the first of the description that is bad.
+    /// The line with this number, counted from 1, is the first bad one of the description.
     BadRecord { line: u64 },
     /// A call of the host failed.
     Fault,
-    /// Memory ran out. So it ends too where the commit would be too large, or two of its objects
-    /// have one digest.
+    /// Memory ran out. This is also the end if the commit would be too large, if two of its objects
+    /// have the same digest, or if a store may not have one of its objects.
     NoMemory,
 }
 

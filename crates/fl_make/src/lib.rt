@@ -1,5 +1,5 @@
-//! Remotes that are made: the commit of a tree that is described, offered in a store in the
-//! installation's folder.
+//! Making a remote: a store in `made/REMOTE` of the installation, which offers the commit of a
+//! described tree.
 #![tactic(auto)]
 
 mod end;

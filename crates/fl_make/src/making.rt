@@ -1,4 +1,4 @@
-//! A remote that is made.
+//! Making a remote.
 ghost use Rattle.std.specs.Prelude.{◌≡◌, ℕ, None, IfOk, IfErr, OnOk, IsErrOf};
 ghost use Rattle.std.specs.List.{list_all};
 ghost use Rattle.fp_host.specs.OverHost.{AtEachMoment, AtReturn, ChangesNothing, FailsOnly};
@@ -23,9 +23,9 @@ use std::alloc::{AllocError, Global};
 use std::thread::Threads;
 
 /// Makes the commit of the tree that the bytes describe, offers it under the ref in the store
-/// `made/REMOTE`, and answers the line of the commit. Where the store is there, its other refs and
-/// its objects stay. The installation isn't looked at, and a sync comes before the first change.
-/// `BadRecord` comes only with the first bad line, before anything is done.
+/// `made/REMOTE`, and returns the line of the commit. If the store exists, its other refs and its
+/// objects stay. Doesn't look at the installation, and syncs before the first change. Errs with
+/// `BadRecord` only for the first bad line, before anything is done. Condition: see `CanMake`.
 pub fn make_remote<H: Host>(
     rt: &(impl Threads + Sync),
     alloc: Global,
@@ -50,7 +50,8 @@ pub fn make_remote<H: Host>(
     Ok(line)
 }
 
-/// Offers the commit under the ref in the store of the remote.
+/// Offers the commit under the ref in the store of the remote. Errs with `NoMemory` if a store may
+/// not have one of its objects. Condition: see `CanMake`.
 fn offer<H: Host>(
     alloc: Global,
     host: &mut H,
@@ -77,15 +78,15 @@ fn offer<H: Host>(
     export(alloc, host, &root, built, name)
 }
 
-/// The folder of the store that is made for a remote.
+/// Returns the path of the store that is made for a remote: `made/REMOTE`.
 fn made_path(alloc: Global, remote: &RemoteName) -> Result<Path, AllocError>
     ensures { IfOk result (λ path. path ≡ remote_store remote.now) }
 {
     Path::root(alloc).child("made")?.child(remote.as_str())
 }
 
-/// Whether a store may keep each of the objects. Those of a commit of rows are so, which the call
-/// that builds it doesn't say.
+/// Returns whether a store may have each of the objects. The objects of a described commit are
+/// such, but the contract of building the commit doesn't promise it.
 fn are_keepable(objects: &[BuiltObject]) -> bool
     ensures { result ≡ list_all (λ o. is_keepable_object o.object) objects.now }
 {
@@ -97,8 +98,8 @@ fn are_keepable(objects: &[BuiltObject]) -> bool
     true
 }
 
-/// Whether a store may keep the object: a file's permission bits are good, and a link's text
-/// is one.
+/// Returns whether a store may have the object: a file's permission bits and a symlink's text are
+/// valid.
 fn is_keepable(object: &Object) -> bool
     ensures { result ≡ is_keepable_object object.now }
 {

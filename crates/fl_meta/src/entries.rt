@@ -1,4 +1,4 @@
-//! Lists of permissions, entry by entry.
+//! The entries of a list of permissions.
 
 ghost use Rattle.std.specs.Prelude.{◌≡◌, ◌++◌, ◌∷◌, List, ℕ, IsTrue, OnOk, OnSome, MatchOption, IfOk};
 ghost use Rattle.fl_meta.specs.Entries as entries;
@@ -12,7 +12,7 @@ use fp_base::Text;
 use fp_keyfile::trim_front;
 use std::alloc::{AllocError, Global};
 
-/// What the last ending says.
+/// Returns the access of a filesystem by its text's last ending: read and write if there is none.
 fn access_at(text: &str) -> Value
     ensures { result ≡ entries.access_at text.now }
 {
@@ -22,7 +22,7 @@ fn access_at(text: &str) -> Value
     }
 }
 
-/// The name in an entry.
+/// Returns the name in an entry: the normal form of a filesystem's text, else the text itself.
 fn name_in(alloc: Global, list: PermList, text: &str) -> Result<Text, AllocError>
     ensures { IfOk result (λ name. name ≡ entries.name_in list text.now) }
 {
@@ -32,7 +32,7 @@ fn name_in(alloc: Global, list: PermList, text: &str) -> Result<Text, AllocError
     }
 }
 
-/// The value of an entry that isn't off.
+/// Returns the value of an entry that doesn't turn the permission off.
 fn value_in(list: PermList, text: &str) -> Value
     ensures { result ≡ entries.value_in list text.now }
 {
@@ -42,14 +42,14 @@ fn value_in(list: PermList, text: &str) -> Value
     }
 }
 
-/// Whether an entry says that the permission is off.
+/// Returns whether an entry turns the permission off: it begins with `!`.
 pub(crate) fn is_off(entry: &str) -> bool
     ensures { result ≡ entries.is_off entry.now }
 {
     matches!(entry.as_bytes(), [b'!', ..])
 }
 
-/// The entry without its mark.
+/// Returns the entry without a leading `!`.
 fn without_mark(entry: &str) -> &str
     ensures { result.now ≡ entries.without_mark entry.now }
 {
@@ -59,14 +59,14 @@ fn without_mark(entry: &str) -> &str
     }
 }
 
-/// Whether a name is none: it is empty, or a `;` after it would be part of it.
+/// Returns whether a text isn't a name: it is empty, or a `;` after it would be part of it.
 fn is_no_name(name: &str) -> bool
     ensures { result ≡ entries.is_no_name name.now }
 {
     name.is_empty() || ends_escaped(name)
 }
 
-/// Adds what an entry mentions.
+/// Appends the mention of an entry, if it has a name.
 #[tactic(auto, unfolding(crate::specs::Entries::mentions_in))]
 fn push_entry(out: &mut Layer, list: PermList, entry: &str) -> Result<(), AllocError>
     ensures { OnOk result (out.new ≡ out.old ++ entries.mentions_in list entry.now) }
@@ -90,7 +90,7 @@ fn push_entry(out: &mut Layer, list: PermList, entry: &str) -> Result<(), AllocE
     out.push(mention)
 }
 
-/// Adds what a list mentions.
+/// Appends the mentions of a list's value, entry by entry.
 #[tactic(auto, unfolding(crate::specs::Entries::list_mentions))]
 pub(crate) fn push_list(out: &mut Layer, list: PermList, value: &str) -> Result<(), AllocError>
     ensures { OnOk result (out.new ≡ out.old ++ entries.list_mentions list value.now) }

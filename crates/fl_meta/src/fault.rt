@@ -1,4 +1,4 @@
-//! Why a key file is no metadata.
+//! The error of reading a key file as metadata.
 
 ghost use Rattle.std.specs.Prelude.{◌≡◌};
 ghost use Rattle.fl_meta.specs.declared.fault.MetaError.TheVariants.{NoMemory};
@@ -8,10 +8,10 @@ use std::alloc::{AllocError, AllocFailed};
 use std::error::Error;
 use std::fmt;
 
-/// Why a key file could not be read as metadata.
+/// The reason why a key file wasn't read as metadata.
 #[derive(Clone, Copy, Debug, PartialEq, Eq)]
 pub enum MetaError {
-    /// The file breaks this rule first.
+    /// The file breaks this rule, and no rule that is checked before it.
     Rule(MetaRule),
     /// Memory ran out.
     NoMemory,

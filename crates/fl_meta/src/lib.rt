@@ -1,4 +1,5 @@
-//! The metadata of applications and runtimes: which permissions it mentions.
+//! The metadata of applications and runtimes, and the permissions that it mentions:
+//! flatpak-metadata(5).
 #![tactic(auto)]
 
 mod entries;

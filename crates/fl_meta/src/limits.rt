@@ -1,4 +1,4 @@
-//! What names of a bus have at most.
+//! The limits of bus names.
 
-/// The most bytes of a name on a bus (D-Bus specification, "Bus names").
+/// The maximum length of a name on a bus in bytes (D-Bus specification, "Valid Names").
 pub const MOST_BUS_NAME_BYTES: usize = 255;

@@ -13,16 +13,16 @@ use fp_base::Text;
 use fp_keyfile::{Group, KeyFile, Pair};
 use std::alloc::{AllocError, Global};
 
-/// Where mentions are read from.
+/// The kind of the file from which mentions are read.
 #[derive(Clone, Copy, Debug, PartialEq, Eq)]
 pub enum Source {
     /// The metadata of an application or a runtime.
     Metadata,
-    /// An override, which has besides the keys `unknown-LIST` of the group `Context`.
+    /// An override, which also has the keys `unknown-LIST` in the group `Context`.
     Override,
 }
 
-/// The list of a key of the group `Context`.
+/// Returns the list with this key in the group `Context`, or `None` if there is none.
 fn list_at(source: Source, key: &str) -> Option<PermList>
     ensures { result ≡ mentions.list_at source key.now }
 {
@@ -35,7 +35,7 @@ fn list_at(source: Source, key: &str) -> Option<PermList>
     }
 }
 
-/// Adds what a pair of the group `Context` mentions.
+/// Appends the mentions of a pair in the group `Context`.
 fn push_context(out: &mut Layer, source: Source, pair: &Pair) -> Result<(), AllocError>
     ensures { OnOk result (out.new ≡ out.old ++ mentions.context_mentions
         (mentions.list_at source pair.now.key) pair.now.value) }
@@ -46,7 +46,7 @@ fn push_context(out: &mut Layer, source: Source, pair: &Pair) -> Result<(), Allo
     }
 }
 
-/// Adds a variable of the environment.
+/// Appends the mention of a variable of the environment.
 fn push_variable(out: &mut Layer, pair: &Pair) -> Result<(), AllocError>
     ensures { OnOk result (out.new ≡ out.old ++ mentions.variable_mentions pair.now) }
 {
@@ -60,7 +60,7 @@ fn push_variable(out: &mut Layer, pair: &Pair) -> Result<(), AllocError>
     out.push(mention)
 }
 
-/// The pair as `KEY=VALUE`.
+/// Returns the text `KEY=VALUE` of a pair.
 fn pair_name(alloc: Global, pair: &Pair) -> Result<Text, AllocError>
     ensures { IfOk result (λ t. t ≡ mentions.pair_name pair.now) }
 {
@@ -70,21 +70,23 @@ fn pair_name(alloc: Global, pair: &Pair) -> Result<Text, AllocError>
     Ok(Text::from_string(name))
 }
 
-/// Whether there is a `;`.
+/// Returns whether a text has a `;`.
 fn has_semicolon(text: &str) -> bool
     ensures { result ≡ list_any is_semicolon text.now }
 {
     text.bytes().any(|byte| byte == b';')
 }
 
-/// Whether a text can stand in a list as one entry that isn't off.
+/// Returns whether a text can be an entry of a list that turns no permission off: it has no `;`,
+/// doesn't begin with `!`, and doesn't end in an odd number of backslashes.
 fn can_stand(name: &str) -> bool
     ensures { result ≡ mentions.can_stand name.now }
 {
     !has_semicolon(name) && !is_off(name) && !ends_escaped(name)
 }
 
-/// Adds a bus pair whose pattern or level isn't known.
+/// Appends the mention of an unknown permission for a bus pair whose pattern or level isn't known,
+/// if its text can be an entry of a list.
 fn push_odd(out: &mut Layer, unknown: PermList, pair: &Pair) -> Result<(), AllocError>
     ensures { OnOk result (out.new ≡ out.old ++ mentions.odd_pair unknown
         (mentions.pair_name pair.now)) }
@@ -97,7 +99,7 @@ fn push_odd(out: &mut Layer, unknown: PermList, pair: &Pair) -> Result<(), Alloc
     out.push(mention)
 }
 
-/// Adds what a pair of a bus policy mentions.
+/// Appends the mention of a pair of a bus policy.
 fn push_bus(
     out: &mut Layer,
     list: PermList,
@@ -116,7 +118,8 @@ fn push_bus(
     }
 }
 
-/// Adds what a pair mentions.
+/// Appends the mentions of a pair in the group with this name. Pairs of other groups mention
+/// nothing.
 #[tactic(auto, unfolding(crate::specs::Mentions::pair_mentions))]
 fn push_pair(out: &mut Layer, source: Source, group: &str, pair: &Pair) -> Result<(), AllocError>
     ensures { OnOk result (out.new ≡ out.old ++ mentions.pair_mentions source group.now pair.now) }
@@ -134,7 +137,7 @@ fn push_pair(out: &mut Layer, source: Source, group: &str, pair: &Pair) -> Resul
     }
 }
 
-/// Adds what a group mentions.
+/// Appends the mentions of a group, pair by pair.
 #[tactic(auto, unfolding(crate::specs::Mentions::group_mentions))]
 fn push_group(out: &mut Layer, source: Source, group: &Group) -> Result<(), AllocError>
     ensures { OnOk result (out.new ≡ out.old ++ mentions.group_mentions source group.now) }
@@ -145,15 +148,16 @@ fn push_group(out: &mut Layer, source: Source, group: &Group) -> Result<(), Allo
     Ok(())
 }
 
-/// The permissions that a key file mentions, in its order, after flatpak-metadata(5).
+/// Returns the permissions that a key file mentions, in the order of the file, as
+/// flatpak-metadata(5) describes.
 ///
-/// A list is cut at each `;` that no odd number of backslashes precedes; the bytes of an entry stay
-/// as they are written. Spaces and tabs at the start of an entry are dropped. A leading `!` says
-/// that the permission is off. Of a filesystem the endings `:ro`, `:rw` and `:create` are taken
-/// off, and the last one says how it may be used; without one it may be read and written. Its name
-/// is the normal text of the place: `/opt//data/` is `/opt/data`. An entry without a name mentions
-/// nothing, nor does one whose name ends in an odd number of backslashes. A name that its list
-/// doesn't know is an unknown permission, and so is a bus pair whose pattern or level isn't known.
+/// A list is split at each `;` before which there is no odd number of backslashes; the bytes of an
+/// entry stay as they are written. Spaces and tabs at the start of an entry are dropped. A leading
+/// `!` turns the permission off. Of a filesystem, the endings `:ro`, `:rw` and `:create` are cut
+/// off, and the last one is its access; without one it may be read and written. Its name is the
+/// normal form of the text: `/opt//data/` is `/opt/data`. An entry without a name mentions nothing,
+/// nor does one whose name ends in an odd number of backslashes. A name that its list doesn't know
+/// is an unknown permission, and so is a bus pair whose pattern or level isn't known.
 #[tactic(auto, unfolding(crate::specs::Mentions::file_mentions))]
 pub fn mentions_of(alloc: Global, file: &KeyFile, source: Source) -> Result<Layer, AllocError>
     ensures { IfOk result (λ layer. layer ≡ mentions.file_mentions source file.now) }

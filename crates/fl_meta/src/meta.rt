@@ -12,7 +12,7 @@ use fp_keyfile::{Group, KeyFile};
 use fp_name::{NameError, RefKind, RefName};
 use std::alloc::{AllocError, Global};
 
-/// What a metadata file describes.
+/// The kind of ref that a metadata file describes.
 #[derive(Clone, Copy, Debug, PartialEq, Eq)]
 pub enum MetaKind {
     /// An application: the file has the group `Application`.
@@ -21,7 +21,7 @@ pub enum MetaKind {
     Runtime,
 }
 
-/// The kind of metadata that a ref has.
+/// Returns the kind of metadata for a ref of this kind.
 pub fn meta_kind(kind: RefKind) -> MetaKind
     ensures { result ≡ metadata.meta_kind kind }
 {
@@ -31,22 +31,22 @@ pub fn meta_kind(kind: RefKind) -> MetaKind
     }
 }
 
-/// The metadata of an application or a runtime, after flatpak-metadata(5).
+/// The metadata of an application or a runtime: flatpak-metadata(5).
 #[derive(Drop)]
 pub struct Meta {
-    /// Whether it is that of an application or of a runtime.
+    /// The kind of ref that the metadata describes.
     pub kind: MetaKind,
-    /// The runtime of an application.
+    /// The runtime of an application; `None` for a runtime.
     pub runtime: Option<RefName>,
-    /// The command of an application, where it names one.
+    /// The command of an application, if there is one; `None` for a runtime.
     pub command: Option<Text>,
     /// The permissions that the file mentions, in its order.
     pub mentions: Layer,
-    /// The names of the groups `Extension NAME`, in the order of the file.
+    /// The names NAME of the groups `Extension NAME`, in the order of the file.
     pub extensions: Items<Text>,
 }
 
-/// Whether the file has the group.
+/// Returns whether the file has a group of this name.
 fn has_group(file: &KeyFile, name: &str) -> bool
     ensures { result ≡ metadata.has_group file.now name.now }
 {
@@ -56,7 +56,8 @@ fn has_group(file: &KeyFile, name: &str) -> bool
         .any(|g| g.name.as_str() == name)
 }
 
-/// The NAME of a group `Extension NAME`, which isn't empty. It takes no memory.
+/// Returns the NAME of a group `Extension NAME`, or `None` if it is empty or the group has another
+/// name. Allocates nothing.
 pub fn extension_name(group: &Group) -> Option<&str>
     ensures { option_to_list (option_copied result) ≡ metadata.extension_of group.now }
 {
@@ -64,7 +65,7 @@ pub fn extension_name(group: &Group) -> Option<&str>
     if name.is_empty() { None } else { Some(name) }
 }
 
-/// Adds the name of an extension's group.
+/// Appends the NAME of a group `Extension NAME`, if the group is one.
 fn push_extension(out: &mut Items<Text>, group: &Group) -> Result<(), AllocError>
     ensures { OnOk result (out.new ≡ out.old ++ metadata.extension_of group.now) }
 {
@@ -74,7 +75,7 @@ fn push_extension(out: &mut Items<Text>, group: &Group) -> Result<(), AllocError
     }
 }
 
-/// The names of the extensions' groups.
+/// Returns the names NAME of the groups `Extension NAME`, in the order of the file.
 #[tactic(auto, unfolding(crate::specs::Metadata::extensions_of))]
 fn extensions_of(alloc: Global, file: &KeyFile) -> Result<Items<Text>, AllocError>
     ensures { IfOk result (λ names. names ≡ metadata.extensions_of file.now) }
@@ -86,7 +87,8 @@ fn extensions_of(alloc: Global, file: &KeyFile) -> Result<Items<Text>, AllocErro
     Ok(names)
 }
 
-/// The runtime that `ID/ARCH/BRANCH` names.
+/// Parses a text `ID/ARCH/BRANCH` as the ref of a runtime. Errs with the rule `Runtime` if it isn't
+/// one.
 fn runtime_of(alloc: Global, text: &str) -> Result<RefName, MetaError>
     ensures { metadata.GivesRuntime result (metadata.runtime_of text.now) }
 {
@@ -97,7 +99,8 @@ fn runtime_of(alloc: Global, text: &str) -> Result<RefName, MetaError>
     }
 }
 
-/// The runtime of an application.
+/// Returns the runtime of an application. Errs with the rule `Runtime` if the file has none, or one
+/// that isn't a ref.
 #[tactic(auto, unfolding(crate::specs::Metadata::runtime_in))]
 fn runtime_in(alloc: Global, file: &KeyFile) -> Result<RefName, MetaError>
     ensures { metadata.GivesRuntime result (metadata.runtime_in file.now) }
@@ -108,7 +111,7 @@ fn runtime_in(alloc: Global, file: &KeyFile) -> Result<RefName, MetaError>
     }
 }
 
-/// The command of an application.
+/// Returns the command of an application, if the file has one.
 #[tactic(auto, unfolding(crate::specs::Metadata::command_in))]
 fn command_in(alloc: Global, file: &KeyFile) -> Result<Option<Text>, AllocError>
     ensures { IfOk result (λ command. command ≡ metadata.command_in file.now) }
@@ -120,7 +123,7 @@ fn command_in(alloc: Global, file: &KeyFile) -> Result<Option<Text>, AllocError>
 }
 
 impl MetaKind {
-    /// The group that a file of this kind has.
+    /// Returns the name of the group that a file of this kind has.
     pub fn group(self) -> &'static str
         ensures { result.now ≡ metadata.kind_group self }
     {
@@ -132,7 +135,8 @@ impl MetaKind {
 }
 
 impl Meta {
-    /// The metadata of an application.
+    /// Reads the metadata of an application. Errs with the rule `Runtime` if the runtime is missing
+    /// or bad.
     fn of_app(alloc: Global, file: &KeyFile) -> Result<Self, MetaError>
         ensures { metadata.Gives result (metadata.app_of file.now (metadata.runtime_in file.now)) }
     {
@@ -145,7 +149,7 @@ impl Meta {
         })
     }
 
-    /// The metadata of a runtime.
+    /// Reads the metadata of a runtime.
     fn of_runtime(alloc: Global, file: &KeyFile) -> Result<Self, AllocError>
         ensures { IfOk result (λ meta. meta ≡ metadata.runtime_meta file.now) }
     {
@@ -158,8 +162,8 @@ impl Meta {
         })
     }
 
-    /// Reads a key file as the metadata of an application or a runtime. The error is the first rule
-    /// that it breaks; memory runs out only where it breaks none.
+    /// Reads a key file as the metadata of an application or a runtime. Errs with the first rule
+    /// that it breaks. Memory runs out only if it breaks none.
     #[tactic(auto, unfolding(crate::specs::Metadata::meta_of))]
     pub fn read(alloc: Global, file: &KeyFile, kind: MetaKind) -> Result<Self, MetaError>
         ensures { metadata.Gives result (metadata.meta_of kind file.now) }

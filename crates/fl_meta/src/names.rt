@@ -5,12 +5,14 @@ ghost use Rattle.fl_meta.specs.Names as names;
 
 use crate::permission::{PermList, Value};
 
+/// Returns whether `shared` knows this name.
 fn is_shared(name: &str) -> bool
     ensures { result ≡ names.is_among names.shared_names name.now }
 {
     matches!(name, "network" | "ipc")
 }
 
+/// Returns whether `sockets` knows this name.
 fn is_socket(name: &str) -> bool
     ensures { result ≡ names.is_among names.socket_names name.now }
 {
@@ -28,12 +30,14 @@ fn is_socket(name: &str) -> bool
     )
 }
 
+/// Returns whether `devices` knows this name.
 fn is_device(name: &str) -> bool
     ensures { result ≡ names.is_among names.device_names name.now }
 {
     matches!(name, "dri" | "kvm" | "shm" | "all")
 }
 
+/// Returns whether `features` knows this name.
 fn is_feature(name: &str) -> bool
     ensures { result ≡ names.is_among names.feature_names name.now }
 {
@@ -43,7 +47,8 @@ fn is_feature(name: &str) -> bool
     )
 }
 
-/// The list that a name in this list belongs to: the list itself where it knows the name.
+/// Returns the list of a name in the value of this list: the list itself if it knows the name, else
+/// that of unknown names.
 pub(crate) fn list_with(list: PermList, name: &str) -> PermList
     ensures { result ≡ names.list_with list name.now }
 {
@@ -56,7 +61,7 @@ pub(crate) fn list_with(list: PermList, name: &str) -> PermList
     }
 }
 
-/// What an ending of a filesystem says.
+/// Returns the access of a filesystem with this ending, or `None` for any other word.
 pub(crate) fn access_of(text: &str) -> Option<Value>
     ensures { result ≡ names.access_of text.now }
 {
@@ -69,7 +74,8 @@ pub(crate) fn access_of(text: &str) -> Option<Value>
 }
 
 impl PermList {
-    /// The key of the list in the group `Context`. A list that has a group of its own has no key.
+    /// Returns the key of the list in the group `Context`; empty for a list that has a group of its
+    /// own.
     pub fn key(self) -> &'static str
         ensures { result.now ≡ names.key_of self }
     {
@@ -90,7 +96,7 @@ impl PermList {
         }
     }
 
-    /// The list of a key of the group `Context`, where each file may have the key.
+    /// Returns the list with this key in metadata and overrides, or `None` if there is none.
     pub fn of_key(key: &str) -> Option<Self>
         ensures { result ≡ names.list_of_key key.now }
     {
@@ -105,7 +111,8 @@ impl PermList {
         }
     }
 
-    /// The list of a key that overrides alone have.
+    /// Returns the list of unknown names with this key, which only overrides have, or `None` if
+    /// there is none.
     pub fn of_unknown_key(key: &str) -> Option<Self>
         ensures { result ≡ names.list_of_unknown_key key.now }
     {
@@ -122,8 +129,8 @@ impl PermList {
 }
 
 impl Value {
-    /// The word of a level of a bus policy, or the text of a variable. The other values have no
-    /// word.
+    /// Returns the word of a level of a bus policy, or the text of a variable; empty for other
+    /// values.
     pub fn word(&self) -> &str
         ensures { result.now ≡ names.word_of self.now }
     {
@@ -137,7 +144,7 @@ impl Value {
         }
     }
 
-    /// The level of a bus policy that has the word.
+    /// Returns the level of a bus policy with this word, or `None` if there is none.
     pub fn of_word(text: &str) -> Option<Self>
         ensures { result ≡ names.level_of text.now }
     {

@@ -10,20 +10,20 @@ use fp_base::{Items, Text};
 use std::alloc::{AllocError, Global};
 use std::cmp::Ordering;
 
-/// The list that a permission belongs to, in the order in which lists are written.
+/// The list of a permission, in the order in which lists are written.
 #[derive(Clone, Copy, Debug, PartialEq, Eq)]
 pub enum PermList {
-    /// What is shared with the host: `network`, `ipc`.
+    /// Namespaces that are shared with the host: `network` and `ipc`.
     Shared,
-    /// Sockets of the host, as `wayland`.
+    /// Sockets of the host, such as `wayland`.
     Sockets,
-    /// Devices, as `dri`.
+    /// Devices, such as `dri`.
     Devices,
-    /// Features of the sandbox, as `devel`.
+    /// Features of the sandbox, such as `devel`.
     Features,
-    /// Folders of the host, by their names.
+    /// Directories of the host, by their names.
     Filesystems,
-    /// Folders of the home that are kept for the application.
+    /// Directories of the home directory that are kept for the application.
     Persistent,
     /// Variables of the environment.
     Environment,
@@ -31,51 +31,51 @@ pub enum PermList {
     SessionBus,
     /// Names on the system bus, by patterns.
     SystemBus,
-    /// Names in `shared` that aren't known.
+    /// Unknown names in `shared`.
     UnknownShared,
-    /// Names in `sockets` that aren't known.
+    /// Unknown names in `sockets`.
     UnknownSockets,
-    /// Names in `devices` that aren't known.
+    /// Unknown names in `devices`.
     UnknownDevices,
-    /// Names in `features` that aren't known.
+    /// Unknown names in `features`.
     UnknownFeatures,
-    /// Pairs `KEY=VALUE` of the session bus whose pattern or level isn't known.
+    /// Pairs `KEY=VALUE` of the session bus's policy whose pattern or level isn't known.
     UnknownSessionBus,
-    /// Pairs `KEY=VALUE` of the system bus whose pattern or level isn't known.
+    /// Pairs `KEY=VALUE` of the system bus's policy whose pattern or level isn't known.
     UnknownSystemBus,
 }
 
-/// What a sandbox may be granted: a name in a list.
+/// A permission that a sandbox may be granted: a name in a list.
 #[derive(Debug, Drop)]
 pub struct Permission {
     /// The list.
     pub list: PermList,
-    /// The name in it.
+    /// The name in the list.
     pub name: Text,
 }
 
-/// What a mention says of a permission.
+/// The value of a permission in a mention.
 #[derive(Debug, Drop)]
 pub enum Value {
-    /// Taken away.
+    /// The permission is taken away.
     Off,
-    /// Granted.
+    /// The permission is granted.
     On,
-    /// A folder that may be read.
+    /// The directory may be read.
     Ro,
-    /// A folder that may be read and written.
+    /// The directory may be read and written.
     Rw,
-    /// A folder that may be read and written, and is made where it isn't there.
+    /// The directory may be read and written, and is made if it is absent.
     Create,
     /// The text of a variable.
     Text(Text),
-    /// No access to a name on a bus.
+    /// The name on the bus can't be accessed.
     NoBus,
-    /// A name on a bus may be seen.
+    /// The name on the bus may be seen.
     See,
-    /// A name on a bus may be talked to.
+    /// The name on the bus may be talked to.
     Talk,
-    /// A name on a bus may be owned.
+    /// The name on the bus may be owned.
     Own,
 }
 
@@ -84,15 +84,15 @@ pub enum Value {
 pub struct Mention {
     /// The permission.
     pub permission: Permission,
-    /// What is said of it.
+    /// The permission's value.
     pub value: Value,
 }
 
-/// Mentions in order, as of one file.
+/// Mentions in order, such as those of one file.
 pub type Layer = Items<Mention>;
 
 impl PermList {
-    /// The place of the list in the order in which lists are written.
+    /// Returns the position of the list in the order in which lists are written.
     pub fn place(self) -> u8
         ensures { result ≡ place_of self }
     {
@@ -117,7 +117,7 @@ impl PermList {
 }
 
 impl Permission {
-    /// A permission with a name of its own.
+    /// Makes a permission with a copy of the name.
     pub fn new(alloc: Global, list: PermList, name: &str) -> Result<Self, AllocError>
         ensures { IfOk result (λ p. p ≡ record { list = list; name = name.now }) }
     {
@@ -127,7 +127,7 @@ impl Permission {
         })
     }
 
-    /// A copy in memory of its own.
+    /// Returns a copy. Errs if memory runs out.
     pub fn copy(&self) -> Result<Self, AllocError>
         ensures { IfOk result (λ p. p ≡ self.now) }
     {
@@ -139,7 +139,7 @@ impl Permission {
 }
 
 impl Value {
-    /// A copy in memory of its own.
+    /// Returns a copy. Errs if memory runs out.
     pub fn copy(&self) -> Result<Self, AllocError>
         ensures { IfOk result (λ v. v ≡ self.now) }
     {
@@ -159,7 +159,7 @@ impl Value {
 }
 
 impl Mention {
-    /// A mention of its own.
+    /// Makes a mention with a copy of the name.
     pub fn new(alloc: Global, list: PermList, name: &str, value: Value) -> Result<Self, AllocError>
         ensures { IfOk result (λ m. m ≡ record {
           permission = record { list = list; name = name.now };
@@ -172,7 +172,7 @@ impl Mention {
         })
     }
 
-    /// A copy in memory of its own.
+    /// Returns a copy. Errs if memory runs out.
     pub fn copy(&self) -> Result<Self, AllocError>
         ensures { IfOk result (λ m. m ≡ self.now) }
     {

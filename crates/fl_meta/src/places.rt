@@ -1,4 +1,4 @@
-//! The places of filesystems.
+//! The normal form of filesystem texts.
 
 ghost use Rattle.std.specs.Prelude.{◌≡◌, ◌++◌, IfOk, OnOk, MatchOption, string_bytes};
 ghost use Rattle.std.specs.List.{slice_split};
@@ -10,7 +10,7 @@ use crate::names::access_of;
 use fp_base::Text;
 use std::alloc::{AllocError, Global};
 
-/// The text without its last ending, where it has one.
+/// Returns the text without its last ending, or `None` if it has none.
 fn cut_ending(text: &str) -> Option<&str>
     ensures { MatchOption result (HasNoEnding text.now) (λ front. CutsEnding text.now front.now) }
 {
@@ -19,7 +19,7 @@ fn cut_ending(text: &str) -> Option<&str>
     Some(front)
 }
 
-/// The text without what a place doesn't end with, where it ends so.
+/// Returns the text without a `/`, `/.` or ending at its end, or `None` if it has none.
 fn cut_end(text: &str) -> Option<&str>
     ensures { MatchOption result (HasNoEnd text.now) (λ front. CutsEnd text.now front.now) }
 {
@@ -32,7 +32,7 @@ fn cut_end(text: &str) -> Option<&str>
     }
 }
 
-/// The text without the ends at its end.
+/// Returns the text without all `/`, `/.` and endings at its end.
 fn without_ends(text: &str) -> &str
     ensures { result.now ≡ places.without_ends text.now }
 {
@@ -43,14 +43,14 @@ fn without_ends(text: &str) -> &str
     rest
 }
 
-/// Whether a part of a place says nothing.
+/// Returns whether a part between two `/` can be left out: it is empty or `.`.
 fn says_nothing(part: &str) -> bool
     ensures { result ≡ places.says_nothing part.now }
 {
     matches!(part, "" | ".")
 }
 
-/// Adds a `/` and the part, where it says something.
+/// Appends a `/` and the part, unless the part can be left out.
 fn push_part(out: &mut String, part: &str) -> Result<(), AllocError>
     ensures { OnOk result (string_bytes out.new ≡ string_bytes out.old
         ++ places.part_text part.now) }
@@ -62,7 +62,8 @@ fn push_part(out: &mut String, part: &str) -> Result<(), AllocError>
     out.push_str(part)
 }
 
-/// The parts after a `/`, each with one before it.
+/// Appends the parts that a text has between its `/`, each after a `/`, without those that can be
+/// left out.
 fn push_parts(out: &mut String, text: &str) -> Result<(), AllocError>
     ensures { OnOk result (string_bytes out.new ≡ string_bytes out.old
         ++ places.parts_text (slice_split places.is_slash text.now)) }
@@ -73,7 +74,7 @@ fn push_parts(out: &mut String, text: &str) -> Result<(), AllocError>
     Ok(())
 }
 
-/// The text with one `/` between the parts that say something.
+/// Returns the text with one `/` between its parts, without those that can be left out.
 fn joined_parts(alloc: Global, text: &str) -> Result<String, AllocError>
     ensures { IfOk result (λ s. places.without_ends (string_bytes s) ≡ places.normal text.now) }
 {
@@ -87,14 +88,14 @@ fn joined_parts(alloc: Global, text: &str) -> Result<String, AllocError>
     }
 }
 
-/// Whether a text begins with a `/`.
+/// Returns whether a text begins with a `/`.
 fn is_absolute(text: &str) -> bool
     ensures { result ≡ begins_so places.is_slash text.now }
 {
     matches!(text.as_bytes(), [b'/', ..])
 }
 
-/// A `/` where nothing else is left of a place that began with one.
+/// Returns the place, or `/` if nothing is left of an absolute one.
 fn rooted(absolute: bool, place: &str) -> &str
     ensures { result.now ≡ places.rooted absolute place.now }
 {
@@ -105,7 +106,7 @@ fn rooted(absolute: bool, place: &str) -> &str
     }
 }
 
-/// The place that a text names.
+/// Returns the place that a text names: its normal form.
 pub(crate) fn place_in(alloc: Global, text: &str) -> Result<Text, AllocError>
     ensures { IfOk result (λ place. place ≡ places.place_in text.now) }
 {

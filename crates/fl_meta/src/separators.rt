@@ -1,25 +1,26 @@
-//! Where the entries of a list end.
+//! Splitting lists into entries.
 
 ghost use Rattle.std.specs.Prelude.{◌≡◌, ◌∷◌, ◌<◌, [], length, MatchOption, IfSome};
 ghost use Rattle.std.specs.Option.{option_copied};
 ghost use Rattle.fl_meta.specs.Separators as separators;
 
-/// Whether an odd number of backslashes stands right before the byte after this one.
+/// Returns whether an odd number of backslashes precedes the byte after this one; `escaped` is the
+/// same for this byte.
 fn escapes(escaped: bool, byte: u8) -> bool
     ensures { result ≡ separators.escapes escaped byte }
 {
     byte == b'\\' && !escaped
 }
 
-/// Whether a byte ends an entry.
+/// Returns whether a byte ends an entry: a `;` that isn't escaped.
 fn separates(escaped: bool, byte: u8) -> bool
     ensures { result ≡ separators.separates escaped byte }
 {
     byte == b';' && !escaped
 }
 
-/// Whether an odd number of backslashes stands at the end of a text, so that no `;` after it would
-/// end an entry.
+/// Returns whether a text ends in an odd number of backslashes, so that no `;` after it would end
+/// an entry.
 pub(crate) fn ends_escaped(text: &str) -> bool
     ensures { result ≡ separators.ends_escaped text.now }
 {
@@ -30,7 +31,8 @@ pub(crate) fn ends_escaped(text: &str) -> bool
     escaped
 }
 
-/// The place of the `;` that ends the first entry of a list, where one does.
+/// Returns the index of the `;` that ends the first entry of a list, or `None` if the list has only
+/// one entry.
 fn entry_end(list: &[u8]) -> Option<usize>
     ensures { MatchOption result (separators.entries_of list.now ≡ list.now ∷ [])
         (separators.EndsAt list.now) }
@@ -47,8 +49,9 @@ fn entry_end(list: &[u8]) -> Option<usize>
     None
 }
 
-/// The first entry of a list, and what stands after the `;` that ends it, where one does: a `;`
-/// that an odd number of backslashes precedes belongs to its entry.
+/// Splits off the first entry of a list. Returns it and the text after the `;` that ends it, or
+/// `None` if the list has only one entry. A `;` after an odd number of backslashes belongs to its
+/// entry.
 pub fn first_entry(list: &str) -> (&str, Option<&str>)
     ensures entries { separators.entries_of list.now ≡ result.0.now
         ∷ separators.other_entries (option_copied result.1) }

@@ -1,5 +1,5 @@
-//! What holds of all options, by their definitions. Each is the contract of a function that does
-//! nothing.
+//! Laws of all options, which follow from the definitions. Each law is the contract of a function
+//! with an empty body.
 
 ghost use Rattle.std.specs.Prelude.{◌≡◌, ◌++◌, ◌∷◌, [], List, ℕ, false, codes};
 ghost use Rattle.fl_meta.specs.Entries.{mention_of};
@@ -7,13 +7,14 @@ ghost use Rattle.fl_meta.specs.declared.permission.PermList.TheVariants as lists
 ghost use Rattle.fl_meta.specs.declared.permission.Value.TheVariants as values;
 ghost use Rattle.fl_options.specs.Options.{IsOfFile, is_option, option_layer};
 
-/// What an option mentions is what an override mentions that can be written, so it can be written
-/// itself.
+/// States that what an option mentions is what an override that can be written mentions. So it can
+/// itself be written to a file.
 pub fn options_are_of_files()
     ensures { (word : List ℕ) → IsOfFile (option_layer word) }
 {}
 
-/// A word is no option where its name would end in an odd number of backslashes in a list.
+/// States that a word isn't an option if its name ends in an odd number of backslashes. In a list
+/// they would escape the separator.
 pub fn open_names_are_no_options()
     ensures place { is_option (codes "--filesystem=/a" ++ 92 ∷ []) ≡ false }
     ensures denial { is_option (codes "--nofilesystem=/a" ++ 92 ∷ []) ≡ false }

@@ -1,4 +1,5 @@
-//! The options that change permissions, as words: `--share=network` and such.
+//! Options on the command line that change permissions, as `--share=network`, and rules of a
+//! filter, as `--talk=org.gnome.Shell`.
 #![tactic(auto)]
 
 mod names;

@@ -1,4 +1,4 @@
-//! The names of options.
+//! The names of options that change permissions.
 
 ghost use Rattle.std.specs.Prelude.{◌≡◌};
 ghost use Rattle.std.specs.Option.{option_copied};
@@ -6,7 +6,8 @@ ghost use Rattle.fl_options.specs.Options as spec;
 
 use fl_meta::{PermList, Value};
 
-/// The list of the group `Context` to which an option adds.
+/// Returns the list of the group `Context` to which the option of this name adds, or `None` if it
+/// adds to none.
 pub(crate) fn granted_list(name: &str) -> Option<PermList>
     ensures { result ≡ spec.granted_list name.now }
 {
@@ -21,7 +22,8 @@ pub(crate) fn granted_list(name: &str) -> Option<PermList>
     }
 }
 
-/// The list from which an option takes away.
+/// Returns the list of the group `Context` in which the option of this name denies an entry, or
+/// `None` if it denies none.
 pub(crate) fn denied_list(name: &str) -> Option<PermList>
     ensures { result ≡ spec.denied_list name.now }
 {
@@ -35,7 +37,8 @@ pub(crate) fn denied_list(name: &str) -> Option<PermList>
     }
 }
 
-/// The group of the bus whose policy an option changes.
+/// Returns the group of the bus policy that the option of this name changes, or `None` if it
+/// changes none.
 pub(crate) fn bus_group(name: &str) -> Option<&'static str>
     ensures { option_copied result ≡ spec.bus_group name.now }
 {
@@ -48,7 +51,8 @@ pub(crate) fn bus_group(name: &str) -> Option<&'static str>
     }
 }
 
-/// The level that it gives there.
+/// Returns the level that the option of this name gives in a bus policy. It is `NoBus` for names
+/// that give none.
 pub(crate) fn bus_level(name: &str) -> Value
     ensures { result ≡ spec.bus_level name.now }
 {

@@ -1,4 +1,4 @@
-//! The two lines of a key file for which an option stands.
+//! The two lines of a key file that an option stands for.
 
 ghost use Rattle.std.specs.Prelude.{◌≡◌, IfOk, option_map, string_bytes};
 ghost use Rattle.std.specs.Option.{option_copied};
@@ -10,7 +10,9 @@ use fl_meta::{PermList, Value, is_pattern};
 use fp_keyfile::cut_at_equals;
 use std::alloc::{AllocError, Global};
 
-/// The lines of a word, where it is an option.
+/// Returns the two lines of a word: a group and a pair, without a newline at the end. `None` if the
+/// word has no `=`, if its name is that of no option, or if what follows the `=` doesn't suit the
+/// option.
 pub(crate) fn option_lines(alloc: Global, word: &str) -> Result<Option<String>, AllocError>
     ensures { IfOk result (λ lines. option_map string_bytes lines ≡ spec.option_lines word.now) }
 {
@@ -20,7 +22,7 @@ pub(crate) fn option_lines(alloc: Global, word: &str) -> Result<Option<String>, 
     }
 }
 
-/// The lines of an option of this name.
+/// Returns the two lines of the option of this name, if the text may follow its `=`.
 #[tactic(auto, unfolding(crate::specs::Options::lines_with))]
 fn lines_with(alloc: Global, name: &str, text: &str) -> Result<Option<String>, AllocError>
     ensures { IfOk result (λ lines. option_map string_bytes lines ≡ spec.lines_with name.now
@@ -38,7 +40,7 @@ fn lines_with(alloc: Global, name: &str, text: &str) -> Result<Option<String>, A
     variable_lines(alloc, name, text)
 }
 
-/// The lines of an entry of a list, after `=` or `=!`.
+/// Returns the lines of an entry of a list. The mark is `=` for a grant and `=!` for a denial.
 fn list_lines(
     alloc: Global,
     list: Option<PermList>,
@@ -57,7 +59,7 @@ fn list_lines(
     }
 }
 
-/// The lines of a pattern of bus names and its level.
+/// Returns the lines of a pattern of bus names and its level.
 fn bus_lines(
     alloc: Global,
     group: Option<&str>,
@@ -76,7 +78,7 @@ fn bus_lines(
     }
 }
 
-/// The lines of a variable.
+/// Returns the lines of an environment variable, if the option is `--env`.
 fn variable_lines(alloc: Global, name: &str, text: &str) -> Result<Option<String>, AllocError>
     ensures { IfOk result (λ lines. option_map string_bytes lines ≡ spec.variable_lines name.now
         text.now) }

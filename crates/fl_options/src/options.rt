@@ -1,4 +1,4 @@
-//! What options mention.
+//! The permissions that options mention.
 
 ghost use Rattle.std.specs.Prelude.{◌≡◌, ◌++◌, IfOk, OnOk};
 ghost use Rattle.std.specs.Option.{option_copied};
@@ -11,11 +11,12 @@ use fp_base::Text;
 use fp_keyfile::{KeyError, KeyFile, cut_at_equals};
 use std::alloc::{AllocError, Global};
 
-/// What a word mentions as an option: one permission, or nothing where it is no option.
+/// Returns what a word mentions as an option (flatpak-override(1)): one permission, or nothing if
+/// it is no option.
 ///
 /// After `--share=`, `--unshare=`, `--socket=`, `--nosocket=`, `--device=`, `--nodevice=`,
-/// `--allow=`, `--disallow=`, `--filesystem=`, `--nofilesystem=` and `--persist=` stands the name
-/// of a permission, after `--env=` a variable and its text, and after `--talk-name=`,
+/// `--allow=`, `--disallow=`, `--filesystem=`, `--nofilesystem=` and `--persist=` comes the name of
+/// a permission, after `--env=` a variable, `=` and its text, and after `--talk-name=`,
 /// `--own-name=`, `--no-talk-name=`, `--system-talk-name=`, `--system-own-name=` and
 /// `--system-no-talk-name=` a pattern of bus names.
 #[tactic(auto, unfolding(crate::specs::Options::option_layer))]
@@ -28,7 +29,7 @@ pub fn option_layer(alloc: Global, word: &str) -> Result<Layer, AllocError>
     }
 }
 
-/// What an override of these lines mentions.
+/// Returns the mentions of an override with these lines; none if they are no key file.
 fn mentions_in(alloc: Global, lines: &str) -> Result<Layer, AllocError>
     ensures { IfOk result (λ layer. layer ≡ spec.text_mentions lines.now) }
 {
@@ -39,14 +40,16 @@ fn mentions_in(alloc: Global, lines: &str) -> Result<Layer, AllocError>
     }
 }
 
-/// Whether a word is an option.
+/// Returns whether a word is an option that changes permissions. `--filesystem=:ro` isn't, since it
+/// has no name before the ending.
 pub fn is_option(alloc: Global, word: &str) -> Result<bool, AllocError>
     ensures { IfOk result (λ b. b ≡ spec.is_option word.now) }
 {
     Ok(!option_layer(alloc, word)?.is_empty())
 }
 
-/// What words mention as options, one after another. A word that is no option mentions nothing.
+/// Returns what words mention as options, one after another. A word that is no option mentions
+/// nothing.
 pub fn layer_of(alloc: Global, words: &[Text]) -> Result<Layer, AllocError>
     ensures { IfOk result (λ layer. layer ≡ spec.layer_of words.now) }
 {
@@ -57,7 +60,7 @@ pub fn layer_of(alloc: Global, words: &[Text]) -> Result<Layer, AllocError>
     Ok(layer)
 }
 
-/// Adds what a word mentions.
+/// Appends what a word mentions to a layer.
 fn push_option(alloc: Global, layer: &mut Layer, word: &str) -> Result<(), AllocError>
     ensures { OnOk result (layer.new ≡ layer.old ++ spec.option_layer word.now) }
 {
@@ -67,7 +70,7 @@ fn push_option(alloc: Global, layer: &mut Layer, word: &str) -> Result<(), Alloc
     Ok(())
 }
 
-/// The command that `--command=X` names.
+/// Returns COMMAND of the word `--command=COMMAND`, or `None` for another word.
 fn command_option(word: &str) -> Option<&str>
     ensures { option_copied result ≡ spec.command_option word.now }
 {
@@ -77,7 +80,8 @@ fn command_option(word: &str) -> Option<&str>
     }
 }
 
-/// The command that an option of this name has.
+/// Returns the command, if the option is `--command` and the command isn't empty, has no `;`, `=`
+/// or control character, and doesn't begin with `!`, a space or a tab.
 fn command_in<'a>(option: &str, name: &'a str) -> Option<&'a str>
     ensures { option_copied result ≡ spec.command_in (option.now, name.now) }
 {
@@ -88,14 +92,15 @@ fn command_in<'a>(option: &str, name: &'a str) -> Option<&'a str>
     }
 }
 
-/// Whether a word is an option of a launch: one that changes permissions, or `--command=X`.
+/// Returns whether a word is an option of a launch: one that changes permissions, or
+/// `--command=COMMAND`.
 pub fn is_launch_option(alloc: Global, word: &str) -> Result<bool, AllocError>
     ensures { IfOk result (λ b. b ≡ spec.is_launch_option word.now) }
 {
     Ok(is_option(alloc, word)? || command_option(word).is_some())
 }
 
-/// The command that the last `--command=X` of words names, where there is one.
+/// Returns COMMAND of the last word that is `--command=COMMAND`, or `None` if there is none.
 pub fn last_command(alloc: Global, words: &[Text]) -> Result<Option<Text>, AllocError>
     ensures { IfOk result (λ command. command ≡ spec.last_command words.now) }
 {
@@ -105,7 +110,7 @@ pub fn last_command(alloc: Global, words: &[Text]) -> Result<Option<Text>, Alloc
     }
 }
 
-/// The name of the last command of words.
+/// Returns COMMAND of the last word that is `--command=COMMAND`.
 fn last_named(words: &[Text]) -> Option<&str>
     ensures { option_copied result ≡ spec.last_command words.now }
 {

@@ -1,11 +1,11 @@
-//! The names of options.
+//! The names of options that are rules of a filter.
 
 ghost use Rattle.std.specs.Prelude.{◌≡◌};
 ghost use Rattle.fl_options.specs.Rules as spec;
 
 use bus_policy::{Level, RuleKind};
 
-/// The level that an option of this name gives.
+/// Returns the level that the option of this name gives, or `None` if it gives none.
 pub(crate) fn level_named(name: &str) -> Option<Level>
     ensures { result ≡ spec.level_named name.now }
 {
@@ -17,7 +17,7 @@ pub(crate) fn level_named(name: &str) -> Option<Level>
     }
 }
 
-/// The messages for which an option of this name has a rule.
+/// Returns the kind of messages that the option of this name has a rule for, or `None` if for none.
 pub(crate) fn kind_named(name: &str) -> Option<RuleKind>
     ensures { result ≡ spec.kind_named name.now }
 {

@@ -1,4 +1,4 @@
-//! What may stand after the name of an option.
+//! Tests of what follows the name of an option.
 
 ghost use Rattle.std.specs.Prelude.{◌≡◌, ◌&&◌};
 ghost use Rattle.std.specs.List.{list_any};
@@ -11,21 +11,21 @@ use fp_base::is_control;
 use fp_keyfile::cut_at_equals;
 use fp_name::is_inner_element;
 
-/// Whether a byte is `;`, `=` or a control character.
+/// Returns whether a byte is `;`, `=` or a control character.
 fn is_barred(byte: u8) -> bool
     ensures { result ≡ spec.is_barred byte }
 {
     is_control(byte) || byte == b';' || byte == b'='
 }
 
-/// Whether a text begins with a space or a tab.
+/// Returns whether a text begins with a space or a tab.
 fn begins_in_blank(text: &str) -> bool
     ensures { result ≡ keys.begins_so keys.is_blank text.now }
 {
     matches!(text.as_bytes(), [b' ' | b'\t', ..])
 }
 
-/// Whether a text begins with `!`, a space or a tab.
+/// Returns whether a text begins with `!`, a space or a tab.
 fn begins_in_lead(text: &str) -> bool
     ensures { result ≡ keys.begins_so spec.is_lead text.now }
 {
@@ -44,8 +44,8 @@ fn has_control(text: &str) -> bool
     text.bytes().any(|byte| is_control(byte))
 }
 
-/// Whether a text names a permission: it isn't empty, has no `;`, `=` or control character, and
-/// begins with none of `!`, space and tab.
+/// Returns whether a text may name a permission: it isn't empty, has no `;`, `=` or control
+/// character, and doesn't begin with `!`, a space or a tab.
 #[tactic(auto, unfolding(crate::specs::Options::is_given))]
 pub(crate) fn is_given(text: &str) -> bool
     ensures { result ≡ spec.is_given text.now }
@@ -53,21 +53,23 @@ pub(crate) fn is_given(text: &str) -> bool
     !text.is_empty() && !has_barred(text) && !begins_in_lead(text)
 }
 
-/// Whether a text may be that of a variable.
+/// Returns whether a text may be the value of a variable: it has no control character, and doesn't
+/// begin with a space or a tab.
 fn is_text(text: &str) -> bool
     ensures { result ≡ spec.is_text text.now }
 {
     !has_control(text) && !begins_in_blank(text)
 }
 
-/// Whether these are the name of a variable, as an inner element of an ID, and its text.
+/// Returns whether these are the name of a variable and its value. The name begins with an ASCII
+/// letter or `_`, and goes on with letters, digits and `_`.
 fn are_variable(name: &str, value: &str) -> bool
     ensures { result ≡ (grammar.is_element name.now && spec.is_text value.now) }
 {
     is_inner_element(name) && is_text(value)
 }
 
-/// Whether a text is the name of a variable, `=` and its text.
+/// Returns whether a text is the name of a variable, `=` and its value.
 pub(crate) fn is_variable(text: &str) -> bool
     ensures { result ≡ spec.is_variable text.now }
 {

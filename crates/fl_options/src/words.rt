@@ -1,4 +1,4 @@
-//! Words read as rules.
+//! Words read as rules of a filter.
 
 ghost use Rattle.std.specs.Prelude.{◌≡◌, ◌++◌, IfOk, OnOk, IfErr, None, Some, option_to_list};
 ghost use Rattle.bus_policy.specs.declared.policy.Grant.TheVariants as grants;
@@ -10,12 +10,12 @@ use fp_base::Text;
 use fp_keyfile::cut_at_equals;
 use std::alloc::{AllocError, Global};
 
-/// Whether a word is a rule of a filter: `--see=B`, `--talk=B`, `--own=B`, `--call=B=RULE` or
-/// `--broadcast=B=RULE`, after xdg-dbus-proxy(1).
+/// Returns whether a word is a rule of a filter (xdg-dbus-proxy(1)): `--see=B`, `--talk=B`,
+/// `--own=B`, `--call=B=RULE` or `--broadcast=B=RULE`.
 ///
-/// B is a bus name that isn't unique, or elements of one and `.*`. It ends before the first `=`.
-/// RULE is `*`, `INTERFACE.*` or `INTERFACE.MEMBER`, or `@` and `PATH`, `PATH/*` or `/*`, or the
-/// one and then the other.
+/// B is a well-known bus name, or one or more elements of one and `.*`. It has no `=`. RULE is `*`,
+/// `INTERFACE.*` or `INTERFACE.MEMBER`; or `@` and `PATH`, `PATH/*` or `/*`; or the first and then
+/// the second.
 pub fn is_rule(alloc: Global, word: &str) -> Result<bool, AllocError>
     ensures { IfOk result (λ b. b ≡ spec.is_rule word.now) }
 {
@@ -24,7 +24,7 @@ pub fn is_rule(alloc: Global, word: &str) -> Result<bool, AllocError>
     Ok(!policy.rules().is_empty())
 }
 
-/// The policy of words: their rules in order. A word that is no rule adds nothing.
+/// Returns the policy that words make: their rules in order. A word that is no rule adds nothing.
 pub fn policy_of(alloc: Global, words: &[Text]) -> Result<Policy, AllocError>
     ensures { IfOk result (λ policy. policy ≡ spec.policy_of words.now) }
 {
@@ -35,7 +35,7 @@ pub fn policy_of(alloc: Global, words: &[Text]) -> Result<Policy, AllocError>
     Ok(policy)
 }
 
-/// Adds the rule that a word is.
+/// Appends the rule that a word is to a policy. A word that is no rule adds nothing.
 fn push_word(alloc: Global, policy: &mut Policy, word: &str) -> Result<(), AllocError>
     ensures { OnOk result (policy.new ≡ policy.old ++ option_to_list (spec.word_rule word.now)) }
 {
@@ -47,7 +47,7 @@ fn push_word(alloc: Global, policy: &mut Policy, word: &str) -> Result<(), Alloc
     }
 }
 
-/// Adds the rule of an option that gives this level, or has rules for these messages.
+/// Appends the rule of an option that gives this level, or has a rule for messages of this kind.
 fn push_with(
     alloc: Global,
     policy: &mut Policy,
@@ -65,7 +65,8 @@ fn push_with(
     }
 }
 
-/// Adds a level for the names of a pattern.
+/// Appends a rule that gives a level for the names of a pattern. Adds nothing if the pattern is
+/// bad.
 fn push_level(
     alloc: Global,
     policy: &mut Policy,
@@ -78,7 +79,7 @@ fn push_level(
     unless_bad(policy.add(alloc, pattern, level))
 }
 
-/// Adds a rule for messages: a pattern, `=` and the rule.
+/// Appends a rule for messages. Its text is a pattern, `=` and the rule. Adds nothing if it is bad.
 fn push_rule(
     alloc: Global,
     policy: &mut Policy,
@@ -94,7 +95,7 @@ fn push_rule(
     }
 }
 
-/// A rule that is none adds nothing.
+/// Turns the error of a bad rule into success. Errs only if memory ran out.
 fn unless_bad(added: Result<(), PolicyError>) -> Result<(), AllocError>
     ensures { OnOk result (IfErr added (λ e. e ≡ PolicyError.Bad)) }
 {

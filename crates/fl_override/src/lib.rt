@@ -1,4 +1,4 @@
-//! Overrides: what a user changes of an application's permissions.
+//! Overrides: the changes that a user makes to applications' permissions.
 #![tactic(auto)]
 
 pub mod laws;

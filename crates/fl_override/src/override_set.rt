@@ -1,4 +1,4 @@
-//! Overrides.
+//! Sets of changed permissions.
 
 ghost use Rattle.std.specs.Prelude.{◌≡◌, ◌++◌, IfOk, OnOk, OnErr};
 ghost use Rattle.fl_meta.specs.declared.permission.Permission.{Permission};
@@ -15,8 +15,8 @@ use fp_keyfile::KeyFile;
 use std::alloc::{AllocError, Global};
 use std::marker::Model;
 
-/// What a user changes of the permissions of one application, or of all: one mention for each
-/// permission, ascending.
+/// A user's changes to the permissions of one application, or of all: one mention for each changed
+/// permission, in ascending order of permissions.
 ///
 /// Contracts see the list of the mentions.
 #[derive(Drop)]
@@ -38,7 +38,7 @@ impl Model for OverrideSet {
 }
 
 impl OverrideSet {
-    /// The mentions, one for each permission, ascending.
+    /// Returns the mentions, one for each permission, in ascending order.
     pub fn as_layer(&self) -> &Layer
         ensures mentions { result.now ≡ self.now }
         ensures ascending { IsAscending self.now }
@@ -47,7 +47,7 @@ impl OverrideSet {
         self.mentions.as_layer()
     }
 
-    /// Reads an override: for each permission, the last mention of the file.
+    /// Reads an override from a key file. A permission gets its last mention in the file.
     pub fn from_keyfile(alloc: Global, file: &KeyFile) -> Result<Self, AllocError>
         ensures { IfOk result (λ set. (p : Permission) → value_in set p ≡ last_mention
             (file_mentions sources.Override file.now) p) }
@@ -59,8 +59,10 @@ impl OverrideSet {
         })
     }
 
-    /// Changes the set by options: for each permission, the last mention of the old set and the
-    /// options joined. Without memory nothing changes.
+    /// Changes the set by options. A permission gets its last mention in the options, or keeps the
+    /// one in the set if the options don't mention it. The set is unchanged if memory runs out.
+    /// Each of the options has to be one that can be written, as those are that were read from
+    /// options or a key file.
     pub fn change(&mut self, alloc: Global, options: &Layer) -> Result<(), AllocError>
         requires { AllCanWrite options.now }
         ensures ok { OnOk result ((p : Permission) → value_in self.new p ≡ last_mention
@@ -72,10 +74,11 @@ impl OverrideSet {
         Ok(())
     }
 
-    /// The key file of the set: the lists in their order, names ascending by their bytes, each
-    /// entry followed by `;`, a permission that is off with a leading `!`, and a folder that may be
-    /// read and written without an ending. What was unknown stands in the lists `unknown-LIST`. It
-    /// reads back as the same set.
+    /// Returns the set as a key file, in the form of Flatpak's overrides. The lists come in a fixed
+    /// order. In each list the names ascend by their bytes, and each entry is followed by `;`. A
+    /// denied permission begins with `!`. A directory that may be read and written has no ending.
+    /// Names that aren't known are in lists of their own, whose keys are `unknown-LIST`. The key
+    /// file reads back as the same set.
     pub fn to_keyfile(&self, alloc: Global) -> Result<KeyFile, AllocError>
         ensures file { IfOk result (λ file. file ≡ file_with self.now) }
         ensures reads_back { (p : Permission) → last_mention

@@ -1,4 +1,4 @@
-//! Mentions written as a key file.
+//! Writing mentions as a key file.
 
 ghost use Rattle.std.specs.Prelude.{◌≡◌, ◌++◌, ◌∷◌, [], OnOk, IfOk, string_bytes};
 ghost use Rattle.std.specs.List.{flat_map};
@@ -25,7 +25,7 @@ const CONTEXT_LISTS: [PermList; 12] = [
     PermList::UnknownSystemBus,
 ];
 
-/// Adds an entry of a list, without its end.
+/// Appends an entry of a list to a text, without the `;` that ends it.
 fn push_open_entry(out: &mut String, mention: &Mention) -> Result<(), AllocError>
     ensures { OnOk result (string_bytes out.new ≡ string_bytes out.old ++ written.entry_text
         mention.now) }
@@ -48,14 +48,14 @@ fn push_open_entry(out: &mut String, mention: &Mention) -> Result<(), AllocError
     }
 }
 
-/// Whether a mention belongs to the list.
+/// Returns whether a mention belongs to a list.
 fn is_in(list: PermList, mention: &Mention) -> bool
     ensures { result ≡ written.is_in list mention.now }
 {
     mention.permission.list.place() == list.place()
 }
 
-/// Adds an entry, where it belongs to the list.
+/// Appends an entry and `;` to a text, if the mention belongs to the list.
 fn push_entry(out: &mut String, list: PermList, mention: &Mention) -> Result<(), AllocError>
     ensures { OnOk result (string_bytes out.new ≡ string_bytes out.old ++ written.entry_in list
         mention.now) }
@@ -67,7 +67,7 @@ fn push_entry(out: &mut String, list: PermList, mention: &Mention) -> Result<(),
     out.push(';')
 }
 
-/// The entries of a list, each followed by `;`. It errs only where memory runs out.
+/// Returns the entries of a list, each followed by `;`, in the order of the mentions.
 #[tactic(auto, unfolding(crate::specs::Written::list_text))]
 pub fn list_text(alloc: Global, list: PermList, mentions: &[Mention]) -> Result<String, AllocError>
     ensures { IfOk result (λ t. string_bytes t ≡ written.list_text list mentions.now) }
@@ -79,7 +79,7 @@ pub fn list_text(alloc: Global, list: PermList, mentions: &[Mention]) -> Result<
     Ok(out)
 }
 
-/// Adds the pair of a list, where it has entries.
+/// Appends the pair of a list, if the list has entries.
 fn push_list(
     pairs: &mut Items<Pair>,
     list: PermList,
@@ -98,7 +98,7 @@ fn push_list(
     })
 }
 
-/// Adds the pairs of lists, where these have entries.
+/// Appends the pairs of those lists that have entries.
 fn push_lists(
     pairs: &mut Items<Pair>,
     lists: &[PermList],
@@ -113,7 +113,7 @@ fn push_lists(
     Ok(())
 }
 
-/// The pairs of the group `Context`.
+/// Returns the pairs of the group `Context`.
 #[tactic(auto, unfolding(crate::specs::Written::context_pairs))]
 fn context_pairs(alloc: Global, mentions: &[Mention]) -> Result<Items<Pair>, AllocError>
     ensures { IfOk result (λ pairs. pairs ≡ written.context_pairs mentions.now) }
@@ -123,7 +123,8 @@ fn context_pairs(alloc: Global, mentions: &[Mention]) -> Result<Items<Pair>, All
     Ok(pairs)
 }
 
-/// Adds a pair of a group whose keys are names, where it belongs to the list.
+/// Appends the pair of a mention, if it belongs to the list. The pair's key is the permission's
+/// name.
 fn push_named(pairs: &mut Items<Pair>, list: PermList, mention: &Mention) -> Result<(), AllocError>
     ensures { OnOk result (pairs.new ≡ pairs.old ++ written.named_in list mention.now) }
 {
@@ -135,7 +136,7 @@ fn push_named(pairs: &mut Items<Pair>, list: PermList, mention: &Mention) -> Res
     pairs.push(pair)
 }
 
-/// The pairs of a group whose keys are names.
+/// Returns the pairs of a group whose keys are the names of permissions.
 #[tactic(auto, unfolding(crate::specs::Written::named_pairs))]
 fn named_pairs(
     alloc: Global,
@@ -151,7 +152,7 @@ fn named_pairs(
     Ok(pairs)
 }
 
-/// Adds a group, where it has pairs. It errs only where memory runs out.
+/// Appends a group, if it has pairs.
 pub fn push_group(
     groups: &mut Items<Group>,
     name: &str,
@@ -166,8 +167,8 @@ pub fn push_group(
     groups.push(Group { name, pairs })
 }
 
-/// The groups of a key file with these mentions, as Flatpak writes an override. It errs only where
-/// memory runs out.
+/// Returns the groups of a key file with these mentions, in the form of Flatpak's overrides. Groups
+/// without pairs are left out.
 #[tactic(auto, unfolding(crate::specs::Written::file_with))]
 pub fn groups_of(alloc: Global, mentions: &[Mention]) -> Result<Items<Group>, AllocError>
     ensures { IfOk result (λ groups. groups ≡ written.file_with mentions.now) }

@@ -1,4 +1,4 @@
--- Operations that may be done one after another.
+-- Sequences of operations that can be done one after another.
 use Rattle.std.specs.Prelude.{◌≡◌, ℕ, Bool, true, false, List, [], ◌∷◌}
 use Rattle.std.specs.List.{AllByRecursion, list_any}
 use Rattle.fp_name.specs.Hex.{is_digest}
@@ -15,52 +15,55 @@ use Rattle.fl_extension.specs.Found.{row_of}
 use Rattle.fl_plan.specs.Plans.{is_at}
 use Rattle.fl_plan.specs.declared.offer.Offer.{Offer}
 
--- each may be done on the state that those before it leave, whatever the times of their commits are
+-- Each operation can be done on the state that the previous ones leave, whatever the times of their
+-- commits
 abbrev pub AreAllowed : State → List Op → Type 0
 AreAllowed state [] = Unit {0}
 AreAllowed state (op ∷ ops) =
     Allows state op × ((timestamp : ℕ) → AreAllowed (after_op state timestamp op) ops)
 
--- the offer of a ref by a remote
+-- The offer is by this remote, of this ref, and its commit is a valid digest
 pub record IsTaken (remote : RemoteRow) (name : Ref) (offer : Offer) : Type 0 where
   pub name_is : offer.name ≡ name
   pub good : is_ref name ≡ true
   pub remote_is : offer.remote ≡ remote
   pub commit : is_digest offer.commit ≡ true
 
--- by a remote, of one of these refs
+-- The offer is by this remote, of one of these refs
 pub record IsOneOf (remote : RemoteRow) (names : List Ref) (offer : Offer) : Type 0 where
   pub taken : IsTaken remote offer.name offer
   pub among : (test : Ref → Bool) → test offer.name ≡ true → list_any test names ≡ true
 
--- of a ref, by one of these remotes
+-- The offer is by one of these remotes, of this ref
 pub record IsOfferOf (rows : List RemoteRow) (name : Ref) (offer : Offer) : Type 0 where
   pub name_is : offer.name ≡ name
   pub good : is_ref name ≡ true
   pub remote : has_name name_of rows offer.remote.name ≡ true
   pub commit : is_digest offer.commit ≡ true
 
--- an offer that can be taken up: the ref isn't deployed at this commit
+-- The offer can be installed or updated to: it is valid, its remote is one of the state's, and its
+-- ref isn't deployed at this commit
 pub record MayCome (state : State) (offer : Offer) : Type 0 where
   pub name : is_ref offer.name ≡ true
   pub remote : has_name name_of state.remotes offer.remote.name ≡ true
   pub commit : is_digest offer.commit ≡ true
   pub moves : is_at offer.commit (row_of state offer.name) ≡ false
 
--- one that comes besides those of a plan
+-- The offer can be added to a plan: it may come, and its ref isn't in the plan
 pub record ComesTo (state : State) (plan : List Offer) (offer : Offer) : Type 0 where
   pub may : MayCome state offer
   pub apart : is_coming plan offer.name ≡ false
 
--- no ref comes twice
+-- No ref occurs twice in the plan
 abbrev pub AreApart : List Offer → Type 0
 AreApart [] = Unit {0}
 AreApart (offer ∷ offers) = (is_coming offers offer.name ≡ false) × AreApart offers
 
+-- A valid plan: each offer may come, and no ref occurs twice
 pub record IsPlan (state : State) (plan : List Offer) : Type 0 where
   pub each : AllByRecursion (MayCome state) plan
   pub apart : AreApart plan
 
--- an operation that brings a commit
+-- The operation brings a commit
 abbrev pub IsComing : Op → Type 0
 IsComing op = BringsCommit (effect_of op)

@@ -1,4 +1,4 @@
--- Which operations an install or an update of a ref is.
+-- The operations of an install or an update of a ref.
 use Rattle.std.specs.Prelude.{ℕ, Bool, false, not, leb, ◌+◌, List, [], ◌∷◌, ◌++◌, length, map, count_by, Option, Some, None, option_map, option_to_list, Result, Ok, Err, if◌then◌else◌}
 use Rattle.std.specs.Str.{bytes_eq}
 use Rattle.fp_base.specs.declared.what.What.TheVariants as whats
@@ -26,41 +26,44 @@ use Rattle.fl_plan.specs.declared.offer.Chosen.{Chosen}
 
 -- ---- operations
 
--- a ref that is there moves, another comes
+-- The operation for an offer: an update if the ref is deployed, else an install
 abbrev pub op_of : State → Offer → Op
 op_of state offer = if has_ref state offer.name
     then Update offer.name offer.remote.name offer.commit else install_of offer
 
--- how many refs are deployed when all of a plan is done
+-- The number of offers whose refs aren't deployed
 abbrev pub new_ones : State → List Offer → ℕ
 new_ones state plan = count_by (λ offer. not (has_ref state offer.name)) plan
 
+-- The number of deployed refs after all offers of the plan are installed
 abbrev pub number_after : State → List Offer → ℕ
 number_after state plan = length state.refs + new_ones state plan
 
+-- The operations for a plan, unless too many refs would be deployed
 abbrev pub ops_within_limit : State → List Offer → Result (List Op) Refusal
 ops_within_limit state plan =
     if leb (number_after state plan) MOST_REFS then Ok (map (op_of state) plan)
     else Err (refusals.Limit whats.Refs (MOST_REFS + 1))
 
--- ---- what is to come
+-- ---- the plan
 
--- the runtime first, then the target
+-- The plan without extensions: the runtime, if it is installed along, then the target
 abbrev pub begun : Option Chosen → Chosen → List Offer
 begun runtime target = option_to_list (option_map (λ c. c.offer) runtime) ++ target.offer ∷ []
 
--- then the extensions of the runtime, and those of the target
+-- The whole plan: the runtime, the target, the extensions of the runtime, and those of the target
 unfoldable pub extended : Holdings → Have → State → Chosen → Option Chosen
     → Result (List Offer) Refusal
 extended held stored state target runtime = and_then
     (with_runtime held stored state runtime (begun runtime target))
     (with_extensions held stored state target)
 
+-- The operations for a target and the runtime that is installed along
 abbrev pub plan_with : Holdings → Have → State → Chosen → Option Chosen → Result (List Op) Refusal
 plan_with held stored state target runtime =
     and_then (extended held stored state target runtime) (ops_within_limit state)
 
--- the operations of a target that is checked
+-- The operations for a target whose head was checked
 unfoldable pub planned : Holdings → Have → State → Chosen → Result (List Op) Refusal
 planned held stored state target =
     and_then (if_named held stored state target.offer.remote.name
@@ -68,29 +71,30 @@ planned held stored state target =
 
 -- ---- the target
 
+-- Tests whether a ref with this row is deployed at the commit
 abbrev pub is_at : List ℕ → Option RefRow → Bool
 is_at commit None = false
 is_at commit (Some row) = bytes_eq row.commit commit
 
--- the time of the commit that is deployed
+-- The time of the deployed commit, if there is one
 abbrev pub time_of : Option RefRow → Option ℕ
 time_of row = option_map (λ r. r.timestamp) row
 
--- an offer of the target, with its head checked
+-- The offer of the target, with its head checked
 unfoldable pub target_of : Holdings → Have → State → Offer → Result Chosen Refusal
 target_of held stored state offer = mapped (chosen_with offer)
     (head_of (have_at held stored offer.remote) offer.name offer.commit
     (time_of (row_of state offer.name)))
 
--- the operations of a target whose remote offers this: none where that is deployed
+-- The operations for a target by its remote's offer; none if the offered commit is deployed
 unfoldable pub planned_at : Holdings → Have → State → Offer → Result (List Op) Refusal
 planned_at held stored state offer =
     if is_at offer.commit (row_of state offer.name) then Ok []
     else and_then (target_of held stored state offer) (planned held stored state)
 
--- The operations of a target from a remote: its runtime's install, where its runtime isn't
--- installed; its own install or update; and the installs of that runtime's extensions and of its
--- own. `held` is what the remotes hold, `stored` are the store's objects.
+-- The operations for a ref from a remote: the install of its runtime, if that isn't installed; its
+-- own install or update; and the installs of that runtime's extensions and of its own. `held` is
+-- the content of the remotes, `stored` the objects of the store.
 unfoldable pub plan_of : Holdings → Have → State → RemoteRow → Ref → Result (List Op) Refusal
 plan_of held stored state remote name =
     and_then (offered held remote name)

@@ -1,5 +1,5 @@
--- A small installation: an application, its runtime, its extension, a runtime that is pinned, and
--- one that nothing uses.
+-- A small sample installation: an application, its runtime, its extension, a runtime that is
+-- pinned, and one that nothing uses.
 use Rattle.std.specs.Prelude.{List, [], ◌∷◌, true, Some, None, codes}
 use Rattle.fp_name.specs.Refs.{Ref, ref_with}
 use Rattle.fp_name.specs.declared.kind.RefKind.TheVariants.{App, Runtime}
@@ -11,24 +11,31 @@ use Rattle.fl_meta.specs.declared.meta.Meta.{Meta}
 use Rattle.fl_meta.specs.declared.meta.MetaKind.TheVariants as kinds
 use Rattle.fl_extension.specs.declared.point.Point.{Point}
 
+-- The application
 abbrev pub app : Ref
 app = ref_with App (codes "org.x.App") (codes "x86_64") (codes "stable")
 
+-- The extension of the application
 abbrev pub locale : Ref
 locale = ref_with Runtime (codes "org.x.App.Locale") (codes "x86_64") (codes "stable")
 
+-- The runtime that nothing uses
 abbrev pub unneeded : Ref
 unneeded = ref_with Runtime (codes "org.x.Old") (codes "x86_64") (codes "1")
 
+-- The runtime that is pinned
 abbrev pub pinned : Ref
 pinned = ref_with Runtime (codes "org.x.Pinned") (codes "x86_64") (codes "1")
 
+-- The runtime of the application
 abbrev pub platform : Ref
 platform = ref_with Runtime (codes "org.x.Platform") (codes "x86_64") (codes "1")
 
+-- The row of a deployed ref
 abbrev pub row : Ref → RefRow
 row name = record { name = name; origin = codes "lab"; commit = []; timestamp = 0; previous = None }
 
+-- The state of the installation
 abbrev pub installation : State
 installation = record {
   layout = Two;
@@ -38,6 +45,7 @@ installation = record {
   overrides = [];
 }
 
+-- The metadata of the application
 abbrev pub metas : List (Ref × Meta)
 metas = (
   app,
@@ -50,7 +58,7 @@ metas = (
   },
 ) ∷ []
 
--- an automatic point with these candidates
+-- An automatic extension point with these candidates
 abbrev pub point : List Ref → Point
 point candidates = record {
   name = codes "org.x.App.Locale";
@@ -59,13 +67,14 @@ point candidates = record {
   auto = true;
 }
 
--- one that finds the application's extension, of this ref alone
+-- A point of this owner, for which the application's extension is found
 abbrev pub points : Ref → List (Ref × List Point)
 points owner = (owner, point (locale ∷ unneeded ∷ []) ∷ []) ∷ []
 
--- an extension that isn't installed
+-- An extension that isn't installed
 abbrev pub missing : Ref
 missing = ref_with Runtime (codes "org.x.Missing") (codes "x86_64") (codes "1")
 
+-- A remote
 abbrev pub lab : RemoteRow
 lab = record { name = codes "lab"; url = codes "/lab" }

@@ -1,4 +1,4 @@
--- Operations that take up what remotes offer.
+-- Operations that bring commits offered by remotes.
 use Rattle.std.specs.Prelude.{◌≡◌, ◌⊎◌, ℕ, true, List, [], ◌∷◌, Some, Ok}
 use Rattle.std.specs.List.{AllByRecursion}
 use Rattle.fp_host.specs.Remote.{Holdings}
@@ -13,32 +13,32 @@ use Rattle.dep_states.specs.Shown.{at_name}
 use Rattle.fl_extension.specs.Found.{row_of}
 use Rattle.fl_plan.specs.Plans.{is_at}
 
--- the remote of this name offers this commit under the ref
+-- The remote with this name offers this commit under the ref
 pub record IsOfferedBy (held : Holdings) (remotes : List RemoteRow) (name : Ref)
     (origin commit : List ℕ) : Type 0 where
   pub remote : RemoteRow
   pub there : at_name name_of remotes origin ≡ Some remote
   pub offers : offered held remote name ≡ Ok commit
 
--- the operation brings a commit that the remote which it names offers
+-- The operation brings a commit that the remote named in it offers
 abbrev pub IsOffered : Holdings → List RemoteRow → Op → Type 0
 IsOffered held remotes (Install name origin commit) = IsOfferedBy held remotes name origin commit
 IsOffered held remotes (Update name origin commit) = IsOfferedBy held remotes name origin commit
 IsOffered held remotes _ = ⊥
 
--- it brings a commit of this ref
+-- The operation brings a commit of this ref
 abbrev pub IsOf : Ref → Op → Type 0
 IsOf name (Install n origin commit) = n ≡ name
 IsOf name (Update n origin commit) = n ≡ name
 IsOf name _ = ⊥
 
--- one of them does
+-- One of the operations brings a commit of this ref
 abbrev pub IsAmong : Ref → List Op → Type 0
 IsAmong name [] = ⊥
 IsAmong name (op ∷ ops) = IsOf name op ⊎ IsAmong name ops
 
--- A plan of a ref: what its remote offers is deployed, and there is no operation; or the operations
--- take up what remotes offer, and the ref is among them.
+-- The plan for a ref: either the offered commit is deployed and there are no operations, or the
+-- operations bring commits that remotes offer, and one of them is for the ref
 pub record Settles (held : Holdings) (state : State) (remote : RemoteRow) (name : Ref)
     (ops : List Op) : Type 0 where
   pub commit : List ℕ

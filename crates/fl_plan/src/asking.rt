@@ -1,4 +1,4 @@
-//! Which remote offers a ref, and which refs a remote offers.
+//! Looking up of refs at remotes.
 ghost use Rattle.std.specs.Prelude.{◌≡◌, filter, Some, IfOk, IfSome};
 ghost use Rattle.ost_walk.specs.PullEnds.{NoFault, Tells};
 ghost use Rattle.fl_plan.specs.Allowed.{IsTaken, IsOneOf, IsOfferOf};
@@ -13,7 +13,7 @@ use ost_head::offer;
 use ost_walk::PullEnd;
 use std::alloc::Global;
 
-/// A refusal is no offer; a fault ends the question.
+/// Returns no offer if the lookup was refused, and any other error unchanged.
 fn declined(end: PullEnd) -> Result<Option<Offer>, PullEnd>
     ensures { result ≡ spec.declined end }
 {
@@ -25,7 +25,7 @@ fn declined(end: PullEnd) -> Result<Option<Offer>, PullEnd>
     }
 }
 
-/// The offer of this commit.
+/// Returns the offer of a commit.
 fn offer_of_commit(
     remote: &RemoteRow,
     name: &RefName,
@@ -39,7 +39,8 @@ fn offer_of_commit(
     Ok(Some(Offer::new(remote, name, commit)?))
 }
 
-/// What the remote offers under the ref; a remote that is refused offers nothing.
+/// Returns the remote's offer of the ref. Returns `None` if the remote doesn't offer the ref, or
+/// isn't a repository of the right mode.
 pub(crate) fn ask<R: Remotes>(
     alloc: Global,
     remotes: &mut R,
@@ -56,7 +57,8 @@ pub(crate) fn ask<R: Remotes>(
     }
 }
 
-/// Whether the remote is the one of this name, or is another where others are asked.
+/// Returns whether a remote is asked: with `others`, each remote but the one with this name, else
+/// only that one.
 fn is_in_turn(row: &RemoteRow, own: &RemoteName, others: bool) -> bool
     ensures { result ≡ spec.is_in_turn own.now others row.now }
 {
@@ -67,7 +69,8 @@ fn is_in_turn(row: &RemoteRow, own: &RemoteName, others: bool) -> bool
     }
 }
 
-/// What the remote offers, where it is in turn.
+/// Returns the remote's offer of the ref, or `None` if the remote doesn't offer it or isn't asked.
+/// With `others`, each remote but the one named `own` is asked, else only that one.
 fn ask_in_turn<R: Remotes>(
     alloc: Global,
     remotes: &mut R,
@@ -87,7 +90,7 @@ fn ask_in_turn<R: Remotes>(
     }
 }
 
-/// The offer of the first remote that offers the ref, among those that are in turn.
+/// Returns the first offer of the ref by a remote that is asked.
 fn ask_each<R: Remotes>(
     alloc: Global,
     remotes: &mut R,
@@ -114,7 +117,8 @@ fn ask_each<R: Remotes>(
     Ok(None)
 }
 
-/// The offer of the remote of this name, or else of the first other remote that offers the ref.
+/// Returns the offer of the ref by the remote with this name, or else by the first other remote
+/// that offers it.
 pub(crate) fn first_offer<R: Remotes>(
     alloc: Global,
     remotes: &mut R,
@@ -139,7 +143,7 @@ pub(crate) fn first_offer<R: Remotes>(
     }
 }
 
-/// The first of the refs that the remote offers.
+/// Returns the offer of the first of these refs that the remote offers.
 pub(crate) fn first_candidate<R: Remotes>(
     alloc: Global,
     remotes: &mut R,

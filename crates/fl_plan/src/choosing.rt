@@ -1,4 +1,4 @@
-//! What is chosen of an offer.
+//! Checking of an offer.
 ghost use Rattle.std.specs.Prelude.{◌≡◌, IfOk};
 ghost use Rattle.ost_walk.specs.Ends.{around};
 ghost use Rattle.fl_plan.specs.Answers.{Plans};
@@ -10,7 +10,8 @@ use ost_head::read_head;
 use ost_walk::PullEnd;
 use std::alloc::Global;
 
-/// The offer of what isn't deployed, with its head checked.
+/// Checks the head of an offer whose ref isn't deployed, and returns the offer with its metadata.
+/// Errs with the refusal of the head. Changes nothing.
 pub(crate) fn choose<H: Host, R: Remotes>(
     alloc: Global,
     host: &mut H,

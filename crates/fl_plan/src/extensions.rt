@@ -1,4 +1,4 @@
-//! The extensions that are installed along with a runtime and with a target.
+//! The extensions that are installed along with a runtime and a target.
 ghost use Rattle.std.specs.Prelude.{◌≡◌, ◌++◌, true, option_to_list, IfOk, IfSome, OnOk};
 ghost use Rattle.fp_small.specs.Config.{name_of};
 ghost use Rattle.fp_small.specs.Order.{has_name};
@@ -19,14 +19,14 @@ use fp_small::{RemoteRow, State};
 use ost_walk::PullEnd;
 use std::alloc::{AllocError, Global};
 
-/// Whether the ref is among what is to come.
+/// Returns whether the ref is in the plan.
 fn is_coming(plan: &Items<Offer>, name: &RefName) -> bool
     ensures { result ≡ spec.is_coming plan.now name.now }
 {
     plan.as_slice().iter().any(|offer| offer.name == *name)
 }
 
-/// Whether one of the point's candidates is installed or is to come.
+/// Returns whether one of the point's candidates is installed or in the plan.
 fn is_filled(state: &State, plan: &Items<Offer>, point: &Point) -> bool
     ensures { result ≡ spec.is_filled state.now plan.now point.now }
 {
@@ -34,7 +34,7 @@ fn is_filled(state: &State, plan: &Items<Offer>, point: &Point) -> bool
     candidates.any(|name| has_ref(state, name) || is_coming(plan, name))
 }
 
-/// What is installed of what is offered.
+/// Checks an offer, if there is one, and returns it. Changes nothing.
 fn if_any<H: Host, R: Remotes>(
     alloc: Global,
     host: &mut H,
@@ -55,7 +55,9 @@ fn if_any<H: Host, R: Remotes>(
     }
 }
 
-/// What is installed for a point of what comes from the remote, besides what is to come.
+/// Returns the offer that a plan needs for an extension point: the first candidate that the owner's
+/// remote offers, with its head checked. Returns `None` if the point isn't automatic, a candidate
+/// is installed or in the plan, or none is offered. Changes nothing.
 fn extension_at<H: Host, R: Remotes>(
     alloc: Global,
     host: &mut H,
@@ -81,7 +83,7 @@ fn extension_at<H: Host, R: Remotes>(
     }
 }
 
-/// Adds an offer, where there is one.
+/// Appends an offer, if there is one.
 fn push_more(plan: &mut Items<Offer>, more: Option<Offer>) -> Result<(), AllocError>
     ensures { OnOk result (plan.new ≡ plan.old ++ option_to_list more) }
 {
@@ -91,7 +93,8 @@ fn push_more(plan: &mut Items<Offer>, more: Option<Offer>) -> Result<(), AllocEr
     }
 }
 
-/// What is to come with the extensions for points of what comes from the remote.
+/// Appends the extensions for these points to the plan, as the owner's remote offers them. Changes
+/// nothing on the host.
 fn with_points<H: Host, R: Remotes>(
     alloc: Global,
     host: &mut H,
@@ -118,7 +121,7 @@ fn with_points<H: Host, R: Remotes>(
     Ok(plan)
 }
 
-/// What is to come with the extensions of an application or a runtime.
+/// Appends the extensions of an application or a runtime to the plan. Changes nothing on the host.
 pub(crate) fn with_extensions<H: Host, R: Remotes>(
     alloc: Global,
     host: &mut H,
@@ -147,7 +150,8 @@ pub(crate) fn with_extensions<H: Host, R: Remotes>(
     )
 }
 
-/// What is to come with the extensions of the runtime, where one is installed.
+/// Appends the extensions of the runtime to the plan, if a runtime is installed along. Changes
+/// nothing on the host.
 pub(crate) fn with_runtime<H: Host, R: Remotes>(
     alloc: Global,
     host: &mut H,

@@ -1,4 +1,4 @@
-//! Which runtimes are unused.
+//! Detection of unused runtimes.
 ghost use Rattle.std.specs.Prelude.{◌≡◌, [], IfOk};
 ghost use Rattle.fl_extension.specs.Found.{found_ref};
 ghost use Rattle.fl_installed.specs.Users.{is_name};
@@ -12,7 +12,7 @@ use fp_name::{RefKind, RefName};
 use fp_small::State;
 use std::alloc::{AllocError, Global};
 
-/// Whether the metadata names the runtime.
+/// Returns whether the metadata names the runtime.
 fn names_runtime(meta: &Meta, name: &RefName) -> bool
     ensures { result ≡ is_name name.now meta.now.runtime }
 {
@@ -22,28 +22,28 @@ fn names_runtime(meta: &Meta, name: &RefName) -> bool
     }
 }
 
-/// Whether an application names the runtime.
+/// Returns whether an application names the runtime.
 fn is_named(metas: &[(RefName, Meta)], name: &RefName) -> bool
     ensures { result ≡ spec.is_named metas.now name.now }
 {
     metas.iter().any(|app| names_runtime(&app.1, name))
 }
 
-/// Whether a pin matches the ref.
+/// Returns whether a pin matches the ref.
 fn is_pinned(state: &State, name: &RefName) -> bool
     ensures { result ≡ spec.is_pinned state.now name.now }
 {
     state.pins.as_slice().iter().any(|pin| pin.matches(name))
 }
 
-/// Whether an application needs the runtime, or a pin matches it.
+/// Returns whether an application names the runtime, or a pin matches it.
 fn is_needed(state: &State, metas: &[(RefName, Meta)], name: &RefName) -> bool
     ensures { result ≡ spec.is_needed state.now metas.now name.now }
 {
     is_named(metas, name) || is_pinned(state, name)
 }
 
-/// Whether the point finds the ref.
+/// Returns whether the ref is the one that is found for the point.
 fn finds(state: &State, point: &Point, name: &RefName) -> bool
     ensures { result ≡ is_name name.now (found_ref state.now point.now) }
 {
@@ -53,7 +53,7 @@ fn finds(state: &State, point: &Point, name: &RefName) -> bool
     }
 }
 
-/// Whether one of the points finds the ref.
+/// Returns whether the ref is the one that is found for one of the points.
 fn one_finds(state: &State, points: &Items<Point>, name: &RefName) -> bool
     ensures { result ≡ spec.one_finds state.now name.now points.now }
 {
@@ -63,7 +63,7 @@ fn one_finds(state: &State, points: &Items<Point>, name: &RefName) -> bool
         .any(|point| finds(state, point, name))
 }
 
-/// Whether the points of the ref keep what they find: it is an application, or a runtime that is
+/// Returns whether the extensions of the ref are kept: it is an application, or a runtime that is
 /// needed.
 fn is_owner(state: &State, metas: &[(RefName, Meta)], name: &RefName) -> bool
     ensures { result ≡ spec.is_owner state.now metas.now name.now }
@@ -71,7 +71,8 @@ fn is_owner(state: &State, metas: &[(RefName, Meta)], name: &RefName) -> bool
     same_kind(RefKind::App, name.kind()) || is_needed(state, metas, name)
 }
 
-/// Whether a point that counts finds the ref.
+/// Returns whether the ref is an extension that is kept, because it is found for a point of an
+/// application or of a needed runtime.
 fn is_extension(
     state: &State,
     metas: &[(RefName, Meta)],
@@ -83,7 +84,7 @@ fn is_extension(
     points.iter().any(|owner| is_owner(state, metas, &owner.0) && one_finds(state, &owner.1, name))
 }
 
-/// Whether the ref is a runtime that nothing keeps.
+/// Returns whether the ref is a runtime that is neither needed nor kept as an extension.
 fn is_unused(
     state: &State,
     metas: &[(RefName, Meta)],
@@ -96,10 +97,10 @@ fn is_unused(
         && !(is_needed(state, metas, name) || is_extension(state, metas, points, name))
 }
 
-/// The installed runtimes that aren't kept, in the order of the state. `metas` has the metadata of
-/// each installed application, and `points` the extension points of each installed ref. Kept are
-/// the runtimes that an application names or a pin matches, and what a point of an application or
-/// of such a runtime finds.
+/// Returns the installed runtimes that nothing uses, in the order of the state. A runtime is used
+/// if an application names it, a pin matches it, or it is the extension that is found for a point
+/// of an application or of a runtime that is named or pinned. `metas` has to contain the metadata
+/// of each installed application, and `points` the extension points of each installed ref.
 pub fn unused_extended(
     alloc: Global,
     state: &State,
@@ -117,7 +118,9 @@ pub fn unused_extended(
     Ok(names)
 }
 
-/// The same where no ref has an extension point.
+/// Returns the installed runtimes that no application names and no pin matches, in the order of the
+/// state, without regard to extension points. `metas` has to contain the metadata of each installed
+/// application.
 pub fn unused(
     alloc: Global,
     state: &State,

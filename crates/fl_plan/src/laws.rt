@@ -1,5 +1,5 @@
-//! Laws of the words that the contracts use, for crates that build on them, and worked plans. Each
-//! is the contract of a function that does nothing.
+//! Laws of the definitions in the contracts, for crates that build on them, and worked plans. Each
+//! law is the contract of a function with an empty body.
 
 ghost use Rattle.std.specs.Prelude.{◌≡◌, ◌<◌, ◌+◌, ℕ, List, [], ◌∷◌, map, true, false, codes, Option, Some, None, Ok, Err};
 ghost use Rattle.fp_base.specs.declared.what.What.TheVariants as whats;
@@ -32,9 +32,10 @@ ghost use Rattle.fl_plan.specs.Unused.{unused_of};
 ghost use Rattle.fl_plan.specs.Worked.{Basis, ComeTogether, ExtensionRefused, Fills, HasItsRuntime, IsTargetWith, PlanIs, RuntimeRefused, extension_offer, head_at, plan_for, runtime_offer};
 ghost use Rattle.fl_plan.specs.declared.offer.Offer.{Offer};
 
-/// What the target's own remote refuses is what the plan refuses, and what its head is refused for,
-/// `Older` than what is deployed among it. That a ref isn't offered is said of the target itself,
-/// and never of a runtime or of an extension.
+/// States what a plan is refused for: if the target's remote refuses it or the target's head is
+/// refused, `Older` included, the plan is refused with the same refusal. A plan is refused with
+/// `NoSuchRef` only if the target's remote refuses the target with it, never for a runtime or an
+/// extension.
 pub fn plans_refuse()
     ensures own { (held : Holdings) (stored : Have) (state : State) (remote : RemoteRow)
         (name : Ref) (refusal : Refusal) → offered held remote name ≡ Err refusal
@@ -50,7 +51,7 @@ pub fn plans_refuse()
         → offered held remote name ≡ Err (refusals.NoSuchRef other missed) }
 {}
 
-/// An update whose offered commit is deployed has no operations.
+/// States that an update whose offered commit is deployed has no operations.
 pub fn up_to_date()
     ensures { (b : Basis) (target : Offer)
         → offered b.held target.remote target.name ≡ Ok target.commit
@@ -58,14 +59,14 @@ pub fn up_to_date()
         → plan_for b target ≡ Ok [] }
 {}
 
-/// A runtime without extensions is one operation.
+/// States that a runtime without extensions is one operation.
 pub fn runtimes_come_alone()
     ensures { (b : Basis) (target : Offer) → IsTargetWith b target None []
         → PlanIs b target (target ∷ []) }
 {}
 
-/// An application without extensions whose runtime is installed is one operation, where that passes
-/// no limit.
+/// States that an application without extensions whose runtime is installed is one operation, if
+/// the limit of refs isn't exceeded.
 pub fn runtime_is_installed()
     ensures planned { (b : Basis) (target : Offer) → HasItsRuntime b target []
         → PlanIs b target (target ∷ []) }
@@ -74,10 +75,10 @@ pub fn runtime_is_installed()
         → plan_for b target ≡ Err (refusals.Limit whats.Refs (MOST_REFS + 1)) }
 {}
 
-/// An application whose runtime isn't installed: the runtime comes first, from the first remote in
-/// turn that offers it, and where none does it is missing. What its head is refused for is what the
-/// plan is refused for: no other remote is tried. The application's own remote is the first in
-/// turn, wherever it stands.
+/// States the plan of an application whose runtime isn't installed. The runtime comes first, from
+/// the first remote that offers it; the application's own remote is asked first. If no remote
+/// offers it, the plan is refused with `RuntimeMissing`. If the head of the first offer is refused,
+/// so is the plan: no other remote is tried.
 pub fn runtime_comes_along()
     ensures planned { (b : Basis) (target runtime : Offer)
         → ComeTogether b runtime [] target [] → PlanIs b target (runtime ∷ target ∷ []) }
@@ -96,10 +97,11 @@ pub fn runtime_comes_along()
         → first_offer held (first ∷ second ∷ []) runtime ≡ Some (offer_with second runtime d) }
 {}
 
-/// An application with an automatic extension that its remote offers: the extension comes after it.
-/// None comes for a point that is done, and none where no candidate is offered. What the head of
-/// the first candidate that is offered is refused for is what the plan is refused for: no later
-/// candidate is tried. The same goes for an extension of a runtime that comes along.
+/// States the plan of an application with an automatic extension: the extension comes after it, if
+/// its remote offers one. Nothing comes for a point that is filled or isn't automatic, and nothing
+/// if no candidate is offered. If the head of the first candidate that is offered is refused, so is
+/// the plan: no later candidate is tried. This holds for an extension of a runtime that is
+/// installed along, too.
 pub fn extension_comes_along()
     ensures planned { (b : Basis) (target extension : Offer) (point : Point)
         → HasItsRuntime b target (point ∷ []) → Fills b (target ∷ []) target point extension
@@ -121,7 +123,7 @@ pub fn extension_comes_along()
         → plan_for b target ≡ Err refusal }
 {}
 
-/// Of the candidates of a point, the first that the remote offers is taken.
+/// States that of a point's candidates, the first that the remote offers is chosen.
 pub fn candidates_in_order()
     ensures first { (held : Holdings) (remote : RemoteRow) (candidate : Ref) (more : List Ref)
         (d : List ℕ) → offered held remote candidate ≡ Ok d
@@ -133,9 +135,9 @@ pub fn candidates_in_order()
         ≡ first_of (offer_of held remote) more }
 {}
 
-/// A runtime that comes along and its application, each with an extension: the runtime, the
-/// application, then the extension of the runtime from the runtime's remote, and that of the
-/// application from its own.
+/// States the plan of an application and a runtime that is installed along, each with one
+/// extension: the runtime, the application, the runtime's extension from the runtime's remote, and
+/// the application's extension from its own remote.
 pub fn extensions_come_last()
     ensures { (b : Basis) (target runtime first second : Offer) (p q : Point)
         → ComeTogether b runtime (p ∷ []) target (q ∷ [])
@@ -144,8 +146,8 @@ pub fn extensions_come_last()
         → PlanIs b target (runtime ∷ target ∷ first ∷ second ∷ []) }
 {}
 
-/// Of the small installation: the order of an update; and what is unused, by whose point finds the
-/// extension. A runtime that nothing keeps keeps nothing.
+/// States for the small installation the order of an update, and which runtimes are unused, by the
+/// ref whose point finds the extension. The points of an unused runtime keep nothing.
 pub fn small_installation()
     ensures targets { targets_of sample.installation None
         ≡ sample.locale ∷ sample.unneeded ∷ sample.pinned ∷ sample.platform ∷ sample.app ∷ [] }
@@ -161,8 +163,8 @@ pub fn small_installation()
         ≡ sample.locale ∷ sample.unneeded ∷ [] }
 {}
 
-/// Of the small installation: which points are done, what an offer becomes, and how many refs there
-/// are after two.
+/// States for the small installation which points are done, which operations offers become, and the
+/// number of refs after two of them.
 pub fn small_plans()
     ensures filled { is_done sample.installation []
         (sample.point (sample.missing ∷ sample.locale ∷ [])) ≡ true }
@@ -180,9 +182,9 @@ pub fn small_plans()
         ∷ offer_with sample.lab sample.missing [] ∷ []) ≡ 6 }
 {}
 
-/// Plans over a store that has a commit under its true digest, and a remote that offers it: an
-/// install, an update, an update that would go back in time, and one that has nothing to do. So
-/// what the laws above ask of a target can be met.
+/// States plans over a store that has a commit under its true digest, and a remote that offers it:
+/// an install, an update, a refused update to an older commit, and an update with nothing to do. So
+/// the conditions of the other laws can be met.
 pub fn plans_can_be_made()
     ensures installs { plan_of shop.holdings shop.stored (shop.with_rows []) hub platform
         ≡ Ok (Install platform (codes "hub") commit ∷ []) }
@@ -193,8 +195,9 @@ pub fn plans_can_be_made()
     ensures stays { plan_of shop.holdings shop.stored deployed_state hub platform ≡ Ok [] }
 {}
 
-/// A plan settles its ref: what its remote offers is deployed, and there is no operation, or each
-/// operation takes up what a remote of the state offers, and one of them is of the ref.
+/// States the result of a plan for a ref: either the offered commit is deployed and there are no
+/// operations, or each operation brings a commit that a remote of the state offers, and one of them
+/// is for the ref.
 pub fn plans_settle()
     ensures { (b : Basis) (remote : RemoteRow) (name : Ref) (ops : List Op)
         → is_ascending (map name_of b.state.remotes) ≡ true

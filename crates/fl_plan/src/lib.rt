@@ -1,5 +1,5 @@
-//! Which operations an install or an update is: the runtime first, then the ref itself, then the
-//! extensions of both; which refs an update is of; and which runtimes nothing uses.
+//! Plans of installs and updates: the operations for a ref, its runtime and their extensions; the
+//! refs that an update includes; and the runtimes that nothing uses.
 #![tactic(auto)]
 
 mod asking;

@@ -1,4 +1,4 @@
-//! What is offered, and what is chosen of it.
+//! The offers of remotes.
 ghost use Rattle.std.specs.Prelude.{◌≡◌, true, IfOk, OnOk};
 ghost use Rattle.fp_name.specs.Hex.{is_digest};
 ghost use Rattle.fp_name.specs.Refs.{is_ref};
@@ -21,12 +21,12 @@ pub(crate) struct Offer {
 #[derive(Drop)]
 pub(crate) struct Chosen {
     pub(crate) offer: Offer,
-    /// The file `metadata` of the commit.
+    /// The content of the commit's file `metadata`.
     pub(crate) metadata: Blob,
 }
 
 impl Offer {
-    /// The offer of this commit.
+    /// Returns the offer of this commit.
     pub(crate) fn new(
         remote: &RemoteRow,
         name: &RefName,
@@ -45,7 +45,7 @@ impl Offer {
         })
     }
 
-    /// The same offer again.
+    /// Returns a copy. Errs if memory runs out.
     pub(crate) fn copy(&self) -> Result<Offer, AllocError>
         ensures { IfOk result (λ offer. offer ≡ self.now) }
     {

@@ -27,7 +27,7 @@ use ost_head::{offer, read_head};
 use ost_walk::PullEnd;
 use std::alloc::{AllocError, Global};
 
-/// The operation that brings what is offered: a ref that is deployed moves, another comes.
+/// Returns the operation for an offer: an update if the ref is deployed, else an install.
 fn op_of(state: &State, offer: &Offer) -> Result<Op, AllocError>
     ensures { IfOk result (λ op. op ≡ spec.op_of state.now offer.now) }
 {
@@ -49,14 +49,14 @@ fn op_of(state: &State, offer: &Offer) -> Result<Op, AllocError>
     }
 }
 
-/// Adds the operation that brings what is offered.
+/// Appends the operation for an offer.
 fn push_op(ops: &mut Items<Op>, state: &State, offer: &Offer) -> Result<(), AllocError>
     ensures { OnOk result (ops.new ≡ ops.old ++ spec.op_of state.now offer.now ∷ []) }
 {
     ops.push(op_of(state, offer)?)
 }
 
-/// The operations of what is to come.
+/// Returns the operations for these offers, in order.
 fn ops_of(alloc: Global, state: &State, plan: &[Offer]) -> Result<Items<Op>, AllocError>
     ensures { IfOk result (λ ops. ops ≡ map (spec.op_of state.now) plan.now) }
 {
@@ -67,7 +67,7 @@ fn ops_of(alloc: Global, state: &State, plan: &[Offer]) -> Result<Items<Op>, All
     Ok(ops)
 }
 
-/// How many of what is to come aren't deployed.
+/// Returns the number of offers whose refs aren't deployed.
 #[tactic(auto, using(crate::proofs::Turns::new_few))]
 fn new_ones(state: &State, plan: &[Offer]) -> usize
     ensures number { result ≡ spec.new_ones state.now plan.now }
@@ -78,7 +78,7 @@ fn new_ones(state: &State, plan: &[Offer]) -> usize
         .count()
 }
 
-/// How many refs are deployed when all of what is to come is done.
+/// Returns the number of deployed refs after all offers of the plan are installed.
 fn number_after(state: &State, plan: &[Offer]) -> u64
     ensures { result ≡ spec.number_after state.now plan.now }
 {
@@ -87,7 +87,7 @@ fn number_after(state: &State, plan: &[Offer]) -> u64
     rows.len() as u64 + new_ones(state, plan) as u64
 }
 
-/// The operations of what is to come, where no more refs would be deployed than may be.
+/// Returns the operations for a plan. Errs with `Limit` if more than 4,096 refs would be deployed.
 fn ops_within_limit(alloc: Global, state: &State, plan: &[Offer]) -> Result<Items<Op>, PullEnd>
     ensures tells { Answers result (spec.ops_within_limit state.now plan.now) }
     ensures faults { NoFault result }
@@ -103,7 +103,7 @@ fn ops_within_limit(alloc: Global, state: &State, plan: &[Offer]) -> Result<Item
     Ok(ops_of(alloc, state, plan)?)
 }
 
-/// What is to come without extensions: the runtime, then the target.
+/// Returns the plan without extensions: the runtime, if it is installed along, then the target.
 fn begun(
     alloc: Global,
     runtime: &Option<Chosen>,
@@ -119,7 +119,8 @@ fn begun(
     Ok(plan)
 }
 
-/// What is to come, with the extensions of the runtime and then of the target.
+/// Returns the whole plan: the runtime, the target, the extensions of the runtime, and those of the
+/// target. Changes nothing.
 fn extended<H: Host, R: Remotes>(
     alloc: Global,
     host: &mut H,
@@ -144,7 +145,7 @@ fn extended<H: Host, R: Remotes>(
     }
 }
 
-/// The operations of a target with its runtime, where that is installed along with it.
+/// Returns the operations for a target and the runtime that is installed along. Changes nothing.
 fn plan_with<H: Host, R: Remotes>(
     alloc: Global,
     host: &mut H,
@@ -169,8 +170,8 @@ fn plan_with<H: Host, R: Remotes>(
     }
 }
 
-/// The runtime that is installed along with a target, where its metadata names one and it isn't
-/// there.
+/// Returns the offer of the runtime that has to be installed along. Returns `None` if no runtime is
+/// named, or if it is installed. Changes nothing.
 fn if_named<H: Host, R: Remotes>(
     alloc: Global,
     host: &mut H,
@@ -191,7 +192,7 @@ fn if_named<H: Host, R: Remotes>(
     }
 }
 
-/// The operations of a target that was checked.
+/// Returns the operations for a target whose head was checked. Changes nothing.
 fn planned<H: Host, R: Remotes>(
     alloc: Global,
     host: &mut H,
@@ -220,7 +221,7 @@ fn planned<H: Host, R: Remotes>(
     }
 }
 
-/// The target of an offer, with its head checked.
+/// Checks the head of the target's offer, and returns the offer with its metadata. Changes nothing.
 fn target_of<H: Host, R: Remotes>(
     alloc: Global,
     host: &mut H,
@@ -251,7 +252,8 @@ fn target_of<H: Host, R: Remotes>(
     }
 }
 
-/// The operations of a target whose remote offers this.
+/// Returns the operations for a target by its remote's offer; none if the offered commit is
+/// deployed. Changes nothing.
 fn planned_at<H: Host, R: Remotes>(
     alloc: Global,
     host: &mut H,
@@ -275,14 +277,15 @@ fn planned_at<H: Host, R: Remotes>(
     }
 }
 
-/// The operations of an install or an update of the ref from this remote, in their order: the
-/// install of its runtime where that isn't installed; its own install, or its update where it is
-/// deployed; and the installs of the extensions of that runtime and of its own. None exactly where
-/// the commit that is offered is deployed. Nothing changes.
+/// Returns the operations of an install or an update of the ref from this remote, in their order:
+/// the install of its runtime, if that isn't installed; the ref's own install, or its update if it
+/// is deployed; and the installs of that runtime's extensions and of its own. There are none
+/// exactly if the offered commit is deployed. The state has to have a remote with this name.
+/// Changes nothing.
 ///
-/// `WrongMode` and `NoSuchRef` as `offer` says, of this remote and this ref alone; the refusals of
-/// the head; `RuntimeMissing` where no remote offers the runtime; the refusals of the heads of the
-/// runtime and of the extensions, but `Older`; `Limit` where more than 4,096 refs would be
+/// Errs with `WrongMode` or `NoSuchRef` of this remote and this ref; with a refusal of the ref's
+/// head; with `RuntimeMissing`, if no remote offers the runtime; with a refusal, except `Older`, of
+/// the head of the runtime or an extension; or with `Limit`, if more than 4,096 refs would be
 /// deployed.
 pub fn ops<H: Host, R: Remotes>(
     alloc: Global,

@@ -17,7 +17,7 @@ use fp_small::{Op, Refusal, State};
 use ost_walk::PullEnd;
 use std::alloc::{AllocError, Global};
 
-/// The refusal of a runtime that is neither installed nor offered.
+/// Returns the refusal of a runtime that is neither installed nor offered.
 fn refuse_missing(runtime: &RefName) -> Result<Refusal, AllocError>
     ensures { IfOk result (λ r. r ≡ refusals.RuntimeMissing runtime.now) }
 {
@@ -26,7 +26,8 @@ fn refuse_missing(runtime: &RefName) -> Result<Refusal, AllocError>
     })
 }
 
-/// What is offered of a runtime that isn't installed.
+/// Checks the offer of a runtime that isn't installed. Errs with `RuntimeMissing` if there is no
+/// offer. Changes nothing.
 fn if_offered<H: Host, R: Remotes>(
     alloc: Global,
     host: &mut H,
@@ -48,8 +49,8 @@ fn if_offered<H: Host, R: Remotes>(
     }
 }
 
-/// The runtime that is installed for what comes from the remote of this name; None where it is
-/// there.
+/// Returns the offer of a runtime, with its head checked, for an application from the remote with
+/// this name. Returns `None` if the runtime is installed. Changes nothing.
 pub(crate) fn find_runtime<H: Host, R: Remotes>(
     alloc: Global,
     host: &mut H,
@@ -75,7 +76,7 @@ pub(crate) fn find_runtime<H: Host, R: Remotes>(
     }
 }
 
-/// The install of what is offered.
+/// Returns the install of an offer.
 pub(crate) fn install_of(offer: Offer) -> Op
     ensures { result ≡ spec.install_of offer }
 {
@@ -91,7 +92,7 @@ pub(crate) fn install_of(offer: Offer) -> Op
     }
 }
 
-/// The install of what was found, where something was.
+/// Returns the install of the runtime that was found, if there is one.
 fn install_in(found: Option<Chosen>) -> Option<Op>
     ensures { result ≡ spec.install_in found }
 {
@@ -101,10 +102,11 @@ fn install_in(found: Option<Chosen>) -> Option<Op>
     }
 }
 
-/// The install of a runtime for an application from the remote of this name, its head checked; None
-/// exactly where the runtime is installed. It is looked for at that remote, then at the state's
-/// others in their order; a remote that is refused doesn't offer it. `RuntimeMissing` where none
-/// offers it, and the refusals of its head but `Older`. Nothing changes.
+/// Returns the install of a runtime for an application from the remote with this name, with the
+/// runtime's head checked. Returns `None` exactly if the runtime is installed. Asks that remote
+/// first, then the state's others in their order; a remote that is refused doesn't offer the
+/// runtime. Errs with `RuntimeMissing` if no remote offers it, or with a refusal of its head, which
+/// is never `Older`. Changes nothing.
 pub fn resolve_runtime<H: Host, R: Remotes>(
     alloc: Global,
     host: &mut H,

@@ -1,4 +1,4 @@
-//! Which refs an update is of.
+//! The refs that an update includes.
 ghost use Rattle.std.specs.Prelude.{◌≡◌, ◌++◌, IfOk, OnOk};
 ghost use Rattle.std.specs.Option.{option_copied};
 ghost use Rattle.fp_name.specs.Pins.{same_kind};
@@ -9,7 +9,7 @@ use fp_name::{RefKind, RefName};
 use fp_small::{RefRow, State};
 use std::alloc::{AllocError, Global};
 
-/// Whether two kinds are the same.
+/// Returns whether two kinds are equal.
 pub(crate) fn same_kind(a: RefKind, b: RefKind) -> bool
     ensures { result ≡ same_kind a b }
 {
@@ -19,7 +19,7 @@ pub(crate) fn same_kind(a: RefKind, b: RefKind) -> bool
     }
 }
 
-/// Adds the refs of a kind.
+/// Appends the refs of a kind.
 fn push_kind(out: &mut Items<RefName>, rows: &[RefRow], kind: RefKind) -> Result<(), AllocError>
     ensures { OnOk result (out.new ≡ out.old ++ spec.names_in kind rows.now) }
 {
@@ -31,8 +31,8 @@ fn push_kind(out: &mut Items<RefName>, rows: &[RefRow], kind: RefKind) -> Result
     Ok(())
 }
 
-/// The refs that an update is of: the named one, or else the installed runtimes and then the
-/// installed applications, each in the order of the state.
+/// Returns the refs that an update includes: the given one, or else the installed runtimes and then
+/// the installed applications, each in the order of the state.
 pub fn targets(
     alloc: Global,
     state: &State,

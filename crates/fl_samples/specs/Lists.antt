@@ -1,5 +1,5 @@
--- Two recordings that differ in a name that may not be seen: the application asks the bus for its
--- names, and gets a list. And two calls whose serials rise.
+-- Two recordings that differ in a hidden name: the application asks the bus for its names, and gets
+-- a list. Two calls with rising serials.
 use Rattle.std.specs.Prelude.{List, [], ◌∷◌, codes, None}
 use Rattle.bus_policy.specs.declared.level.Level.TheVariants as level
 use Rattle.bus_policy.specs.Events.{Event, Judged}
@@ -8,15 +8,15 @@ use Rattle.bus_policy.specs.Watching.{judged}
 use Rattle.bus_proxy.specs.Outs.{Setting}
 use Rattle.bus_proxy.specs.Rows.{with_level, names}
 
--- org.bar may be seen, and no other name
+-- The setting in which `org.bar` may be seen, and no other name
 abbrev pub bar_seen : Setting
 bar_seen = with_level level.See
 
--- the call with serial 1
+-- The call of `ListNames`, with the serial 1
 abbrev pub asked : Event
 asked = call (codes "ListNames")
 
--- the return with the names org.bar and :1.25 in place of org.bar and :1.1
+-- The return with the names `org.bar` and `:1.25`, instead of `org.bar` and `:1.1`
 abbrev pub other_names : Event
 other_names = record {
   side = names.side;
@@ -27,16 +27,18 @@ other_names = record {
       114 ∷ 103 ∷ 46 ∷ 98 ∷ 97 ∷ 114 ∷ 0 ∷ 0 ∷ 0 ∷ 0 ∷ 5 ∷ 58 ∷ 49 ∷ 46 ∷ 50 ∷ 53 ∷ 0 ∷ [];
 }
 
+-- The call and its return, the latest first
 abbrev pub one_recording : List Event
 one_recording = names ∷ asked ∷ []
 
+-- The call and its other return, the latest first
 abbrev pub other_recording : List Event
 other_recording = other_names ∷ asked ∷ []
 
--- a second call, with serial 2
+-- The second call, with the serial 2
 abbrev pub asked_again : Event
 asked_again = record asked { header = record asked.header { serial = 2 } }
 
--- both, with their verdicts, where no rule gives anything
+-- The two calls with their verdicts, if no rule grants anything
 abbrev pub two_calls : List Judged
 two_calls = judged [] None [] (asked_again ∷ asked ∷ [])

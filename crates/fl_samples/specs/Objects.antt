@@ -1,22 +1,23 @@
--- The objects of a small installation and of its remote, as the `ostree` command made them
--- (`scripts/sample_image.py`), and the records of its kept commits.
+-- The objects of the sample installation and of its remote, as made by the `ostree` command
+-- (`scripts/sample_image.py`), and the records of its deployed and previous commits.
 use Rattle.std.specs.Prelude.{ℕ, List, [], ◌∷◌, codes}
 use Rattle.fp_base.specs.declared.object.ObjKind.{ObjKind}
 use Rattle.fp_base.specs.declared.object.ObjKind.TheVariants as kinds
 use Rattle.fp_host.specs.Outcome.{Spot, holds, points}
 
--- an object of a store: its digest and its kind, and what stands at its name
+-- An object of a store: its digest, its kind, and the node at its path
 pub record Stored : Type 0 where
   pub digest : List ℕ
   pub kind : ObjKind
-  -- the first two digits of its digest, and its name in the folder that they name
+  -- The first two digits of the digest, which name the object's directory
   pub front : List ℕ
+  -- The object's name in its directory
   pub name : List ℕ
   pub spot : Spot
 
 -- ---- app/o.x.A/x86_64/s at time 1
 
--- the commit
+-- The commit of `app/o.x.A/x86_64/s` at time 1
 abbrev pub old_commit : Stored
 old_commit = record {
   digest = 45 ∷ 132 ∷ 125 ∷ 4 ∷ 168 ∷ 138 ∷ 30 ∷ 160 ∷ 249 ∷ 99 ∷ 243 ∷ 160 ∷ 54 ∷ 162 ∷ 50 ∷ 210 ∷
@@ -34,11 +35,11 @@ old_commit = record {
       41 ∷ 136 ∷ 235 ∷ 11 ∷ 108 ∷ 84 ∷ 136 ∷ 96 ∷ 51 ∷ 50 ∷ 49 ∷ 49 ∷ 49 ∷ []);
 }
 
--- its digest's digits
+-- The digest of the commit of `app/o.x.A/x86_64/s` at time 1, in hexadecimal
 abbrev pub old_text : List ℕ
 old_text = codes "2d847d04a88a1ea0f963f3a036a232d25f8688933a1b30c80a31f62ddafaf60f"
 
--- the directory /
+-- The dirtree of the directory `/` of `app/o.x.A/x86_64/s` at time 1
 abbrev pub old_root : Stored
 old_root = record {
   digest = 93 ∷ 95 ∷ 236 ∷ 252 ∷ 253 ∷ 20 ∷ 35 ∷ 32 ∷ 45 ∷ 175 ∷ 116 ∷ 61 ∷ 217 ∷ 198 ∷ 245 ∷ 143 ∷
@@ -60,7 +61,7 @@ old_root = record {
       246 ∷ 41 ∷ 136 ∷ 235 ∷ 11 ∷ 108 ∷ 84 ∷ 136 ∷ 38 ∷ 6 ∷ 73 ∷ 145 ∷ 43 ∷ []);
 }
 
--- of the mode 040755
+-- The dirmeta of all directories, with the mode 040755
 abbrev pub dir_mode : Stored
 dir_mode = record {
   digest = 68 ∷ 106 ∷ 14 ∷ 241 ∷ 27 ∷ 124 ∷ 193 ∷ 103 ∷ 243 ∷ 182 ∷ 3 ∷ 229 ∷ 133 ∷ 199 ∷ 238 ∷ 238 ∷
@@ -72,7 +73,7 @@ dir_mode = record {
   spot = holds 3 420 (0 ∷ 0 ∷ 0 ∷ 0 ∷ 0 ∷ 0 ∷ 0 ∷ 0 ∷ 0 ∷ 0 ∷ 65 ∷ 237 ∷ []);
 }
 
--- the file /metadata
+-- The file `/metadata` of the application's commits
 abbrev pub metadata : Stored
 metadata = record {
   digest = 194 ∷ 15 ∷ 215 ∷ 220 ∷ 81 ∷ 39 ∷ 64 ∷ 130 ∷ 115 ∷ 60 ∷ 96 ∷ 118 ∷ 186 ∷ 126 ∷ 94 ∷ 21 ∷
@@ -84,7 +85,7 @@ metadata = record {
   spot = holds 4 420 (codes "[Application]\nname=o.x.A\nruntime=o.x.P/x86_64/1\ncommand=a\n[Extension o.x.A.L]\ndirectory=l\n");
 }
 
--- the directory /export
+-- The dirtree of the directory `/export` of the application's commits
 abbrev pub export : Stored
 export = record {
   digest = 61 ∷ 42 ∷ 108 ∷ 49 ∷ 116 ∷ 144 ∷ 142 ∷ 192 ∷ 187 ∷ 13 ∷ 91 ∷ 244 ∷ 89 ∷ 220 ∷ 251 ∷ 138 ∷
@@ -99,7 +100,7 @@ export = record {
       136 ∷ 235 ∷ 11 ∷ 108 ∷ 84 ∷ 136 ∷ 38 ∷ 6 ∷ 72 ∷ 0 ∷ []);
 }
 
--- the directory /export/share
+-- The dirtree of the directory `/export/share` of the application's commits
 abbrev pub share : Stored
 share = record {
   digest = 202 ∷ 142 ∷ 18 ∷ 82 ∷ 168 ∷ 236 ∷ 132 ∷ 146 ∷ 172 ∷ 69 ∷ 215 ∷ 47 ∷ 204 ∷ 0 ∷ 15 ∷ 123 ∷
@@ -119,7 +120,7 @@ share = record {
       235 ∷ 11 ∷ 108 ∷ 84 ∷ 136 ∷ 38 ∷ 6 ∷ 79 ∷ 151 ∷ 0 ∷ []);
 }
 
--- the directory /export/share/applications
+-- The dirtree of the directory `/export/share/applications` of the application's commits
 abbrev pub applications : Stored
 applications = record {
   digest = 245 ∷ 2 ∷ 163 ∷ 203 ∷ 28 ∷ 53 ∷ 130 ∷ 116 ∷ 238 ∷ 170 ∷ 21 ∷ 74 ∷ 192 ∷ 179 ∷ 155 ∷ 144 ∷
@@ -133,7 +134,7 @@ applications = record {
       48 ∷ []);
 }
 
--- the file /export/share/applications/o.x.A.desktop
+-- The file `/export/share/applications/o.x.A.desktop` of the application's commits
 abbrev pub desktop : Stored
 desktop = record {
   digest = 62 ∷ 181 ∷ 178 ∷ 198 ∷ 55 ∷ 214 ∷ 106 ∷ 158 ∷ 196 ∷ 154 ∷ 127 ∷ 245 ∷ 43 ∷ 223 ∷ 37 ∷ 107 ∷
@@ -145,7 +146,7 @@ desktop = record {
   spot = holds 8 420 (codes "[Desktop Entry]\nName=A\nExec=a %U\nTryExec=a\n");
 }
 
--- the directory /export/share/icons
+-- The dirtree of the directory `/export/share/icons` of the application's commits
 abbrev pub icons : Stored
 icons = record {
   digest = 10 ∷ 180 ∷ 179 ∷ 108 ∷ 127 ∷ 58 ∷ 39 ∷ 172 ∷ 142 ∷ 95 ∷ 15 ∷ 40 ∷ 14 ∷ 63 ∷ 67 ∷ 16 ∷ 72 ∷
@@ -160,7 +161,7 @@ icons = record {
       246 ∷ 41 ∷ 136 ∷ 235 ∷ 11 ∷ 108 ∷ 84 ∷ 136 ∷ 40 ∷ 8 ∷ 74 ∷ 0 ∷ []);
 }
 
--- the directory /export/share/icons/hicolor
+-- The dirtree of the directory `/export/share/icons/hicolor` of the application's commits
 abbrev pub hicolor : Stored
 hicolor = record {
   digest = 13 ∷ 147 ∷ 246 ∷ 111 ∷ 60 ∷ 103 ∷ 31 ∷ 123 ∷ 209 ∷ 187 ∷ 154 ∷ 107 ∷ 210 ∷ 81 ∷ 55 ∷ 136 ∷
@@ -175,7 +176,7 @@ hicolor = record {
       136 ∷ 34 ∷ 2 ∷ 68 ∷ 0 ∷ []);
 }
 
--- the directory /export/share/icons/hicolor/1
+-- The dirtree of the directory `/export/share/icons/hicolor/1` of the application's commits
 abbrev pub size : Stored
 size = record {
   digest = 194 ∷ 246 ∷ 102 ∷ 94 ∷ 105 ∷ 109 ∷ 23 ∷ 223 ∷ 122 ∷ 0 ∷ 9 ∷ 164 ∷ 87 ∷ 145 ∷ 72 ∷ 236 ∷
@@ -190,7 +191,7 @@ size = record {
       108 ∷ 84 ∷ 136 ∷ 37 ∷ 5 ∷ 71 ∷ 0 ∷ []);
 }
 
--- the directory /export/share/icons/hicolor/1/apps
+-- The dirtree of the directory `/export/share/icons/hicolor/1/apps` of the application's commits
 abbrev pub apps : Stored
 apps = record {
   digest = 55 ∷ 4 ∷ 136 ∷ 235 ∷ 102 ∷ 19 ∷ 38 ∷ 49 ∷ 212 ∷ 60 ∷ 53 ∷ 245 ∷ 29 ∷ 35 ∷ 233 ∷ 69 ∷ 132 ∷
@@ -203,7 +204,7 @@ apps = record {
       76 ∷ 200 ∷ 187 ∷ 153 ∷ 110 ∷ 41 ∷ 217 ∷ 83 ∷ 223 ∷ 10 ∷ 43 ∷ 44 ∷ []);
 }
 
--- the file /export/share/icons/hicolor/1/apps/o.x.A.png
+-- The file `/export/share/icons/hicolor/1/apps/o.x.A.png` of the application's commits
 abbrev pub icon : Stored
 icon = record {
   digest = 202 ∷ 116 ∷ 107 ∷ 72 ∷ 77 ∷ 197 ∷ 38 ∷ 241 ∷ 222 ∷ 7 ∷ 239 ∷ 117 ∷ 102 ∷ 42 ∷ 80 ∷ 161 ∷
@@ -214,7 +215,7 @@ icon = record {
   spot = holds 13 420 (codes "icon\n");
 }
 
--- the directory /files
+-- The dirtree of the directory `/files` of `app/o.x.A/x86_64/s` at time 1
 abbrev pub old_files : Stored
 old_files = record {
   digest = 33 ∷ 139 ∷ 16 ∷ 53 ∷ 246 ∷ 143 ∷ 75 ∷ 99 ∷ 13 ∷ 176 ∷ 134 ∷ 101 ∷ 120 ∷ 16 ∷ 169 ∷ 9 ∷ 228 ∷
@@ -229,7 +230,7 @@ old_files = record {
       82 ∷ 62 ∷ 10 ∷ 2 ∷ 35 ∷ 70 ∷ 72 ∷ []);
 }
 
--- the file /files/a
+-- The file `/files/a` of `app/o.x.A/x86_64/s` at time 1
 abbrev pub old_program : Stored
 old_program = record {
   digest = 143 ∷ 232 ∷ 16 ∷ 140 ∷ 100 ∷ 89 ∷ 124 ∷ 201 ∷ 124 ∷ 125 ∷ 148 ∷ 131 ∷ 118 ∷ 63 ∷ 98 ∷ 62 ∷
@@ -240,7 +241,7 @@ old_program = record {
   spot = holds 15 493 (codes "old\n");
 }
 
--- the file /files/l
+-- The file `/files/l` of the application's commits
 abbrev pub link : Stored
 link = record {
   digest = 67 ∷ 136 ∷ 2 ∷ 217 ∷ 144 ∷ 242 ∷ 82 ∷ 112 ∷ 211 ∷ 111 ∷ 144 ∷ 43 ∷ 201 ∷ 206 ∷ 157 ∷ 7 ∷
@@ -253,7 +254,7 @@ link = record {
 
 -- ---- app/o.x.A/x86_64/s at time 2
 
--- the commit
+-- The commit of `app/o.x.A/x86_64/s` at time 2
 abbrev pub app_commit : Stored
 app_commit = record {
   digest = 184 ∷ 127 ∷ 208 ∷ 99 ∷ 119 ∷ 127 ∷ 143 ∷ 3 ∷ 211 ∷ 72 ∷ 82 ∷ 102 ∷ 170 ∷ 104 ∷ 251 ∷ 64 ∷
@@ -273,11 +274,11 @@ app_commit = record {
       136 ∷ 235 ∷ 11 ∷ 108 ∷ 84 ∷ 136 ∷ 128 ∷ 83 ∷ 82 ∷ 81 ∷ 81 ∷ 49 ∷ []);
 }
 
--- its digest's digits
+-- The digest of the commit of `app/o.x.A/x86_64/s` at time 2, in hexadecimal
 abbrev pub app_text : List ℕ
 app_text = codes "b87fd063777f8f03d3485266aa68fb40360a5377917f327a2be5eb4f320e5379"
 
--- the directory /
+-- The dirtree of the directory `/` of `app/o.x.A/x86_64/s` at time 2
 abbrev pub app_root : Stored
 app_root = record {
   digest = 4 ∷ 90 ∷ 66 ∷ 54 ∷ 8 ∷ 230 ∷ 6 ∷ 84 ∷ 203 ∷ 87 ∷ 101 ∷ 36 ∷ 135 ∷ 46 ∷ 125 ∷ 171 ∷ 187 ∷
@@ -299,7 +300,7 @@ app_root = record {
       115 ∷ 246 ∷ 41 ∷ 136 ∷ 235 ∷ 11 ∷ 108 ∷ 84 ∷ 136 ∷ 38 ∷ 6 ∷ 73 ∷ 145 ∷ 43 ∷ []);
 }
 
--- the directory /files
+-- The dirtree of the directory `/files` of `app/o.x.A/x86_64/s` at time 2
 abbrev pub app_files : Stored
 app_files = record {
   digest = 144 ∷ 144 ∷ 81 ∷ 250 ∷ 129 ∷ 221 ∷ 146 ∷ 111 ∷ 251 ∷ 80 ∷ 84 ∷ 211 ∷ 126 ∷ 27 ∷ 8 ∷ 127 ∷
@@ -315,7 +316,7 @@ app_files = record {
       40 ∷ 82 ∷ 62 ∷ 10 ∷ 2 ∷ 35 ∷ 70 ∷ 72 ∷ []);
 }
 
--- the file /files/a
+-- The file `/files/a` of `app/o.x.A/x86_64/s` at time 2
 abbrev pub app_program : Stored
 app_program = record {
   digest = 161 ∷ 164 ∷ 133 ∷ 220 ∷ 25 ∷ 200 ∷ 243 ∷ 90 ∷ 183 ∷ 45 ∷ 163 ∷ 152 ∷ 108 ∷ 173 ∷ 134 ∷ 247 ∷
@@ -328,7 +329,7 @@ app_program = record {
 
 -- ---- app/o.x.A/x86_64/s at time 3
 
--- the commit
+-- The commit of `app/o.x.A/x86_64/s` at time 3
 abbrev pub new_commit : Stored
 new_commit = record {
   digest = 181 ∷ 105 ∷ 67 ∷ 206 ∷ 0 ∷ 231 ∷ 6 ∷ 86 ∷ 80 ∷ 244 ∷ 43 ∷ 150 ∷ 103 ∷ 236 ∷ 77 ∷ 217 ∷ 139 ∷
@@ -348,11 +349,11 @@ new_commit = record {
       41 ∷ 136 ∷ 235 ∷ 11 ∷ 108 ∷ 84 ∷ 136 ∷ 128 ∷ 83 ∷ 82 ∷ 81 ∷ 81 ∷ 49 ∷ []);
 }
 
--- its digest's digits
+-- The digest of the commit of `app/o.x.A/x86_64/s` at time 3, in hexadecimal
 abbrev pub new_text : List ℕ
 new_text = codes "b56943ce00e7065650f42b9667ec4dd98be6875d124a6b363e818274f651669f"
 
--- the directory /
+-- The dirtree of the directory `/` of `app/o.x.A/x86_64/s` at time 3
 abbrev pub new_root : Stored
 new_root = record {
   digest = 12 ∷ 249 ∷ 202 ∷ 248 ∷ 9 ∷ 8 ∷ 152 ∷ 212 ∷ 170 ∷ 157 ∷ 6 ∷ 158 ∷ 59 ∷ 226 ∷ 68 ∷ 79 ∷ 218 ∷
@@ -374,7 +375,7 @@ new_root = record {
       246 ∷ 41 ∷ 136 ∷ 235 ∷ 11 ∷ 108 ∷ 84 ∷ 136 ∷ 38 ∷ 6 ∷ 73 ∷ 145 ∷ 43 ∷ []);
 }
 
--- the directory /files
+-- The dirtree of the directory `/files` of `app/o.x.A/x86_64/s` at time 3
 abbrev pub new_files : Stored
 new_files = record {
   digest = 61 ∷ 115 ∷ 58 ∷ 246 ∷ 91 ∷ 135 ∷ 178 ∷ 47 ∷ 35 ∷ 49 ∷ 196 ∷ 201 ∷ 206 ∷ 235 ∷ 213 ∷ 138 ∷
@@ -389,7 +390,7 @@ new_files = record {
       82 ∷ 62 ∷ 10 ∷ 2 ∷ 35 ∷ 70 ∷ 72 ∷ []);
 }
 
--- the file /files/a
+-- The file `/files/a` of `app/o.x.A/x86_64/s` at time 3
 abbrev pub new_program : Stored
 new_program = record {
   digest = 32 ∷ 128 ∷ 50 ∷ 25 ∷ 67 ∷ 161 ∷ 128 ∷ 101 ∷ 229 ∷ 4 ∷ 63 ∷ 222 ∷ 154 ∷ 53 ∷ 6 ∷ 243 ∷ 155 ∷
@@ -402,7 +403,7 @@ new_program = record {
 
 -- ---- runtime/o.x.A.L/x86_64/s at time 1
 
--- the commit
+-- The commit of `runtime/o.x.A.L/x86_64/s` at time 1
 abbrev pub locale_commit : Stored
 locale_commit = record {
   digest = 109 ∷ 91 ∷ 118 ∷ 35 ∷ 41 ∷ 90 ∷ 128 ∷ 77 ∷ 214 ∷ 0 ∷ 182 ∷ 27 ∷ 125 ∷ 24 ∷ 224 ∷ 80 ∷ 21 ∷
@@ -421,11 +422,11 @@ locale_commit = record {
       57 ∷ 56 ∷ 55 ∷ 55 ∷ 55 ∷ []);
 }
 
--- its digest's digits
+-- The digest of the commit of `runtime/o.x.A.L/x86_64/s` at time 1, in hexadecimal
 abbrev pub locale_text : List ℕ
 locale_text = codes "6d5b7623295a804dd600b61b7d18e05015880181022165a24af75d2ae227fce2"
 
--- the directory /
+-- The dirtree of the directory `/` of `runtime/o.x.A.L/x86_64/s` at time 1
 abbrev pub locale_root : Stored
 locale_root = record {
   digest = 21 ∷ 37 ∷ 214 ∷ 7 ∷ 202 ∷ 51 ∷ 111 ∷ 97 ∷ 226 ∷ 127 ∷ 144 ∷ 11 ∷ 221 ∷ 226 ∷ 246 ∷ 119 ∷ 2 ∷
@@ -438,7 +439,7 @@ locale_root = record {
       161 ∷ 101 ∷ 28 ∷ 215 ∷ 102 ∷ 72 ∷ 206 ∷ 9 ∷ 42 ∷ 43 ∷ []);
 }
 
--- the file /metadata
+-- The file `/metadata` of `runtime/o.x.A.L/x86_64/s` at time 1
 abbrev pub locale_metadata : Stored
 locale_metadata = record {
   digest = 124 ∷ 90 ∷ 160 ∷ 30 ∷ 6 ∷ 46 ∷ 66 ∷ 244 ∷ 66 ∷ 97 ∷ 23 ∷ 47 ∷ 30 ∷ 151 ∷ 19 ∷ 30 ∷ 177 ∷
@@ -451,7 +452,7 @@ locale_metadata = record {
 
 -- ---- runtime/o.x.P/x86_64/1 at time 1
 
--- the commit
+-- The commit of `runtime/o.x.P/x86_64/1` at time 1
 abbrev pub platform_commit : Stored
 platform_commit = record {
   digest = 68 ∷ 229 ∷ 245 ∷ 205 ∷ 62 ∷ 119 ∷ 242 ∷ 246 ∷ 158 ∷ 137 ∷ 165 ∷ 220 ∷ 184 ∷ 104 ∷ 11 ∷ 141 ∷
@@ -469,11 +470,11 @@ platform_commit = record {
       115 ∷ 246 ∷ 41 ∷ 136 ∷ 235 ∷ 11 ∷ 108 ∷ 84 ∷ 136 ∷ 96 ∷ 55 ∷ 54 ∷ 53 ∷ 53 ∷ 53 ∷ []);
 }
 
--- its digest's digits
+-- The digest of the commit of `runtime/o.x.P/x86_64/1` at time 1, in hexadecimal
 abbrev pub platform_text : List ℕ
 platform_text = codes "44e5f5cd3e77f2f69e89a5dcb8680b8d6c09dd80b8d3c73c24ecaa35edff2097"
 
--- the directory /
+-- The dirtree of the directory `/` of `runtime/o.x.P/x86_64/1` at time 1
 abbrev pub platform_root : Stored
 platform_root = record {
   digest = 216 ∷ 59 ∷ 242 ∷ 9 ∷ 73 ∷ 184 ∷ 138 ∷ 244 ∷ 134 ∷ 181 ∷ 227 ∷ 1 ∷ 27 ∷ 109 ∷ 195 ∷ 109 ∷
@@ -487,7 +488,7 @@ platform_root = record {
       46 ∷ 183 ∷ 107 ∷ 192 ∷ 198 ∷ 161 ∷ 54 ∷ 41 ∷ 9 ∷ 42 ∷ 43 ∷ []);
 }
 
--- the file /metadata
+-- The file `/metadata` of `runtime/o.x.P/x86_64/1` at time 1
 abbrev pub platform_metadata : Stored
 platform_metadata = record {
   digest = 14 ∷ 162 ∷ 227 ∷ 192 ∷ 118 ∷ 207 ∷ 104 ∷ 154 ∷ 205 ∷ 126 ∷ 231 ∷ 44 ∷ 172 ∷ 85 ∷ 16 ∷ 73 ∷
@@ -500,7 +501,7 @@ platform_metadata = record {
 
 -- ---- the records of kept commits
 
--- with the commit of before
+-- The record of the application's deployed commit, with the previous commit
 abbrev pub app_record : List ℕ
 app_record = 104 ∷ 117 ∷ 98 ∷ 0 ∷ 98 ∷ 56 ∷ 55 ∷ 102 ∷ 100 ∷ 48 ∷ 54 ∷ 51 ∷ 55 ∷ 55 ∷ 55 ∷ 102 ∷ 56 ∷
     102 ∷ 48 ∷ 51 ∷ 100 ∷ 51 ∷ 52 ∷ 56 ∷ 53 ∷ 50 ∷ 54 ∷ 54 ∷ 97 ∷ 97 ∷ 54 ∷ 56 ∷ 102 ∷ 98 ∷ 52 ∷
@@ -512,7 +513,7 @@ app_record = 104 ∷ 117 ∷ 98 ∷ 0 ∷ 98 ∷ 56 ∷ 55 ∷ 102 ∷ 100 ∷ 4
     56 ∷ 48 ∷ 97 ∷ 51 ∷ 49 ∷ 102 ∷ 54 ∷ 50 ∷ 100 ∷ 100 ∷ 97 ∷ 102 ∷ 97 ∷ 102 ∷ 54 ∷ 48 ∷ 102 ∷
     0 ∷ 0 ∷ 0 ∷ 0 ∷ 0 ∷ 0 ∷ 0 ∷ 0 ∷ 1 ∷ 0 ∷ 0 ∷ 0 ∷ 0 ∷ 0 ∷ 0 ∷ 0 ∷ 65 ∷ 0 ∷ 69 ∷ 4 ∷ []
 
--- as it was first installed
+-- The record of the application's previous commit, as it was written at the install
 abbrev pub old_record : List ℕ
 old_record = 104 ∷ 117 ∷ 98 ∷ 0 ∷ 50 ∷ 100 ∷ 56 ∷ 52 ∷ 55 ∷ 100 ∷ 48 ∷ 52 ∷ 97 ∷ 56 ∷ 56 ∷ 97 ∷ 49 ∷
     101 ∷ 97 ∷ 48 ∷ 102 ∷ 57 ∷ 54 ∷ 51 ∷ 102 ∷ 51 ∷ 97 ∷ 48 ∷ 51 ∷ 54 ∷ 97 ∷ 50 ∷ 51 ∷ 50 ∷
@@ -520,7 +521,7 @@ old_record = 104 ∷ 117 ∷ 98 ∷ 0 ∷ 50 ∷ 100 ∷ 56 ∷ 52 ∷ 55 ∷ 10
     48 ∷ 97 ∷ 51 ∷ 49 ∷ 102 ∷ 54 ∷ 50 ∷ 100 ∷ 100 ∷ 97 ∷ 102 ∷ 97 ∷ 102 ∷ 54 ∷ 48 ∷ 102 ∷ 0 ∷
     0 ∷ 0 ∷ 0 ∷ 1 ∷ 0 ∷ 0 ∷ 0 ∷ 0 ∷ 0 ∷ 0 ∷ 0 ∷ 69 ∷ 4 ∷ []
 
--- of the extension
+-- The record of the extension's commit
 abbrev pub locale_record : List ℕ
 locale_record = 104 ∷ 117 ∷ 98 ∷ 0 ∷ 54 ∷ 100 ∷ 53 ∷ 98 ∷ 55 ∷ 54 ∷ 50 ∷ 51 ∷ 50 ∷ 57 ∷ 53 ∷ 97 ∷ 56 ∷ 48 ∷
     52 ∷ 100 ∷ 100 ∷ 54 ∷ 48 ∷ 48 ∷ 98 ∷ 54 ∷ 49 ∷ 98 ∷ 55 ∷ 100 ∷ 49 ∷ 56 ∷ 101 ∷ 48 ∷ 53 ∷
@@ -528,7 +529,7 @@ locale_record = 104 ∷ 117 ∷ 98 ∷ 0 ∷ 54 ∷ 100 ∷ 53 ∷ 98 ∷ 55 ∷
     97 ∷ 102 ∷ 55 ∷ 53 ∷ 100 ∷ 50 ∷ 97 ∷ 101 ∷ 50 ∷ 50 ∷ 55 ∷ 102 ∷ 99 ∷ 101 ∷ 50 ∷ 0 ∷ 0 ∷ 0 ∷
     0 ∷ 1 ∷ 0 ∷ 0 ∷ 0 ∷ 0 ∷ 0 ∷ 0 ∷ 0 ∷ 69 ∷ 4 ∷ []
 
--- of the runtime
+-- The record of the runtime's commit
 abbrev pub platform_record : List ℕ
 platform_record = 104 ∷ 117 ∷ 98 ∷ 0 ∷ 52 ∷ 52 ∷ 101 ∷ 53 ∷ 102 ∷ 53 ∷ 99 ∷ 100 ∷ 51 ∷ 101 ∷ 55 ∷ 55 ∷ 102 ∷
     50 ∷ 102 ∷ 54 ∷ 57 ∷ 101 ∷ 56 ∷ 57 ∷ 97 ∷ 53 ∷ 100 ∷ 99 ∷ 98 ∷ 56 ∷ 54 ∷ 56 ∷ 48 ∷ 98 ∷ 56 ∷

@@ -1,4 +1,5 @@
-//! Laws of a small installation with all that one may have: it meets what the contracts ask.
+//! Laws of a small sample installation that has everything an installation may have: it meets the
+//! conditions of the other crates' contracts.
 #![tactic(auto)]
 
 pub mod exporting;

@@ -1,4 +1,4 @@
-//! An update of the small installation has operations.
+//! Laws of updates of the sample installation: one has an operation.
 ghost use Rattle.std.specs.Prelude.{◌≡◌, ◌∷◌, [], Ok};
 ghost use Rattle.fp_small.specs.Places.{repo};
 ghost use Rattle.ost_model.specs.Objects.{store};
@@ -7,9 +7,9 @@ ghost use Rattle.fl_samples.specs.Image.{app, locale, platform, hub, whole_disk,
 ghost use Rattle.fl_samples.specs.Operations.{onward};
 ghost use Rattle.fl_samples.specs.Remote.{holdings};
 
-/// Where its remote offers another commit of the application, and of the runtime and the extension
-/// those that are there, an update of the application is that one operation, and the others have
-/// none.
+/// States that an update of the application is exactly one operation, and updates of the runtime
+/// and the extension have none, if the remote offers another commit of the application, and the
+/// deployed ones of the runtime and the extension.
 pub fn an_update_is_planned()
     ensures app { plan_of holdings (store repo whole_disk) whole_state hub app ≡ Ok (onward ∷ []) }
     ensures extension { plan_of holdings (store repo whole_disk) whole_state hub locale ≡ Ok [] }

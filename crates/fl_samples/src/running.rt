@@ -1,4 +1,4 @@
-//! What is asked of a run that nothing disturbs can be met.
+//! Laws of undisturbed commands' conditions: there are installations that meet them.
 ghost use Rattle.std.specs.Prelude.{◌≡◌, ℕ, List, Option, Some, None};
 ghost use Rattle.fp_host.specs.Moments.{Moments};
 ghost use Rattle.fp_host.specs.Remote.{Holdings};
@@ -12,8 +12,9 @@ ghost use Rattle.fl_samples.specs.Views.{whole_view};
 
 use fl_make::laws::sound_installations_take_remotes;
 
-/// An installation that every stop leaves sound is fit for each command: no path of its store is too
-/// long for `fsck`, and nothing is in the way of a remote that `export` makes.
+/// States that an installation that is sound after every crash is fit for each command: no path in
+/// its store is too long for `fsck`, and nothing is in the way of a remote that `export` makes. A
+/// host that doesn't report its content is fit, too.
 pub fn sound_installations_are_fit()
     ensures fit { (words : List (List ℕ)) (v : View) → IsTree v → IsSound v
         → IsFit (command_of words) v }
@@ -24,8 +25,8 @@ pub fn sound_installations_are_fit()
     sound_installations_take_remotes();
 }
 
-/// The small installation is at rest: it is settled, and the exported files are those of its
-/// application, at every stop.
+/// States that the sample installation is at rest: it is settled, and after every crash its exports
+/// are those of its application.
 pub fn all_is_at_rest()
     ensures exports { HasExports whole_disk }
     ensures rests { IsAtRest whole_view }

@@ -1,5 +1,5 @@
-//! A small installation is sound, settled and can be opened. Each law is the contract of a function
-//! that does nothing.
+//! Laws of the sample installation: it is sound and settled, and can be opened. Each law is the
+//! contract of a function with an empty body.
 ghost use Rattle.std.specs.Prelude.{◌≡◌, ◌∷◌};
 ghost use Rattle.fp_host.specs.Paths.{Elements};
 ghost use Rattle.fp_host.specs.View.{View, IsTree};
@@ -13,16 +13,17 @@ ghost use Rattle.fl_samples.specs.Image.{whole_disk, whole_state};
 ghost use Rattle.fl_samples.specs.Operations.{back, onward, away, back_row, onward_row, runtime_rows, with_rows, old_disk, old_view, old_state};
 ghost use Rattle.fl_samples.specs.Views.{whole_view};
 
-/// An image with an application, its commit of before, its runtime, its extension, an override and a
-/// pin shows its state, is sound, and is settled.
+/// States that the image shows its state, is sound, and is settled. It has an application with a
+/// previous commit, its runtime, its extension, an override and a pin.
 pub fn a_whole_image_is_sound()
     ensures shown { Shows whole_disk whole_state }
     ensures sound { Sound whole_disk }
     ensures settled { Settled whole_disk }
 {}
 
-/// The view in which just this image stands is one that a host may have; every stop leaves it, and
-/// leaves it sound. So does each other view that shows the image.
+/// States that a host can have the view `whole_view` with exactly the sample image, and that every
+/// crash leaves a sound image of its state. The same holds of each other settled view that shows
+/// the image.
 pub fn a_whole_view_opens()
     ensures tree { IsTree whole_view }
     ensures settled { IsSettled whole_view }
@@ -33,9 +34,9 @@ pub fn a_whole_view_opens()
         → ((p : Elements) → shows v p ≡ whole_disk p) → Opens whole_state v }
 {}
 
-/// What may be done on it: the application goes back to its commit of before, goes on to the one
-/// that its remote offers, or goes away. So much is asked of an operation, beside that the state can
-/// be written.
+/// States that operations can be done on the sample installation, and the state after each: the
+/// application goes back to its previous commit, is updated to the commit that its remote offers,
+/// or is uninstalled. `May` and `IsGood` are all that an operation needs.
 pub fn operations_may_be_done()
     ensures good { IsGood whole_state }
     ensures back { May whole_state back }
@@ -46,7 +47,8 @@ pub fn operations_may_be_done()
     ensures after_away { after_op whole_state 0 away ≡ with_rows runtime_rows }
 {}
 
-/// The same installation of layout 1 is one that a migration is said of, and comes to the other.
+/// States that the sample installation in layout 1 is sound, can be opened and migrated, and has
+/// the state of layout 2 then.
 pub fn an_old_installation_may_migrate()
     ensures shown { Shows old_disk old_state }
     ensures sound { Sound old_disk }

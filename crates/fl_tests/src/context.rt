@@ -1,4 +1,4 @@
-//! Layers with what they grant, worked out by hand.
+//! Layers and what they grant, worked out by hand.
 
 use crate::meta::{mentions, value_word};
 use crate::rows::agree;
@@ -8,14 +8,14 @@ use std::alloc::{AllocError, Global};
 use std::panic::Expect;
 use std::process::Abort;
 
-/// Adds `NAME=VALUE`, a `+` where it is granted, and a space.
+/// Appends `NAME=VALUE`, a `+` if the permission is granted, and a space.
 fn push_mention(out: &mut String, mention: &Mention) -> Result<(), AllocError> {
     let name = mention.permission.name.as_str();
     let mark = if is_granted(&mention.value) { "+" } else { "" };
     write!(out, "{name}={}{mark} ", value_word(&mention.value))
 }
 
-/// The grants as text, in their order.
+/// Returns grants as text, in their order.
 fn grants_as_text(rt: &impl Abort, alloc: Global, grants: &[Mention]) -> String {
     let mut out = String::new(alloc);
     for mention in grants {
@@ -24,22 +24,22 @@ fn grants_as_text(rt: &impl Abort, alloc: Global, grants: &[Mention]) -> String 
     out
 }
 
-/// The mentions of an override.
+/// Returns the mentions of an override.
 fn layer_of(rt: &impl Abort, alloc: Global, text: &str) -> Layer {
     mentions(rt, alloc, text, Source::Override)
 }
 
-/// What layers grant.
+/// Returns what layers grant.
 fn grants(rt: &impl Abort, alloc: Global, layers: &[&Layer]) -> Grants {
     fold(alloc, layers).expect(rt, "memory")
 }
 
-/// The same as text.
+/// Returns what layers grant, as text.
 fn grants_of_layers(rt: &impl Abort, alloc: Global, layers: &[&Layer]) -> String {
     grants_as_text(rt, alloc, grants(rt, alloc, layers).as_slice())
 }
 
-/// What three layers grant, as text.
+/// Returns what three layers grant, as text.
 fn grants_of_three(
     rt: &impl Abort,
     alloc: Global,
@@ -56,7 +56,8 @@ fn grants_of_three(
 /// Three layers, and what they grant.
 const LAYERS: [(&str, &str, &str, &str); 10] = [
     ("", "", "", ""),
-    // an application's metadata, the override of all, and its own
+    // An application's metadata, the override for all applications, and the application's own
+    // override.
     (
         "[Context]\nshared=network;ipc;",
         "[Context]\nshared=!network;",
@@ -75,7 +76,7 @@ const LAYERS: [(&str, &str, &str, &str); 10] = [
         "",
         "network=on+ ",
     ),
-    // the lists in their order, and names by their bytes
+    // Lists are in their order, and the names in a list in that of their bytes.
     (
         "[System Bus Policy]\na.b=own\n[Session Bus Policy]\na.b=none\na.B=see\n[Environment]\nB=1\nA=2\n",
         "[Context]\npersistent=z;\nfilesystems=b;a:ro;a-b:create\nfeatures=devel\ndevices=dri\nsockets=x11\nshared=ipc",
@@ -100,7 +101,7 @@ const LAYERS: [(&str, &str, &str, &str); 10] = [
         "",
         "a.b=none ",
     ),
-    // what is unknown has names of its own
+    // A name that isn't known is a permission of its own, apart from the known one.
     (
         "[Context]\nshared=x;network",
         "[Context]\nunknown-shared=network",
@@ -123,12 +124,12 @@ fn layers(rt: HostRuntime) {
     }
 }
 
-/// What one layer grants.
+/// Returns what one layer grants.
 fn grants_of(rt: &impl Abort, alloc: Global, text: &str) -> Grants {
     grants(rt, alloc, &[&layer_of(rt, alloc, text)])
 }
 
-/// Whether a value has this word, which is `nothing` where there is none.
+/// Returns whether a value has this word. The word for no value is `nothing`.
 fn is_word(value: Option<&Value>, want: &str) -> bool {
     match value {
         Some(value) => value_word(value) == want,
@@ -136,7 +137,7 @@ fn is_word(value: Option<&Value>, want: &str) -> bool {
     }
 }
 
-/// Whether the grants give a permission this value.
+/// Returns whether grants give a permission this value.
 fn gives(
     rt: &impl Abort,
     alloc: Global,
@@ -149,7 +150,7 @@ fn gives(
     is_word(grants.value(&permission), want)
 }
 
-/// Permissions, and their values in the layer below.
+/// Permissions, and their values in `LAYER`.
 const VALUES: [(PermList, &str, &str); 5] = [
     (PermList::Shared, "network", "off"),
     (PermList::Sockets, "x11", "on"),
@@ -158,7 +159,7 @@ const VALUES: [(PermList, &str, &str); 5] = [
     (PermList::Environment, "network", "nothing"),
 ];
 
-/// A layer in which one name stands in two lists.
+/// A layer that has the same name in two lists.
 const LAYER: &str = "[Context]\nshared=!network;\nsockets=network;x11\n";
 
 #[test]
@@ -170,7 +171,7 @@ fn values(rt: HostRuntime) {
     }
 }
 
-/// How many permissions the grants of a text have, as they go through a layer.
+/// Returns the number of permissions in the grants of a text, after they went through a layer.
 fn count(rt: &impl Abort, alloc: Global, text: &str) -> usize {
     let layer = grants_of(rt, alloc, text).into_layer();
     Grants::from_layer(layer).as_layer().len()
@@ -181,12 +182,12 @@ fn counts(rt: HostRuntime) {
     assert!(rt; count(&rt, rt.alloc(), LAYER) == 3);
 }
 
-/// Adds a variable of this number.
+/// Appends the variable with this number.
 fn put_variable(text: &mut String, number: usize, value: &str) -> Result<(), AllocError> {
     write!(text, "V{number:04}={value}\n")
 }
 
-/// An override with this number of variables, each of this value.
+/// Returns an override with this number of variables, each with this value.
 pub fn many_variables(rt: &impl Abort, alloc: Global, count: usize, value: &str) -> String {
     let mut text = String::from_str(alloc, "[Environment]\n").expect(rt, "memory");
     for number in 0..count {
@@ -195,12 +196,12 @@ pub fn many_variables(rt: &impl Abort, alloc: Global, count: usize, value: &str)
     text
 }
 
-/// The layer of this number of variables.
+/// Returns the layer with this number of variables, each with this value.
 fn long_layer(rt: &impl Abort, alloc: Global, count: usize, value: &str) -> Layer {
     layer_of(rt, alloc, &many_variables(rt, alloc, count, value))
 }
 
-/// How many of the mentions have this value.
+/// Returns the number of mentions with this value.
 fn count_values(mentions: &[Mention], value: &str) -> usize {
     let mut count = 0usize;
     for mention in mentions {
@@ -211,8 +212,8 @@ fn count_values(mentions: &[Mention], value: &str) -> usize {
     count
 }
 
-/// Whether twenty layers, of which the last is another one, grant this number of permissions, and
-/// all of them with the last layer's value.
+/// Returns whether 20 layers grant this number of permissions, all with the value of the last
+/// layer. The other layers give them another value.
 fn are_folded(rt: &impl Abort, alloc: Global, count: usize) -> bool {
     let first = long_layer(rt, alloc, count, "1");
     let last = long_layer(rt, alloc, count, "2");
@@ -229,7 +230,8 @@ fn many_layers(rt: HostRuntime) {
     assert!(rt; are_folded(&rt, rt.alloc(), 300));
 }
 
-/// How many permissions this number of layers with one variable each grant.
+/// Returns the number of permissions that this number of equal layers grant, each with one
+/// variable.
 fn count_of_layers(rt: &impl Abort, alloc: Global, layers: usize) -> usize {
     let layer = long_layer(rt, alloc, 1, "1");
     let many = vec![in alloc; &layer; layers].expect(rt, "memory");

@@ -1,4 +1,4 @@
-//! Tests of what Flatpak's files mean: metadata, permissions and overrides.
+//! Tests of Flatpak's files: metadata, permissions and overrides.
 #![tactic(auto)]
 
 #[cfg(test)]

@@ -1,4 +1,4 @@
-//! Metadata files with the permissions that they mention, worked out from the rules by hand.
+//! Metadata files and the permissions that they mention, worked out by hand from the rules.
 
 use crate::rows::agree;
 use fl_meta::{
@@ -11,7 +11,7 @@ use std::alloc::{AllocError, Global};
 use std::panic::Expect;
 use std::process::Abort;
 
-/// The name of a list in these tables.
+/// Returns the name of a list in these tables.
 fn list_word(list: PermList) -> &'static str {
     match list {
         PermList::Shared => "shared",
@@ -32,7 +32,7 @@ fn list_word(list: PermList) -> &'static str {
     }
 }
 
-/// The name of a value in these tables.
+/// Returns the name of a value in these tables.
 pub fn value_word(value: &Value) -> &str {
     match value {
         Value::Off => "off",
@@ -48,14 +48,14 @@ pub fn value_word(value: &Value) -> &str {
     }
 }
 
-/// Adds `LIST<NAME>VALUE` and a space.
+/// Appends `LIST<NAME>VALUE` and a space.
 fn push_mention(out: &mut String, mention: &Mention) -> Result<(), AllocError> {
     let list = list_word(mention.permission.list);
     let name = mention.permission.name.as_str();
     write!(out, "{list}<{name}>{} ", value_word(&mention.value))
 }
 
-/// The mentions as text.
+/// Returns mentions as text.
 fn mentions_as_text(rt: &impl Abort, alloc: Global, mentions: &[Mention]) -> String {
     let mut out = String::new(alloc);
     for mention in mentions {
@@ -64,17 +64,17 @@ fn mentions_as_text(rt: &impl Abort, alloc: Global, mentions: &[Mention]) -> Str
     out
 }
 
-/// The key file of a text.
+/// Parses a text as a key file.
 pub fn key_file(rt: &impl Abort, alloc: Global, text: &str) -> KeyFile {
     KeyFile::parse(alloc, text.as_bytes()).expect(rt, "a key file")
 }
 
-/// What a key file mentions.
+/// Returns what a key file mentions.
 pub fn mentions(rt: &impl Abort, alloc: Global, text: &str, source: Source) -> Layer {
     mentions_of(alloc, &key_file(rt, alloc, text), source).expect(rt, "memory")
 }
 
-/// Whether a key file mentions this, as text.
+/// Returns whether a key file mentions this, as text.
 fn is_mentioned(rt: &impl Abort, alloc: Global, text: &str, source: Source, want: &str) -> bool {
     are_shown(
         rt,
@@ -84,14 +84,14 @@ fn is_mentioned(rt: &impl Abort, alloc: Global, text: &str, source: Source, want
     )
 }
 
-/// Whether mentions are this text.
+/// Returns whether mentions, as text, are this.
 fn are_shown(rt: &impl Abort, alloc: Global, mentions: &[Mention], want: &str) -> bool {
     mentions_as_text(rt, alloc, mentions).as_str() == want
 }
 
-/// Keys and values of the group `Context`, and what they mention.
+/// Pairs of the group `Context`, and what they mention.
 const LISTS: [(&str, &str); 61] = [
-    // cuts, blanks and empty entries
+    // Separators, blanks and empty entries.
     ("shared=network;ipc;", "shared<network>on shared<ipc>on "),
     ("shared=network;ipc", "shared<network>on shared<ipc>on "),
     ("shared=", ""),
@@ -107,7 +107,7 @@ const LISTS: [(&str, &str); 61] = [
         "shared=ipc;network;ipc",
         "shared<ipc>on shared<network>on shared<ipc>on ",
     ),
-    // a `;` after an odd number of backslashes belongs to its entry
+    // A `;` after an odd number of backslashes belongs to the entry.
     ("filesystems=!/srv/a\\;home", "files</srv/a\\;home>off "),
     (
         "filesystems=/srv/a\\\\;home;",
@@ -118,10 +118,10 @@ const LISTS: [(&str, &str); 61] = [
         "?shared<a\\;\\\\\\;b>on shared<network>on ",
     ),
     ("persistent= \\; a;", "persistent<\\; a>on "),
-    // a name that ends in an odd number of them is none
+    // An entry is left out if its name ends in an odd number of backslashes.
     ("persistent=.a;.b\\", "persistent<.a>on "),
     ("filesystems=/a\\/;!/b\\:ro;/c;", "files</c>rw "),
-    // `!`
+    // Denials, with `!`.
     ("shared=!network;", "shared<network>off "),
     (
         "shared=!network;network;",
@@ -133,7 +133,7 @@ const LISTS: [(&str, &str); 61] = [
     ("shared=!;", ""),
     ("shared=! ;", "?shared< >off "),
     ("shared=network!;", "?shared<network!>on "),
-    // names that a list doesn't know
+    // Names that a list doesn't know.
     (
         "shared=gizmo;network;",
         "?shared<gizmo>on shared<network>on ",
@@ -171,7 +171,7 @@ const LISTS: [(&str, &str); 61] = [
         "features=canbus;per-app-dev-shm;!x",
         "features<canbus>on features<per-app-dev-shm>on ?features<x>off ",
     ),
-    // endings of filesystems
+    // Endings of filesystems.
     ("filesystems=~/x;host", "files<~/x>rw files<host>rw "),
     ("filesystems=~/x:ro;", "files<~/x>ro "),
     ("filesystems=~/x:rw;", "files<~/x>rw "),
@@ -198,7 +198,7 @@ const LISTS: [(&str, &str); 61] = [
         "files<~/a b>ro files<!x>off ",
     ),
     ("filesystems=a:ro/b;", "files<a:ro/b>rw "),
-    // one place by several texts
+    // One place with several spellings.
     (
         "filesystems=/opt/data/;!/opt//data;/opt/./data/.:ro;",
         "files</opt/data>rw files</opt/data>off files</opt/data>ro ",
@@ -211,19 +211,19 @@ const LISTS: [(&str, &str); 61] = [
         "filesystems=home/;host//;~/.;xdg-download//é/;//;/.:ro;./x;:ro/;",
         "files<home>rw files<host>rw files<~>rw files<xdg-download/é>rw files</>rw files</>ro files<./x>rw ",
     ),
-    // folders that are kept
+    // Persistent directories.
     (
         "persistent=.a;!.b; .c:ro;;",
         "persistent<.a>on persistent<.b>off persistent<.c:ro>on ",
     ),
     ("persistent=!;", ""),
-    // other keys
+    // Other keys.
     ("unknown-shared=x", ""),
     ("Shared=network", ""),
     ("devices=a=b;", "?devices<a=b>on "),
 ];
 
-/// The group `Context` with this pair.
+/// Returns the group `Context` with this pair.
 fn context_of(rt: &impl Abort, alloc: Global, pair: &str) -> String {
     format!(in alloc; "[Context]\n{pair}\n").expect(rt, "memory")
 }
@@ -296,15 +296,15 @@ fn overrides(rt: HostRuntime) {
     }
 }
 
-/// A metadata file of the usual kind.
+/// An application's metadata of the usual kind.
 const USUAL: &str =
     "[Application]\nname=org.x.App\nruntime=org.x.Platform/x86_64/1\nsdk=org.x.Sdk/x86_64/1\ncommand=run\n\n[Context]\nshared=network;ipc;\nsockets=wayland;gizmo;\ndevices=dri;\nfilesystems=~/x:ro;~/x:rw;~/x:ro;\n\n[Session Bus Policy]\norg.foo.*=talk\n\n[Environment]\nA=b c\n\n[Extension org.x.App.Locale]\ndirectory=share/locale\n\n[Build]\nbuilt-extensions=org.x.App.Locale;\n";
 
-/// What the usual file mentions.
+/// The mentions of the usual metadata, as text.
 const USUAL_MENTIONS: &str =
     "shared<network>on shared<ipc>on sockets<wayland>on ?sockets<gizmo>on devices<dri>on files<~/x>ro files<~/x>rw files<~/x>ro session<org.foo.*>talk env<A>b c ";
 
-/// The metadata of a file.
+/// Reads a text as metadata of this kind.
 fn meta_of(rt: &impl Abort, alloc: Global, text: &str, kind: MetaKind) -> Meta {
     Meta::read(alloc, &key_file(rt, alloc, text), kind).expect(rt, "metadata")
 }
@@ -313,14 +313,14 @@ fn put_text(out: &mut String, text: &Text) -> Result<(), AllocError> {
     write!(out, " {}", text.as_str())
 }
 
-/// Adds a space and the text for each.
+/// Appends each text, with a space before it.
 fn put_texts(rt: &impl Abort, out: &mut String, texts: &[Text]) {
     for text in texts {
         put_text(out, text).expect(rt, "memory");
     }
 }
 
-/// Adds the runtime and the command, with a space between them.
+/// Appends the runtime and the command, with a space between them. A missing one is `none`.
 fn put_parts(out: &mut String, meta: &Meta) -> Result<(), AllocError> {
     let runtime = match &meta.runtime {
         Some(name) => name.as_str(),
@@ -333,7 +333,7 @@ fn put_parts(out: &mut String, meta: &Meta) -> Result<(), AllocError> {
     write!(out, "{runtime} {command}")
 }
 
-/// Whether metadata has this runtime, this command and these extensions.
+/// Returns whether metadata has this runtime, this command and these extensions.
 fn are_parts(rt: &impl Abort, alloc: Global, meta: &Meta, want: &str) -> bool {
     let mut out = String::new(alloc);
     put_parts(&mut out, meta).expect(rt, "memory");
@@ -341,7 +341,7 @@ fn are_parts(rt: &impl Abort, alloc: Global, meta: &Meta, want: &str) -> bool {
     out.as_str() == want
 }
 
-/// Whether the metadata of a file has these parts.
+/// Returns whether a text, read as metadata, has this runtime, this command and these extensions.
 fn has_parts(rt: &impl Abort, alloc: Global, text: &str, kind: MetaKind, want: &str) -> bool {
     let meta = meta_of(rt, alloc, text, kind);
     let is_so = are_parts(rt, alloc, &meta, want);
@@ -349,7 +349,7 @@ fn has_parts(rt: &impl Abort, alloc: Global, text: &str, kind: MetaKind, want: &
     is_so
 }
 
-/// Whether the metadata of an application mentions this.
+/// Returns whether the metadata of an application mentions this.
 fn has_mentions(rt: &impl Abort, alloc: Global, text: &str, want: &str) -> bool {
     let meta = meta_of(rt, alloc, text, MetaKind::App);
     let is_so = are_shown(rt, alloc, meta.mentions.as_slice(), want);
@@ -371,7 +371,7 @@ fn usual_metadata(rt: HostRuntime) {
     );
 }
 
-/// Files that are no metadata, of this kind, and the first rule that each breaks.
+/// Texts that are no metadata of this kind, and the first rule that each breaks.
 const FAULTS: [(&str, MetaKind, MetaRule); 8] = [
     ("", MetaKind::App, MetaRule::Group),
     ("[Runtime]", MetaKind::App, MetaRule::Group),
@@ -403,7 +403,7 @@ const FAULTS: [(&str, MetaKind, MetaRule); 8] = [
     ),
 ];
 
-/// Whether a file breaks this rule.
+/// Returns whether a text, read as metadata of this kind, breaks this rule.
 fn breaks(rt: &impl Abort, alloc: Global, text: &str, kind: MetaKind, rule: MetaRule) -> bool {
     let read = Meta::read(alloc, &key_file(rt, alloc, text), kind);
     read.err() == Some(MetaError::Rule(rule))
@@ -416,7 +416,7 @@ fn faults(rt: HostRuntime) {
     }
 }
 
-/// A runtime whose name has 100 KiB is none.
+/// Checks that a name of 100 KiB isn't taken for a runtime.
 #[test]
 fn long_runtime(rt: HostRuntime) {
     let name = long_name(&rt, rt.alloc(), 100 << 10, "/x86_64/1");
@@ -458,7 +458,7 @@ const PATTERNS: [(&str, bool); 28] = [
     ("org.foo/bar", false),
 ];
 
-/// A name of this many bytes, with this end after them.
+/// Returns a name of this many bytes with this text after it.
 fn long_name(rt: &impl Abort, alloc: Global, length: usize, end: &str) -> String {
     let letters = "b"
         .repeat(alloc, length.saturating_sub(2))
@@ -466,7 +466,7 @@ fn long_name(rt: &impl Abort, alloc: Global, length: usize, end: &str) -> String
     ["a.", &letters, end].concat(alloc).expect(rt, "memory")
 }
 
-/// Whether a text is a pattern that has this many bytes before its end.
+/// Returns whether a name of this many bytes with this text after it is a pattern.
 fn is_long_pattern(rt: &impl Abort, alloc: Global, length: usize, end: &str) -> bool {
     is_pattern(&long_name(rt, alloc, length, end))
 }
@@ -483,7 +483,7 @@ fn patterns(rt: HostRuntime) {
     );
 }
 
-/// Copies of the mentions.
+/// Copies mentions.
 fn copies(rt: &impl Abort, alloc: Global, mentions: &[Mention]) -> Layer {
     let mut copies = Layer::new(alloc);
     for mention in mentions {
@@ -493,13 +493,13 @@ fn copies(rt: &impl Abort, alloc: Global, mentions: &[Mention]) -> Layer {
     copies
 }
 
-/// Whether copies of the mentions are shown alike.
+/// Returns whether copies of mentions are equal to them, as text.
 fn are_copied(rt: &impl Abort, alloc: Global, mentions: &[Mention]) -> bool {
     let want = mentions_as_text(rt, alloc, mentions);
     are_shown(rt, alloc, copies(rt, alloc, mentions).as_slice(), &want)
 }
 
-/// Whether the mentions of an application's metadata are copied.
+/// Returns whether the mentions of an application's metadata are copied.
 fn copies_mentions(rt: &impl Abort, alloc: Global, text: &str) -> bool {
     let meta = meta_of(rt, alloc, text, MetaKind::App);
     let is_so = are_copied(rt, alloc, meta.mentions.as_slice());
@@ -507,7 +507,7 @@ fn copies_mentions(rt: &impl Abort, alloc: Global, text: &str) -> bool {
     is_so
 }
 
-/// The permission of this name.
+/// Returns the permission of the list `shared` with this name.
 fn permission(rt: &impl Abort, alloc: Global, name: &str) -> Permission {
     Permission::new(alloc, PermList::Shared, name).expect(rt, "memory")
 }
@@ -516,12 +516,13 @@ fn is_copied(rt: &impl Abort, permission: &Permission) -> bool {
     *permission == permission.copy().expect(rt, "memory")
 }
 
-/// Whether the left permission comes before the right one, is another one, and is copied.
+/// Returns whether one permission is before another one and differs from it, and whether its copy
+/// is equal to it.
 fn comes_before(rt: &impl Abort, left: &Permission, right: &Permission) -> bool {
     left < right && left != right && is_copied(rt, left)
 }
 
-/// The same of names.
+/// Returns whether the permission with one name is before that with the other.
 fn is_before(rt: &impl Abort, alloc: Global, left: &str, right: &str) -> bool {
     let left = permission(rt, alloc, left);
     comes_before(rt, &left, &permission(rt, alloc, right))
@@ -536,13 +537,13 @@ fn permissions(rt: HostRuntime) {
     );
 }
 
-/// Metadata that keeps a folder of this name.
+/// Returns metadata with a persistent directory of this name.
 fn metadata_with_folder(rt: &impl Abort, alloc: Global, name: &str) -> String {
     let head = "[Application]\nruntime=org.x.Platform/x86_64/1\n[Context]\npersistent=";
     [head, name, "\n"].concat(alloc).expect(rt, "memory")
 }
 
-/// A name of 100 KiB.
+/// Checks a permission whose name has 100 KiB.
 #[test]
 fn long_permission(rt: HostRuntime) {
     let name = long_name(&rt, rt.alloc(), 100 << 10, "");
@@ -550,7 +551,7 @@ fn long_permission(rt: HostRuntime) {
     assert!(rt; is_before(&rt, rt.alloc(), &name, "b") && copies_mentions(&rt, rt.alloc(), &text));
 }
 
-/// Adds a text with the numbers from 0, one after another, each with a head and a tail.
+/// Appends each number from 0 on, this many, with a head before it and a tail after it.
 fn put_many(rt: &impl Abort, text: &mut String, count: usize, head: &str, tail: &str) {
     for number in 0..count {
         put_numbered(text, number, head, tail).expect(rt, "memory");
@@ -570,13 +571,13 @@ fn put(rt: &impl Abort, text: &mut String, more: &str) {
     text.push_str(more).expect(rt, "memory");
 }
 
-/// The name of 90 bytes between these.
+/// Returns a name of 90 bytes between these texts.
 fn name_between(rt: &impl Abort, alloc: Global, before: &str, after: &str) -> String {
     let name = "n".repeat(alloc, 90).expect(rt, "memory");
     [before, &name, after].concat(alloc).expect(rt, "memory")
 }
 
-/// Adds this number of names to each of two lists.
+/// Appends two lists with this number of names each.
 fn put_lists(rt: &impl Abort, alloc: Global, text: &mut String, count: usize) {
     put(
         rt,
@@ -588,7 +589,7 @@ fn put_lists(rt: &impl Abort, alloc: Global, text: &mut String, count: usize) {
     put_many(rt, text, count, &name_between(rt, alloc, ".", ""), ";");
 }
 
-/// Adds this number of variables and of extensions.
+/// Appends this number of variables and of extensions.
 fn put_groups(rt: &impl Abort, alloc: Global, text: &mut String, count: usize) {
     put(rt, text, "\n[Environment]\n");
     put_many(rt, text, count, "V", &name_between(rt, alloc, "=", "\n"));
@@ -596,8 +597,8 @@ fn put_groups(rt: &impl Abort, alloc: Global, text: &mut String, count: usize) {
     put_many(rt, text, count, "[Extension org.x.E", &tail);
 }
 
-/// Metadata with this number of names in each of two lists, of variables and of extensions, each of
-/// 90 bytes and more.
+/// Returns metadata with this number of names in each of two lists, of variables and of extensions.
+/// Each has 90 bytes or more.
 fn long_metadata(rt: &impl Abort, alloc: Global, count: usize) -> String {
     let mut text = String::new(alloc);
     put_lists(rt, alloc, &mut text, count);
@@ -605,7 +606,7 @@ fn long_metadata(rt: &impl Abort, alloc: Global, count: usize) -> String {
     text
 }
 
-/// How many mentions and extensions the metadata has.
+/// Returns the numbers of mentions and of extensions in metadata.
 fn part_counts(rt: &impl Abort, alloc: Global, text: &str) -> (usize, usize) {
     let meta = meta_of(rt, alloc, text, MetaKind::App);
     let counts = (meta.mentions.len(), meta.extensions.as_slice().len());
@@ -613,7 +614,8 @@ fn part_counts(rt: &impl Abort, alloc: Global, text: &str) -> (usize, usize) {
     counts
 }
 
-/// Whether metadata of 100 KiB is read, and its mentions are copied.
+/// Returns whether a text of more than 100 KiB is read as metadata with 900 mentions and 300
+/// extensions, and its mentions are copied.
 fn is_long(rt: &impl Abort, alloc: Global, text: &str) -> bool {
     text.len() > 100 << 10
         && part_counts(rt, alloc, text) == (900, 300)

@@ -1,4 +1,4 @@
-//! Overrides, read, changed and written, worked out by hand.
+//! Overrides that are read, changed and written, worked out by hand.
 
 use crate::context::many_variables;
 use crate::meta::key_file;
@@ -8,23 +8,23 @@ use std::alloc::Global;
 use std::panic::Expect;
 use std::process::Abort;
 
-/// The set of an override's text.
+/// Returns the set of an override's text.
 fn set_of(rt: &impl Abort, alloc: Global, text: &str) -> OverrideSet {
     OverrideSet::from_keyfile(alloc, &key_file(rt, alloc, text)).expect(rt, "memory")
 }
 
-/// Whether a set is written as this text.
+/// Returns whether a set is written as this text.
 fn is_text(rt: &impl Abort, alloc: Global, set: &OverrideSet, want: &str) -> bool {
     let file = set.to_keyfile(alloc).expect(rt, "memory");
     file.write().expect(rt, "memory").as_str() == want
 }
 
-/// Whether an override is written anew as this text.
+/// Returns whether an override, once read, is written as this text.
 fn is_written(rt: &impl Abort, alloc: Global, text: &str, want: &str) -> bool {
     is_text(rt, alloc, &set_of(rt, alloc, text), want)
 }
 
-/// Overrides, and how each is written anew.
+/// Overrides, and the texts as which they are written.
 const FILES: [(&str, &str); 25] = [
     ("", ""),
     ("[Context]\nshared=\n", ""),
@@ -40,7 +40,7 @@ const FILES: [(&str, &str); 25] = [
         "[Context]\nsockets=x11;wayland;!cups",
         "[Context]\nsockets=!cups;wayland;x11;\n",
     ),
-    // unknown names
+    // Names that aren't known.
     (
         "[Context]\nsockets=gizmo;x11",
         "[Context]\nsockets=x11;\nunknown-sockets=gizmo;\n",
@@ -54,7 +54,7 @@ const FILES: [(&str, &str); 25] = [
         "[Context]\nunknown-devices=a b\nunknown-features=!c\n",
         "[Context]\nunknown-devices=a b;\nunknown-features=!c;\n",
     ),
-    // filesystems
+    // Filesystems.
     (
         "[Context]\nfilesystems=~/x:rw;~/y:ro;~/z:create;!host:ro\n",
         "[Context]\nfilesystems=!host;~/x;~/y:ro;~/z:create;\n",
@@ -71,7 +71,7 @@ const FILES: [(&str, &str); 25] = [
         "[Context]\npersistent=.b;!.a\n",
         "[Context]\npersistent=!.a;.b;\n",
     ),
-    // backslashes
+    // Backslashes.
     (
         "[Context]\nfilesystems=!/srv/a\\;home;/b\\\\:ro\n",
         "[Context]\nfilesystems=/b\\\\:ro;!/srv/a\\;home;\n",
@@ -84,7 +84,7 @@ const FILES: [(&str, &str); 25] = [
         "[Context]\nunknown-session-bus=a=\\;b\n[Session Bus Policy]\na.b=c\\\n",
         "[Context]\nunknown-session-bus=a=\\;b;\n",
     ),
-    // variables and buses
+    // Variables and bus policies.
     (
         "[Environment]\nB=x;y\nA= 1 \n",
         "[Environment]\nA=1 \nB=x;y\n",
@@ -109,12 +109,12 @@ const FILES: [(&str, &str); 25] = [
         "[Context]\nunknown-session-bus=a=b;!c\n",
         "[Context]\nunknown-session-bus=a=b;!c;\n",
     ),
-    // what means nothing here is dropped
+    // Groups and keys without a meaning in overrides, which are left out.
     (
         "[Application]\nname=x\n[Context]\nfoo=bar\n[Other]\na=b\n",
         "",
     ),
-    // the order of groups and keys
+    // The order of groups and keys.
     (
         "[System Bus Policy]\na.b=own\n[Environment]\nA=1\n[Session Bus Policy]\na.b=see\n[Context]\npersistent=p\nfilesystems=f\nfeatures=devel\ndevices=all\nsockets=x11\nshared=ipc\n",
         "[Context]\nshared=ipc;\nsockets=x11;\ndevices=all;\nfeatures=devel;\nfilesystems=f;\npersistent=p;\n[Environment]\nA=1\n[Session Bus Policy]\na.b=see\n[System Bus Policy]\na.b=own\n",
@@ -138,14 +138,14 @@ fn change(rt: &impl Abort, alloc: Global, set: &mut OverrideSet, options: &Overr
     set.change(alloc, options.as_layer()).expect(rt, "memory");
 }
 
-/// Whether an override that is changed by the mentions of another is written as this text.
+/// Returns whether an override that is changed by the mentions of another is written as this text.
 fn is_changed(rt: &impl Abort, alloc: Global, old: &str, options: &str, want: &str) -> bool {
     let mut set = set_of(rt, alloc, old);
     change(rt, alloc, &mut set, &set_of(rt, alloc, options));
     is_text(rt, alloc, &set, want)
 }
 
-/// Overrides, options, and what is written then.
+/// Overrides, options, and the texts of the changed overrides.
 const CHANGES: [(&str, &str, &str); 7] = [
     ("", "[Environment]\nA=2\n", "[Environment]\nA=2\n"),
     (
@@ -188,7 +188,7 @@ fn changes(rt: HostRuntime) {
     }
 }
 
-/// Whether an override is written as it is read, and changed by another one.
+/// Returns whether an override is written as it was read, and is changed into another one by it.
 fn is_kept(rt: &impl Abort, alloc: Global, old: &str, new: &str) -> bool {
     is_written(rt, alloc, old, old) && is_changed(rt, alloc, old, new, new)
 }
@@ -200,7 +200,8 @@ fn many_are_changed(rt: HostRuntime) {
     assert!(rt; is_kept(&rt, rt.alloc(), &old, &new));
 }
 
-/// A folder whose name has 100 KiB, a place that has, and a variable whose text has.
+/// Checks a persistent directory and a filesystem with names of 100 KiB, and a variable with a
+/// value of 100 KiB.
 #[test]
 fn long_texts_are_kept(rt: HostRuntime) {
     let long = "n".repeat(rt.alloc(), 100 << 10).expect(&rt, "memory");

@@ -1,4 +1,4 @@
-//! What is said of refusals, and the rules that their last words stand for.
+//! The explanations of refusals, and the rules that their last words stand for.
 
 use crate::rows::agree;
 use fl_lines::{
@@ -7,10 +7,10 @@ use fl_lines::{
 };
 use fp_base::{FrameRule, KeyRule, MetaRule, Rule};
 
-/// What isn't said of any line.
+/// The expected text for lines without an explanation.
 const NO_ADVICE: &str = "no advice";
 
-/// Lines of refusals, and words that stand in what is said of them; and other lines.
+/// Lines of refusals, and words in their explanations; and lines without an explanation.
 const ADVICE: [(&str, &str); 17] = [
     ("error: no remote lux\n", "`fpk list --remotes`"),
     ("error: remote exists hub\n", "`fpk remote-modify NAME URL`"),
@@ -51,7 +51,7 @@ fn advice(rt: HostRuntime) {
     }
 }
 
-/// A rule of which a refusal tells.
+/// A rule that a refusal names.
 enum AnyRule {
     Object(Rule),
     Key(KeyRule),
@@ -59,7 +59,7 @@ enum AnyRule {
     Frame(FrameRule),
 }
 
-/// Each of them.
+/// All rules.
 const RULES: [AnyRule; 33] = [
     AnyRule::Object(Rule::Value),
     AnyRule::Object(Rule::Parent),
@@ -96,7 +96,7 @@ const RULES: [AnyRule; 33] = [
     AnyRule::Frame(FrameRule::Cut),
 ];
 
-/// Whether the word of a rule stands for it.
+/// Returns whether the word for a rule stands for this rule.
 fn has_word(rule: &AnyRule) -> bool {
     match rule {
         AnyRule::Object(rule) => object_rule(rule_word(*rule)) == Some(*rule),

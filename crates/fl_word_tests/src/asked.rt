@@ -1,4 +1,4 @@
-//! What is asked of a text, and the answers.
+//! The functions under test, and their output as text.
 
 use crate::batches::{bytes_of, line_reason, told_batch};
 use crate::lines::{
@@ -12,38 +12,39 @@ use std::alloc::Global;
 use std::panic::Expect;
 use std::process::Abort;
 
-/// What is asked of a text.
+/// A function under test, whose input is a text.
 #[derive(Clone, Copy)]
 pub enum Asked {
-    /// Which command its words are, or where they go wrong.
+    /// The command of the text's words, or the index of the first bad word.
     Command,
-    /// Why its words are no command.
+    /// The reason why the text's words are no command.
     Reason,
-    /// What is said of the options among its words.
+    /// The notes on the options among the text's words.
     Notes,
-    /// Which changes its lines ask for, or which line is bad.
+    /// The changes that the text's lines ask for, or the number of the first bad line.
     Batch,
-    /// Why a line of it asks for no change.
+    /// The reason why the first bad line of the text asks for no change.
     LineReason,
-    /// How it is printed as a refusal.
+    /// The line of the refusal that the text stands for.
     Refusal,
-    /// How it is printed as an operation.
+    /// The line of the operation that the text stands for.
     Operation,
-    /// How it is escaped.
+    /// The text, escaped.
     Escaped,
-    /// How its lines are printed as patterns of pins.
+    /// The lines of the pins in the text.
     Pins,
-    /// How its lines are printed as remotes.
+    /// The lines of the remotes in the text.
     Remotes,
-    /// How its lines are printed as deployed refs.
+    /// The lines of the deployed refs in the text.
     Refs,
-    /// What is told of an application whose extensions are its lines.
+    /// The lines of `info` about an application with the extensions in the text.
     Info,
-    /// The same of an application that has a runtime and was updated.
+    /// The lines of `info` about an application with the extensions in the text, a runtime and a
+    /// previous commit.
     WholeInfo,
 }
 
-/// The answer.
+/// Returns the output for a text.
 pub fn answer(rt: &impl Abort, alloc: Global, asked: Asked, text: &str) -> Text {
     match asked {
         Asked::Command => Text::from_string(told_words(rt, alloc, &words_of(rt, alloc, text))),

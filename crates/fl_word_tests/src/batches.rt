@@ -1,4 +1,4 @@
-//! Batches of commands, a line each.
+//! Batches of commands, one in each line.
 
 use crate::words::told_change;
 use fl_words::{BatchError, Change, WordsError, batch_reason, read_batch};
@@ -7,8 +7,8 @@ use std::alloc::Global;
 use std::panic::Expect;
 use std::process::Abort;
 
-/// The bytes that the letters of a text stand for: `|` for a newline, and each other one up to U+FF
-/// for the byte of its number.
+/// Returns the bytes that the characters of a text stand for: a newline for `|`, and for each other
+/// one up to U+00FF the byte of its number.
 pub fn bytes_of(rt: &impl Abort, alloc: Global, text: &str) -> Vec<u8> {
     let mut bytes = Vec::new(alloc);
     for letter in text.chars() {
@@ -19,7 +19,7 @@ pub fn bytes_of(rt: &impl Abort, alloc: Global, text: &str) -> Vec<u8> {
     bytes
 }
 
-/// Why a line of a batch asks for no change, or `nothing`.
+/// Returns why a line of a batch asks for no change, or `nothing` if each line asks for one.
 pub fn line_reason(rt: &impl Abort, alloc: Global, bytes: &[u8]) -> Text {
     match batch_reason(alloc, bytes).expect(rt, "memory") {
         Some(said) => said,
@@ -27,7 +27,7 @@ pub fn line_reason(rt: &impl Abort, alloc: Global, bytes: &[u8]) -> Text {
     }
 }
 
-/// The changes in one text, each with a newline.
+/// Returns the changes as text, each with a newline after it.
 fn told_changes(rt: &impl Abort, alloc: Global, changes: &[Change]) -> String {
     let mut text = String::new(alloc);
     for change in changes {
@@ -38,7 +38,7 @@ fn told_changes(rt: &impl Abort, alloc: Global, changes: &[Change]) -> String {
     text
 }
 
-/// What the bytes read as, in one text.
+/// Returns the changes that bytes are read as, or the error, as text.
 pub fn told_batch(rt: &impl Abort, alloc: Global, bytes: &[u8]) -> String {
     match read_batch(alloc, bytes) {
         Ok(changes) => told_changes(rt, alloc, changes.as_slice()),
@@ -46,7 +46,7 @@ pub fn told_batch(rt: &impl Abort, alloc: Global, bytes: &[u8]) -> String {
     }
 }
 
-/// Batches, and what they read as.
+/// Batches, and the changes that they ask for.
 pub const BATCHES: &str = "\
 =>
 pin app/*/*/*|=> Pin app/*/*/*|
@@ -108,8 +108,8 @@ remote-add lab file:///\u{c3}\u{a9}|=> bad record at 1
 remote-add lab file:///lab x|=> bad record at 1
 ";
 
-/// 1,100 lines read as as many commands, and one bad line after them is found. A line of a mebibyte
-/// is bad.
+/// A batch of 1,100 lines; one with a bad line after 1,100 others; and one with a line of 1 MiB,
+/// which is bad.
 pub const LONG_BATCHES: &str = "\
 <pin app/*/*/*|*1100>=> <Pin app/*/*/*|*1100>
 <pin app/*/*/*|*1100>x=> bad record at 1101

@@ -1,11 +1,11 @@
-//! What `fpk --help` prints.
+//! The output of `fpk --help`.
 
 use crate::rows::agree;
 use fl_words::help;
 use std::panic::Expect;
 use std::slice::Iter;
 
-/// The commands, in the order in which they are shown.
+/// The commands, in the order in which the help shows them.
 const COMMANDS: [&str; 36] = [
     "  fpk install NAME REF ",
     "  fpk update ",
@@ -45,7 +45,7 @@ const COMMANDS: [&str; 36] = [
     "  fpk --version ",
 ];
 
-/// Whether a line begins with the next command, or shows none.
+/// Returns whether a line begins with the next command, or shows none.
 fn is_in_order(wanted: &mut Iter<'_, &str>, line: &str) -> bool {
     if !line.starts_with("  fpk ") {
         return true;
@@ -56,8 +56,8 @@ fn is_in_order(wanted: &mut Iter<'_, &str>, line: &str) -> bool {
     }
 }
 
-/// Each command stands at the beginning of one line, in this order, and no other does. A line has at
-/// most 80 columns.
+/// Checks that each command is at the beginning of one line, in this order, that no other command
+/// is, and that a line has at most 80 columns.
 #[test]
 fn help_has_each_command(rt: HostRuntime) {
     let text = help(rt.alloc()).expect(&rt, "memory");

@@ -1,5 +1,5 @@
-//! Tests of what words are: commands, batches, why others are none, the lines that are printed, and
-//! what is said of refusals.
+//! Tests of commands, batches, reasons, notes, the help, the lines that are printed, and the
+//! explanations of refusals.
 #![tactic(auto)]
 
 #[cfg(test)]

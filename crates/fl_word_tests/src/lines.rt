@@ -16,7 +16,7 @@ fn pattern(rt: &impl Abort, alloc: Global, text: &str) -> PinPattern {
     PinPattern::parse(alloc, text.as_bytes()).expect(rt, "a pattern")
 }
 
-/// The digest of no bytes.
+/// Returns the SHA-256 digest of no bytes.
 fn empty_digest(rt: &impl Abort) -> Digest {
     let digits = b"e3b0c44298fc1c149afbf4c8996fb92427ae41e4649b934ca495991b7852b855";
     Digest::parse(digits).expect(rt, "a digest")
@@ -26,7 +26,7 @@ fn ref_name(rt: &impl Abort, alloc: Global, text: &str) -> RefName {
     RefName::parse(alloc, text.as_bytes()).expect(rt, "a ref")
 }
 
-/// The refusal of a text: its kind, a space, and what is refused.
+/// Returns the refusal that a text stands for: its kind, a space, and what is refused.
 fn refusal_of(rt: &impl Abort, alloc: Global, text: &str) -> Refusal {
     let (kind, rest) = text.split_once(' ').unwrap_or((text, ""));
     let number = rest.parse::<u64>().unwrap_or(0);
@@ -58,12 +58,12 @@ fn refusal_of(rt: &impl Abort, alloc: Global, text: &str) -> Refusal {
     }
 }
 
-/// The line that is printed of a refusal.
+/// Returns the line of the refusal that a text stands for.
 pub fn printed_refusal(rt: &impl Abort, alloc: Global, text: &str) -> Text {
     refusal_line(alloc, &refusal_of(rt, alloc, text)).expect(rt, "memory")
 }
 
-/// Refusals, and the lines that are printed of them.
+/// Refusals and their lines.
 pub const REFUSALS: &str = "\
 words 0=> error: words 0|
 words 18446744073709551615=> error: words 18446744073709551615|
@@ -76,8 +76,8 @@ exists app/*/*/*=> error: pin exists app/*/*/*|
 absent runtime/org.x.Y/*/1.0=> error: no pin runtime/org.x.Y/*/1.0|
 ";
 
-/// Paths, and the lines that say that they are damaged; the last has 1,100 elements that are each one
-/// character to be escaped.
+/// Damaged paths, and the lines of their refusals. The last path has 1,100 elements, each of one
+/// character that is escaped.
 pub const DAMAGED: &str = "\
 damaged config=> error: damaged config|
 damaged repo/refs/heads=> error: damaged repo/refs/heads|
@@ -88,10 +88,10 @@ damaged \u{e9}\u{80}\u{1f600}\\=> error: damaged \u{e9}\u{80}\u{1f600}\\5c|
 damaged <|/*1099>|=> error: damaged <\\0a/*1099>\\0a|
 ";
 
-/// A text of 100 KiB.
+/// A text of 100 KiB, each byte of which is escaped.
 pub const ESCAPED: &str = "<\\*102400>=> <\\5c*102400>";
 
-/// The line that is printed of an operation on a pin or a layout, or of a skipped ref.
+/// Returns the line of an operation on a pin or the layout, or of a skipped ref.
 pub fn printed_operation(rt: &impl Abort, alloc: Global, text: &str) -> Text {
     let (kind, rest) = text.split_once(' ').unwrap_or((text, ""));
     let line = match kind {
@@ -103,7 +103,7 @@ pub fn printed_operation(rt: &impl Abort, alloc: Global, text: &str) -> Text {
     line.expect(rt, "memory")
 }
 
-/// Operations and a skipped ref, and the lines that are printed of them.
+/// Operations and a skipped ref, and their lines.
 pub const OPERATIONS: &str = "\
 pin app/*/*/*=> pinned app/*/*/*|
 unpin app/org.x.Y/*/*=> unpinned app/org.x.Y/*/*|
@@ -111,7 +111,7 @@ migrate=> migrated layout 2|
 skip app/org.x.App/x86_64/stable=> skipped app/org.x.App/x86_64/stable|
 ";
 
-/// What is printed of pins.
+/// Returns the lines of pins.
 pub fn printed_pins(rt: &impl Abort, alloc: Global, patterns: &str) -> Text {
     let mut pins = Items::new(alloc);
     for text in patterns.split_terminator('|') {
@@ -120,7 +120,7 @@ pub fn printed_pins(rt: &impl Abort, alloc: Global, patterns: &str) -> Text {
     pins_text(alloc, pins.as_slice()).expect(rt, "memory")
 }
 
-/// The remote of a name, a space and a URL.
+/// Returns the remote that a text stands for: a name, a space and a URL.
 fn remote_row(rt: &impl Abort, alloc: Global, text: &str) -> RemoteRow {
     let (name, url) = text.split_once(' ').unwrap_or((text, ""));
     RemoteRow {
@@ -129,7 +129,7 @@ fn remote_row(rt: &impl Abort, alloc: Global, text: &str) -> RemoteRow {
     }
 }
 
-/// What is printed of remotes.
+/// Returns the lines of remotes.
 pub fn printed_remotes(rt: &impl Abort, alloc: Global, remotes: &str) -> Text {
     let mut rows = Items::new(alloc);
     for text in remotes.split_terminator('|') {
@@ -138,7 +138,7 @@ pub fn printed_remotes(rt: &impl Abort, alloc: Global, remotes: &str) -> Text {
     remotes_text(alloc, rows.as_slice()).expect(rt, "memory")
 }
 
-/// A deployed ref, which was updated or not.
+/// Returns the row of a deployed ref, which has a previous commit if it was updated.
 fn deployed_row(rt: &impl Abort, alloc: Global, name: &str, is_updated: bool) -> RefRow {
     let commit = empty_digest(rt);
     let timestamp = 0;
@@ -152,7 +152,7 @@ fn deployed_row(rt: &impl Abort, alloc: Global, name: &str, is_updated: bool) ->
     }
 }
 
-/// What is printed of deployed refs.
+/// Returns the lines of deployed refs.
 pub fn printed_refs(rt: &impl Abort, alloc: Global, names: &str) -> Text {
     let mut rows = Items::new(alloc);
     for name in names.split_terminator('|') {
@@ -162,7 +162,7 @@ pub fn printed_refs(rt: &impl Abort, alloc: Global, names: &str) -> Text {
     refs_text(alloc, rows.as_slice()).expect(rt, "memory")
 }
 
-/// The names of extensions.
+/// Returns the names of extensions in a text.
 fn extensions(rt: &impl Abort, alloc: Global, names: &str) -> Items<Text> {
     let mut extensions = Items::new(alloc);
     for name in names.split_terminator('|') {
@@ -172,8 +172,8 @@ fn extensions(rt: &impl Abort, alloc: Global, names: &str) -> Items<Text> {
     extensions
 }
 
-/// What is told of an application with these extensions, which has a runtime and was updated, or
-/// neither.
+/// Returns the lines of `info` about an application with these extensions. A whole one has a
+/// runtime and a previous commit.
 pub fn info(rt: &impl Abort, alloc: Global, names: &str, is_whole: bool) -> Text {
     let row = deployed_row(rt, alloc, "app/org.x.App/x86_64/stable", is_whole);
     let runtime = ref_name(rt, alloc, "runtime/org.x.Platform/x86_64/1");
@@ -182,19 +182,19 @@ pub fn info(rt: &impl Abort, alloc: Global, names: &str, is_whole: bool) -> Text
     info_text(alloc, &row, runtime, extensions.as_slice()).expect(rt, "memory")
 }
 
-/// Two pins and 1,024.
+/// Two pins, and 1,024.
 pub const PINS: &str = "\
 runtime/*/*/*|app/*/*/*|=> runtime/*/*/*|app/*/*/*|
 <app/*/*/*|*1024>=> <app/*/*/*|*1024>
 ";
 
-/// Two remotes and 256.
+/// Two remotes, and 256.
 pub const REMOTES: &str = "\
 art file:///art|lab file:///lab|=> art file:///art|lab file:///lab|
 <remote file:///r|*256>=> <remote file:///r|*256>
 ";
 
-/// A ref and 4,096.
+/// One ref, and 4,096.
 pub const REFS: &str = "\
 app/org.x.App/x86_64/stable|=> app/org.x.App/x86_64/stable \
     e3b0c44298fc1c149afbf4c8996fb92427ae41e4649b934ca495991b7852b855 hub|
@@ -202,7 +202,7 @@ app/org.x.App/x86_64/stable|=> app/org.x.App/x86_64/stable \
     e3b0c44298fc1c149afbf4c8996fb92427ae41e4649b934ca495991b7852b855 hub|*4096>
 ";
 
-/// No extension and 1,100.
+/// An application without an extension, and one with 1,100.
 pub const INFO: &str = "\
 => ref app/org.x.App/x86_64/stable|\
     commit e3b0c44298fc1c149afbf4c8996fb92427ae41e4649b934ca495991b7852b855|\
@@ -212,7 +212,7 @@ pub const INFO: &str = "\
     origin hub|timestamp 18446744073709551615|<extension org.x.E|*1100>
 ";
 
-/// Two extensions of an application with a runtime that was updated.
+/// An application with two extensions, a runtime and a previous commit.
 pub const WHOLE_INFO: &str = "\
 a\\b|org.x.App.Locale|=> ref app/org.x.App/x86_64/stable|\
     commit e3b0c44298fc1c149afbf4c8996fb92427ae41e4649b934ca495991b7852b855|\

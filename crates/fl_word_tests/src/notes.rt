@@ -1,6 +1,6 @@
-//! What is said of options that do less than they seem to.
+//! Notes on options that do less than they seem to.
 
-/// Words, and what is said of them.
+/// Words, and the notes on them.
 pub const NOTES: &str = "\
 =>
 override|--share=network|--share=ipc|org.x.App|=>

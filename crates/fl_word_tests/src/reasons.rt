@@ -1,6 +1,6 @@
-//! Why words are no command, and why a line of a batch asks for no change.
+//! Reasons why words are no command, and why a line of a batch asks for no change.
 
-/// Words that are no command, and what is said of them.
+/// Words that are no command, and the reason.
 pub const REASONS: &str = "\
 override|org.x.App|--share=ipc|=> \
     fpk: 'org.x.App' is an ID, and stands after at least one option (as --share=network)|\
@@ -99,7 +99,7 @@ batch|\u{e9}|=> fpk: '\u{e9}' is one word too many|usage: fpk batch|
 batch||=> fpk: '' is one word too many|usage: fpk batch|
 ";
 
-/// Words with which a beginner asks, and what is said of them.
+/// Words that a beginner may try, and the reason why they are no command.
 pub const FIRST_WORDS: &str = "\
 => fpk: a word is missing|see fpk --help|
 |=> fpk: '' is not known here|see fpk --help|
@@ -133,12 +133,12 @@ filter|--call|=> \
     usage: fpk filter --system --from=APP|
 ";
 
-/// A word of a mebibyte is told whole, and of 1,100 words the first that is wrong.
+/// A bad word of 1 MiB with 1,100 more after it. It is shown whole.
 pub const LONG_WORDS: &str = "\
 show|commit|<a*1048576>|<x|*1100>=> fpk: '<a*1048576>' is one word too many|usage: fpk show commit|
 ";
 
-/// Batches, and what is said of the first line that asks for no change.
+/// Batches, and the reason why the first bad line asks for no change.
 pub const LINES: &str = "\
 => nothing
 pin app/*/*/*|unpin app/*/*/*=> nothing
@@ -156,7 +156,8 @@ unpin app/*/*/\u{ff}\u{1}|=> \
 pin app/*/*/*||list --pins|=> fpk: line 2: '' is not known here|see fpk --help|
 ";
 
-/// A line of 100,000 spaces is told by its first word, and line 1,101 by its number.
+/// A line with 100,000 spaces at its end, of which the first empty word is shown; and a bad line
+/// with the number 1,101.
 pub const LONG_LINES: &str = "\
 remote-delete lab< *100000>=> \
     fpk: line 1: '' is one word too many|\

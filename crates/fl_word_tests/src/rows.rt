@@ -1,6 +1,6 @@
-//! Tables that are texts. A row is a line: what is given, `=>`, and what is answered.
+//! Tables of test rows in texts. A row is a line: the input, `=>`, and the expected output.
 //!
-//! `|` ends a word that is given, or a line. `<ab*3>` stands for `ababab`.
+//! `|` ends a word of the input, or a line. `<ab*3>` stands for `ababab`.
 
 use crate::asked::{Asked, answer};
 use crate::{batches, lines, notes, reasons, words};
@@ -8,12 +8,12 @@ use std::alloc::Global;
 use std::panic::Expect;
 use std::process::Abort;
 
-/// Ends the test where this isn't so, and prints the row.
+/// Fails the test and prints the row, unless `is_so`.
 pub fn agree(rt: &impl Abort, row: &str, is_so: bool) {
     assert!(rt; is_so, "{row}");
 }
 
-/// The text that this one stands for: what follows a `<` as often as it says, and all after the `>`.
+/// Returns a text with each `<ab*3>` replaced by its repetitions.
 fn whole(rt: &impl Abort, alloc: Global, text: &str) -> String {
     let mut whole = String::new(alloc);
     for part in text.split('<') {
@@ -28,12 +28,12 @@ fn whole(rt: &impl Abort, alloc: Global, text: &str) -> String {
     whole
 }
 
-/// The text with a newline in the place of each `|`.
+/// Returns a text with each `|` replaced by a newline.
 pub fn lined(rt: &impl Abort, alloc: Global, text: &str) -> String {
     text.replace(alloc, "|", "\n").expect(rt, "memory")
 }
 
-/// Whether what a row gives is answered as the row says.
+/// Returns whether the output for a row's input is the expected one.
 fn is_so(rt: &impl Abort, alloc: Global, asked: Asked, row: &str) -> bool {
     let (given, want) = row.split_once("=>").unwrap_or((row, ""));
     let answer = answer(rt, alloc, asked, &whole(rt, alloc, given));
@@ -41,7 +41,7 @@ fn is_so(rt: &impl Abort, alloc: Global, asked: Asked, row: &str) -> bool {
     answer.as_str() == lined(rt, alloc, &want).as_str()
 }
 
-/// What is asked, and rows of it.
+/// The tables: a function under test, and the rows of its inputs and expected outputs.
 const TABLES: [(Asked, &str); 22] = [
     (Asked::Command, words::WORDS),
     (Asked::Command, words::REF_WORDS),
@@ -67,7 +67,7 @@ const TABLES: [(Asked, &str); 22] = [
     (Asked::WholeInfo, lines::WHOLE_INFO),
 ];
 
-/// A row whose word has a newline, and so isn't a line.
+/// A row with a newline in a word, which can't be a line of a table.
 const ESCAPED_WORD: &str =
     "batch|a\nb\\c|=> fpk: 'a\\0ab\\5cc' is one word too many|usage: fpk batch|";
 

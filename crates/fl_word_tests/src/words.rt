@@ -6,7 +6,7 @@ use std::alloc::Global;
 use std::panic::Expect;
 use std::process::Abort;
 
-/// The words of a text, each of which ends with `|`.
+/// Returns the words of a text, each of which ends with `|`.
 pub fn words_of(rt: &impl Abort, alloc: Global, text: &str) -> Vec<String> {
     let mut words = Vec::new(alloc);
     for word in text.split_terminator('|') {
@@ -16,7 +16,7 @@ pub fn words_of(rt: &impl Abort, alloc: Global, text: &str) -> Vec<String> {
     words
 }
 
-/// What a change is called, and what it changes: nothing in the place of what it lacks.
+/// Returns the name of a change and the words for what it changes. Missing ones are empty.
 fn change_words(change: &Change) -> [&str; 3] {
     match change {
         Change::Pin(pin) => ["Pin", pin.as_str(), ""],
@@ -35,7 +35,7 @@ fn change_words(change: &Change) -> [&str; 3] {
     }
 }
 
-/// The options of a change.
+/// Returns the options of a change.
 fn change_options(change: &Change) -> &[Text] {
     match change {
         Change::OverrideChange { options, .. } => options.as_slice(),
@@ -43,7 +43,7 @@ fn change_options(change: &Change) -> &[Text] {
     }
 }
 
-/// What a command is called, and what it is for.
+/// Returns the name of a command and the words for what it is about. Missing ones are empty.
 fn command_words(command: &Command) -> [&str; 3] {
     match command {
         Command::Change(change) => change_words(change),
@@ -68,7 +68,7 @@ fn command_words(command: &Command) -> [&str; 3] {
     }
 }
 
-/// The options of a command.
+/// Returns the options or rules of a command.
 fn command_options(command: &Command) -> &[Text] {
     match command {
         Command::Change(change) => change_options(change),
@@ -78,7 +78,7 @@ fn command_options(command: &Command) -> &[Text] {
     }
 }
 
-/// The words that are there, and options, in one text.
+/// Returns the words that aren't empty, and options, as one text.
 fn words_as_text(rt: &impl Abort, alloc: Global, words: [&str; 3], options: &[Text]) -> String {
     let words = words.join(alloc, " ").expect(rt, "memory");
     let mut text = String::from_str(alloc, words.trim_end()).expect(rt, "memory");
@@ -89,12 +89,12 @@ fn words_as_text(rt: &impl Abort, alloc: Global, words: [&str; 3], options: &[Te
     text
 }
 
-/// A change in one text.
+/// Returns a change as text.
 pub fn told_change(rt: &impl Abort, alloc: Global, change: &Change) -> String {
     words_as_text(rt, alloc, change_words(change), change_options(change))
 }
 
-/// A command in one text.
+/// Returns a command as text.
 fn told_command(rt: &impl Abort, alloc: Global, command: &Command) -> String {
     let words = words_as_text(rt, alloc, command_words(command), command_options(command));
     match command {
@@ -108,7 +108,7 @@ fn told_command(rt: &impl Abort, alloc: Global, command: &Command) -> String {
     }
 }
 
-/// What words read as, in one text.
+/// Returns the command that words are read as, or the error, as text.
 pub fn told_words(rt: &impl Abort, alloc: Global, words: &[String]) -> String {
     match read_words(alloc, words) {
         Ok(command) => told_command(rt, alloc, &command),
@@ -116,8 +116,8 @@ pub fn told_words(rt: &impl Abort, alloc: Global, words: &[String]) -> String {
     }
 }
 
-/// Words, and the command that they are, or the place of the first bad one: of remotes; of pins,
-/// lists, batches, stores, exports and exercises; of objects.
+/// Words, and the command that they are, or the index of the first bad one. The rows are about
+/// remotes, pins, lists, batches, checks, exports, exercises and objects.
 pub const WORDS: &str = "\
 remote-add|lab|file:///lab|=> RemoteAdd lab file:///lab
 remote-modify|lab|file:///l|=> RemoteModify lab file:///l
@@ -207,7 +207,8 @@ show|value|a{vs}|=> bad words at 2
 show|value|s|s|=> bad words at 3
 ";
 
-/// The same of words on refs; of one ref, and of overrides.
+/// Words, and the command that they are, or the index of the first bad one. The rows are about refs
+/// and overrides.
 pub const REF_WORDS: &str = "\
 install|hub|app/org.x.App/x86_64/stable|=> Install hub app/org.x.App/x86_64/stable
 install|hub|runtime/org.x.Y/x/1|=> Install hub runtime/org.x.Y/x/1
@@ -255,7 +256,7 @@ override|--show|org.x.App|org.x.App|=> bad words at 3
 override|--show|--reset|=> bad words at 2
 ";
 
-/// Options of overrides and of launches.
+/// Words of filters and launches, and options of overrides and launches.
 pub const OPTION_WORDS: &str = "\
 filter|=> Filter rules
 filter|--see=org.x.*|--call=org.bar=org.bar.I.*@/p/*|=> Filter rules --see=org.x.* --call=org.bar=org.bar.I.*@/p/*
@@ -291,9 +292,9 @@ launch|app/org.x.App/x86_64/stable|x|=> bad words at 2
 launch|app/org.x.App/x86_64/stable|--command=|=> bad words at 2
 ";
 
-/// The longest pin, with parts of 255 bytes, and the longest remote, with a name of 64 bytes and a
-/// URL of 1,024; a word of a mebibyte, which is bad whatever it has to be; 1,100 words; arrays that
-/// are nested 100 Ki deep, which are no type; 3,000 options.
+/// Long words: the longest pin, with parts of 255 bytes; the longest remote, with a name of 64
+/// bytes and a URL of 1,024; bad words of 1 MiB, at different places; 1,100 words; a type of 100 Ki
+/// nested arrays, which is bad; and 3,000 options.
 pub const LONG_WORDS: &str = "\
 pin|app/org.x.<a*249>/<a*255>/<a*255>|=> Pin app/org.x.<a*249>/<a*255>/<a*255>
 remote-add|<r*64>|file:///<u*1016>|=> RemoteAdd <r*64> file:///<u*1016>

@@ -1,8 +1,5 @@
--- The forms of words. A row says what stands at each place of a command line; P is the pattern of a
--- pin, N the name of a remote and U its URL, R a ref, A a ref of an application, I the ID of one, T
--- the type string of a type of GVariant, O an option that changes permissions, L an option of a
--- launch, F a rule of the filter, and COUNT how many applications an exercise has. At some places
--- any number of words may stand.
+-- The forms of command lines. The row of a form is the list of its places. A place takes one word,
+-- or any number of words.
 use Rattle.std.specs.Prelude.{ℕ, ◌+◌, ◌-◌, ◌&&◌, List, [], ◌∷◌, length, max, take, drop, slice_index_or, Bool, true, false, Option, Some, None, option_and_then, codes, if◌then◌else◌}
 use Rattle.std.specs.List.{find, list_all}
 use Rattle.std.specs.Option.{option_map, option_map_or, is_some}
@@ -28,8 +25,10 @@ use Rattle.fl_words.specs.Counts.{count_at, is_count_text}
 
 -- ---- places
 
--- what may stand at a place: this word alone, P, N, U, R, A, I, T or O, any number of O, of L or of
--- F, `--from=` and A, or COUNT
+-- A place of a form, by the words that it takes: this word alone, the pattern of a pin, the name or
+-- the URL of a remote, a ref, a ref of an application, an application's ID, a GVariant type string,
+-- an option that changes permissions, any number of those, any number of options of a launch or of
+-- filter rules, `--from=` and a ref of an application, or the number of an exercise's applications
 pub data Place : Type 0 where
   literal : List ℕ → Place
   pattern : Place
@@ -46,6 +45,7 @@ pub data Place : Type 0 where
   from_app : Place
   app_count : Place
 
+-- The place that a value of `Slot` in the code stands for
 abbrev pub place_of : Slot → Place
 place_of (slots.Word text) = literal text.now
 place_of slots.Pattern = pattern
@@ -62,11 +62,11 @@ place_of slots.Rules = filter_rules
 place_of slots.FromApp = from_app
 place_of slots.Count = app_count
 
--- the text of a ref of one
+-- Tests whether the text is that of a ref of an application
 abbrev pub is_app_text : List ℕ → Bool
 is_app_text text = option_map_or is_app (ref_of text) false
 
--- a text may stand there
+-- Tests whether the text may be at the place
 abbrev pub fits : Place → List ℕ → Bool
 fits (literal w) text = bytes_eq text w
 fits pattern text = is_pin text
@@ -83,7 +83,7 @@ fits filter_rules text = is_rule text
 fits from_app text = bytes_eq (take 7 text) (codes "--from=") && is_app_text (drop 7 text)
 fits app_count text = is_count_text text
 
--- any number of words may stand there
+-- Tests whether the place takes any number of words
 abbrev pub repeats : Place → Bool
 repeats permissions = true
 repeats launch_options = true
@@ -92,6 +92,7 @@ repeats _ = false
 
 -- ---- the table
 
+-- All forms, in the order in which they are tried
 abbrev pub forms : List Form
 forms =
     Pin ∷ Unpin ∷ RemoteAdd ∷ RemoteModify ∷ RemoteDelete
@@ -102,6 +103,7 @@ forms =
     ∷ Filter ∷ FilterFrom ∷ FilterSystemFrom ∷ Batch ∷ Fsck ∷ Export ∷ Exercise
     ∷ ShowCommit ∷ ShowDirTree ∷ ShowDirMeta ∷ ShowValue ∷ []
 
+-- The places of each form, in the order of the words
 abbrev pub slots_of : Form → List Place
 slots_of Pin = literal (codes "pin") ∷ pattern ∷ []
 slots_of Unpin = literal (codes "unpin") ∷ pattern ∷ []
@@ -138,18 +140,19 @@ slots_of ShowDirTree = literal (codes "show") ∷ literal (codes "dirtree") ∷ 
 slots_of ShowDirMeta = literal (codes "show") ∷ literal (codes "dirmeta") ∷ []
 slots_of ShowValue = literal (codes "show") ∷ literal (codes "value") ∷ type_string ∷ []
 
+-- The word at index i, from 0; the empty word if there is none
 abbrev pub word_at : ℕ → List (List ℕ) → List ℕ
 word_at i words = slice_index_or words i []
 
--- the remote N U after the first word
+-- The remote whose name is the second word and whose URL is the third
 abbrev pub remote_in : List (List ℕ) → RemoteRow
 remote_in words = record { name = word_at 1 words; url = word_at 2 words }
 
--- the place of the last word
+-- The index of the last word
 abbrev pub last_place : List (List ℕ) → ℕ
 last_place words = length words - 1
 
--- the command of words of a form
+-- The command that words of the form ask for
 abbrev pub form_command : Form → List (List ℕ) → Command
 form_command Pin words = Changing (changes.Pin (word_at 1 words))
 form_command Unpin words = Changing (changes.Unpin (word_at 1 words))
@@ -190,42 +193,42 @@ form_command ShowValue words = Showing (things.Value (word_at 2 words))
 
 -- ---- words in a form
 
--- The places that are left once a word has one. It takes the first place where it may stand; a
--- place of any number of words is passed over by a word that may not stand there, and stays where
--- one may.
+-- The places that are left after a word took one. The word takes the first place that it fits, but
+-- may skip only places that take any number of words. Such a place stays after a word that fits it.
 abbrev pub left_after_word : List Place → List ℕ → Option (List Place)
 left_after_word [] text = None
 left_after_word (place ∷ places) text =
     if fits place text then Some (if repeats place then place ∷ places else places)
     else (if repeats place then left_after_word places text else None)
 
--- the places that are left once each of the words has one
+-- The places that are left after each of the words took one; None if one has no place
 abbrev pub left_after : List Place → List (List ℕ) → Option (List Place)
 left_after places [] = Some places
 left_after places (text ∷ words) =
     option_and_then (λ left. left_after left words) (left_after_word places text)
 
--- each word has its place, and no place is left that needs one
+-- Tests whether the words are of the form: each has a place, and no place that needs a word is left
 abbrev pub reads : List (List ℕ) → Form → Bool
 reads words form = option_map_or (list_all repeats) (left_after (slots_of form) words) false
 
--- the command of the words of a command line, where they are one
+-- The command that the words of a command line ask for, by the first form that they are of
 abbrev pub command_of : List (List ℕ) → Option Command
 command_of words = option_map (λ form. form_command form words) (find (reads words) forms)
 
 -- ---- where words go wrong
 
--- how many words, from the first on, have places
+-- The number of words, from the first on, that have places
 abbrev pub reach : List Place → List (List ℕ) → ℕ
 reach places [] = 0
 reach places (text ∷ words) =
     option_map_or (λ left. reach left words + 1) (left_after_word places text) 0
 
+-- The greatest number of words, from the first on, that have places in one of the forms
 abbrev pub most : List (List ℕ) → List Form → ℕ
 most words [] = 0
 most words (form ∷ more) = max (reach (slots_of form) words) (most words more)
 
--- The most words that begin one form. So it is the least i such that the first i + 1 words begin
--- none, or the number of words.
+-- The index of the first bad word: the greatest number of words that begin one of all forms. It is
+-- the least i such that the first i + 1 words begin no form, or the number of words.
 abbrev pub bad_index : List (List ℕ) → ℕ
 bad_index words = most words forms

@@ -1,4 +1,4 @@
--- The words of commands, and what kind of work each command does.
+-- The words of each command, and the kind of its work.
 use Rattle.std.specs.Prelude.{ℕ, List, [], ◌∷◌, ◌++◌, ◌&&◌, Bool, true, false, IsSome, codes, decimal, if◌then◌else◌}
 use Rattle.std.specs.List.{list_all}
 use Rattle.std.specs.Str.{bytes_eq}
@@ -19,20 +19,20 @@ use Rattle.fp_name.specs.Pins.{is_app}
 use Rattle.fp_name.specs.Grammar.{is_override}
 use Rattle.fl_words.specs.Counts.{is_app_count}
 
--- the word for it, which is left out for the global one
+-- The word for the override of this name. There is none for the override for all applications.
 abbrev pub override_word : List ℕ → List (List ℕ)
 override_word name = if bytes_eq name (codes "global") then [] else name ∷ []
 
--- the word for the policy of an application
+-- The word that takes the policy from the grants of an application
 abbrev pub from_word : Ref → List ℕ
 from_word name = codes "--from=" ++ ref_text name
 
 -- ---- the words of commands
 
--- What a command puts at places of its form, side by side: the form's own word, one text that such
--- a place takes, any number of them, one option or more that change permissions, a ref, a ref of an
--- application, the application that a policy is of, the name of an override, or a number of
--- applications.
+-- The words of a command at one place of its form, or at two adjacent places: the form's own word,
+-- a text that the place takes, any number of such texts, one or more options that change
+-- permissions, a ref, a ref of an application, the application whose grants are the policy, the
+-- name of an override, or the number of an exercise's applications
 pub data Filling : Type 0 where
   own : List ℕ → Filling
   one_text : Place → List ℕ → Filling
@@ -44,7 +44,7 @@ pub data Filling : Type 0 where
   override_name : List ℕ → Filling
   apps_number : ℕ → Filling
 
--- the words for it
+-- The words of a filling
 abbrev pub filling_words : Filling → List (List ℕ)
 filling_words (own word) = word ∷ []
 filling_words (one_text place text) = text ∷ []
@@ -56,12 +56,12 @@ filling_words (policy_app name) = from_word name ∷ []
 filling_words (override_name name) = override_word name
 filling_words (apps_number apps) = decimal apps ∷ []
 
--- one option or more that change permissions
+-- Tests whether the words are options that change permissions, at least one
 abbrev pub are_options : List (List ℕ) → Bool
 are_options [] = false
 are_options words = list_all is_option words
 
--- it is such, as it is in each value of the code
+-- Tests whether the filling is valid, as each is of a command that is read from words
 abbrev pub is_filled : Filling → Bool
 is_filled (own word) = true
 is_filled (one_text place text) = fits place text
@@ -73,6 +73,7 @@ is_filled (policy_app name) = is_ref name && is_app name
 is_filled (override_name name) = is_override name
 is_filled (apps_number apps) = is_app_count apps
 
+-- The fillings of the places of the form of a change
 abbrev pub change_fillings : Change → List Filling
 change_fillings (Pin p) = own (codes "pin") ∷ one_text pattern p ∷ []
 change_fillings (Unpin p) = own (codes "unpin") ∷ one_text pattern p ∷ []
@@ -93,6 +94,7 @@ change_fillings (OverrideChange name options) =
 change_fillings (OverrideReset name) =
     own (codes "override") ∷ own (codes "--reset") ∷ override_name name ∷ []
 
+-- The fillings of the places of the form of a listing
 abbrev pub listing_fillings : Listing → List Filling
 listing_fillings Refs = own (codes "list") ∷ []
 listing_fillings Remotes = own (codes "list") ∷ own (codes "--remotes") ∷ []
@@ -104,12 +106,14 @@ listing_fillings (Launch name options) =
 listing_fillings (OverrideShow name) =
     own (codes "override") ∷ own (codes "--show") ∷ override_name name ∷ []
 
+-- The fillings of the places of the form of `filter`
 abbrev pub source_fillings : PolicySource → List Filling
 source_fillings (Rules rules) = own (codes "filter") ∷ many_texts filter_rules rules ∷ []
 source_fillings (Session name) = own (codes "filter") ∷ policy_app name ∷ []
 source_fillings (System name) =
     own (codes "filter") ∷ own (codes "--system") ∷ policy_app name ∷ []
 
+-- The fillings of the places of the form of `show`
 abbrev pub shown_fillings : Shown → List Filling
 shown_fillings Commit = own (codes "show") ∷ own (codes "commit") ∷ []
 shown_fillings DirTree = own (codes "show") ∷ own (codes "dirtree") ∷ []
@@ -117,29 +121,32 @@ shown_fillings DirMeta = own (codes "show") ∷ own (codes "dirmeta") ∷ []
 shown_fillings (Value of) =
     own (codes "show") ∷ own (codes "value") ∷ one_text type_string of ∷ []
 
--- ---- the table of commands: here alone they are told apart by their words and their work
+-- ---- the table of commands: words and kind of work of each
 
+-- The kind of a command's work
 pub data Work : Type 0 where
-  -- It may change the installation's state, and what it does may depend on what remotes hold: those
-  -- of the run, or those that are made for an exercise.
+  -- Changing the installation's state. The change may depend on what the remotes hold: those of the
+  -- installation, or those that are generated for an exercise.
   altering : Work
-  -- it prints what is there, or what it is given, and changes nothing
+  -- Printing something of the installation or of the input, without changing anything
   looking : Work
-  -- so it does, and looks at each object of the store
+  -- Checking each object of the store and printing what is wrong, without changing anything
   checking : Work
-  -- it makes a remote of this name that offers this ref
+  -- Exporting: making a remote of this name that offers this ref
   making : List ℕ → Ref → Work
 
--- what is known of a command besides its answer: what fills the places of its form, what kind of
--- work it does, and whether it reads the input
+-- A row of the table of commands: what fills the places of its form, the kind of its work, and
+-- whether it reads the input
 pub record CommandRow : Type 0 where
   pub fillings : List Filling
   pub work : Work
   pub reads_input : Bool
 
+-- The row with these fields
 abbrev pub command_row : List Filling → Work → Bool → CommandRow
 command_row fillings work reads = record { fillings = fillings; work = work; reads_input = reads }
 
+-- The row of each command
 abbrev pub row_of : Command → CommandRow
 row_of (Changing change) = command_row (change_fillings change) altering false
 row_of (Listed listing) = command_row (listing_fillings listing) looking false
@@ -155,38 +162,42 @@ row_of (Exercise apps) =
 
 -- ---- what follows from it
 
+-- The words of some fillings, in order
 abbrev pub filled_words : List Filling → List (List ℕ)
 filled_words [] = []
 filled_words (filling ∷ fillings) = filling_words filling ++ filled_words fillings
 
--- the words of each command
+-- The words of a command
 abbrev pub words_of : Command → List (List ℕ)
 words_of command = filled_words (row_of command).fillings
 
--- its patterns, names, refs, URLs and options are such, as they are in each value of the code
+-- Tests whether the patterns, names, refs, URLs, options and rules of the command are valid, as
+-- they are of each command that is read from words
 abbrev pub is_command : Command → Bool
 is_command command = list_all is_filled (row_of command).fillings
 
+-- Tests whether the patterns, names, refs, URLs and options of the change are valid
 abbrev pub is_change : Change → Bool
 is_change change = is_command (Changing change)
 
+-- The kind of a command's work
 abbrev pub work_of : Command → Work
 work_of command = (row_of command).work
 
--- work that may change what stands in the installation's folder
+-- Tests whether the work may change files in the installation's directory
 abbrev pub changes_folder : Work → Bool
 changes_folder altering = true
 changes_folder looking = false
 changes_folder checking = false
 changes_folder (making origin name) = true
 
--- it may change what stands in the installation's folder
+-- Tests whether the command may change files in the installation's directory
 abbrev pub may_change : Command → Bool
 may_change command = changes_folder (work_of command)
 
 -- ---- words that go on
 
--- the words are a command, or are one with more words after them
+-- The words are a command, or become one if more words follow
 pub record Begins (words : List (List ℕ)) : Type 0 where
   pub more : List (List ℕ)
   pub accepted : IsSome (command_of (words ++ more))

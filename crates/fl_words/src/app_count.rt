@@ -1,4 +1,4 @@
-//! How many applications an exercise has.
+//! The number of an exercise's applications.
 ghost use Rattle.std.specs.Prelude.{◌≡◌, ◌≤◌, true, false, IfOk, OnOk, IsErrOf, decimal};
 ghost use Rattle.std.specs.Str.{bytes_eq};
 ghost use Rattle.fl_words.specs.Counts.{is_app_count, count_at, is_count_text};
@@ -8,7 +8,7 @@ use fp_name::NameError;
 use std::alloc::{AllocError, Global};
 use std::marker::Model;
 
-/// How many applications an exercise has, 1 to `MOST_APPS`, which contracts see as a number.
+/// A number of applications in an exercise, from 1 to `MOST_APPS`. Contracts see the number.
 #[derive(Drop)]
 pub struct AppCount {
     number: u32,
@@ -26,8 +26,8 @@ impl Model for AppCount {
 }
 
 impl AppCount {
-    /// The number that a word is in decimal. `Bad` comes exactly where it is none from 1 to
-    /// `MOST_APPS`, or has a leading zero or a sign.
+    /// Parses a decimal number. Errs with `Bad` if the text is no number from 1 to `MOST_APPS`, or
+    /// has a leading zero or a sign.
     pub fn parse(alloc: Global, text: &str) -> Result<AppCount, NameError>
         ensures ok { IfOk result (λ count. count ≡ count_at text.now) }
         ensures good { OnOk result (is_count_text text.now ≡ true) }
@@ -43,7 +43,7 @@ impl AppCount {
         }
     }
 
-    /// The number.
+    /// Returns the number.
     pub fn number(&self) -> u32
         ensures number { result ≡ self.now }
         ensures good { is_app_count result ≡ true }
@@ -53,14 +53,14 @@ impl AppCount {
     }
 }
 
-/// Whether an exercise may have this number of applications.
+/// Returns whether an exercise may have this number of applications.
 fn is_count(number: u32) -> bool
     ensures { result ≡ is_app_count number }
 {
     1 <= number && number <= MOST_APPS
 }
 
-/// Whether a text is a number as it is printed.
+/// Returns whether a text is the decimal form of a number, without a leading zero or a sign.
 fn is_printed(alloc: Global, number: u32, text: &str) -> Result<bool, AllocError>
     ensures { IfOk result (λ same. same ≡ bytes_eq text.now (decimal number)) }
 {

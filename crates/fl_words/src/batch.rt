@@ -12,12 +12,12 @@ use std::alloc::{AllocError, Global};
 use std::error::Error;
 use std::{fmt, str};
 
-/// Why a batch wasn't read.
+/// The error of reading a batch.
 #[derive(Clone, Copy, Debug, PartialEq, Eq)]
 pub enum BatchError {
-    /// This line, counted from 1, is the first that asks for no change.
+    /// A line asks for no change. The number is that of the first such line, counted from 1.
     BadRecord { line: u64 },
-    /// There was no memory.
+    /// Memory ran out.
     NoMemory,
 }
 
@@ -40,8 +40,8 @@ impl From<AllocError> for BatchError {
     }
 }
 
-/// The changes that a batch asks for, one by each line. `BadRecord` comes exactly where a line asks
-/// for none.
+/// Returns the changes that a batch asks for, one for each line. Errs with `BadRecord` if a line
+/// asks for no change.
 pub fn read_batch(alloc: Global, bytes: &[u8]) -> Result<Items<Change>, BatchError>
     ensures ok { IfOk result (λ changes. batch_of bytes.now ≡ Ok changes) }
     ensures bad { IfErr result (IsBadBatch bytes.now) }
@@ -64,7 +64,7 @@ pub fn read_batch(alloc: Global, bytes: &[u8]) -> Result<Items<Change>, BatchErr
     Ok(Items::from_vec(changes))
 }
 
-/// Puts a change after the others.
+/// Appends a change to a list.
 fn add_change(changes: &mut Vec<Change>, change: Change) -> Result<(), AllocError>
     ensures { OnOk result (changes.new.items ≡ changes.old.items ++ change ∷ []) }
 {
@@ -72,7 +72,7 @@ fn add_change(changes: &mut Vec<Change>, change: Change) -> Result<(), AllocErro
     Ok(())
 }
 
-/// The change that a line asks for.
+/// Returns the change that a line asks for. Errs with `BadWords` only if it asks for none.
 #[tactic(auto, using(crate::proofs::LineWords::no_command, crate::proofs::LineWords::is_record))]
 fn read_record(alloc: Global, line: &[u8]) -> Result<Change, WordsError>
     ensures ok { IfOk result (λ change. batch_change line.now ≡ Some change) }
@@ -85,7 +85,7 @@ fn read_record(alloc: Global, line: &[u8]) -> Result<Change, WordsError>
     }
 }
 
-/// The change that a command is, where it is one.
+/// Returns the change that a command is, or `None` for another command.
 fn change_of(command: Command) -> Option<Change>
     ensures { result ≡ change_of command }
 {
@@ -101,7 +101,8 @@ fn change_of(command: Command) -> Option<Change>
     }
 }
 
-/// The words of a line, where they may be a change.
+/// Returns the words of a line. Errs with `BadWords` if a word is no UTF-8; then the line asks for
+/// no change.
 #[tactic(auto, using(crate::proofs::LineWords::bad_word))]
 fn read_line(alloc: Global, line: &[u8]) -> Result<Vec<String>, WordsError>
     ensures ok { IfOk result (λ words. map string_bytes words.items ≡ words_in line.now) }
@@ -117,7 +118,7 @@ fn read_line(alloc: Global, line: &[u8]) -> Result<Vec<String>, WordsError>
     Ok(words)
 }
 
-/// Puts a word after the others, where it is a text.
+/// Appends a word to a list. Errs with `BadWords` only if the word is no UTF-8.
 fn add_word(alloc: Global, words: &mut Vec<String>, word: &[u8]) -> Result<(), WordsError>
     ensures ok { OnOk result (map string_bytes words.new.items ≡ map string_bytes words.old.items
         ++ word.now ∷ []) }
@@ -133,14 +134,14 @@ fn add_word(alloc: Global, words: &mut Vec<String>, word: &[u8]) -> Result<(), W
     Ok(())
 }
 
-/// The place of the first space.
+/// Returns the index of the first space.
 fn space_place(bytes: &[u8]) -> Option<usize>
     ensures { result ≡ position (λ b. b == 32) bytes.now }
 {
     bytes.iter().position(|byte| *byte == b' ')
 }
 
-/// The first word, and what stands after the space that ends it.
+/// Returns the first word, and what follows the space that ends it, or `None` if no space does.
 pub(crate) fn first_word(text: &[u8]) -> (&[u8], Option<&[u8]>)
     ensures words { words_in text.now ≡ result.0.now ∷ words_left result.1 }
     ensures shorter { IfSome result.1 (λ rest. length rest.now < length text.now) }

@@ -1,4 +1,4 @@
-//! Why a line of a batch asks for no change, for a reader.
+//! Reasons, for people, why a line of a batch asks for no change.
 ghost use Rattle.std.specs.Prelude.{◌≡◌, ◌-◌, ◌++◌, ◌∷◌, IfOk, OnOk, map, string_bytes, slice_index_or, []};
 ghost use Rattle.std.specs.Str.Lossy.{utf8_lossy};
 ghost use Rattle.fp_keyfile.specs.Lines.{lines_of};
@@ -11,8 +11,8 @@ use fp_base::Text;
 use fp_keyfile::first_line;
 use std::alloc::{AllocError, Global};
 
-/// Why the first line of a batch that asks for no change asks for none, in lines that end with a
-/// newline; `None` where each line asks for one. The number is that of `BadRecord`.
+/// Returns why the first bad line of a batch asks for no change, in lines that end with a newline,
+/// or `None` if each line asks for one. The number of the line is that of `BadRecord`.
 pub fn batch_reason(alloc: Global, bytes: &[u8]) -> Result<Option<Text>, AllocError>
     ensures { IfOk result (λ reason. reason ≡ batch_reason_text bytes.now) }
 {
@@ -25,7 +25,7 @@ pub fn batch_reason(alloc: Global, bytes: &[u8]) -> Result<Option<Text>, AllocEr
     }
 }
 
-/// The line of a number, counted from 1, or an empty one after the last.
+/// Returns the line of this number, counted from 1, or an empty one if there is none.
 fn line_in(bytes: &[u8], number: u64) -> &[u8]
     ensures { result.now ≡ slice_index_or (lines_of bytes.now) (number - 1) [] }
 {
@@ -42,7 +42,7 @@ fn line_in(bytes: &[u8], number: u64) -> &[u8]
     &[]
 }
 
-/// Why a line asks for no change.
+/// Returns why a line asks for no change.
 fn line_reason(alloc: Global, number: u64, line: &[u8]) -> Result<Text, AllocError>
     ensures { IfOk result (λ t. t ≡ line_reason number line.now) }
 {
@@ -52,7 +52,7 @@ fn line_reason(alloc: Global, number: u64, line: &[u8]) -> Result<Text, AllocErr
     Ok(Text::from_string(text))
 }
 
-/// The words of a line. What is no UTF-8 in them is replaced.
+/// Returns the words of a line. Bytes that are no UTF-8 are replaced by U+FFFD.
 fn words_shown(alloc: Global, line: &[u8]) -> Result<Vec<String>, AllocError>
     ensures { IfOk result (λ words. map string_bytes words.items ≡ words_shown line.now) }
 {
@@ -66,7 +66,7 @@ fn words_shown(alloc: Global, line: &[u8]) -> Result<Vec<String>, AllocError>
     Ok(words)
 }
 
-/// Puts a word after the others. What is no UTF-8 in it is replaced.
+/// Appends a word to a list. Bytes that are no UTF-8 are replaced by U+FFFD.
 fn show_word(alloc: Global, words: &mut Vec<String>, word: &[u8]) -> Result<(), AllocError>
     ensures { OnOk result (map string_bytes words.new.items ≡ map string_bytes words.old.items
         ++ utf8_lossy word.now ∷ []) }

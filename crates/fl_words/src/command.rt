@@ -1,4 +1,4 @@
-//! What the words of a command line ask for.
+//! Commands: what the words of a command line ask for.
 ghost use Rattle.std.specs.Prelude.{◌≡◌};
 ghost use Rattle.fl_words.specs.Words.{may_change};
 ghost use Rattle.fl_words.specs.declared.command.WordsError.TheVariants.{NoMemory};
@@ -13,33 +13,35 @@ use std::alloc::AllocError;
 use std::error::Error;
 use std::fmt;
 
-/// A command, by its kind.
+/// A command of fpk.
 #[derive(Drop)]
 pub enum Command {
-    /// Changes the installation.
+    /// A change of the installation.
     Change(Change),
-    /// Prints what the installation holds.
+    /// A listing of a part of the installation.
     List(Listing),
-    /// Prints what the input says.
+    /// A view of the input, which is an object or a value.
     Show(Shown),
-    /// `filter`: forwards the messages of a bus, between the input and what is printed, that a
-    /// policy lets through.
+    /// `filter`: prints which messages of a recorded D-Bus connection, read from the input, the
+    /// filter forwards to each side under a policy.
     Filter(PolicySource),
-    /// `batch`: does the changes that the lines of the input ask for.
+    /// `batch`: makes the changes that the lines of the input ask for.
     Batch,
-    /// `fsck`: looks at each object of the store, and prints what is wrong there.
+    /// `fsck`: checks each object of the store, and prints the bad ones and the paths that are no
+    /// object's.
     Fsck,
-    /// `export N REF`: makes the commit of the tree that the input describes, and offers it under
-    /// the ref in a store that serves as a remote.
+    /// `export NAME REF`: makes a commit of the tree that the input describes, and offers it under
+    /// the ref in the store `made/NAME` of the installation's directory, which can serve as a
+    /// remote.
     Export { remote: RemoteName, name: RefName },
-    /// `exercise COUNT`: does the changes of an exercise of this number of applications, over
-    /// remotes that are made for it.
+    /// `exercise COUNT`: makes the changes of an exercise with this number of applications, over
+    /// remotes that are generated for it in memory.
     Exercise(AppCount),
 }
 
 impl Command {
-    /// Whether it may change what stands in the installation's folder. What only lists or shows
-    /// never does.
+    /// Returns whether the command may change files in the installation's directory: a change, a
+    /// batch, an export or an exercise.
     pub fn changes(&self) -> bool
         ensures { result ≡ may_change self.now }
     {
@@ -50,97 +52,100 @@ impl Command {
     }
 }
 
-/// What changes the installation.
+/// A change of the installation: a command that may be a line of a batch.
 #[derive(Drop)]
 pub enum Change {
-    /// `pin P`: pins what the pattern matches.
+    /// `pin PATTERN`: pins what the pattern matches.
     Pin(PinPattern),
-    /// `unpin P`: takes the pattern away.
+    /// `unpin PATTERN`: removes the pattern from the pins.
     Unpin(PinPattern),
-    /// `remote-add N U`: adds a remote.
+    /// `remote-add NAME URL`: adds a remote.
     RemoteAdd(RemoteRow),
-    /// `remote-modify N U`: gives a remote another URL.
+    /// `remote-modify NAME URL`: gives a remote another URL.
     RemoteModify(RemoteRow),
-    /// `remote-delete N`: takes the remote away.
+    /// `remote-delete NAME`: removes a remote.
     RemoteDelete(RemoteName),
-    /// `install N REF`: installs a ref from a remote.
+    /// `install NAME REF`: installs a ref from the remote of this name.
     Install {
         remote: RemoteName,
         name: RefName,
     },
-    /// `update`: updates all that is installed.
+    /// `update`: updates all installed refs.
     UpdateAll,
     /// `update REF`: updates one ref.
     UpdateOne(RefName),
-    /// `uninstall REF`: takes a ref away.
+    /// `uninstall REF`: uninstalls a ref.
     Uninstall(RefName),
-    /// `uninstall --unused`: takes the runtimes away that nothing needs.
+    /// `uninstall --unused`: uninstalls the runtimes that nothing needs.
     UninstallUnused,
-    /// `rollback REF`: puts a ref back to the commit that it was at before.
+    /// `rollback REF`: returns a ref to the commit that was deployed before the current one.
     Rollback(RefName),
-    /// `override OPTION..` or `override OPTION.. ID`: changes an override by options, which are as
-    /// the words were.
+    /// `override OPTION..` or `override OPTION.. ID`: changes the override for all applications, or
+    /// that of one, by options. These are kept as the words were.
     OverrideChange {
         name: OverrideName,
         options: Items<Text>,
     },
-    /// `override --reset` or `override --reset ID`: takes an override away.
+    /// `override --reset` or `override --reset ID`: removes the override for all applications, or
+    /// that of one.
     OverrideReset {
         name: OverrideName,
     },
 }
 
-/// What is printed of the installation.
+/// A part of the installation that a command prints.
 #[derive(Drop)]
 pub enum Listing {
     /// `list`: the deployed refs.
     Refs,
     /// `list --remotes`: the remotes.
     Remotes,
-    /// `list --pins`: the patterns.
+    /// `list --pins`: the patterns of the pins.
     Pins,
     /// `list --exports`: the exported files.
     Exports,
-    /// `info REF`: what is known of a deployed ref.
+    /// `info REF`: the facts about a deployed ref.
     Info(RefName),
-    /// `launch APP LAUNCHOPTION..`: what an application is launched with, by options, which are as
-    /// the words were.
+    /// `launch APP [OPTION..]`: the sandbox in which an application is launched with these options,
+    /// which are kept as the words were.
     Launch { name: RefName, options: Items<Text> },
-    /// `override --show` or `override --show ID`: an override. The name is `global` or the ID.
+    /// `override --show` or `override --show ID`: the override for all applications, whose name is
+    /// `global`, or that of one, whose name is its ID.
     OverrideShow { name: Text },
 }
 
-/// What the input is shown as: an object of a kind, or a value of a type.
+/// The kind of the input that `show` prints: an object, or a value of a GVariant type.
 #[derive(Drop)]
 pub enum Shown {
-    /// `show commit`: what a commit says.
+    /// `show commit`: the fields of a commit.
     Commit,
-    /// `show dirtree`: the names of a dirtree.
+    /// `show dirtree`: the entries of a dirtree.
     DirTree,
     /// `show dirmeta`: the mode of a dirmeta.
     DirMeta,
-    /// `show value T`: whether it is the normal form of a value of a type, and its size.
+    /// `show value TYPE`: the number of bytes, which must be the normal form of a value of this
+    /// type.
     Value(ValueType),
 }
 
-/// What the policy of the filter comes from.
+/// The source of the filter's policy.
 #[derive(Drop)]
 pub enum PolicySource {
-    /// `filter RULE..`: from rules, which are as the words were.
+    /// `filter [RULE..]`: rules, which are kept as the words were.
     Rules(Items<Text>),
-    /// `filter --from=APP`: from what an application is granted on the session bus.
+    /// `filter --from=APP`: the grants of an application on the session bus.
     Session(RefName),
-    /// `filter --system --from=APP`: from what an application is granted on the system bus.
+    /// `filter --system --from=APP`: the grants of an application on the system bus.
     System(RefName),
 }
 
-/// Why words weren't read as a command.
+/// The error of reading words as a command.
 #[derive(Clone, Copy, Debug, PartialEq, Eq)]
 pub enum WordsError {
-    /// The words are no command. The index is that of the first word with which they can't go on to
-    /// be one, or their number where they could go on.
+    /// The words are no command. The index counts from 0: it is that of the first word with which
+    /// they can't go on to be a command, or the number of words if they can go on.
     BadWords { index: u64 },
-    /// There was no memory.
+    /// Memory ran out.
     NoMemory,
 }
 

@@ -1,5 +1,4 @@
-//! The forms of words: what stands at each place of a command line, and the command that it asks
-//! for.
+//! The forms of command lines: the place of each word, and the command that the words ask for.
 ghost use Rattle.std.specs.Prelude.{◌≡◌, IfOk, IfErr, map, string_bytes};
 ghost use Rattle.fl_words.specs.Forms.{place_of, repeats as may_repeat, forms, slots_of, form_command};
 ghost use Rattle.fl_words.specs.Reading.{IsMisfit};
@@ -14,10 +13,10 @@ use crate::values::{
 };
 use std::alloc::Global;
 
-/// What may stand at a place of a form.
+/// A place in a form: what the word there may be. Some places take any number of words.
 #[derive(Clone, Copy)]
 pub enum Slot {
-    /// This word alone.
+    /// The given word alone.
     Word(&'static str),
     /// The pattern of a pin.
     Pattern,
@@ -29,26 +28,26 @@ pub enum Slot {
     Ref,
     /// A ref of an application.
     App,
-    /// The ID of an application.
+    /// An application's ID.
     Id,
-    /// The type string of a type of GVariant.
+    /// The type string of a GVariant type.
     Type,
     /// An option that changes permissions.
     Permission,
-    /// Any number of such options.
+    /// Any number of options that change permissions.
     Permissions,
     /// Any number of options of a launch.
     LaunchOptions,
-    /// Any number of rules of the filter.
+    /// Any number of filter rules.
     Rules,
     /// `--from=` and a ref of an application.
     FromApp,
-    /// How many applications an exercise has.
+    /// The number of an exercise's applications.
     Count,
 }
 
 impl Slot {
-    /// Whether any number of words may stand there.
+    /// Returns whether any number of words may be at the place.
     pub fn repeats(&self) -> bool
         ensures { result ≡ may_repeat (place_of self.now) }
     {
@@ -56,20 +55,20 @@ impl Slot {
     }
 }
 
-/// A form of words.
+/// A form of a command line: the words of one command, in which some places vary.
 #[derive(Clone, Copy)]
 pub enum Form {
     /// `pin PATTERN`.
     Pin,
     /// `unpin PATTERN`.
     Unpin,
-    /// `remote-add REMOTE URL`.
+    /// `remote-add NAME URL`.
     RemoteAdd,
-    /// `remote-modify REMOTE URL`.
+    /// `remote-modify NAME URL`.
     RemoteModify,
-    /// `remote-delete REMOTE`.
+    /// `remote-delete NAME`.
     RemoteDelete,
-    /// `install REMOTE REF`.
+    /// `install NAME REF`.
     Install,
     /// `update`.
     UpdateAll,
@@ -99,7 +98,7 @@ pub enum Form {
     ListExports,
     /// `info REF`.
     Info,
-    /// `launch REF [OPTION..]`.
+    /// `launch APP [OPTION..]`.
     Launch,
     /// `override --show`.
     OverrideShow,
@@ -107,15 +106,15 @@ pub enum Form {
     OverrideShowApp,
     /// `filter [RULE..]`.
     Filter,
-    /// `filter --from=REF`.
+    /// `filter --from=APP`.
     FilterFrom,
-    /// `filter --system --from=REF`.
+    /// `filter --system --from=APP`.
     FilterSystemFrom,
     /// `batch`.
     Batch,
     /// `fsck`.
     Fsck,
-    /// `export REMOTE REF`.
+    /// `export NAME REF`.
     Export,
     /// `exercise COUNT`.
     Exercise,
@@ -129,41 +128,41 @@ pub enum Form {
     ShowValue,
 }
 
-/// What is known of a form besides the command that its words ask for.
+/// A form's row of the table: its places, and what the help shows of it.
 #[derive(Clone, Copy)]
 pub(crate) struct Row {
-    /// What stands at each of its places.
+    /// The form's places, in the order of the words.
     pub slots: &'static [Slot],
-    /// The section of help that shows it.
+    /// The section of the help that shows the form.
     pub section: Section,
-    /// What its command does, for help.
+    /// The description of the command for the help.
     pub does: &'static str,
 }
 
-/// A section of help, in the order in which help shows them. In it stand its forms in the order of
-/// all.
+/// A section of the help, in the order in which the help shows them. A section shows its forms in
+/// the order of `Form::all`.
 #[derive(Clone, Copy, PartialEq, Eq)]
 pub(crate) enum Section {
-    /// What is installed.
+    /// Installed applications and runtimes.
     Applications,
-    /// Where applications come from.
+    /// Remotes.
     Remotes,
-    /// What applications are granted.
+    /// Permissions of applications.
     Permissions,
-    /// What stays though nothing needs it.
+    /// Pins, which keep runtimes that nothing needs.
     Pins,
-    /// What helps when something is wrong.
+    /// Commands for use when something is wrong.
     Repair,
-    /// Many commands at once.
+    /// Batches and exercises.
     Scripts,
-    /// The filter of D-Bus.
+    /// The D-Bus filter.
     Buses,
-    /// Looks into objects and values.
+    /// Commands that print objects and values.
     Objects,
 }
 
 impl Form {
-    /// All forms, in the order in which they are tried. Those that change the installation stand
+    /// Returns all forms, in the order in which they are tried. Those that ask for a `Change` come
     /// first.
     pub fn all() -> &'static [Form]
         ensures { result.now ≡ forms }
@@ -206,14 +205,14 @@ impl Form {
         ]
     }
 
-    /// The forms of what changes the installation, which the lines of a batch are of.
+    /// Returns the forms that ask for a `Change`. The lines of a batch have to be of one of these.
     pub fn changes() -> &'static [Form]
         ensures { result.now ≡ change_forms }
     {
         &Form::all()[..CHANGES]
     }
 
-    /// Its row of the table.
+    /// Returns the form's row of the table.
     pub(crate) fn row(self) -> Row
         ensures { map place_of result.slots.now ≡ slots_of self }
     {
@@ -396,14 +395,15 @@ impl Form {
         }
     }
 
-    /// What stands at each of its places.
+    /// Returns the form's places, in the order of the words.
     pub fn slots(self) -> &'static [Slot]
         ensures { map place_of result.now ≡ slots_of self }
     {
         self.row().slots
     }
 
-    /// The command of words of this form. `BadWords` comes only where they aren't of it.
+    /// Returns the command that words of this form ask for. Errs with `BadWords` only if the words
+    /// aren't of this form.
     pub(crate) fn command(self, alloc: Global, words: &[String]) -> Result<Command, WordsError>
         ensures ok { IfOk result (λ command. command ≡ form_command self
             (map string_bytes words.now)) }

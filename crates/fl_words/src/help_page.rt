@@ -1,17 +1,17 @@
-//! What `fpk --help` prints: all forms by their sections, and what stands at their places.
+//! The output of `fpk --help`: all forms by section, and what may be at their places.
 
 use crate::forms::{Form, Section};
 use crate::reasons::push_places;
 use fp_base::Text;
 use std::alloc::{AllocError, Global};
 
-/// The column at which it is said what a command does.
+/// The column of a command's description, counted from 0.
 const COLUMN: usize = 37;
 
-/// What stands before the sections.
+/// The text before the sections.
 const HEAD: &str = "fpk installs applications of Flatpak from OSTree repositories.\n";
 
-/// What stands after them.
+/// The text after the sections.
 const FOOT: &str = "
 This:
   fpk --help                         prints this
@@ -41,7 +41,7 @@ The installation is the folder that FPK_INSTALLATION names, else the folder
 ";
 
 impl Section {
-    /// All of them, in the order in which help shows them.
+    /// Returns all sections, in the order in which the help shows them.
     fn all() -> &'static [Section] {
         &[
             Section::Applications,
@@ -55,7 +55,7 @@ impl Section {
         ]
     }
 
-    /// The line above it, without its end.
+    /// Returns the section's heading, without a newline.
     fn title(self) -> &'static str {
         match self {
             Section::Applications => "Applications:",
@@ -70,7 +70,7 @@ impl Section {
     }
 }
 
-/// The help: lines of at most 80 columns that show each form once.
+/// Returns the help. It shows each form once, in lines of at most 80 columns.
 pub fn help(alloc: Global) -> Result<Text, AllocError> {
     let mut text = String::new(alloc);
     text.push_str(HEAD)?;
@@ -81,7 +81,7 @@ pub fn help(alloc: Global) -> Result<Text, AllocError> {
     Ok(Text::from_string(text))
 }
 
-/// Puts a section after a text.
+/// Appends a section to a text.
 fn push_section(text: &mut String, section: Section) -> Result<(), AllocError> {
     text.push('\n')?;
     text.push_str(section.title())?;
@@ -92,7 +92,7 @@ fn push_section(text: &mut String, section: Section) -> Result<(), AllocError> {
     Ok(())
 }
 
-/// Puts the line of a form after a text, where it is of the section.
+/// Appends the line of a form to a text, if the form belongs to the section.
 fn push_form(text: &mut String, form: Form, section: Section) -> Result<(), AllocError> {
     let row = form.row();
     if row.section != section {

@@ -1,4 +1,5 @@
-//! What holds of all words, by their definitions. Nothing is done here: each contract is a law.
+//! Laws of all words, which follow from the definitions. Each law is the contract of a function
+//! with an empty body.
 ghost use Rattle.std.specs.Prelude.{◌≡◌, ◌<◌, ◌≤◌, ◌+◌, ◌++◌, ℕ, List, Some, Ok, true, length, take};
 ghost use Rattle.std.specs.List.{list_all};
 ghost use Rattle.fl_words.specs.Batch.{batch_of};
@@ -10,15 +11,15 @@ ghost use Rattle.fl_words.specs.Words.{Begins, words_of, is_change, is_command};
 use crate::command::{Change, Command};
 use crate::limits::MOST_APPS;
 
-/// The words of each command read as it, and only they do.
+/// States that the words of each command are read as that command, and no other words are.
 pub fn words_read_back()
     ensures written { (c : Command) → is_command c ≡ true → command_of (words_of c) ≡ Some c }
     ensures read { (words : List (List ℕ)) (c : Command) → command_of words ≡ Some c →
         (words ≡ words_of c) × (is_command c ≡ true) }
 {}
 
-/// The bad index is the least i such that the first i + 1 words begin no command, or the number of
-/// words where each beginning of them begins one.
+/// States that the bad index is the least i such that the first i + 1 words begin no command, or
+/// the number of words if there is no such i.
 pub fn bad_index_is_least()
     ensures before { (words : List (List ℕ)) (i : ℕ) → i < bad_index words → Begins
         (take (i + 1) words) }
@@ -27,8 +28,8 @@ pub fn bad_index_is_least()
     ensures within { (words : List (List ℕ)) → bad_index words ≤ length words }
 {}
 
-/// A form's usage is told exactly where the words before the wrong one can go on to be words of the
-/// form.
+/// States that a form's usage is shown exactly if the words before the wrong one can go on to be
+/// words of the form.
 pub fn usage_is_of_forms_begun()
     ensures told { (words : List (List ℕ)) (n : ℕ) (form : Form) → begins words n form ≡ true →
         (more : List (List ℕ)) × (reads (take n words ++ more) form ≡ true) }
@@ -36,13 +37,13 @@ pub fn usage_is_of_forms_begun()
         (take n words ++ more) form ≡ true → begins words n form ≡ true }
 {}
 
-/// The patterns, names, refs and URLs of each change of a batch are such.
+/// States that the patterns, names, refs, URLs and options in each change of a batch are valid.
 pub fn batches_hold_changes()
     ensures { (bytes : List ℕ) (changes : List Change) → batch_of bytes ≡ Ok changes → list_all
         is_change changes ≡ true }
 {}
 
-/// The most applications that an exercise has.
+/// States the maximum number of applications in an exercise.
 pub fn limits_are()
     ensures apps { MOST_APPS ≡ 64 }
 {}

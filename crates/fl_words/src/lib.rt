@@ -1,5 +1,6 @@
-//! The words of a command line, read as a command, and the commands of a batch; and why other words
-//! are none, what is said of options beside, and the help that shows all commands.
+//! Parsing of command lines: the command that words ask for, the changes that a batch asks for, the
+//! reasons for words that are no command, notes on options with less effect than they seem to have,
+//! and the text of `fpk --help`.
 #![tactic(auto)]
 
 mod app_count;

@@ -1,7 +1,7 @@
-//! How many applications an exercise may have, and how many forms change an installation.
+//! Limits: the applications of an exercise, and the forms that ask for a `Change`.
 
-/// The most applications that an exercise has.
+/// The maximum number of applications in an exercise.
 pub const MOST_APPS: u32 = 64;
 
-/// How many of all forms are of what changes the installation. They stand first.
+/// The number of forms that ask for a `Change`. They are the first in `Form::all`.
 pub(crate) const CHANGES: usize = 15;

@@ -1,4 +1,4 @@
-//! What is said of options that do less than they seem to.
+//! Notes on options that do less than they seem to.
 ghost use Rattle.std.specs.Prelude.{◌≡◌, ◌++◌, [], codes, IfOk, OnOk, map, string_bytes, option_map};
 ghost use Rattle.std.specs.Option.{option_copied, option_map_or};
 ghost use Rattle.fl_words.specs.Notes.{unknown_in, effect_of, unknown_note, is_below as is_path_below, below_path, path_in, other_home as home_under, names_line, home_line, home_note as note_of_home, note_of, notes_of, notes as notes_on};
@@ -9,8 +9,9 @@ use fl_options::option_layer;
 use fp_base::Text;
 use std::alloc::{AllocError, Global};
 
-/// What is to be said of words of which some do less than they seem to, in lines that end with a
-/// newline: names that aren't known, and denials of the home folder.
+/// Returns the notes on the options among some words, in lines that end with a newline. A note is
+/// about a name that isn't known, or about a denial of the home directory or a place in it, which
+/// has two names.
 pub fn notes(alloc: Global, words: &[String]) -> Result<Text, AllocError>
     ensures { IfOk result (λ t. t ≡ notes_on (map string_bytes words.now)) }
 {
@@ -21,7 +22,7 @@ pub fn notes(alloc: Global, words: &[String]) -> Result<Text, AllocError>
     Ok(Text::from_string(text))
 }
 
-/// Puts after a text what is to be said of a word.
+/// Appends the notes on a word to a text.
 fn push_notes(alloc: Global, text: &mut String, word: &str) -> Result<(), AllocError>
     ensures { OnOk result (string_bytes text.new ≡ string_bytes text.old ++ notes_of word.now) }
 {
@@ -32,7 +33,7 @@ fn push_notes(alloc: Global, text: &mut String, word: &str) -> Result<(), AllocE
     Ok(())
 }
 
-/// Puts after a text what is to be said of a mention.
+/// Appends the note on a mention to a text, if there is one.
 fn push_note(alloc: Global, text: &mut String, mention: &Mention) -> Result<(), AllocError>
     ensures { OnOk result (string_bytes text.new ≡ string_bytes text.old ++ note_of mention.now) }
 {
@@ -42,7 +43,8 @@ fn push_note(alloc: Global, text: &mut String, mention: &Mention) -> Result<(), 
     }
 }
 
-/// What a name of a list of unknown names is called, and the names that would be known.
+/// Returns what a list of unknown names calls its names, and the names that are known. `None` for a
+/// list of known names.
 fn unknown_names(list: PermList) -> Option<(&'static str, &'static str)>
     ensures { option_map (λ x. (x.0.now, x.1.now)) result ≡ unknown_in list }
 {
@@ -61,7 +63,7 @@ fn unknown_names(list: PermList) -> Option<(&'static str, &'static str)>
     }
 }
 
-/// Puts after a text that a name isn't known, and which ones are.
+/// Appends the note that a name isn't known, and which names are.
 fn push_unknown(
     alloc: Global,
     text: &mut String,
@@ -80,7 +82,7 @@ fn push_unknown(
     )
 }
 
-/// What a value would do.
+/// Returns the effect that a value has on a known name.
 fn effect_of(value: &Value) -> &'static str
     ensures { result.now ≡ effect_of value.now }
 {
@@ -90,7 +92,8 @@ fn effect_of(value: &Value) -> &'static str
     }
 }
 
-/// Puts after a text that a place of the home folder that is taken away stays under its other name.
+/// Appends the note that a denied place of the home directory has another name, if it has one. The
+/// denial doesn't apply to that name.
 fn push_home(alloc: Global, text: &mut String, mention: &Mention) -> Result<(), AllocError>
     ensures { OnOk result (string_bytes text.new ≡ string_bytes text.old
         ++ note_of_home mention.now.permission.list mention.now.value mention.now.permission.name) }
@@ -103,7 +106,7 @@ fn push_home(alloc: Global, text: &mut String, mention: &Mention) -> Result<(), 
     }
 }
 
-/// Puts after a text that a place of the home folder has another name.
+/// Appends the note on the other name of a place, if the place is in the home directory.
 fn push_other_home(alloc: Global, text: &mut String, name: &str) -> Result<(), AllocError>
     ensures { OnOk result (string_bytes text.new ≡ string_bytes text.old
         ++ option_map_or (home_line name.now) (home_under name.now) []) }
@@ -114,7 +117,7 @@ fn push_other_home(alloc: Global, text: &mut String, name: &str) -> Result<(), A
     }
 }
 
-/// Puts after a text that a place has another name.
+/// Appends the note that a place has another name. Escapes both names.
 fn push_both_names(
     alloc: Global,
     text: &mut String,
@@ -129,7 +132,7 @@ fn push_both_names(
     push_names(text, name.as_str(), other.as_str())
 }
 
-/// Puts after a text that a place has another name, of both as they are printed.
+/// Appends the note that a place has another name. Both names are escaped already.
 #[tactic(auto, unfolding(crate::specs::Notes::names_line))]
 fn push_names(text: &mut String, name: &str, other: &str) -> Result<(), AllocError>
     ensures { OnOk result (string_bytes text.new ≡ string_bytes text.old
@@ -141,7 +144,8 @@ fn push_names(text: &mut String, name: &str, other: &str) -> Result<(), AllocErr
     )
 }
 
-/// The other name of a place of the home folder.
+/// Returns the other name of a place in the home directory: `home` and a path for `~` and the path,
+/// and the reverse. `None` for other places.
 fn other_home(alloc: Global, name: &str) -> Result<Option<String>, AllocError>
     ensures { IfOk result (λ other. option_map string_bytes other ≡ home_under name.now) }
 {
@@ -154,7 +158,7 @@ fn other_home(alloc: Global, name: &str) -> Result<Option<String>, AllocError>
     }
 }
 
-/// What stands after `~`, where that is nothing or a path below.
+/// Returns what follows `~`, if that is empty or begins with a slash.
 fn path_of_tilde(name: &str) -> Option<&str>
     ensures { option_copied result ≡ path_in (codes "~") name.now }
 {
@@ -164,7 +168,7 @@ fn path_of_tilde(name: &str) -> Option<&str>
     }
 }
 
-/// What stands after `home`, where that is nothing or a path below.
+/// Returns what follows `home`, if that is empty or begins with a slash.
 fn path_of_home(name: &str) -> Option<&str>
     ensures { option_copied result ≡ path_in (codes "home") name.now }
 {
@@ -174,14 +178,14 @@ fn path_of_home(name: &str) -> Option<&str>
     }
 }
 
-/// A text, where it is nothing or begins with a slash.
+/// Returns a text, if it is empty or begins with a slash.
 fn path_below(path: &str) -> Option<&str>
     ensures { option_copied result ≡ below_path path.now }
 {
     if is_below(path) { Some(path) } else { None }
 }
 
-/// Whether a text is nothing or begins with a slash.
+/// Returns whether a text is empty or begins with a slash.
 fn is_below(path: &str) -> bool
     ensures { result ≡ is_path_below path.now }
 {

@@ -7,8 +7,7 @@ use fp_name::AppId;
 use std::alloc::{AllocError, Global};
 use std::marker::Model;
 
-/// The name of an override, which contracts see as its bytes: `global`, or the ID of an
-/// application.
+/// The name of an override: `global`, or the ID of an application. Contracts see its bytes.
 #[derive(Drop)]
 pub struct OverrideName {
     text: Text,
@@ -26,7 +25,7 @@ impl Model for OverrideName {
 }
 
 impl OverrideName {
-    /// The name of the override for all applications.
+    /// Returns the name of the override for all applications: `global`.
     pub fn global(alloc: Global) -> Result<OverrideName, AllocError>
         ensures { IfOk result (λ name. name ≡ codes "global") }
     {
@@ -35,7 +34,7 @@ impl OverrideName {
         })
     }
 
-    /// The name of an application's override.
+    /// Returns the name of an application's override, which is its ID.
     #[tactic(auto, using(crate::proofs::Names::id_names))]
     pub fn of_app(id: &AppId) -> Result<OverrideName, AllocError>
         ensures { IfOk result (λ name. name ≡ id.now) }
@@ -43,7 +42,7 @@ impl OverrideName {
         Ok(OverrideName { text: id.write()? })
     }
 
-    /// The name as a text.
+    /// Returns the name as a text.
     pub fn as_text(&self) -> &Text
         ensures text { result.now ≡ self.now }
         ensures good { is_override self.now ≡ true }

@@ -9,7 +9,7 @@ use crate::forms::{Form, Slot};
 use crate::values::fits;
 use std::alloc::{AllocError, Global};
 
-/// The command of the words of a command line. `BadWords` comes exactly where they are none.
+/// Reads the words of a command line as a command. Errs with `BadWords` if they are none.
 pub fn read_words(alloc: Global, words: &[String]) -> Result<Command, WordsError>
     ensures ok { IfOk result (λ command. command_of (map string_bytes words.now) ≡ Some command) }
     ensures bad { IfErr result (IsNoCommand (map string_bytes words.now)) }
@@ -22,7 +22,7 @@ pub fn read_words(alloc: Global, words: &[String]) -> Result<Command, WordsError
     }
 }
 
-/// The first of the forms that the words are of.
+/// Returns the first of the forms that the words are of.
 fn form_of(alloc: Global, forms: &[Form], words: &[String]) -> Result<Option<Form>, AllocError>
     ensures { IfOk result (λ form. form ≡ find (are_read (map string_bytes words.now)) forms.now) }
 {
@@ -34,7 +34,8 @@ fn form_of(alloc: Global, forms: &[Form], words: &[String]) -> Result<Option<For
     Ok(None)
 }
 
-/// Whether each word has its place in a form, and no place is left that needs one.
+/// Returns whether the words are of a form: each word has a place, and no place that needs a word
+/// is left.
 fn reads(alloc: Global, form: Form, words: &[String]) -> Result<bool, AllocError>
     ensures { IfOk result (λ good. good ≡ are_read (map string_bytes words.now) form) }
 {
@@ -44,7 +45,7 @@ fn reads(alloc: Global, form: Form, words: &[String]) -> Result<bool, AllocError
     }
 }
 
-/// Whether no place needs a word.
+/// Returns whether none of the places needs a word.
 fn all_repeat(slots: &[Slot]) -> bool
     ensures { result ≡ list_all may_repeat (map place_of slots.now) }
 {
@@ -56,7 +57,7 @@ fn all_repeat(slots: &[Slot]) -> bool
     true
 }
 
-/// The most words that begin one of the forms.
+/// Returns the greatest number of words, from the first on, that have places in one of the forms.
 pub(crate) fn furthest(alloc: Global, forms: &[Form], words: &[String]) -> Result<usize, AllocError>
     ensures { IfOk result (λ count. count ≡ most (map string_bytes words.now) forms.now) }
 {
@@ -70,7 +71,7 @@ pub(crate) fn furthest(alloc: Global, forms: &[Form], words: &[String]) -> Resul
     Ok(furthest)
 }
 
-/// How many words, from the first on, have places.
+/// Returns the number of words, from the first on, that have places.
 fn reach(alloc: Global, slots: &[Slot], words: &[String]) -> Result<usize, AllocError>
     ensures { IfOk result (λ count. count ≡ reach_of (map place_of slots.now)
         (map string_bytes words.now)) }
@@ -87,7 +88,8 @@ fn reach(alloc: Global, slots: &[Slot], words: &[String]) -> Result<usize, Alloc
     Ok(count)
 }
 
-/// The places that are left once each of the words has one.
+/// Returns the places that are left after each of the words took one, or `None` if a word has no
+/// place.
 pub(crate) fn left_after<'a>(
     alloc: Global,
     slots: &'a [Slot],
@@ -106,7 +108,9 @@ pub(crate) fn left_after<'a>(
     Ok(Some(left))
 }
 
-/// The places that are left once a word has one.
+/// Returns the places that are left after a word took one, or `None` if it has no place. The word
+/// takes the first place that it fits, but may skip only places for any number of words. Such a
+/// place stays after a word that fits it.
 fn left_after_word<'a>(
     alloc: Global,
     slots: &'a [Slot],

@@ -1,4 +1,4 @@
-//! Why words are of none of some forms, for a reader.
+//! Reasons, for people, why words are of none of some forms.
 ghost use Rattle.std.specs.Prelude.{◌≡◌, ◌≤◌, ◌++◌, length, IfOk, OnOk, Some, map, option_map, option_copied, flat_map, string_bytes, slice_get};
 ghost use Rattle.fl_words.specs.Forms.{place_of, fits as may_stand};
 ghost use Rattle.fl_lines.specs.Lines.{line};
@@ -12,9 +12,10 @@ use fp_base::Text;
 use fp_keyfile::cut_at_equals;
 use std::alloc::{AllocError, Global};
 
-/// Why words are no command, in lines that end with a newline. First what is wrong: with the word
-/// at the index of `BadWords`, or that one is missing there. Then how the commands are written that
-/// the words before it begin. Where the word there asks for help, it isn't blamed.
+/// Returns why words are no command, in lines that end with a newline. The first line is about the
+/// word at the index of `BadWords`: what is wrong with it, or that a word is missing there. The
+/// next ones are the usage of the commands that the words before it begin, or point to `fpk --help`
+/// if there are none. If the word at the index asks for help, the first line is left out.
 pub fn reason(alloc: Global, words: &[String]) -> Result<Text, AllocError>
     ensures { IfOk result (λ t. t ≡ reason_text (map string_bytes words.now)) }
 {
@@ -23,7 +24,7 @@ pub fn reason(alloc: Global, words: &[String]) -> Result<Text, AllocError>
     Ok(Text::from_string(text))
 }
 
-/// Puts after a text what is said of the words of a command line that are of none of the forms.
+/// Appends the reason why the words of a command line are of none of the forms.
 fn push_said(
     alloc: Global,
     text: &mut String,
@@ -42,15 +43,15 @@ fn push_said(
     }
 }
 
-/// Whether it is one of the words by which other programs are asked for help.
+/// Returns whether a word asks for help: `--help`, `-h` or `help`.
 fn asks_help(word: &str) -> bool
     ensures { result ≡ is_for_help word.now }
 {
     word == "--help" || word == "-h" || word == "help"
 }
 
-/// Puts after a text why words are of none of the forms. The program is what stands before a form
-/// in its usage.
+/// Appends the reason why words are of none of the forms. The program is the text before a form in
+/// its usage.
 pub(crate) fn push_reason(
     alloc: Global,
     text: &mut String,
@@ -65,8 +66,7 @@ pub(crate) fn push_reason(
     push_why(alloc, text, program, forms, words, index)
 }
 
-/// Puts after a text what is wrong at an index, and how the forms are written that the words before
-/// it begin.
+/// Appends what is wrong at an index, and the usage of the forms that the words before it begin.
 fn push_why(
     alloc: Global,
     text: &mut String,
@@ -83,7 +83,7 @@ fn push_why(
     push_forms(alloc, text, program, forms, words, index)
 }
 
-/// Puts after a text what is wrong at an index.
+/// Appends a line that says what is wrong at an index.
 fn push_fault(
     alloc: Global,
     text: &mut String,
@@ -103,7 +103,7 @@ fn push_fault(
     }
 }
 
-/// Puts after a text a word and what is wrong with it at a place.
+/// Appends a line that has a word, escaped, and says what is wrong with it at a place.
 fn push_word(
     alloc: Global,
     text: &mut String,
@@ -118,7 +118,7 @@ fn push_word(
     write!(text, "'{word}' {fault}\n")
 }
 
-/// Puts after a text that a word is missing at a place.
+/// Appends a line that says what is missing at a place.
 fn push_missing(text: &mut String, slot: Option<&Slot>) -> Result<(), AllocError>
     ensures { OnOk result (string_bytes text.new ≡ string_bytes text.old
         ++ line (missing_at (option_map (λ s. place_of s.now) slot.entry))) }
@@ -132,8 +132,8 @@ fn push_missing(text: &mut String, slot: Option<&Slot>) -> Result<(), AllocError
     }
 }
 
-/// What stands at an index, by the first form that has a place there and that the words before it
-/// begin.
+/// Returns the place of the word at an index, in the first form that the words before it begin and
+/// that has a place there.
 fn slot_wanted(
     alloc: Global,
     forms: &[Form],
@@ -152,8 +152,8 @@ fn slot_wanted(
     Ok(None)
 }
 
-/// What stands first of the places of a form that are left for the word at an index, where the
-/// words before it begin the form.
+/// Returns the first place of a form that is left for the word at an index, or `None` if the words
+/// before it don't begin the form or leave no place.
 fn slot_begun(
     alloc: Global,
     form: Form,
@@ -170,8 +170,8 @@ fn slot_begun(
     }
 }
 
-/// The places of a form that are left once each of this number of words, from the first on, has
-/// one.
+/// Returns the places of a form that are left after this number of words, from the first on, took
+/// one each, or `None` if one of these words has no place.
 fn places_left(
     alloc: Global,
     form: Form,
@@ -185,7 +185,7 @@ fn places_left(
     left_after(alloc, form.slots(), &words[..count])
 }
 
-/// Whether each of this number of words, from the first on, has a place of a form.
+/// Returns whether each of this number of words, from the first on, has a place in a form.
 fn begins(alloc: Global, form: Form, words: &[String], count: usize) -> Result<bool, AllocError>
     requires { count ≤ length words.now }
     ensures { IfOk result (λ b. b ≡ does_begin (map string_bytes words.now) count form) }
@@ -193,7 +193,7 @@ fn begins(alloc: Global, form: Form, words: &[String], count: usize) -> Result<b
     Ok(places_left(alloc, form, words, count)?.is_some())
 }
 
-/// What is wrong with a word that may not stand at a place, or that has none.
+/// Returns what is wrong with a word that doesn't fit its place, or that has no place.
 fn fault_of(alloc: Global, slot: Option<&Slot>, word: &str) -> Result<&'static str, AllocError>
     ensures { IfOk result (λ t. t.now
         ≡ fault_at (option_map (λ s. place_of s.now) slot.entry) word.now) }
@@ -204,7 +204,7 @@ fn fault_of(alloc: Global, slot: Option<&Slot>, word: &str) -> Result<&'static s
     }
 }
 
-/// What is wrong with a word that may not stand at a place.
+/// Returns what is wrong with a word that doesn't fit its place.
 fn fault_at_slot(alloc: Global, slot: &Slot, word: &str) -> Result<&'static str, AllocError>
     ensures { IfOk result (λ t. t.now ≡ fault_at (Some (place_of slot.now)) word.now) }
 {
@@ -214,7 +214,8 @@ fn fault_at_slot(alloc: Global, slot: &Slot, word: &str) -> Result<&'static str,
     }
 }
 
-/// What the option of a word needs that may not stand at a place.
+/// Returns what the option in a word needs after its name, or `None` if the word has no name of an
+/// option that may be at the place.
 fn need_of(alloc: Global, slot: &Slot, word: &str) -> Result<Option<&'static str>, AllocError>
     ensures { IfOk result (λ need. option_copied need ≡ need_at (place_of slot.now) word.now) }
 {
@@ -226,7 +227,7 @@ fn need_of(alloc: Global, slot: &Slot, word: &str) -> Result<Option<&'static str
     }
 }
 
-/// The name of an option, which ends at the first `=`.
+/// Returns the part of a word before the first `=`, or the whole word if it has none.
 fn option_name(word: &str) -> &str
     ensures { result.now ≡ name_of_option word.now }
 {
@@ -236,8 +237,8 @@ fn option_name(word: &str) -> &str
     }
 }
 
-/// What an option of this name needs after it, where the name is that of one: of these values each
-/// option takes one.
+/// Returns what an option needs after its name, or `None` if the name is that of no option. It
+/// tries four values, one for each kind of option.
 fn need_named(alloc: Global, slot: &Slot, name: &str) -> Result<Option<&'static str>, AllocError>
     ensures { IfOk result (λ need. option_copied need
         ≡ need_by_name (place_of slot.now) name.now) }
@@ -255,7 +256,7 @@ fn need_named(alloc: Global, slot: &Slot, name: &str) -> Result<Option<&'static 
     })
 }
 
-/// Whether a name with this value after it may stand at a place.
+/// Returns whether a name with this value after it may be at a place.
 fn fits_after(alloc: Global, slot: &Slot, name: &str, value: &str) -> Result<bool, AllocError>
     ensures { IfOk result (λ good. good ≡ may_stand (place_of slot.now) (name.now ++ value.now)) }
 {
@@ -263,7 +264,7 @@ fn fits_after(alloc: Global, slot: &Slot, name: &str, value: &str) -> Result<boo
     fits(alloc, slot, word.as_str())
 }
 
-/// What a word is not, which may not stand at a place.
+/// Returns the statement that a word isn't what a place takes.
 fn misfit_of(alloc: Global, slot: &Slot, word: &str) -> Result<&'static str, AllocError>
     ensures { IfOk result (λ t. t.now ≡ misfit_at (place_of slot.now) word.now) }
 {
@@ -291,8 +292,8 @@ fn misfit_of(alloc: Global, slot: &Slot, word: &str) -> Result<&'static str, All
     })
 }
 
-/// Puts after a text how the forms are written that this number of words begin, or where the way
-/// to all of them is.
+/// Appends the usage of the forms that this number of words begin. If the number is 0, it appends a
+/// line that points to `fpk --help` instead.
 fn push_forms(
     alloc: Global,
     text: &mut String,
@@ -312,7 +313,7 @@ fn push_forms(
     }
 }
 
-/// Puts after a text the usage of the forms that this number of words begin.
+/// Appends the usage of the forms that this number of words begin.
 fn push_usages(
     alloc: Global,
     text: &mut String,
@@ -331,7 +332,7 @@ fn push_usages(
     Ok(())
 }
 
-/// Puts after a text the usage of a form, where this number of words begin it.
+/// Appends the usage of a form, if this number of words begin it.
 fn push_if_begun(
     alloc: Global,
     text: &mut String,
@@ -351,7 +352,7 @@ fn push_if_begun(
     }
 }
 
-/// Puts after a text the usage of a form.
+/// Appends the usage of a form.
 fn push_usage(text: &mut String, program: &str, form: Form) -> Result<(), AllocError>
     ensures { OnOk result (string_bytes text.new ≡ string_bytes text.old
         ++ usage_text program.now form) }
@@ -362,7 +363,7 @@ fn push_usage(text: &mut String, program: &str, form: Form) -> Result<(), AllocE
     text.push('\n')
 }
 
-/// Puts after a text what stands at each place, each after a space.
+/// Appends the name of each place, with a space before it.
 pub(crate) fn push_places(text: &mut String, slots: &[Slot]) -> Result<(), AllocError>
     ensures { OnOk result (string_bytes text.new ≡ string_bytes text.old
         ++ flat_map named_place (map place_of slots.now)) }
@@ -374,7 +375,7 @@ pub(crate) fn push_places(text: &mut String, slots: &[Slot]) -> Result<(), Alloc
     Ok(())
 }
 
-/// What stands at a place, as usage has it.
+/// Returns the name of a place in usages.
 fn name_of(slot: &Slot) -> &str
     ensures { result.now ≡ place_name (place_of slot.now) }
 {

@@ -9,7 +9,7 @@ use gv_value::{GvType, TypeError};
 use std::alloc::Global;
 use std::marker::Model;
 
-/// A type of GVariant, which contracts see as its type string.
+/// A GVariant type. Contracts see its type string.
 #[derive(Drop)]
 pub struct ValueType {
     of: GvType,
@@ -29,8 +29,7 @@ impl Model for ValueType {
 }
 
 impl ValueType {
-    /// The type that a type string stands for. `Bad` comes exactly where it is not one type, nested
-    /// at most 64 deep.
+    /// Parses a type string. Errs with `Bad` if it isn't that of one type, nested at most 64 deep.
     pub fn parse(alloc: Global, text: &[u8]) -> Result<ValueType, NameError>
         ensures ok { IfOk result (λ t. t ≡ text.now) }
         ensures good { OnOk result (is_type_text text.now ≡ true) }
@@ -43,7 +42,7 @@ impl ValueType {
         }
     }
 
-    /// The type as GVariant has it.
+    /// Returns the type.
     #[tactic(auto, using(gv_value::proofs::TypeLaws::type_back))]
     pub fn as_type(&self) -> &GvType
         ensures { type_of self.now ≡ Some (shape_of result.now) }

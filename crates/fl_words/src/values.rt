@@ -1,4 +1,4 @@
-//! What stands at the places of a command line.
+//! The values of the words at the places of a command line.
 ghost use Rattle.std.specs.Prelude.{◌≡◌, ◌++◌, ◌∷◌, [], Ok, IfOk, IfErr, OnOk, take, drop, map, string_bytes, codes};
 ghost use Rattle.fl_words.specs.Forms.{place_of, fits as may_stand, word_at as text_at, remote_in as remote_of, last_place, pattern, remote, url, ref_name, app, app_id, type_string, from_app, app_count};
 ghost use Rattle.fl_words.specs.declared.command.Change.TheVariants.{OverrideChange};
@@ -17,7 +17,7 @@ use fp_name::{AppId, NameError, PinPattern, RefKind, RefName, RemoteName, Remote
 use fp_small::RemoteRow;
 use std::alloc::{AllocError, Global};
 
-/// Whether a word may stand at a place.
+/// Returns whether a word may be at a place.
 pub fn fits(alloc: Global, slot: &Slot, word: &str) -> Result<bool, AllocError>
     ensures { IfOk result (λ good. good ≡ may_stand (place_of slot.now) word.now) }
 {
@@ -38,7 +38,7 @@ pub fn fits(alloc: Global, slot: &Slot, word: &str) -> Result<bool, AllocError>
     }
 }
 
-/// Whether a word is `--from=` and a ref of an application.
+/// Returns whether a word is `--from=` and a ref of an application.
 fn is_from_app(alloc: Global, word: &str) -> Result<bool, AllocError>
     ensures { IfOk result (λ good. good ≡ may_stand from_app word.now) }
 {
@@ -48,7 +48,7 @@ fn is_from_app(alloc: Global, word: &str) -> Result<bool, AllocError>
     }
 }
 
-/// Whether a word is a ref of an application.
+/// Returns whether a word is a ref of an application.
 fn is_app(alloc: Global, word: &str) -> Result<bool, AllocError>
     ensures { IfOk result (λ good. good ≡ may_stand app word.now) }
 {
@@ -59,7 +59,7 @@ fn is_app(alloc: Global, word: &str) -> Result<bool, AllocError>
     }
 }
 
-/// Whether a word was read.
+/// Returns whether parsing succeeded. Errs only if memory ran out.
 fn is_read<T: Drop>(read: Result<T, NameError>) -> Result<bool, AllocError>
     ensures { IfOk result (IsReadBy read) }
 {
@@ -70,7 +70,7 @@ fn is_read<T: Drop>(read: Result<T, NameError>) -> Result<bool, AllocError>
     }
 }
 
-/// The word at a place, or an empty one after the last.
+/// Returns the word at a place, counted from 0, or an empty one if there is none.
 pub(crate) fn word_at(words: &[String], place: usize) -> &str
     ensures { result.now ≡ text_at place (map string_bytes words.now) }
 {
@@ -80,7 +80,7 @@ pub(crate) fn word_at(words: &[String], place: usize) -> &str
     }
 }
 
-/// The pattern at a place.
+/// Parses the word at a place as the pattern of a pin. Errs with `BadWords` only if it is none.
 pub(crate) fn pattern_at(
     alloc: Global,
     words: &[String],
@@ -92,7 +92,7 @@ pub(crate) fn pattern_at(
     placed(PinPattern::parse(alloc, word_at(words, place).as_bytes()))
 }
 
-/// The name of a remote at a place.
+/// Parses the word at a place as the name of a remote. Errs with `BadWords` only if it is none.
 pub(crate) fn name_at(
     alloc: Global,
     words: &[String],
@@ -104,7 +104,7 @@ pub(crate) fn name_at(
     placed(RemoteName::parse(alloc, word_at(words, place).as_bytes()))
 }
 
-/// The URL at a place.
+/// Parses the word at a place as the URL of a remote. Errs with `BadWords` only if it is none.
 fn url_at(alloc: Global, words: &[String], place: usize) -> Result<RemoteUrl, WordsError>
     ensures ok { IfOk result (λ u. u ≡ text_at place (map string_bytes words.now)) }
     ensures bad { IfErr result (IsMisplaced url (text_at place (map string_bytes words.now))) }
@@ -112,7 +112,7 @@ fn url_at(alloc: Global, words: &[String], place: usize) -> Result<RemoteUrl, Wo
     placed(RemoteUrl::parse(alloc, word_at(words, place).as_bytes()))
 }
 
-/// The ref at a place.
+/// Parses the word at a place as a ref. Errs with `BadWords` only if it is none.
 #[tactic(auto, using(crate::proofs::RefTexts::is_read, crate::proofs::RefTexts::is_none))]
 pub(crate) fn ref_at(alloc: Global, words: &[String], place: usize) -> Result<RefName, WordsError>
     ensures ok { IfOk result (λ name. name ≡ ref_of_text
@@ -122,7 +122,8 @@ pub(crate) fn ref_at(alloc: Global, words: &[String], place: usize) -> Result<Re
     placed(RefName::parse(alloc, word_at(words, place).as_bytes()))
 }
 
-/// The ref after `--from=` at a place.
+/// Parses what follows `--from=` in the word at a place as a ref. Errs with `BadWords` only if the
+/// word isn't `--from=` and a ref of an application.
 pub(crate) fn from_at(alloc: Global, words: &[String], place: usize) -> Result<RefName, WordsError>
     ensures ok { IfOk result (λ name. name ≡ ref_of_text
         (drop 7 (text_at place (map string_bytes words.now)))) }
@@ -134,7 +135,8 @@ pub(crate) fn from_at(alloc: Global, words: &[String], place: usize) -> Result<R
     }
 }
 
-/// The ID at a place, which names an application's override.
+/// Parses the word at a place as an application's ID, and returns it as the name of the
+/// application's override. Errs with `BadWords` only if it is none.
 pub(crate) fn id_at(alloc: Global, words: &[String], place: usize) -> Result<Text, WordsError>
     ensures ok { IfOk result (λ id. id ≡ text_at place (map string_bytes words.now)) }
     ensures bad { IfErr result (IsMisplaced app_id (text_at place (map string_bytes words.now))) }
@@ -143,7 +145,8 @@ pub(crate) fn id_at(alloc: Global, words: &[String], place: usize) -> Result<Tex
     Ok(id.write()?)
 }
 
-/// The name of an application's override, whose ID stands at a place.
+/// Parses the word at a place as an application's ID, and returns the name of the application's
+/// override. Errs with `BadWords` only if it is none.
 pub(crate) fn override_at(
     alloc: Global,
     words: &[String],
@@ -156,14 +159,14 @@ pub(crate) fn override_at(
     Ok(OverrideName::of_app(&id)?)
 }
 
-/// The name of the override for all applications.
+/// Returns the name of the override for all applications: `global`.
 pub(crate) fn global_name(alloc: Global) -> Result<Text, AllocError>
     ensures { IfOk result (λ name. name ≡ codes "global") }
 {
     Text::from_str(alloc, "global")
 }
 
-/// The words from a place on.
+/// Returns the words from a place on.
 fn words_from(words: &[String], place: usize) -> &[String]
     ensures { map string_bytes result.now ≡ drop place (map string_bytes words.now) }
 {
@@ -174,7 +177,7 @@ fn words_from(words: &[String], place: usize) -> &[String]
     }
 }
 
-/// The words from a place on as texts.
+/// Returns copies of the words from the index `place` on.
 pub(crate) fn texts_from(
     alloc: Global,
     words: &[String],
@@ -190,7 +193,7 @@ pub(crate) fn texts_from(
     Ok(Items::from_vec(texts))
 }
 
-/// Puts a copy of a text after the others.
+/// Appends a copy of a text to a list.
 fn add_text(alloc: Global, texts: &mut Vec<Text>, text: &str) -> Result<(), AllocError>
     ensures { OnOk result (texts.new.items ≡ texts.old.items ++ text.now ∷ []) }
 {
@@ -199,8 +202,8 @@ fn add_text(alloc: Global, texts: &mut Vec<Text>, text: &str) -> Result<(), Allo
     Ok(())
 }
 
-/// The change of an application's override, whose ID is the last word, by the options between it
-/// and the first word.
+/// Returns the change of an application's override: its ID is the last word, and the options are
+/// the words between that and the first one. Errs with `BadWords` only if the last word is no ID.
 pub(crate) fn app_override(alloc: Global, words: &[String]) -> Result<Change, WordsError>
     ensures ok { IfOk result (λ change. change ≡ OverrideChange
         (text_at (last_place (map string_bytes words.now)) (map string_bytes words.now))
@@ -214,7 +217,7 @@ pub(crate) fn app_override(alloc: Global, words: &[String]) -> Result<Change, Wo
     Ok(Change::OverrideChange { name, options })
 }
 
-/// The type at a place.
+/// Parses the word at a place as a type string. Errs with `BadWords` only if it is none.
 pub(crate) fn type_at(
     alloc: Global,
     words: &[String],
@@ -227,7 +230,8 @@ pub(crate) fn type_at(
     placed(ValueType::parse(alloc, word_at(words, place).as_bytes()))
 }
 
-/// The number of applications at a place.
+/// Parses the word at a place as the number of an exercise's applications. Errs with `BadWords`
+/// only if it is none.
 pub(crate) fn count_at(
     alloc: Global,
     words: &[String],
@@ -241,7 +245,8 @@ pub(crate) fn count_at(
     placed(AppCount::parse(alloc, word_at(words, place)))
 }
 
-/// The remote whose name and URL stand after the first word.
+/// Parses the second word as the name of a remote, and the third as its URL. Errs with `BadWords`
+/// only if one of them is none.
 pub(crate) fn remote_in(alloc: Global, words: &[String]) -> Result<RemoteRow, WordsError>
     ensures ok { IfOk result (λ row. row ≡ remote_of (map string_bytes words.now)) }
     ensures bad { IfErr result (IsRemoteMisplaced (map string_bytes words.now)) }
@@ -251,7 +256,8 @@ pub(crate) fn remote_in(alloc: Global, words: &[String]) -> Result<RemoteRow, Wo
     Ok(RemoteRow { name, url })
 }
 
-/// What was read at a place.
+/// Returns the parsed value. Errs with `BadWords` if the word was bad, and with `NoMemory` if
+/// memory ran out.
 fn placed<T: Drop>(read: Result<T, NameError>) -> Result<T, WordsError>
     ensures ok { IfOk result (λ value. read ≡ Ok value) }
     ensures bad { IfErr result (IsUnread read) }

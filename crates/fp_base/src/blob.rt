@@ -1,10 +1,10 @@
-//! Bytes that contracts see as a list.
+//! A vector of bytes that contracts see as a plain list.
 ghost use Rattle.std.specs.Prelude.{◌≡◌, ◌↔◌, [], IfOk, IsTrue, length};
 
 use std::alloc::{AllocError, Global};
 use std::marker::Model;
 
-/// Bytes, which contracts see as a list.
+/// A vector of bytes. Contracts see it as a plain list.
 #[derive(Debug, Drop)]
 pub struct Blob {
     inner: Vec<u8>,
@@ -19,21 +19,21 @@ impl Model for Blob {
 }
 
 impl Blob {
-    /// The bytes of a vector, which takes no memory.
+    /// Takes over a vector's bytes. Allocates nothing.
     pub fn from_vec(bytes: Vec<u8>) -> Self
         ensures { result ≡ bytes.items }
     {
         Blob { inner: bytes }
     }
 
-    /// The vector again, which takes no memory.
+    /// Returns the bytes as a vector. Allocates nothing.
     pub fn into_vec(self) -> Vec<u8>
         ensures { result.items ≡ self }
     {
         self.inner
     }
 
-    /// A copy of bytes.
+    /// Copies a slice. Errs if memory runs out.
     pub fn from_slice(alloc: Global, bytes: &[u8]) -> Result<Self, AllocError>
         ensures { IfOk result (λ copy. copy ≡ bytes.now) }
     {
@@ -42,28 +42,28 @@ impl Blob {
         })
     }
 
-    /// The bytes as a slice.
+    /// Returns the bytes as a slice.
     pub fn as_slice(&self) -> &[u8]
         ensures { result.now ≡ self.now }
     {
         &self.inner
     }
 
-    /// How many bytes there are.
+    /// Returns the number of bytes.
     pub fn len(&self) -> usize
         ensures { result ≡ length self.now }
     {
         self.inner.len()
     }
 
-    /// Whether there is none.
+    /// Returns whether there are no bytes.
     pub fn is_empty(&self) -> bool
         ensures { IsTrue result ↔ (self.now ≡ []) }
     {
         self.inner.is_empty()
     }
 
-    /// The same bytes once more.
+    /// Returns a copy. Errs if memory runs out.
     pub fn copy(&self) -> Result<Self, AllocError>
         ensures { IfOk result (λ b. b ≡ self.now) }
     {

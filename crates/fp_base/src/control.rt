@@ -2,7 +2,7 @@
 ghost use Rattle.std.specs.Prelude.{◌≡◌};
 ghost use Rattle.fp_base.specs.Parts.{is_control};
 
-/// Whether a byte is a control character: below 0x20, or 0x7f.
+/// Returns whether a byte is an ASCII control character: below 0x20, or 0x7f.
 pub fn is_control(byte: u8) -> bool
     ensures { result ≡ is_control byte }
 {

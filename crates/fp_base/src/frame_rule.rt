@@ -1,12 +1,13 @@
-//! The rules of D-Bus messages.
+//! The rules of D-Bus messages (D-Bus specification, "Message Protocol").
 
 use std::fmt;
 
-/// A rule of a message, in the order in which the rules are tried: those of the first 16 bytes,
-/// then for each field `Fields` to `Value`, then the rest.
+/// The rule that a D-Bus message breaks (D-Bus specification, "Message Format"). The variants are
+/// in the order in which the rules are checked: first those of the first 16 bytes (`Order` to
+/// `Length`), then, for each header field, `Fields` to `Value`, then the rest.
 #[derive(Clone, Copy, Debug, PartialEq, Eq)]
 pub enum FrameRule {
-    /// The first byte is neither `l` nor `B`.
+    /// The first byte, the byte order, is neither `l` (little-endian) nor `B` (big-endian).
     Order,
     /// The message type is 0.
     ZeroType,
@@ -14,23 +15,25 @@ pub enum FrameRule {
     Version,
     /// The serial is 0.
     Serial,
-    /// The field array is longer than 2^26 bytes, or the message longer than 16 MiB.
+    /// The array of header fields is longer than 64 MiB (2^26 bytes), or the message longer than 16
+    /// MiB.
     Length,
-    /// What stands at a field's place isn't a code and a variant.
+    /// An element of the header fields' array isn't a code and a variant.
     Fields,
-    /// A field's code is 0.
+    /// A header field's code is 0.
     Code,
-    /// A known field comes again.
+    /// A known header field occurs twice.
     Double,
-    /// A known field has another type than its own.
+    /// A known header field doesn't have its type.
     Kind,
-    /// A name, path or signature isn't valid, or the reply serial is 0.
+    /// The value of a known header field isn't valid: a name, path or signature is outside its
+    /// grammar, or the reply serial is 0.
     Value,
-    /// A byte between the field array and the body isn't zero.
+    /// A padding byte between the header fields and the body isn't zero.
     Padding,
-    /// A field that messages of this type need isn't there.
+    /// A header field that this message type requires is missing.
     Required,
-    /// There is a body, and no signature for it.
+    /// There is a body, but the header field with its signature is missing or empty.
     Body,
     /// The stream ends within a message.
     Cut,

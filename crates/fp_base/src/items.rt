@@ -1,4 +1,4 @@
-//! A list that contracts see as one.
+//! A vector that contracts see as a plain list.
 ghost use Rattle.std.specs.Prelude.{◌≡◌, ◌<◌, ◌++◌, ◌∷◌, ◌==◌, [], length, slice_set, slice_index_or, OnOk, OnErr};
 ghost use Rattle.std.specs.Borrow.{Lends, sem};
 ghost use Rattle.fp_base.specs.contracts.items.Items.{the_row};
@@ -7,7 +7,7 @@ ghost use Rattle.std.specs.List.{remove};
 use std::alloc::{AllocError, Global};
 use std::marker::Model;
 
-/// Items in order, which contracts see as a list.
+/// A vector. Contracts see it as a plain list.
 #[derive(Drop)]
 pub struct Items<T> {
     inner: Vec<T>,
@@ -22,7 +22,7 @@ impl<T> Model for Items<T> {
 }
 
 impl<T> Items<T> {
-    /// No items, which takes no memory.
+    /// Creates an empty list. Allocates nothing.
     pub fn new(alloc: Global) -> Self
         ensures { result ≡ [] }
     {
@@ -31,40 +31,40 @@ impl<T> Items<T> {
         }
     }
 
-    /// The items of a vector, which takes no memory.
+    /// Takes over a vector's items. Allocates nothing.
     pub fn from_vec(items: Vec<T>) -> Self
         ensures { result ≡ items.items }
     {
         Items { inner: items }
     }
 
-    /// The vector again, which takes no memory.
+    /// Returns the items as a vector. Allocates nothing.
     pub fn into_vec(self) -> Vec<T>
         ensures { result.items ≡ self }
     {
         self.inner
     }
 
-    /// What the list takes its memory from.
+    /// Returns the list's allocator.
     pub fn allocator(&self) -> Global {
         *self.inner.allocator()
     }
 
-    /// How many items there are.
+    /// Returns the number of items.
     pub fn len(&self) -> usize
         ensures { result ≡ length self.now }
     {
         self.inner.len()
     }
 
-    /// Whether there is none.
+    /// Returns whether the list is empty.
     pub fn is_empty(&self) -> bool
         ensures { result ≡ (length self.now == 0) }
     {
         self.inner.is_empty()
     }
 
-    /// The items as a slice.
+    /// Returns the items as a slice.
     pub fn as_slice(&self) -> &[T]
         ensures { result.now ≡ self.now }
     {
@@ -73,7 +73,7 @@ impl<T> Items<T> {
 }
 
 impl<T: Drop> Items<T> {
-    /// Puts an item at the end. Where there is no memory the list is as before.
+    /// Appends an item. Errs if memory runs out; the list is then unchanged.
     pub fn push(&mut self, item: T) -> Result<(), AllocError>
         ensures ok { OnOk result (self.new ≡ self.old ++ item ∷ []) }
         ensures err { OnErr result (self.new ≡ self.old) }
@@ -82,7 +82,7 @@ impl<T: Drop> Items<T> {
         Ok(())
     }
 
-    /// Puts an item in the place of the one at this index, which takes no memory.
+    /// Replaces the item at this index. Allocates nothing.
     pub fn set(&mut self, at: usize, item: T)
         requires { at < length self.old }
         ensures { self.new ≡ slice_set self.old at item }
@@ -90,7 +90,7 @@ impl<T: Drop> Items<T> {
         self.inner[at] = item;
     }
 
-    /// The item at this index, to be changed in its place.
+    /// Returns a mutable reference to the item at this index.
     pub fn at_mut(&mut self, at: usize) -> &mut T
         requires { at < length self.old }
         ensures* writes_back { sem 𝓛 (Lends (the_row T.row) T.row self.entry result
@@ -100,7 +100,8 @@ impl<T: Drop> Items<T> {
         &mut self.inner[at]
     }
 
-    /// Takes the item at this index out, which takes no memory.
+    /// Removes the item at this index, moves the items after it one place down, and returns it.
+    /// Allocates nothing.
     pub fn remove(&mut self, at: usize) -> T
         requires { at < length self.old }
         ensures value { result ≡ slice_index_or self.old at result }

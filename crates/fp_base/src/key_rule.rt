@@ -1,19 +1,20 @@
-//! The rules of key files.
+//! The rules of key files (Desktop Entry Specification, "Basic format of the file").
 
 use std::fmt;
 
-/// The rule that a line breaks. Where a line breaks several, it is the first of them in this order.
+/// The rule that a line of a key file breaks. If a line breaks several, it is the first of them in
+/// the order of the variants.
 #[derive(Clone, Copy, Debug, PartialEq, Eq)]
 pub enum KeyRule {
     /// The line isn't valid UTF-8, or has a zero byte.
     Text,
-    /// It begins with `[` and isn't a group.
+    /// The line begins with `[` and isn't a group header.
     Group,
-    /// It is neither blank, a comment nor a group, and has no `=`.
+    /// The line is neither blank, a comment nor a group header, and has no `=`.
     Line,
-    /// What stands before `=` is no key.
+    /// The text before `=` isn't a valid key.
     Key,
-    /// A pair stands before any group.
+    /// A key-value pair comes before the first group header.
     NoGroup,
 }
 

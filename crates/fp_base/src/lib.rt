@@ -1,4 +1,5 @@
-//! What every crate of fpk speaks with: texts, bytes and lists, and the words that are printed.
+//! The types that every crate of fpk uses: texts, bytes, lists, and the kinds and rules that
+//! refusals name.
 #![tactic(auto)]
 
 mod blob;

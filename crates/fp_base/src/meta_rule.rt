@@ -1,13 +1,13 @@
-//! The rules of metadata files.
+//! The rules of Flatpak's `metadata` files (flatpak-metadata(5)).
 
 use crate::KeyRule;
 use std::fmt;
 
-/// The rule that a metadata file breaks. Where it breaks several, it is the first of them in this
-/// order. They belong to no line of the file.
+/// The rule that a `metadata` file breaks (flatpak-metadata(5)). If it breaks several, it is the
+/// first of them in the order of the variants. None of them concerns a single line of the file.
 #[derive(Clone, Copy, Debug, PartialEq, Eq)]
 pub enum MetaRule {
-    /// There is no such file, or it is none that is read.
+    /// The file is missing or isn't a regular file; in a deployment, also if it is too long.
     Absent,
     /// An application has no group `Application`, or a runtime no group `Runtime`.
     Group,
@@ -31,11 +31,11 @@ impl fmt::Display for MetaRule {
     }
 }
 
-/// A rule of a metadata file: of its form as a key file, or of what it has to say.
+/// A rule of a `metadata` file: of its form as a key file, or of its content.
 #[derive(Clone, Copy, Debug, PartialEq, Eq)]
 pub enum MetadataRule {
-    /// The line of the fault breaks this rule of key files.
+    /// A line breaks this rule of key files.
     Key(KeyRule),
-    /// The file breaks this rule of metadata.
+    /// The content breaks this rule of metadata.
     Meta(MetaRule),
 }

@@ -1,23 +1,23 @@
-//! The kinds of a repository's objects.
+//! The kinds of objects in an OSTree repository.
 ghost use Rattle.std.specs.Prelude.{◌≡◌};
 ghost use Rattle.fp_base.specs.Objects.{kind_text};
 
-/// The kinds of objects (OSTree, "Anatomy of an OSTree repository").
+/// The kind of an object (OSTree, "Anatomy of an OSTree repository").
 #[derive(Clone, Copy, Debug, PartialEq, Eq, PartialOrd, Ord)]
 pub enum ObjKind {
-    /// A commit: its root directory, its parent, its subject, its time.
+    /// A commit: the digests of its root directory and its parent, its subject, its time.
     Commit,
-    /// The names in a directory, with their digests.
+    /// A directory's entries: their names and digests.
     DirTree,
-    /// The owner and the mode of a directory.
+    /// A directory's owner, mode and extended attributes.
     DirMeta,
-    /// A file or a symbolic link.
+    /// A regular file or a symbolic link.
     File,
 }
 
 impl ObjKind {
-    /// The word with which the names of the kind's objects end: `commit`, `dirtree`, `dirmeta` or
-    /// `file`. Takes no memory.
+    /// Returns the file extension of the kind's objects in a repository: `commit`, `dirtree`,
+    /// `dirmeta` or `file`. Allocates nothing.
     pub fn word(self) -> &'static str
         ensures { result.now ≡ kind_text self }
     {

@@ -1,4 +1,4 @@
-//! The parts of lines: what a byte separates, and hexadecimal.
+//! Splitting of lines at a byte, and decoding of hexadecimal.
 ghost use Rattle.std.specs.Prelude.{◌≡◌, ◌==◌, IfOk};
 ghost use Rattle.std.specs.List.{list_all, position};
 ghost use Rattle.fp_base.specs.Steps.{Gives};
@@ -7,14 +7,15 @@ ghost use Rattle.fp_base.specs.Parts.{parts_at, is_lower_digit, hex_in};
 use hex::FromHexError;
 use std::alloc::{AllocError, Global};
 
-/// The place of the first such byte.
+/// Returns the index of the first occurrence of a byte.
 fn place_of_first(byte: u8, bytes: &[u8]) -> Option<usize>
     ensures { result ≡ position (λ b. b == byte) bytes.now }
 {
     bytes.iter().position(|b| *b == byte)
 }
 
-/// What stands before the first such byte, and what stands after it.
+/// Splits bytes at the first occurrence of a byte. Returns the parts before it and after it, or
+/// `None` if the byte doesn't occur.
 #[tactic(auto, unfolding(crate::specs::Parts::parts_at))]
 pub fn cut(byte: u8, bytes: &[u8]) -> Option<(&[u8], &[u8])>
     ensures { Gives (λ p. (p.0.now, p.1.now)) result (parts_at byte bytes.now) }
@@ -35,7 +36,8 @@ fn are_lower_hex_digits(text: &[u8]) -> bool
     text.iter().all(|digit| is_lower_hex_digit(*digit))
 }
 
-/// The bytes that lower-case hexadecimal writes, one or more; None for any other text.
+/// Decodes lower-case hexadecimal of one byte or more. Returns `None` for any other text, the empty
+/// one included. Errs if memory runs out.
 #[tactic(auto, unfolding(crate::specs::Parts::hex_in))]
 pub fn bytes_of_hex(alloc: Global, text: &[u8]) -> Result<Option<Vec<u8>>, AllocError>
     ensures { IfOk result (λ found. Gives (λ v. v.items) found (hex_in text.now)) }

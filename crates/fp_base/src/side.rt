@@ -1,13 +1,13 @@
-//! The two sides of a bus.
+//! The two sides of a D-Bus connection.
 
 use std::fmt;
 
-/// Which side sent.
+/// The side of a D-Bus connection that sent a message.
 #[derive(Clone, Copy, Debug, PartialEq, Eq)]
 pub enum Side {
-    /// The client.
+    /// The client, an application.
     Client,
-    /// The bus.
+    /// The message bus.
     Bus,
 }
 

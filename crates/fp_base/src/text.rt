@@ -1,4 +1,4 @@
-//! A text that contracts see as its bytes.
+//! A string that contracts see as its bytes.
 ghost use Rattle.std.specs.Prelude.{◌≡◌, Some, IfOk, string_bytes, refl};
 ghost use Rattle.std.specs.Ordering.{nat_cmp};
 ghost use Rattle.std.specs.Cmp.Lexicographic.{slice_cmp};
@@ -11,8 +11,7 @@ use std::alloc::{AllocError, Global};
 use std::cmp::Ordering;
 use std::marker::Model;
 
-/// A text in UTF-8, which contracts see as its bytes. Texts are equal and ordered as their bytes
-/// are.
+/// A string in UTF-8. Contracts see it as its bytes. Texts are compared by their bytes.
 #[derive(Debug, Drop)]
 pub struct Text {
     inner: String,
@@ -27,21 +26,21 @@ impl Model for Text {
 }
 
 impl Text {
-    /// The text of a string, which takes no memory.
+    /// Takes over a string. Allocates nothing.
     pub fn from_string(text: String) -> Self
         ensures { result ≡ string_bytes text }
     {
         Text { inner: text }
     }
 
-    /// The string again, which takes no memory.
+    /// Returns the string. Allocates nothing.
     pub fn into_string(self) -> String
         ensures { string_bytes result ≡ self }
     {
         self.inner
     }
 
-    /// A copy of a text.
+    /// Copies a string slice. Errs if memory runs out.
     pub fn from_str(alloc: Global, text: &str) -> Result<Self, AllocError>
         ensures { IfOk result (λ t. t ≡ text.now) }
     {
@@ -50,14 +49,14 @@ impl Text {
         })
     }
 
-    /// The text as a slice.
+    /// Returns the text as a string slice.
     pub fn as_str(&self) -> &str
         ensures { result.now ≡ self.now }
     {
         &self.inner
     }
 
-    /// The same text once more.
+    /// Returns a copy. Errs if memory runs out.
     pub fn copy(&self) -> Result<Self, AllocError>
         ensures { IfOk result (λ t. t ≡ self.now) }
     {
@@ -66,7 +65,7 @@ impl Text {
         })
     }
 
-    /// What the text takes its memory from.
+    /// Returns the text's allocator.
     pub fn allocator(&self) -> Global {
         *self.inner.allocator()
     }

@@ -1,26 +1,26 @@
-//! What has a limit.
+//! The things that have a limit.
 
-/// What has a limit.
+/// The thing whose limit was exceeded.
 #[derive(Clone, Copy, Debug, PartialEq, Eq)]
 pub enum What {
-    /// The pins of an installation.
+    /// The number of an installation's pins.
     Pins,
-    /// The remotes of an installation.
+    /// The number of an installation's remotes.
     Remotes,
-    /// The refs that are deployed.
+    /// The number of deployed refs.
     Refs,
-    /// The standard input, in bytes.
+    /// The bytes of the standard input.
     Input,
-    /// A file of a repository, in bytes.
+    /// The bytes of a file in a repository.
     Object,
-    /// A commit, a dirtree or a dirmeta, in bytes.
+    /// The bytes of a commit, dirtree or dirmeta object.
     MetadataObject,
-    /// The objects of a commit, in its order, repeats counted.
+    /// The number of a commit's objects; an object that occurs several times counts each time.
     Objects,
-    /// The directories between the root and an object.
+    /// The number of directories between a commit's root and an object.
     Depth,
-    /// The file `metadata` of a commit, in bytes.
+    /// The bytes of a commit's file `metadata`.
     MetadataFile,
-    /// The file of an override, in bytes.
+    /// The bytes of an override's file.
     Override,
 }

@@ -1,50 +1,53 @@
--- What a stop leaves, as it is seen when it is opened again.
+-- The disks that a crash may leave, as they are seen when they are opened again.
 use Rattle.std.specs.Prelude.{◌≡◌, ◌⊎◌, ℕ, List, true, Option, Some, None, [], false}
 use Rattle.fp_host.specs.Paths.{Elements, Slot, absent, dir, file, link, at}
 use Rattle.fp_host.specs.View.{View, Inode, MayBe}
 use Rattle.fp_host.specs.Calls.{Change, makes_dir, creates, appends, links, makes_link, renames, unlinks, removes_dir, syncs, says}
 
--- what stands at a path of a disk
+-- The node at a path of a disk: nothing, a directory, a file with its id, mode and bytes, or a
+-- symlink with its text
 pub data Spot : Type 0 where
   gone : Spot
   folder : Spot
   holds : ℕ → ℕ → List ℕ → Spot
   points : List ℕ → Spot
 
--- a file or a symbolic link stands there
+-- The node is a file or a symlink
 abbrev pub IsLeafSpot : Spot → Type 0
 IsLeafSpot (holds id mode bytes) = Unit {0}
 IsLeafSpot (points text) = Unit {0}
 IsLeafSpot gone = ⊥
 IsLeafSpot folder = ⊥
 
--- each path, with what stands there
+-- A disk: the node at each path
 abbrev pub Disk : Type 0
 Disk = Elements → Spot
 
+-- The node of a file with this id; `gone` if there is no such file
 abbrev pub holding : ℕ → Option Inode → Spot
 holding id None = gone
 holding id (Some f) = holds id f.mode f.bytes
 
+-- The node that a directory entry refers to
 abbrev pub spot_of : (ℕ → Option Inode) → Slot → Spot
 spot_of files absent = gone
 spot_of files dir = folder
 spot_of files (link text) = points text
 spot_of files (file id) = holding id (files id)
 
--- the same file with any bytes
+-- Two rows of a file with equal modes and any bytes, or both absent
 abbrev pub IsSameMode : Option Inode → Option Inode → Type 0
 IsSameMode None None = Unit {0}
 IsSameMode (Some f) (Some g) = f.mode ≡ g.mode
 IsSameMode None (Some g) = ⊥
 IsSameMode (Some f) None = ⊥
 
--- a stop may leave this row of a file
+-- A crash may leave the file `id` with this mode and these bytes
 abbrev pub MayHold : View → ℕ → Option Inode → Type 0
 MayHold v id row = (row ≡ v.files id) ⊎ ((v.dirty id ≡ true) × IsSameMode (v.files id) row)
 
--- A stop may leave this disk. Each name holds its entry or an earlier one, each by itself; a file
--- created since the last sync may hold any bytes.
+-- A crash may leave this disk. Each name by itself has its present entry or an earlier one. A file
+-- created since the last sync may have any bytes.
 pub record Leaves (v : View) (disk : Disk) : Type 0 where
   pub names : Elements → Slot
   pub files : ℕ → Option Inode
@@ -52,22 +55,22 @@ pub record Leaves (v : View) (disk : Disk) : Type 0 where
   pub rows : (id : ℕ) → MayHold v id (files id)
   pub seen : (p : Elements) → disk p ≡ spot_of files (at names p)
 
--- Each disk that new may leave is one that old may leave, but at the paths to which G allows what
--- stands there.
+-- Each disk that a crash may leave of `new` agrees with one that a crash may leave of `old`, except
+-- at the paths where `G` allows the node there
 pub record Follows (G : Elements → Spot → Type 0) (old new : View) : Type 0 where
   pub from : (disk : Disk) → Leaves new disk → (before : Disk) × Leaves old before
       × ((p : Elements) → (disk p ≡ before p) ⊎ G p (disk p))
 
--- the entry e stands at p, with what its file may hold
+-- The path `q` is `p`, and a crash may show the node there if the name has the entry `e`
 abbrev pub Gives : View → Elements → Slot → Elements → Spot → Type 0
 Gives v p e q spot = (q ≡ p)
     × ((files : ℕ → Option Inode) × ((id : ℕ) → MayHold v id (files id)) × (spot ≡ spot_of files e))
 
--- nothing is given
+-- No node is allowed at any path
 abbrev pub Nothing : Elements → Spot → Type 0
 Nothing q spot = ⊥
 
--- what a call gives to which paths, done or failed
+-- A crash may show the node at the path `q` once the call was done or failed
 abbrev pub GivesOf : Change → View → Elements → Spot → Type 0
 GivesOf (makes_dir p) v q spot = (q ≡ p) × (spot ≡ folder)
 GivesOf (creates p mode id) v q spot = (q ≡ p) × ((bytes : List ℕ) × (spot ≡ holds id mode bytes))
@@ -80,11 +83,11 @@ GivesOf (removes_dir p) v q spot = (q ≡ p) × (spot ≡ gone)
 GivesOf syncs v q spot = ⊥
 GivesOf (says piece) v q spot = ⊥
 
--- every stop leaves what stands
+-- Every crash leaves exactly the present content: nothing waits for a sync
 pub record IsSettled (v : View) : Type 0 where
   pub earlier : (q : Elements) → v.earlier q ≡ []
   pub dirty : (id : ℕ) → v.dirty id ≡ false
 
--- what stands now
+-- The disk of the view's present content
 abbrev pub shows : View → Disk
 shows v q = spot_of v.files (at v.names q)

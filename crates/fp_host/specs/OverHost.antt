@@ -1,26 +1,28 @@
--- What a contract says of a call over a host, in one word each, at a bound `H: Host`.
+-- The clauses of a contract about a call over a host, for a function with the bound `H: Host`. They
+-- constrain only hosts that report their content.
 use Rattle.fp_host.specs.View.{View}
 use Rattle.fp_host.specs.Moments as moments
 use Rattle.fp_host.specs.Frame as frame
 use Rattle.fp_host.specs.Causes.{IsCaused, IsCounted}
 use Rattle.fp_host.specs.declared.host.Host.{Ghosts}
 
--- at each moment of the call the view relates so to the one before it
+-- The view at each moment of the call relates by `R` to the view before the call
 abbrev pub AtEachMoment : {H : Type 0} → Ghosts H → H → H → (View → View → Type 0) → Type 0
 AtEachMoment g old new R = moments.Always R (g.moments old) (g.moments new)
 
--- at the return the view relates so to the one before the call
+-- The view at the return relates by `R` to the view before the call
 abbrev pub AtReturn : {H : Type 0} → Ghosts H → H → H → (View → View → Type 0) → Type 0
 AtReturn g old new R = frame.AtEnd R (g.moments old) (g.moments new)
 
--- over a view that meets the condition, this comes only where the host's count of faults rose
+-- Over a view that meets the condition `Can`, the result is `Faulted` only if the host's count of
+-- faults rose
 abbrev pub FailsOnly : {H : Type 0} → Ghosts H → H → H → (View → Type 0) → Type 0 → Type 0
 FailsOnly g old new Can Faulted = IsCaused Faulted (g.moments old) Can (g.faults old) (g.faults new)
 
--- nothing changes at any moment of the call
+-- The call changes nothing at any moment
 abbrev pub ChangesNothing : {H : Type 0} → Ghosts H → H → H → Type 0
 ChangesNothing g old new = frame.Unchanged (g.moments old) (g.moments new)
 
--- this comes only where the host's count of faults rose, over any view
+-- The result is `Faulted` only if the host's count of faults rose, whatever the view
 abbrev pub FailsAlone : {H : Type 0} → Ghosts H → H → H → Type 0 → Type 0
 FailsAlone g old new Faulted = IsCounted Faulted (g.moments old) (g.faults old) (g.faults new)

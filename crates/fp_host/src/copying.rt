@@ -1,8 +1,8 @@
-//! Bytes that go into a buffer.
+//! Copying of bytes into a buffer.
 ghost use Rattle.std.specs.Prelude.{◌≡◌, ◌≤◌, ◌-◌, length, take, drop, min};
 
-/// Copies bytes from the front: the least of the number that there are, the number that there is
-/// room for, and the most that are wanted.
+/// Copies bytes from the front of `from` to the front of `into`. Returns their number, the least of
+/// both lengths and `most`.
 pub fn copy_front(from: &[u8], most: usize, into: &mut [u8]) -> usize
     ensures many { result ≡ min (min (length from.now) (length into.old)) most }
     ensures same { take result into.new ≡ take result from.now }
@@ -13,7 +13,8 @@ pub fn copy_front(from: &[u8], most: usize, into: &mut [u8]) -> usize
     many
 }
 
-/// Copies as many bytes as there is room for, or as are left from this place on.
+/// Copies bytes of `bytes` from the offset `at` on to the front of `into`: as many as fit or are
+/// left. Returns their number, which is 0 if the offset is at or past the end.
 pub fn copy_out(bytes: &[u8], at: u64, into: &mut [u8]) -> usize
     ensures many { result ≡ min (length into.old) (length bytes.now - at) }
     ensures same { take result into.new ≡ take result (drop at bytes.now) }

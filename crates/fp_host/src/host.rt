@@ -11,15 +11,15 @@ use std::alloc::{AllocError, Global};
 use std::error::Error;
 use std::fmt;
 
-/// Why a call of a host was not done.
+/// The error of a host's call.
 #[derive(Clone, Copy, Debug, PartialEq, Eq)]
 pub enum HostError {
-    /// The host failed. It may have done the call all the same, and a stop may leave what was or
-    /// what would have been. A failed `sync` changed nothing.
+    /// The host failed. The call may have been done nevertheless, or a crash may leave it done. A
+    /// failed `sync` changed nothing.
     Failed,
     /// The call's condition doesn't hold, and nothing changed.
     Clash,
-    /// There was no memory for the answer of `list` or `read_link`, and nothing changed.
+    /// Memory ran out for the result of `list` or `read_link`, and nothing changed.
     NoMemory,
 }
 
@@ -35,51 +35,51 @@ impl fmt::Display for HostError {
 
 impl Error for HostError {}
 
-/// What a name holds, apart from nothing.
+/// The directory entry of a name that exists.
 #[derive(Debug, Drop)]
 pub enum Entry {
-    /// A folder.
+    /// A directory.
     Dir,
-    /// A file by its id. Names with one id are hard links of one file.
+    /// A file, by its id. Names with the same id are hard links of one file.
     File(u64),
-    /// A symlink by its text.
+    /// A symlink, by its text.
     Link(Text),
 }
 
-/// What stands at a path.
+/// The status of a path.
 #[derive(Clone, Copy, Debug, PartialEq, Eq)]
 pub enum Stat {
     /// Nothing.
     Absent,
-    /// A folder.
+    /// A directory.
     Dir,
-    /// A file by its id, its permission bits, at most 0o7777, and the number of its bytes. Names
-    /// with one id are hard links of one file.
+    /// A file: its id, its permission bits (at most 0o7777), and its length in bytes. Names with
+    /// the same id are hard links of one file.
     File { id: u64, mode: u32, size: u64 },
     /// A symlink.
     Link,
 }
 
-/// A tree of names over files, and what is printed.
+/// A file system with one tree of names, and an output that is printed to.
 ///
-/// A *stop* is a crash or a loss of power. What is found afterwards: each name, by itself, holds
-/// what it holds, or what it held at some moment since the last `sync`, or what a failed call since
-/// then would have made of it; and then whatever lies below something that is no folder is gone. A
-/// file created since that `sync` may hold any bytes; every other file holds its own. What was
-/// printed stays. A stop within a call is one before it or after it.
+/// A *crash* includes a loss of power. After it, each name has, independently of the others, its
+/// present directory entry, or one that it had at some moment since the last `sync`, or one that a
+/// failed call since then would have given it. Names below anything but a directory are then
+/// absent. A file created since that `sync` may have any bytes; every other file has its own. What
+/// was printed stays printed. A crash within a call is one before the call or one after it.
 ///
-/// Each call is one atomic step. Where it answers `Failed`, the count of faults rose. On a host
-/// that tells its content, a call whose condition doesn't hold answers `Clash`, or `Failed` with
-/// the count raised, and changes nothing; on another host `Clash` comes only where the count rose.
+/// Each call is one atomic step. If it returns `Failed`, the count of faults rose. On a host that
+/// reports its content, a call whose condition doesn't hold returns `Clash`, or `Failed` with the
+/// count raised, and changes nothing. On another host, `Clash` is returned only if the count rose.
 pub trait Host {
-    /// Where the host tells its content: the present view, and those before it.
+    /// The present view and the earlier ones, if the host reports its content; else none.
     ghost moments: { Self → Option Moments };
 
-    /// How often it has failed; the count stands still at 2^64 - 1.
+    /// The number of failures so far; it stays at 2^64 - 1 once it gets there.
     ghost faults: { Self → ℕ };
 
-    /// What stands at the path. It has no condition. No call follows symlinks: below a file, a link
-    /// or a missing folder everything is `Absent`.
+    /// Returns what is at the path, without a condition. No call follows symlinks: below a file, a
+    /// symlink or a missing directory everything is `Absent`.
     fn stat(&mut self, path: &Path) -> Result<Stat, HostError>
         ensures step { Makes (StatOf path.now result) (moments self.old) (moments self.new) }
         ensures bits { IfOk result HasBits }
@@ -87,16 +87,16 @@ pub trait Host {
             result }
         ensures needs_no_memory { NeedsNoMemory result };
 
-    /// The names directly in the folder, ascending by their bytes. Each may be joined to the path,
-    /// on every host. Its condition is that the path is a folder.
+    /// Lists the names directly in the directory, ascending by their bytes. On every host, each of
+    /// them may be an element of a path. Condition: the path is a directory.
     fn list(&mut self, alloc: Global, path: &Path) -> Result<Items<Text>, HostError>
         ensures step { Makes (ListOf path.now result) (moments self.old) (moments self.new) }
         ensures names { IfOk result AreNames }
         ensures fault_has_cause { HasCause (moments self.old) (faults self.old) (faults self.new)
             result };
 
-    /// Bytes of the file, from a place on: as many as the buffer has room for, or as are left. Its
-    /// condition is that the path is a file.
+    /// Reads bytes of the file from the byte offset `at` on, as many as fit into the buffer or are
+    /// left. Returns their number. Condition: the path is a file.
     fn read_at(&mut self, path: &Path, at: u64, into: &mut [u8]) -> Result<usize, HostError>
         ensures bound { IfOk result (λ n. n ≤ length into.old) }
         ensures step { Makes (ReadOf path.now at into.new result) (moments self.old)
@@ -105,13 +105,13 @@ pub trait Host {
             result }
         ensures needs_no_memory { NeedsNoMemory result };
 
-    /// The text of the symlink. Its condition is that the path is one.
+    /// Returns the text of the symlink. Condition: the path is a symlink.
     fn read_link(&mut self, alloc: Global, path: &Path) -> Result<Text, HostError>
         ensures step { Makes (LinkOf path.now result) (moments self.old) (moments self.new) }
         ensures fault_has_cause { HasCause (moments self.old) (faults self.old) (faults self.new)
             result };
 
-    /// Makes the folder. Its condition is that the folder above is there and the path is absent.
+    /// Makes the directory. Condition: its parent is a directory, and the path is absent.
     fn make_dir(&mut self, path: &Path) -> Result<(), HostError>
         ensures step { Makes (Step (makes_dir path.now) result) (moments self.old)
             (moments self.new) }
@@ -119,16 +119,15 @@ pub trait Host {
             result }
         ensures needs_no_memory { NeedsNoMemory result };
 
-    /// Creates an empty file with exactly these permission bits. Its condition is that the folder
-    /// above is there, the path is absent and the bits are at most 0o7777.
+    /// Creates an empty file with exactly these permission bits, whatever the umask. Condition: its
+    /// parent is a directory, the path is absent, and the bits are at most 0o7777.
     fn create(&mut self, path: &Path, mode: u32) -> Result<(), HostError>
         ensures step { Makes (Creates path.now mode result) (moments self.old) (moments self.new) }
         ensures fault_has_cause { HasCause (moments self.old) (faults self.old) (faults self.new)
             result }
         ensures needs_no_memory { NeedsNoMemory result };
 
-    /// Adds bytes at the end of the file. Its condition is that the path is a file created since
-    /// the last sync.
+    /// Appends bytes to the file. Condition: the path is a file created since the last sync.
     fn append(&mut self, path: &Path, bytes: &[u8]) -> Result<(), HostError>
         ensures step { Makes (Step (appends path.now bytes.now) result) (moments self.old)
             (moments self.new) }
@@ -136,8 +135,8 @@ pub trait Host {
             result }
         ensures needs_no_memory { NeedsNoMemory result };
 
-    /// Gives the file a second name. Its condition is that the first path is a file, the second is
-    /// absent, and the folder above that is there.
+    /// Makes the second path a hard link of the file at the first. Condition: the first path is a
+    /// file, the second is absent, and the second's parent is a directory.
     fn link(&mut self, from: &Path, to: &Path) -> Result<(), HostError>
         ensures step { Makes (Step (links from.now to.now) result) (moments self.old)
             (moments self.new) }
@@ -145,8 +144,8 @@ pub trait Host {
             result }
         ensures needs_no_memory { NeedsNoMemory result };
 
-    /// Makes a symlink with this text. Its condition is that the text has 1 to 4,095 bytes and no
-    /// zero byte, the folder above is there and the path is absent.
+    /// Makes a symlink with this text. Condition: the text has 1 to 4,095 bytes, none of them zero,
+    /// the path's parent is a directory, and the path is absent.
     fn symlink(&mut self, text: &str, path: &Path) -> Result<(), HostError>
         ensures step { Makes (Step (makes_link text.now path.now) result) (moments self.old)
             (moments self.new) }
@@ -154,9 +153,9 @@ pub trait Host {
             result }
         ensures needs_no_memory { NeedsNoMemory result };
 
-    /// Moves the file or symlink to the second path, in the place of a file or symlink that is
-    /// there. Its condition is that the first path is one, the second is no folder, the folder
-    /// above that is there, and the two are different paths and not two hard links of one file.
+    /// Moves the file or symlink to the second path and replaces a file or symlink there.
+    /// Condition: the first path is a file or symlink, the second is no directory, the second's
+    /// parent is a directory, and the paths differ and aren't hard links of one file.
     fn rename(&mut self, from: &Path, to: &Path) -> Result<(), HostError>
         ensures step { Makes (Step (renames from.now to.now) result) (moments self.old)
             (moments self.new) }
@@ -164,7 +163,7 @@ pub trait Host {
             result }
         ensures needs_no_memory { NeedsNoMemory result };
 
-    /// Takes the name of a file or symlink away. Its condition is that the path is one.
+    /// Removes the name of a file or symlink. Condition: the path is a file or symlink.
     fn unlink(&mut self, path: &Path) -> Result<(), HostError>
         ensures step { Makes (Step (unlinks path.now) result) (moments self.old)
             (moments self.new) }
@@ -172,7 +171,7 @@ pub trait Host {
             result }
         ensures needs_no_memory { NeedsNoMemory result };
 
-    /// Takes the folder away. Its condition is that it is a folder, isn't the root and has nothing
+    /// Removes the directory. Condition: the path is a directory, isn't the root, and has nothing
     /// below it.
     fn remove_dir(&mut self, path: &Path) -> Result<(), HostError>
         ensures step { Makes (Step (removes_dir path.now) result) (moments self.old)
@@ -181,30 +180,31 @@ pub trait Host {
             result }
         ensures needs_no_memory { NeedsNoMemory result };
 
-    /// Makes what stands last: after it a stop leaves just that.
+    /// Makes the present content durable: if it succeeds, a crash right after it leaves exactly
+    /// that content.
     fn sync(&mut self) -> Result<(), HostError>
         ensures step { Makes (Step syncs result) (moments self.old) (moments self.new) }
         ensures fault_has_cause { HasCause (moments self.old) (faults self.old) (faults self.new)
             result }
         ensures needs_no_memory { NeedsNoMemory result };
 
-    /// Prints the piece.
+    /// Prints bytes.
     fn say(&mut self, piece: &[u8]) -> Result<(), HostError>
         ensures step { Makes (Step (says piece.now) result) (moments self.old) (moments self.new) }
         ensures fault_has_cause { HasCause (moments self.old) (faults self.old) (faults self.new)
             result }
         ensures needs_no_memory { NeedsNoMemory result };
 
-    /// Every view of a told host is a tree.
+    /// The present view of a host that reports its content is a well-formed tree.
     ghost is_tree: { (host : Self) (m : Moments) → moments host ≡ Some m → IsTree m.now };
 }
 
-/// How a function over a host ends where it can't go on.
+/// The error of a function that calls a host.
 #[derive(Clone, Copy, Debug, PartialEq, Eq)]
 pub enum HostEnd {
-    /// A call of the host failed, or the host was not as this function's condition asks.
+    /// A call of the host failed, or the host's content didn't meet the function's condition.
     Fault,
-    /// There was no memory.
+    /// Memory ran out.
     NoMemory,
 }
 

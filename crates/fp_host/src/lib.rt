@@ -1,4 +1,4 @@
-//! The host that an installation lives on, the remotes that objects come from, and the source of a
+//! The host that an installation is on, the remotes that objects come from, and the source of a
 //! command's input.
 #![tactic(auto)]
 

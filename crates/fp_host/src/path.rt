@@ -1,4 +1,4 @@
-//! A path below the host's root, seen as the list of its elements, the innermost first.
+//! A path below the host's root. Contracts see it as the list of its elements, the innermost first.
 ghost use Rattle.std.specs.Prelude.{◌≡◌, ◌≢◌, ◌↔◌, ◌⊎◌, ℕ, List, ◌∷◌, ◌<◌, ◌≤◌, ◌+◌, [], length, drop, IsTrue, IsOk, IfOk, IfSome, IsNone, IsErrOf, MatchOption, false, count_by, ◌==◌, ◌++◌, string_bytes};
 ghost use Rattle.std.specs.List.{list_all};
 ghost use Rattle.fp_host.specs.Paths.{is_element, is_name_byte, cut, elements_of, path_text, path_eq, IsAbove};
@@ -10,12 +10,12 @@ use std::error::Error;
 use std::fmt;
 use std::marker::Model;
 
-/// Why a text is no path, or an element can't be added.
+/// The reason why a text is no path, or can't be added to one as an element.
 #[derive(Clone, Copy, Debug, PartialEq, Eq)]
 pub enum PathError {
     /// An element is empty, longer than 255 bytes, `.` or `..`, or has a slash or a zero byte.
     Bad,
-    /// There was no memory.
+    /// Memory ran out.
     NoMemory,
 }
 
@@ -38,11 +38,11 @@ impl From<AllocError> for PathError {
     }
 }
 
-/// A path below the root of a host. Each of its elements has 1 to 255 bytes without a slash and a
-/// zero byte, and is neither `.` nor `..`.
+/// A path below the root of a host. Each of its elements has 1 to 255 bytes, has no slash and no
+/// zero byte, and is neither `.` nor `..`. The root has no elements.
 #[derive(Debug, Drop)]
 pub struct Path {
-    // the elements joined by slashes
+    // The elements joined by slashes; empty for the root.
     text: String,
 }
 
@@ -58,7 +58,8 @@ impl Model for Path {
     ghost invariant = { λ p. list_all is_element (elements_of (string_bytes p.text)) ≡ true };
 }
 
-/// Whether the text may be an element of a path.
+/// Returns whether the text may be an element of a path: 1 to 255 bytes without a slash or zero
+/// byte, and neither `.` nor `..`.
 pub fn is_element(text: &str) -> bool
     ensures { result ≡ is_element text.now }
 {
@@ -75,13 +76,15 @@ pub fn is_element(text: &str) -> bool
     true
 }
 
+/// Returns whether no byte is a slash or zero.
 fn are_name_bytes(bytes: &[u8]) -> bool
     ensures { result ≡ list_all is_name_byte bytes.now }
 {
     bytes.iter().all(|b| !(*b == b'/' || *b == 0))
 }
 
-/// What stands before the last slash, and after it.
+/// Splits the text at its last slash, which neither part includes. Returns `None` if it has no
+/// slash.
 fn around_last(text: &str) -> Option<(&str, &str)>
     ensures around { IfSome result (λ parts. cut text.now ≡ parts.1.now ∷ cut parts.0.now) }
     ensures shorter { IfSome result (λ parts. length parts.0.now < length text.now) }
@@ -91,7 +94,8 @@ fn around_last(text: &str) -> Option<(&str, &str)>
     Some((&text[..at], &text[at + 1..]))
 }
 
-/// Whether the text is elements and slashes between them: that of a path that isn't the root.
+/// Returns whether the text is elements joined by slashes, which is the text of a path that isn't
+/// the root.
 pub fn are_elements(text: &str) -> bool
     ensures { result ≡ list_all is_element (cut text.now) }
 {
@@ -105,7 +109,7 @@ pub fn are_elements(text: &str) -> bool
     is_element(left)
 }
 
-/// The two texts with a slash between them, which takes memory once.
+/// Joins the two texts by a slash. Allocates once.
 fn joined(alloc: Global, above: &str, element: &str) -> Result<String, AllocError>
     ensures { IfOk result (λ text. string_bytes text ≡ above.now ++ 47 ∷ element.now) }
 {
@@ -117,7 +121,7 @@ fn joined(alloc: Global, above: &str, element: &str) -> Result<String, AllocErro
     Ok(text)
 }
 
-/// The text without its last element.
+/// Returns the text without its last element; the empty text if it has one element or none.
 fn front(text: &str) -> &str
     requires { IsTrue (list_all is_element (elements_of text.now)) }
     ensures front { elements_of result.now ≡ drop 1 (elements_of text.now) }
@@ -129,7 +133,7 @@ fn front(text: &str) -> &str
     }
 }
 
-/// The last element.
+/// Returns the last element of a text that isn't empty.
 fn last(text: &str) -> &str
     requires { text.now ≢ [] }
     ensures { elements_of text.now ≡ result.now ∷ drop 1 (elements_of text.now) }
@@ -141,7 +145,7 @@ fn last(text: &str) -> &str
 }
 
 impl Path {
-    /// The root, which takes no memory.
+    /// Returns the root. Allocates nothing.
     pub fn root(alloc: Global) -> Self
         ensures { result ≡ [] }
     {
@@ -150,8 +154,9 @@ impl Path {
         }
     }
 
-    /// The path of a text, which is cut at its slashes. `Bad` where an element may not be one. So
-    /// is the empty text: the root has no element to write.
+    /// Parses elements joined by slashes. Errs with `Bad` if one of them may not be an element, and
+    /// with `NoMemory` if memory runs out. The empty text, which `text` returns for the root, is
+    /// `Bad` too.
     pub fn parse(alloc: Global, text: &str) -> Result<Self, PathError>
         ensures path { IfOk result (λ p. p ≡ cut text.now) }
         ensures text { IfOk result (λ p. path_text p ≡ text.now) }
@@ -166,8 +171,8 @@ impl Path {
         })
     }
 
-    /// The elements joined by slashes, which `parse` reads back; the root's text is empty. It takes
-    /// no memory.
+    /// Returns the elements joined by slashes; the root's text is empty. `parse` reads the text of
+    /// any other path back. Allocates nothing.
     pub fn text(&self) -> &str
         ensures text { result.now ≡ path_text self.now }
         ensures back { elements_of result.now ≡ self.now }
@@ -176,7 +181,7 @@ impl Path {
         &self.text
     }
 
-    /// How many elements there are.
+    /// Returns the number of elements.
     pub fn len(&self) -> usize
         ensures { result ≡ length self.now }
     {
@@ -187,14 +192,14 @@ impl Path {
         count_slashes(text) + 1
     }
 
-    /// Whether this is the root.
+    /// Returns whether this is the root.
     pub fn is_root(&self) -> bool
         ensures { IsTrue result ↔ (self.now ≡ []) }
     {
         self.text.is_empty()
     }
 
-    /// The innermost element; the root has none.
+    /// Returns the innermost element, or `None` for the root.
     pub fn name(&self) -> Option<&str>
         ensures root { IsNone result ↔ (self.now ≡ []) }
         ensures name { IfSome result (λ x. self.now ≡ x.now ∷ drop 1 self.now) }
@@ -207,7 +212,7 @@ impl Path {
         Some(last(text))
     }
 
-    /// The path with one element more, for an element that is known to be one.
+    /// Returns the path with one element added below it. The text must be known to be an element.
     pub fn child(&self, element: &str) -> Result<Self, AllocError>
         requires { IsTrue (is_element element.now) }
         ensures { IfOk result (λ p. p ≡ element.now ∷ self.now) }
@@ -224,7 +229,8 @@ impl Path {
         })
     }
 
-    /// The path with one element more. `Bad` where the text may not be an element.
+    /// Returns the path with one element added below it. Errs with `Bad` if the text may not be an
+    /// element.
     pub fn join(&self, element: &str) -> Result<Self, PathError>
         ensures path { IfOk result (λ p. p ≡ element.now ∷ self.now) }
         ensures ok { IsOk result → IsTrue (is_element element.now) }
@@ -236,7 +242,7 @@ impl Path {
         Ok(self.child(element)?)
     }
 
-    /// The folder that is this number of elements above.
+    /// Returns the ancestor that is `up` levels above; 0 is the path itself.
     pub fn folder(&self, up: usize) -> Result<Self, AllocError>
         requires { up ≤ length self.now }
         ensures { IfOk result (λ p. p ≡ drop up self.now) }
@@ -250,7 +256,7 @@ impl Path {
         })
     }
 
-    /// The same path once more.
+    /// Returns a copy. Errs if memory runs out.
     pub fn copy(&self) -> Result<Self, AllocError>
         ensures { IfOk result (λ p. p ≡ self.now) }
     {
@@ -259,7 +265,7 @@ impl Path {
         })
     }
 
-    /// Whether this is a folder above the other path.
+    /// Returns whether this path is a proper ancestor of the other.
     pub fn is_above(&self, other: &Path) -> bool
         ensures { IsTrue result ↔ IsAbove self.now other.now }
     {
@@ -273,7 +279,7 @@ impl Path {
         false
     }
 
-    /// Whether the two paths are one.
+    /// Returns whether the two paths are equal.
     pub fn is(&self, other: &Path) -> bool
         ensures { result ≡ path_eq self.now other.now }
     {
@@ -281,6 +287,7 @@ impl Path {
     }
 }
 
+/// Returns the number of slashes.
 fn count_slashes(text: &str) -> usize
     ensures count { result ≡ count_by (λ b. b == 47) text.now }
     ensures small { result ≤ length text.now }

@@ -1,4 +1,4 @@
-//! Where objects come from.
+//! The remotes that objects come from.
 ghost use Rattle.std.specs.Prelude.{◌≡◌, ◌≤◌, Option, Some, None, ℕ, length, IfOk, IsErrOf};
 ghost use Rattle.fp_host.specs.Moments.{Rose};
 ghost use Rattle.fp_host.specs.Remote.{Holdings, IsNode, HasNodeBits, bytes_of, CameFrom};
@@ -9,25 +9,25 @@ use std::alloc::Global;
 use std::error::Error;
 use std::fmt;
 
-/// What stands at a path of a remote.
+/// The node at a path of a remote.
 #[derive(Debug, Drop)]
 pub enum Node {
     /// Nothing.
     Absent,
-    /// A folder.
+    /// A directory.
     Dir,
-    /// The permission bits, at most 0o7777, and the number of bytes.
+    /// A file: its permission bits (at most 0o7777) and its length in bytes.
     File { mode: u32, size: u64 },
-    /// The text of a symlink, which need not be one that a host would take.
+    /// A symlink, by its text, which need not meet a host's limits.
     Link(Text),
 }
 
-/// Why a remote could not be read.
+/// The error of a call to a remote.
 #[derive(Clone, Copy, Debug, PartialEq, Eq)]
 pub enum RemoteError {
     /// A call failed.
     Failed,
-    /// There was no memory.
+    /// Memory ran out.
     NoMemory,
 }
 
@@ -42,15 +42,15 @@ impl fmt::Display for RemoteError {
 
 impl Error for RemoteError {}
 
-/// The remotes: for each url a tree of files, which no call changes.
+/// The remotes: for each URL a tree of files. No call changes them.
 pub trait Remotes {
-    /// What they hold, where they tell it.
+    /// The trees of all URLs, if the remotes report them; else none.
     ghost holds: { Self → Option Holdings };
 
-    /// How often a call has failed; it stands still at 2^64 - 1.
+    /// The number of failed calls; it stays at 2^64 - 1 once it gets there.
     ghost faults: { Self → ℕ };
 
-    /// What stands at the path, `Absent` where there is nothing.
+    /// Returns what is at the path of the remote; `Absent` if nothing is there.
     fn node(&mut self, alloc: Global, url: &str, path: &Path) -> Result<Node, RemoteError>
         ensures same { holds self.new ≡ holds self.old }
         ensures tells { (held : Holdings) → holds self.old ≡ Some held → IfOk result
@@ -60,8 +60,8 @@ pub trait Remotes {
         ensures failed { IsErrOf result RemoteError.Failed → Rose (faults self.old)
             (faults self.new) };
 
-    /// Bytes of the file at the path, from a place on: as many as the buffer has room for, or as
-    /// are left. What is no file has none.
+    /// Reads bytes of the file at the path from the byte offset `at` on, as many as fit into the
+    /// buffer or are left. Returns their number, which is 0 if the path is no file.
     fn read_at(
         &mut self,
         url: &str,
@@ -79,7 +79,7 @@ pub trait Remotes {
         ensures needs_no_memory { IsErrOf result RemoteError.NoMemory → ⊥ };
 }
 
-/// Remotes that hold nothing and never fail.
+/// Remotes that are empty and never fail.
 #[derive(Clone, Copy, Debug, PartialEq, Eq)]
 pub struct NoRemotes;
 

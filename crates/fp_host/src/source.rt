@@ -1,28 +1,29 @@
-//! What a command reads.
+//! The input of a command.
 ghost use Rattle.std.specs.Prelude.{◌≡◌, ◌≤◌, ℕ, List, Option, length};
 ghost use Rattle.fp_host.specs.Moments.{Rose};
 ghost use Rattle.fp_host.specs.Remote.{Takes, IsWithin};
 
-/// What a source answered.
+/// The result of reading from a source.
 #[derive(Clone, Copy, Debug, PartialEq, Eq)]
 pub enum Taken {
-    /// So many bytes are in the buffer. None, in a buffer that has room, is the end too.
+    /// This many bytes were put into the buffer. 0 means the end too, unless the buffer has no
+    /// room.
     Took(usize),
-    /// Nothing is left.
+    /// Nothing was left.
     End,
     /// The call failed.
     Failed,
 }
 
-/// The input of a command, which is taken piece by piece.
+/// The input of a command, which is read piece by piece.
 pub trait Source {
-    /// What is left, where the source tells it.
+    /// The bytes that are left, if the source reports them; else none.
     ghost left: { Self → Option (List ℕ) };
 
-    /// How often a call has failed; it stands still at 2^64 - 1.
+    /// The number of failed calls; it stays at 2^64 - 1 once it gets there.
     ghost faults: { Self → ℕ };
 
-    /// Takes the next bytes, at most as many as the buffer has room for.
+    /// Reads the next bytes into the front of the buffer, at most as many as fit.
     fn take(&mut self, into: &mut [u8]) -> Taken
         ensures takes { Takes (left self.old) (left self.new) into.new result }
         ensures within { IsWithin result (length into.old) }

@@ -1,11 +1,11 @@
-//! The texts of symlinks.
+//! The text of a symlink.
 ghost use Rattle.std.specs.Prelude.{◌≡◌, ◌==◌, not};
 ghost use Rattle.std.specs.List.{list_all};
 ghost use Rattle.fp_host.specs.Paths as spec;
 
 use crate::limits::MOST_LINK_BYTES;
 
-/// Whether a text may be a link's: 1 to 4,095 bytes, none of them zero.
+/// Returns whether the text may be a symlink's: 1 to 4,095 bytes, none of them zero.
 pub fn is_link_text(text: &str) -> bool
     ensures { result ≡ spec.is_link_text text.now }
 {
@@ -16,7 +16,7 @@ pub fn is_link_text(text: &str) -> bool
     has_no_zero(bytes)
 }
 
-/// Whether no byte is zero.
+/// Returns whether no byte is zero.
 fn has_no_zero(bytes: &[u8]) -> bool
     ensures { result ≡ list_all (λ b. not (b == 0)) bytes.now }
 {

@@ -8,7 +8,8 @@ use crate::places::group_place;
 use fp_base::{Items, Text};
 use std::alloc::AllocError;
 
-/// Sets the value of the key in the group. Running out of memory changes nothing.
+/// Sets the value of the key in the group. A missing pair is added at the end of its group, and a
+/// missing group at the end of the list. If memory runs out, nothing changes.
 pub(crate) fn set_pair(
     groups: &mut Items<Group>,
     name: &str,
@@ -30,8 +31,8 @@ pub(crate) fn set_pair(
     }
 }
 
-/// Takes the pair away, and its group with its last pair, and answers its value. Where it isn't
-/// there, all stays.
+/// Removes the pair and returns its value. Its group is removed with its last pair. Returns `None`
+/// and changes nothing if there is no such pair.
 pub(crate) fn take_pair(groups: &mut Items<Group>, name: &str, key: &str) -> Option<Text>
     ensures value { result ≡ value_at groups.old name.now key.now }
     ensures after { groups.new ≡ without_pair groups.old name.now key.now }

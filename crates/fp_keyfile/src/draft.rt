@@ -1,4 +1,4 @@
-//! A key file while it is read.
+//! A key file while it is being parsed.
 
 ghost use Rattle.std.specs.Prelude.{◌≡◌, IfOk, OnOk, Ok, Some, None, []};
 ghost use Rattle.fp_keyfile.specs.declared.draft.LineError.TheVariants.{NoMemory};
@@ -15,7 +15,7 @@ use std::collections::BTreeMap;
 use std::error::Error;
 use std::fmt;
 
-/// Why a line could not be taken in.
+/// The reason why a line was not added.
 #[derive(Debug, Drop)]
 pub(crate) enum LineError {
     /// The line breaks this rule.
@@ -51,7 +51,8 @@ impl<T: Drop> From<AllocFailed<T>> for LineError {
     }
 }
 
-/// The groups so far, with the place of each, and the place of the group to which pairs belong.
+/// The groups parsed so far, an index of their names, and the index of the group that the next
+/// pairs belong to.
 #[derive(Drop)]
 pub(crate) struct Draft<'a> {
     tables: Vec<Table<'a>>,
@@ -60,7 +61,7 @@ pub(crate) struct Draft<'a> {
 }
 
 impl<'a> Draft<'a> {
-    /// The beginning: no groups.
+    /// Creates a draft without groups.
     pub(crate) fn new(alloc: Global) -> Self
         ensures reading { reading result ≡ beginning }
         ensures indexed { IsIndexed result }
@@ -72,7 +73,7 @@ impl<'a> Draft<'a> {
         }
     }
 
-    /// Goes on with the group of this name, which is added at the end where it isn't there.
+    /// Makes the group with this name the current one, and adds it at the end if it's missing.
     fn begin(&mut self, name: &'a str) -> Result<(), AllocError>
         requires { IsIndexed self.old }
         ensures reading { OnOk result (reading self.new ≡ record
@@ -89,7 +90,7 @@ impl<'a> Draft<'a> {
         Ok(())
     }
 
-    /// Sets the value at the key, in the group to which pairs belong.
+    /// Sets the value of the key in the current group. Errs with `NoGroup` if there is none yet.
     fn put(&mut self, key: &'a str, value: &str) -> Result<(), LineError>
         requires { IsIndexed self.old }
         ensures { Takes result self.new (with_entry (reading self.old) (reading self.old).group
@@ -102,7 +103,7 @@ impl<'a> Draft<'a> {
         Ok(())
     }
 
-    /// Takes a line in.
+    /// Parses a line and adds it. Errs with the first rule that the line breaks.
     pub(crate) fn take(&mut self, line: &'a [u8]) -> Result<(), LineError>
         requires { IsIndexed self.old }
         ensures { Takes result self.new (after_line (reading self.old) line.now) }
@@ -115,7 +116,7 @@ impl<'a> Draft<'a> {
         }
     }
 
-    /// The groups.
+    /// Returns the groups, in the order in which their first headers came.
     pub(crate) fn into_groups(self, alloc: Global) -> Result<Items<Group>, AllocError>
         ensures { IfOk result (λ groups. groups ≡ groups_of self.entry) }
     {

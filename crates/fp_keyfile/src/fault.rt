@@ -1,4 +1,4 @@
-//! What is wrong with a key file, and why bytes could not be read as one.
+//! The fault of a key file, and the error of parsing one.
 ghost use Rattle.std.specs.Prelude.{◌≡◌};
 ghost use Rattle.fp_keyfile.specs.declared.fault.KeyError.TheVariants.{NoMemory};
 
@@ -7,19 +7,19 @@ use std::alloc::{AllocError, AllocFailed};
 use std::error::Error;
 use std::fmt;
 
-/// What is wrong with a key file: its first bad line, and the rule that this line breaks.
+/// The fault of a key file: its first bad line, and the rule that this line breaks.
 #[derive(Clone, Copy, Debug, PartialEq, Eq)]
 pub struct KeyFault {
-    /// The line, counted from 1.
+    /// The number of the line, counted from 1.
     pub line: u64,
-    /// The rule that it breaks.
+    /// The first rule that the line breaks.
     pub rule: KeyRule,
 }
 
-/// Why bytes could not be read as a key file.
+/// The reason why bytes were not parsed as a key file.
 #[derive(Clone, Copy, Debug, PartialEq, Eq)]
 pub enum KeyError {
-    /// The bytes are no key file.
+    /// The bytes aren't a key file: a line breaks a rule.
     Fault(KeyFault),
     /// Memory ran out.
     NoMemory,

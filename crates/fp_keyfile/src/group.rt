@@ -1,4 +1,4 @@
-//! A group and its pairs.
+//! A group of a key file, and its pairs.
 ghost use Rattle.std.specs.Prelude.{◌≡◌, ◌∷◌, [], IfOk, OnOk, OnErr, OnSome, IfNone};
 ghost use Rattle.std.specs.Option.{option_copied, option_map};
 ghost use Rattle.fp_keyfile.specs.KeyFile.{pair_at, value_in, with_key, without_key};
@@ -7,26 +7,26 @@ use crate::places::{find_pair, pair_place};
 use fp_base::{Items, Text};
 use std::alloc::{AllocError, Global};
 
-/// A key and its value.
+/// A key with its value.
 #[derive(Drop)]
 pub struct Pair {
-    /// What stands before the sign `=`.
+    /// The text before the first `=`, without spaces and tabs at its end.
     pub key: Text,
-    /// What stands after it.
+    /// The text after the first `=`, without spaces and tabs at its start.
     pub value: Text,
 }
 
 /// A group of a key file: its name, and its pairs in order.
 #[derive(Drop)]
 pub struct Group {
-    /// What stands between the brackets.
+    /// The text between the brackets.
     pub name: Text,
     /// The pairs, in the order of the file.
     pub pairs: Items<Pair>,
 }
 
 impl Pair {
-    /// A pair of its own of these texts.
+    /// Creates a pair of copies of these texts. Errs if memory runs out.
     pub fn new(alloc: Global, key: &str, value: &str) -> Result<Self, AllocError>
         ensures { IfOk result (λ p. p ≡ record { key = key.now; value = value.now }) }
     {
@@ -36,7 +36,7 @@ impl Pair {
         })
     }
 
-    /// A copy in memory of its own.
+    /// Returns a copy. Errs if memory runs out.
     pub fn copy(&self) -> Result<Self, AllocError>
         ensures { IfOk result (λ p. p ≡ self.now) }
     {
@@ -48,7 +48,7 @@ impl Pair {
 }
 
 impl Group {
-    /// A group of its own of this one pair.
+    /// Creates a group with one pair, of copies of these texts. Errs if memory runs out.
     pub(crate) fn of_pair(
         alloc: Global,
         name: &str,
@@ -68,7 +68,8 @@ impl Group {
         })
     }
 
-    /// The value of the key, where the group has it. It takes no memory.
+    /// Returns the value of the key, or `None` if the group doesn't have the key. Allocates
+    /// nothing.
     pub fn get(&self, key: &str) -> Option<&str>
         ensures { option_copied result ≡ value_in self.now key.now }
     {
@@ -76,8 +77,8 @@ impl Group {
         Some(pair.value.as_str())
     }
 
-    /// Sets the value at the key, at its place or in a new pair at the end. Running out of memory
-    /// changes nothing.
+    /// Sets the value of the key. A present key keeps its place; a missing one is added at the end.
+    /// If memory runs out, nothing changes.
     pub(crate) fn put(&mut self, key: &str, value: &str) -> Result<(), AllocError>
         ensures ok { OnOk result (self.new ≡ record self.old
             { pairs = with_key self.old.pairs key.now value.now }) }
@@ -94,8 +95,8 @@ impl Group {
         }
     }
 
-    /// Takes the pair of the key away, and answers its value. Where it isn't there, the group stays
-    /// as it is.
+    /// Removes the pair of the key and returns its value. Returns `None` and changes nothing if the
+    /// group doesn't have the key.
     pub(crate) fn take(&mut self, key: &str) -> Option<Text>
         ensures value { result ≡ option_map (λ p. p.value) (pair_at self.old.pairs key.now) }
         ensures found { OnSome result (self.new ≡ record self.old
@@ -106,7 +107,7 @@ impl Group {
         Some(self.pairs.remove(at).value)
     }
 
-    /// A copy in memory of its own.
+    /// Returns a copy. Errs if memory runs out.
     pub fn copy(&self) -> Result<Self, AllocError>
         ensures { IfOk result (λ g. g ≡ self.now) }
     {

@@ -1,4 +1,4 @@
-//! Places of names, found without a walk.
+//! An index of names, so that their list need not be searched.
 
 ghost use Rattle.std.specs.Prelude.{◌≡◌, ℕ, List, Some, IfOk, if◌then◌else◌};
 ghost use Rattle.std.specs.Option.{unwrap_or};
@@ -8,7 +8,8 @@ ghost use Rattle.fp_keyfile.specs.Index.{place_in};
 use std::alloc::AllocError;
 use std::collections::BTreeMap;
 
-/// The place of a name. A name that isn't there gets the place `next`.
+/// Returns the index of a name. A missing name is added with the index `next`. Errs if memory runs
+/// out.
 pub(crate) fn place_or_next<'a>(
     places: &mut BTreeMap<&'a str, usize>,
     name: &'a str,

@@ -1,4 +1,4 @@
-//! A key file: its groups, looked up, changed, read and written.
+//! A key file: its groups are looked up, changed, parsed and written.
 ghost use Rattle.std.specs.Prelude.{◌≡◌, [], Ok, IsTrue, OnOk, OnErr, IfOk};
 ghost use Rattle.std.specs.Option.{option_copied};
 ghost use Rattle.fp_keyfile.specs.Grammar.{is_name, is_key, is_value};
@@ -14,10 +14,11 @@ use fp_base::{Items, Text};
 use std::alloc::{AllocError, Global};
 use std::marker::Model;
 
-/// A key file, which contracts see as the list of its groups.
+/// A key file (Desktop Entry Specification, "Basic format of the file"). Contracts see it as the
+/// list of its groups.
 ///
-/// No name comes twice in the list, no key twice in a group, and all names, keys and values can be
-/// written.
+/// Names of groups are distinct, keys are distinct within their group, and all names, keys and
+/// values can be written.
 #[derive(Drop)]
 pub struct KeyFile {
     groups: Items<Group>,
@@ -37,7 +38,7 @@ impl Model for KeyFile {
 }
 
 impl KeyFile {
-    /// The file without groups, which takes no memory.
+    /// Creates a file without groups. Allocates nothing.
     pub fn new(alloc: Global) -> Self
         ensures { result ≡ [] }
     {
@@ -46,7 +47,8 @@ impl KeyFile {
         }
     }
 
-    /// The file of groups that can be written and have no doubles, which takes no memory.
+    /// Creates a file of groups. Their names, keys and values must be valid, and there must be no
+    /// duplicate names or keys. Allocates nothing.
     pub fn from_groups(groups: Items<Group>) -> Self
         requires { IsTrue (is_good groups) }
         ensures { result ≡ groups }
@@ -54,13 +56,14 @@ impl KeyFile {
         KeyFile { groups }
     }
 
-    /// Reads a key file, after the Desktop Entry Specification, "Basic format of the file".
+    /// Parses a key file (Desktop Entry Specification, "Basic format of the file").
     ///
-    /// The bytes are cut into lines at newlines, and the carriage returns at the end of a line are
-    /// dropped. A line is blank, a comment (`#` and anything), a group (`[NAME]`, and then spaces
-    /// and tabs alone) or a pair (`KEY=VALUE`, without spaces and tabs round the first `=`). A
-    /// group that comes again goes on. A key that comes again takes the later value at its first
-    /// place. The error is the first bad line, with the first rule that it breaks.
+    /// The bytes are split into lines at newlines, and carriage returns at the end of a line are
+    /// dropped. A line is blank, a comment (`#` and any text), a group header (`[NAME]`, and then
+    /// only spaces and tabs) or a pair (`KEY=VALUE`, where spaces and tabs around the first `=` are
+    /// dropped). A repeated header continues its group. A repeated key takes the later value and
+    /// keeps its first place. Comments and blank lines aren't kept. The error is the first bad
+    /// line, with the first rule that it breaks.
     pub fn parse(alloc: Global, bytes: &[u8]) -> Result<Self, KeyError>
         ensures { Gives result (file_of bytes.now) }
     {
@@ -69,7 +72,7 @@ impl KeyFile {
         })
     }
 
-    /// The groups in order.
+    /// Returns the groups in order.
     pub fn groups(&self) -> &Items<Group>
         ensures groups { result.now ≡ self.now }
         ensures good { IsTrue (is_good self.now) }
@@ -77,7 +80,7 @@ impl KeyFile {
         &self.groups
     }
 
-    /// The groups in order, which takes no memory.
+    /// Returns the groups in order. Allocates nothing.
     pub fn into_groups(self) -> Items<Group>
         ensures groups { result ≡ self }
         ensures good { IsTrue (is_good result) }
@@ -85,7 +88,7 @@ impl KeyFile {
         self.groups
     }
 
-    /// The value of the key in the group, where the file has that pair.
+    /// Returns the value of the key in the group, or `None` if the file has no such pair.
     #[tactic(auto, unfolding(crate::specs::KeyFile::value_at))]
     pub fn get(&self, group: &str, key: &str) -> Option<&str>
         ensures { option_copied result ≡ value_at self.now group.now key.now }
@@ -94,9 +97,9 @@ impl KeyFile {
         group.get(key)
     }
 
-    /// Sets the value of the key in the group, at its place or in a new pair at the end of the
-    /// group. A group that isn't there is added at the end. All else stays as it is. Running out of
-    /// memory changes nothing.
+    /// Sets the value of the key in the group. A present pair keeps its place; a missing one is
+    /// added at the end of its group, and a missing group at the end of the file. Nothing else
+    /// changes. If memory runs out, nothing changes at all.
     pub fn set(&mut self, group: &str, key: &str, value: &str) -> Result<(), AllocError>
         requires group { IsTrue (is_name group.now) }
         requires key { IsTrue (is_key key.now) }
@@ -107,8 +110,8 @@ impl KeyFile {
         set_pair(&mut self.groups, group, key, value)
     }
 
-    /// Takes the pair away, and its group with its last pair, and answers the value. Where the file
-    /// has no such pair, it stays as it is.
+    /// Removes the pair and returns its value. Its group is removed with its last pair. Returns
+    /// `None` and changes nothing if the file has no such pair.
     pub fn remove(&mut self, group: &str, key: &str) -> Option<Text>
         ensures value { result ≡ value_at self.old group.now key.now }
         ensures after { self.new ≡ without_pair self.old group.now key.now }
@@ -116,7 +119,7 @@ impl KeyFile {
         take_pair(&mut self.groups, group, key)
     }
 
-    /// A copy in memory of its own.
+    /// Returns a copy. Errs if memory runs out.
     pub fn copy(&self) -> Result<Self, AllocError>
         ensures { IfOk result (λ f. f ≡ self.now) }
     {
@@ -129,8 +132,9 @@ impl KeyFile {
         })
     }
 
-    /// The text of the file: for each group the line `[NAME]`, and after it the line `KEY=VALUE` of
-    /// each of its pairs, each with a newline. `parse` reads it back as the same file.
+    /// Returns the text of the file: for each group the line `[NAME]`, and then a line `KEY=VALUE`
+    /// for each of its pairs. Each line ends with a newline. `parse` reads the text back as an
+    /// equal file.
     pub fn write(&self) -> Result<Text, AllocError>
         ensures text { IfOk result (λ t. t ≡ text_of self.now) }
         ensures reads_back { file_of (text_of self.now) ≡ Ok self.now }

@@ -1,4 +1,4 @@
-//! Key files: groups of pairs of a key and a value, one a line.
+//! Key files: groups of key-value pairs, one pair on each line.
 #![tactic(auto)]
 
 mod change;

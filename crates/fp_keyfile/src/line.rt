@@ -9,25 +9,26 @@ ghost use Rattle.fp_keyfile.specs.Line.{said};
 use crate::grammar::{are_blank, has_zero, is_blank, is_group_name, is_pair_key};
 use fp_base::KeyRule;
 
-/// What a good line says.
+/// A parsed line.
 #[derive(Clone, Copy)]
 pub(crate) enum Line<'a> {
-    /// Nothing: the line is blank or a comment.
+    /// A blank line or a comment.
     Nothing,
-    /// A group of this name begins or goes on.
+    /// A group header, with the group's name.
     Header(&'a str),
-    /// The key has this value.
+    /// A pair, with its key and its value.
     Entry(&'a str, &'a str),
 }
 
-/// The place of the first newline.
+/// Returns the index of the first newline.
 fn newline_place(bytes: &[u8]) -> Option<usize>
     ensures { result ≡ position (λ b. b == 10) bytes.now }
 {
     bytes.iter().position(|byte| *byte == b'\n')
 }
 
-/// The first line of bytes that aren't empty, without its newline, and what stands after it.
+/// Returns the first line, without its newline, and the bytes after it. The bytes must not be
+/// empty.
 pub fn first_line(bytes: &[u8]) -> (&[u8], &[u8])
     requires { 0 < length bytes.now }
     ensures lines { lines_of bytes.now ≡ result.0.now ∷ lines_of result.1.now }
@@ -40,7 +41,7 @@ pub fn first_line(bytes: &[u8]) -> (&[u8], &[u8])
     }
 }
 
-/// The line without the carriage returns at its end.
+/// Returns the line without the carriage returns at its end.
 fn without_returns(line: &[u8]) -> &[u8]
     ensures { result.now ≡ trimmed_end grammar.is_return line.now }
 {
@@ -51,7 +52,7 @@ fn without_returns(line: &[u8]) -> &[u8]
     &line[..end]
 }
 
-/// The text without the spaces and tabs at its start.
+/// Returns the text without the spaces and tabs at its start.
 pub fn trim_front(text: &str) -> &str
     ensures { result.now ≡ trimmed_front grammar.is_blank text.now }
 {
@@ -63,7 +64,7 @@ pub fn trim_front(text: &str) -> &str
     &text[start..]
 }
 
-/// The text without spaces and tabs at its end.
+/// Returns the text without the spaces and tabs at its end.
 fn trim_end(text: &str) -> &str
     ensures { result.now ≡ trimmed_end grammar.is_blank text.now }
 {
@@ -75,7 +76,8 @@ fn trim_end(text: &str) -> &str
     &text[..end]
 }
 
-/// Reads a group line after its `[`.
+/// Parses the text of a group header after its `[`. Errs with `Group` if there is no `]`, if the
+/// name before it isn't valid, or if anything but spaces and tabs comes after it.
 fn read_header(text: &str) -> Result<Line<'_>, KeyRule>
     ensures { said result ≡ header_of text.now }
 {
@@ -89,14 +91,15 @@ fn read_header(text: &str) -> Result<Line<'_>, KeyRule>
     }
 }
 
-/// The text before the first `=`, and the text after it.
+/// Splits a text at its first `=`, which neither part includes. Returns `None` if there is none.
 pub fn cut_at_equals(text: &str) -> Option<(&str, &str)>
     ensures { option_map (λ x. (x.0.now, x.1.now)) result ≡ split_at 61 text.now }
 {
     text.split_once('=')
 }
 
-/// Reads the line of a pair.
+/// Parses the line of a pair. Errs with `Line` if it has no `=`, and with `Key` if the key isn't
+/// valid.
 fn read_entry(text: &str) -> Result<Line<'_>, KeyRule>
     ensures { said result ≡ entry_of text.now }
 {
@@ -112,7 +115,8 @@ fn read_entry(text: &str) -> Result<Line<'_>, KeyRule>
     }
 }
 
-/// Reads a line that is text, by its first byte.
+/// Parses a line that isn't blank, by its first byte: `#` begins a comment, `[` a group header, and
+/// any other byte a pair.
 fn read_marked(text: &str) -> Result<Line<'_>, KeyRule>
     ensures { said result ≡ marked text.now }
 {
@@ -123,7 +127,7 @@ fn read_marked(text: &str) -> Result<Line<'_>, KeyRule>
     }
 }
 
-/// What a line says, or the first rule that it breaks.
+/// Parses a line. Errs with the first rule that the line breaks.
 #[tactic(auto, unfolding(crate::specs::Lines::line_says))]
 pub(crate) fn read_line(line: &[u8]) -> Result<Line<'_>, KeyRule>
     ensures { said result ≡ line_says line.now }

@@ -1,4 +1,4 @@
-//! Reads a key file line by line.
+//! Parsing of a key file, line by line.
 
 ghost use Rattle.fp_keyfile.specs.KeyFile.{file_of, Gives};
 
@@ -9,7 +9,8 @@ use crate::line::first_line;
 use fp_base::Items;
 use std::alloc::Global;
 
-/// The groups of a key file's bytes, or the first bad line with the rule that it breaks.
+/// Parses the bytes of a key file to its groups. Errs with the first bad line and the first rule
+/// that it breaks.
 #[tactic(auto, unfolding(crate::specs::KeyFile::file_of))]
 pub(crate) fn read_groups(alloc: Global, bytes: &[u8]) -> Result<Items<Group>, KeyError>
     ensures { Gives result (file_of bytes.now) }

@@ -1,4 +1,4 @@
-//! A group while it is read, in which a key is found without a walk over the pairs.
+//! A group while it is being parsed, with an index of its keys.
 
 ghost use Rattle.std.specs.Prelude.{◌≡◌, [], IfOk, OnOk};
 ghost use Rattle.fp_keyfile.specs.KeyFile.{keys_of, with_key};
@@ -10,7 +10,7 @@ use fp_base::{Items, Text};
 use std::alloc::{AllocError, Global};
 use std::collections::BTreeMap;
 
-/// A group, with the place of each of its keys.
+/// A group, with an index of its keys.
 #[derive(Drop)]
 pub(crate) struct Table<'a> {
     pub(crate) group: Group,
@@ -18,7 +18,7 @@ pub(crate) struct Table<'a> {
 }
 
 impl<'a> Table<'a> {
-    /// The group of this name without pairs.
+    /// Creates a group with this name and without pairs.
     pub(crate) fn new(alloc: Global, name: &str) -> Result<Self, AllocError>
         ensures group { IfOk result (λ t. t.group ≡ record { name = name.now; pairs = [] }) }
         ensures indexed { IfOk result (λ t. Indexes t.places []) }
@@ -32,7 +32,7 @@ impl<'a> Table<'a> {
         })
     }
 
-    /// Sets the value at the key, at its place or in a new pair at the end.
+    /// Sets the value of the key. A present key keeps its place; a missing one is added at the end.
     pub(crate) fn put(&mut self, key: &'a str, value: &str) -> Result<(), AllocError>
         requires { Indexes self.old.places (keys_of self.old.group.pairs) }
         ensures group { OnOk result (self.new.group ≡ record self.old.group

@@ -1,4 +1,4 @@
-//! Writes a key file line by line.
+//! Writing of a key file, line by line.
 
 ghost use Rattle.std.specs.Prelude.{◌≡◌, ◌++◌, OnOk, IfOk, string_bytes};
 ghost use Rattle.fp_keyfile.specs.KeyFile.{pair_text, group_text, text_of};
@@ -6,7 +6,7 @@ ghost use Rattle.fp_keyfile.specs.KeyFile.{pair_text, group_text, text_of};
 use crate::group::{Group, Pair};
 use std::alloc::{AllocError, Global};
 
-/// Adds the line of a pair.
+/// Appends the line of a pair.
 fn push_pair(out: &mut String, pair: &Pair) -> Result<(), AllocError>
     ensures { OnOk result (string_bytes out.new ≡ string_bytes out.old ++ pair_text pair.now) }
 {
@@ -16,7 +16,7 @@ fn push_pair(out: &mut String, pair: &Pair) -> Result<(), AllocError>
     out.push('\n')
 }
 
-/// Adds the line of a group, and the lines of its pairs.
+/// Appends the header of a group, and the lines of its pairs.
 fn push_group(out: &mut String, group: &Group) -> Result<(), AllocError>
     ensures { OnOk result (string_bytes out.new ≡ string_bytes out.old ++ group_text group.now) }
 {
@@ -29,7 +29,7 @@ fn push_group(out: &mut String, group: &Group) -> Result<(), AllocError>
     Ok(())
 }
 
-/// The text of a file with these groups.
+/// Returns the text of a file with these groups.
 #[tactic(auto, unfolding(crate::specs::KeyFile::text_of))]
 pub(crate) fn text_of_groups(alloc: Global, groups: &[Group]) -> Result<String, AllocError>
     ensures { IfOk result (λ t. string_bytes t ≡ text_of groups.now) }

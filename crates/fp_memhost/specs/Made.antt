@@ -5,7 +5,7 @@ use Rattle.fp_memhost.specs.declared.event.Event.{Event}
 use Rattle.fp_memhost.specs.declared.event.Event.TheVariants.{MakeDir, Create, Append, Link, Symlink, Rename, Unlink, RemoveDir, Sync, Say}
 use Rattle.fp_memhost.specs.declared.event.Noted.{Noted}
 
--- the file that an event creates
+-- The path and the id of the file that an event creates; nothing for any other event
 abbrev pub made_by : Event → List (Elements × ℕ)
 made_by (Create p mode id) = (p, id) ∷ []
 made_by (MakeDir p) = []
@@ -18,6 +18,7 @@ made_by (RemoveDir p) = []
 made_by Sync = []
 made_by (Say piece) = []
 
+-- The paths and ids of the files that a log creates, in order
 abbrev pub made_of : List Noted → List (Elements × ℕ)
 made_of [] = []
 made_of (e ∷ log) = made_by e.event ++ made_of log

@@ -1,16 +1,16 @@
--- How a fake host begins.
+-- The start of a fake host.
 use Rattle.std.specs.Prelude.{◌≡◌, ℕ, List, [], ◌∷◌, false, Option, Some, None}
 use Rattle.fp_host.specs.Paths.{Elements, Slot, absent, dir}
 use Rattle.fp_host.specs.View.{View}
 use Rattle.fp_host.specs.Moments.{Moments}
 use Rattle.fp_memhost.specs.Story.{Story}
 
--- the root alone
+-- The entries of a tree in which only the root exists
 abbrev pub root_alone : Elements → Slot
 root_alone [] = dir
 root_alone (x ∷ up) = absent
 
--- The empty view: it names the root alone, there are no files, nothing stood earlier, nothing was
+-- The empty view: only the root exists, there are no files and no earlier entries, nothing is
 -- printed, and nothing is remembered.
 abbrev pub empty_view : View
 empty_view = record {
@@ -22,7 +22,7 @@ empty_view = record {
   stood = [];
 }
 
--- The host tells this view, and no call was made.
+-- The host reports this view as its only one, and no call was made.
 pub record Begins (v : View) (story : Story) (moments : Option Moments) (count : ℕ) : Type 0 where
   pub told : moments ≡ Some (record { now = v; past = [] })
   pub faults : count ≡ 0
@@ -32,6 +32,6 @@ pub record Begins (v : View) (story : Story) (moments : Option Moments) (count :
   pub starved : story.starved ≡ 0
   pub made : story.made ≡ []
 
--- these bytes were printed
+-- `bytes` are all printed bytes of the host
 pub record TellsPrinted (told : Option Moments) (bytes : List ℕ) : Type 0 where
   pub printed : (m : Moments) → told ≡ Some m → bytes ≡ m.now.printed

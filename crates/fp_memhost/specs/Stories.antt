@@ -1,4 +1,4 @@
--- What a host in memory tells.
+-- The views and the record of a host in memory.
 use Rattle.std.specs.Prelude.{Some, None, nat_le, if◌then◌else◌}
 use Rattle.fp_host.specs.Moments.{Moments}
 use Rattle.fp_memhost.specs.Made.{made_of}
@@ -8,9 +8,11 @@ use Rattle.fp_memhost.specs.Replay.{view_after, moments_of}
 use Rattle.fp_memhost.specs.Story.{fails_at}
 use Rattle.fp_memhost.specs.Story.{Story}
 
+-- The views of a host in memory, as it reports them
 abbrev pub told_of : MemHost → Moments
 told_of m = moments_of (opened m.history.start) m.history.log.items
 
+-- The record of a host in memory
 abbrev pub story_of : MemHost → Story
 story_of m = record {
   calls = m.history.calls;

@@ -1,4 +1,4 @@
--- That a view is a tree, taken out of a statement that it is one.
+-- A proof that a view is a well-formed tree, from a statement that merely asserts it.
 use Rattle.std.proofs.Common.{◌≡◌, ◌≢◌, ◌⊎◌, ◌<◌, inl, inr, ℕ, zero, suc, List, [], ◌∷◌, length, Some, refl, ap, subst, Contains, arith}
 use Rattle.std.proofs.Math.Logic.{∥∥₁_elim, ∥∥₁_map}
 use Rattle.std.proofs.Props.{props}
@@ -16,15 +16,18 @@ use Rattle.fp_memhost.specs.Images.{opened}
 use Rattle.fp_memhost.specs.Replay.{view_now}
 use Rattle.fp_memhost.specs.Stories.{told_of}
 
+-- The statement holds or is refuted
 abbrev Decided : Type 0 → Type 0
 Decided P = P ⊎ (P → ⊥)
 
+-- Two texts are equal or not
 bytes_cases : (a b : List ℕ) → (a ≡ b) ⊎ (a ≢ b)
 bytes_cases a b = elim (cases_Bool (bytes_eq a b)) [
   | inl t ↦ inl ((bytes_eq-Decides a b).0 t)
   | inr f ↦ inr (λ e. both_ways (bytes_eq a b) f ((bytes_eq-Decides a b).1 e))
 ]
 
+-- Two entries are equal or not
 pub slot_cases : (a b : Slot) → (a ≡ b) ⊎ (a ≢ b)
 slot_cases absent absent = inl refl
 slot_cases absent dir = inr (λ e. cc)
@@ -46,6 +49,7 @@ slot_cases (link s) (link t) =
     elim (bytes_cases s t) [ inl e ↦ inl (ap link e) | inr ne ↦ inr (λ e. ne (cc)) ]
 
 module _ {A : Type 0} (decide : (a b : A) → (a ≡ b) ⊎ (a ≢ b)) where
+  -- An element is in a list or not, if equality of elements is decided
   had_cases : (l : List A) (e : A) → Decided (Contains l e)
   had_cases [] e = inr (λ c. omega (arith, c.1))
   had_cases (x ∷ xs) e = elim (decide x e) [
@@ -61,6 +65,7 @@ module _ {A : Type 0} (decide : (a b : A) → (a ≡ b) ⊎ (a ≢ b)) where
       later zero low is ne none = ne is
       later (suc k) low is ne none = none (k, omega arith, is)
 
+-- Two pairs of a name and an entry are equal or not
 put_cases : (a b : Elements × Slot) → (a ≡ b) ⊎ (a ≢ b)
 put_cases a b = elim (path_cases a.0 b.0) [
   | inl path ↦ elim (slot_cases a.1 b.1) [
@@ -70,6 +75,7 @@ put_cases a b = elim (path_cases a.0 b.0) [
   | inr ne ↦ inr (λ e. ne (ap (λ (x : Elements × Slot). x.0) e))
 ]
 
+-- A crash may leave the entry at the name, or it can't
 may_cases : (v : View) (p : Elements) (e : Slot) → Decided (MayBe v p e)
 may_cases v p e = elim (slot_cases e (v.names p)) [
   | inl is ↦ inl (inl is)
@@ -79,11 +85,12 @@ may_cases v p e = elim (slot_cases e (v.names p)) [
   ]
 ]
 
--- what is decided and not denied
+-- A decided statement that follows from an assertion holds
 settle : {T P : Type 0} → Decided P → ∥ T ∥₁ → (T → P) → P
 settle (inl p) t f = p
 settle (inr deny) t f = absurd (∥∥₁_elim t ⊥_prop (λ x. deny (f x)))
 
+-- A view that is asserted to be a tree is a tree
 pub told_tree : (v : View) → ∥ IsTree v ∥₁ → IsTree v
 told_tree v t = record {
   root = settle (slot_cases (v.names []) dir) t (λ tree. tree.root);
@@ -112,7 +119,7 @@ told_tree v t = record {
   bits = λ id f is. ∥∥₁_elim t (search props) (λ tree. tree.bits id f is);
 }
 
--- the law of the host in memory
+-- Each view that a host in memory reports as its present one is a well-formed tree
 pub law : (host : MemHost) (m : Moments) → Some (told_of host) ≡ Some m → IsTree m.now
 law host m is =
     let same : told_of host ≡ m = cc is in

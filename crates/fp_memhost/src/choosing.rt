@@ -1,4 +1,4 @@
-//! The images that a stop may leave of a scene.
+//! The images that a crash may leave of a scene.
 ghost use Rattle.std.specs.Prelude.{◌≡◌, Some, true, IfOk, IsTrue, length};
 ghost use Rattle.std.specs.List.{list_all};
 ghost use Rattle.std.specs.Option.{option_copied};
@@ -18,7 +18,7 @@ use fp_base::{Blob, Items};
 use fp_host::{Entry, Path};
 use std::alloc::{AllocError, Global};
 
-/// How many entries a stop may bring back at the name with this text.
+/// Returns the number of earlier entries that a crash may bring back at the name with this text.
 fn count_earlier(names: &[Name], text: &str) -> usize
     requires { IsAscending names.now }
     ensures { result ≡ length (earlier_of names.now (elements_of text.now)) }
@@ -29,7 +29,7 @@ fn count_earlier(names: &[Name], text: &str) -> usize
     }
 }
 
-/// Whether each listed name has an entry of its number.
+/// Returns whether each listed name has an entry with its number.
 fn have_entries(scene: &Scene, numbers: &[(Path, u64)]) -> bool
     ensures { result ≡ list_all (has_entry (seen scene.now)) numbers.now }
 {
@@ -41,7 +41,7 @@ fn have_entries(scene: &Scene, numbers: &[(Path, u64)]) -> bool
     true
 }
 
-/// Whether each listed file was created since the last sync.
+/// Returns whether each listed file was created since the last sync.
 fn are_open(scene: &Scene, bytes: &[(u64, Blob)]) -> bool
     ensures { result ≡ list_all (is_open_file (seen scene.now)) bytes.now }
 {
@@ -53,14 +53,14 @@ fn are_open(scene: &Scene, bytes: &[(u64, Blob)]) -> bool
     true
 }
 
-/// Whether a stop may leave what is chosen.
+/// Returns whether a crash may leave the chosen entries and bytes.
 pub fn can_choose(scene: &Scene, choice: &Choice) -> bool
     ensures { result ≡ can_choose (seen scene.now) choice.now }
 {
     have_entries(scene, choice.names.as_slice()) && are_open(scene, choice.files.as_slice())
 }
 
-/// Which entry of the name is chosen.
+/// Returns the number of the entry that is chosen for the name; 0 if it isn't listed.
 fn number_for(numbers: &[(Path, u64)], path: &Path) -> u64
     ensures { result ≡ number_for numbers.now path.now }
 {
@@ -72,7 +72,7 @@ fn number_for(numbers: &[(Path, u64)], path: &Path) -> u64
     0
 }
 
-/// Which bytes of the file are chosen, where some are.
+/// Returns the bytes that are chosen for the file, or `None` if it isn't listed.
 fn bytes_for(chosen: &[(u64, Blob)], id: u64) -> Option<&Blob>
     ensures { option_copied result ≡ bytes_for chosen.now id }
 {
@@ -84,7 +84,8 @@ fn bytes_for(chosen: &[(u64, Blob)], id: u64) -> Option<&Blob>
     None
 }
 
-/// The entry of this number.
+/// Returns the entry with this number: 0 is the present one, and n the n-th earlier one, the oldest
+/// first.
 fn entry_in(name: &Name, number: u64) -> Option<&Entry>
     ensures { slot_of (option_copied result) ≡ entry_in name.now number }
 {
@@ -98,7 +99,7 @@ fn entry_in(name: &Name, number: u64) -> Option<&Entry>
     name.earlier[at].as_ref()
 }
 
-/// The names with the chosen entries.
+/// Returns the names with their chosen entries.
 fn choose_names(
     alloc: Global,
     scene: &Scene,
@@ -117,7 +118,7 @@ fn choose_names(
     Ok(chosen)
 }
 
-/// The chosen bytes of a file, or its own.
+/// Returns the bytes that are chosen for a file, or its own.
 fn choose_bytes(alloc: Global, file: &Content, chosen: &[(u64, Blob)]) -> Result<Blob, AllocError>
     ensures { IfOk result (λ b. b ≡ bytes_of file.now.bytes.items
         (bytes_for chosen.now file.now.id)) }
@@ -128,7 +129,7 @@ fn choose_bytes(alloc: Global, file: &Content, chosen: &[(u64, Blob)]) -> Result
     }
 }
 
-/// The files with the chosen bytes.
+/// Returns the files with their chosen bytes.
 fn choose_files(
     alloc: Global,
     files: &[Content],
@@ -148,7 +149,7 @@ fn choose_files(
     Ok(chosen)
 }
 
-/// The image that is chosen, which a stop may leave.
+/// Returns the chosen image, which a crash may leave.
 pub fn choose(alloc: Global, scene: &Scene, choice: &Choice) -> Result<Image, AllocError>
     requires tree { IsTree (seen scene.now) }
     requires can { can_choose (seen scene.now) choice.now ≡ true }
@@ -162,7 +163,8 @@ pub fn choose(alloc: Global, scene: &Scene, choice: &Choice) -> Result<Image, Al
     })
 }
 
-/// The names at which a stop may bring something back.
+/// Returns the names with earlier entries, which a crash may bring back, each with the number of
+/// these entries.
 fn choices_in(alloc: Global, names: &[Name]) -> Result<Vec<(Path, u64)>, AllocError>
     ensures { IfOk result (λ v. v.items ≡ choices_in names.now) }
 {
@@ -175,7 +177,8 @@ fn choices_in(alloc: Global, names: &[Name]) -> Result<Vec<(Path, u64)>, AllocEr
     Ok(found)
 }
 
-/// The names at which a stop may bring something back, each with how many entries.
+/// Returns the names with earlier entries, which a crash may bring back, ascending by their texts,
+/// each with the number of these entries.
 pub fn choices_of(alloc: Global, scene: &Scene) -> Result<Items<(Path, u64)>, AllocError>
     ensures { IfOk result (AreChoices (seen scene.now)) }
 {

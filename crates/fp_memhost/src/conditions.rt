@@ -13,14 +13,14 @@ use crate::names::entry;
 use crate::scene::Scene;
 use fp_host::{Entry, PERMISSION_BITS, Path, is_link_text};
 
-/// Whether the entry is a folder.
+/// Returns whether the entry is a directory.
 pub fn is_dir(entry: Option<&Entry>) -> bool
     ensures { IsTrue result ↔ (slot_of (option_copied entry.entry) ≡ dir) }
 {
     matches!(entry, Some(Entry::Dir))
 }
 
-/// Whether the folder above the path is there.
+/// Returns whether the path's parent is a directory; false for the root.
 pub fn has_folder(scene: &Scene, path: &Path) -> bool
     ensures { IsTrue result ↔ HasFolder (seen scene.now) path.now }
 {
@@ -30,22 +30,23 @@ pub fn has_folder(scene: &Scene, path: &Path) -> bool
     }
 }
 
-/// Whether a folder can be made at the path: nothing stands there, and a folder above it.
+/// Returns whether a directory can be made at the path: the path is absent, and its parent is a
+/// directory.
 pub fn can_make_dir(scene: &Scene, path: &Path) -> bool
     ensures { IsTrue result ↔ Can (makes_dir path.now) (seen scene.now) }
 {
     has_folder(scene, path) && entry(&scene.names, path.text()).is_none()
 }
 
-/// Whether a file can be made at the path, as a folder could be, with these permission bits, which
-/// are at most 0o7777.
+/// Returns whether a file can be created at the path: the path is absent, its parent is a
+/// directory, and the permission bits are at most 0o7777.
 pub fn can_create(scene: &Scene, path: &Path, mode: u32) -> bool
     ensures { IsTrue result ↔ CanCreate path.now mode (seen scene.now) }
 {
     can_make_dir(scene, path) && mode <= PERMISSION_BITS
 }
 
-/// Whether bytes can be appended at the path: a file stands there, created since the last sync.
+/// Returns whether bytes can be appended at the path: it is a file created since the last sync.
 pub fn can_append(scene: &Scene, path: &Path) -> bool
     ensures { IsTrue result ↔ Can (appends path.now []) (seen scene.now) }
 {
@@ -55,23 +56,23 @@ pub fn can_append(scene: &Scene, path: &Path) -> bool
     }
 }
 
-/// Whether a hard link can be made: a file stands at the first path, nothing at the second, and a
-/// folder above that.
+/// Returns whether a hard link can be made: the first path is a file, the second is absent, and the
+/// second's parent is a directory.
 pub fn can_link(scene: &Scene, from: &Path, to: &Path) -> bool
     ensures { IsTrue result ↔ Can (links from.now to.now) (seen scene.now) }
 {
     matches!(entry(&scene.names, from.text()), Some(Entry::File(_))) && can_make_dir(scene, to)
 }
 
-/// Whether a symlink with this text can be made at the path, as a folder could be: the text is one
-/// of a link.
+/// Returns whether a symlink with this text can be made at the path: the text is valid, the path is
+/// absent, and its parent is a directory.
 pub fn can_symlink(scene: &Scene, text: &str, path: &Path) -> bool
     ensures { IsTrue result ↔ Can (makes_link text.now path.now) (seen scene.now) }
 {
     is_link_text(text) && can_make_dir(scene, path)
 }
 
-/// Whether the path can be unlinked: a file or a symlink stands there.
+/// Returns whether the path can be unlinked: it is a file or a symlink.
 pub fn can_unlink(scene: &Scene, path: &Path) -> bool
     ensures { IsTrue result ↔ Can (unlinks path.now) (seen scene.now) }
 {
@@ -81,7 +82,7 @@ pub fn can_unlink(scene: &Scene, path: &Path) -> bool
     )
 }
 
-/// Whether the two hold different entries, or the first is no file.
+/// Returns whether the entries aren't both the same file.
 fn are_apart(from: Option<&Entry>, to: Option<&Entry>) -> bool
     ensures { IsTrue result
         ↔ (IsFile (slot_of (option_copied from.entry))
@@ -93,8 +94,9 @@ fn are_apart(from: Option<&Entry>, to: Option<&Entry>) -> bool
     }
 }
 
-/// Whether a file or a symlink can be moved from one path to the other: a folder stands above the
-/// other, none at it, and it is neither the same path nor a hard link of the same file.
+/// Returns whether the first path can be renamed to the second: the first is a file or a symlink,
+/// the second is no directory, the second's parent is a directory, and the paths differ and aren't
+/// hard links of one file.
 pub fn can_rename(scene: &Scene, from: &Path, to: &Path) -> bool
     ensures { IsTrue result ↔ Can (renames from.now to.now) (seen scene.now) }
 {
@@ -114,7 +116,8 @@ pub fn can_rename(scene: &Scene, from: &Path, to: &Path) -> bool
     are_apart(entry(&scene.names, from.text()), target)
 }
 
-/// In a tree nothing is below a folder where nothing stands directly in it.
+/// Returns whether the path can be removed as a directory: it is a directory, isn't the root, and
+/// has no children. In a tree, a directory without children has nothing below it.
 pub fn can_remove_dir(scene: &Scene, path: &Path) -> bool
     requires { IsTree (seen scene.now) }
     ensures { IsTrue result ↔ Can (removes_dir path.now) (seen scene.now) }

@@ -1,11 +1,11 @@
-//! What a name holds, once more.
+//! Copies of directory entries.
 ghost use Rattle.std.specs.Prelude.{◌≡◌, IfOk};
 ghost use Rattle.std.specs.Option.{option_copied};
 
 use fp_host::Entry;
 use std::alloc::AllocError;
 
-/// The same entry once more.
+/// Copies an entry. Errs if memory runs out.
 pub fn copy_of(entry: &Entry) -> Result<Entry, AllocError>
     ensures { IfOk result (λ e. e ≡ entry.now) }
 {
@@ -16,7 +16,7 @@ pub fn copy_of(entry: &Entry) -> Result<Entry, AllocError>
     })
 }
 
-/// What is there, once more.
+/// Copies an entry, if there is one. Errs if memory runs out.
 pub fn copy_entry(entry: Option<&Entry>) -> Result<Option<Entry>, AllocError>
     ensures { IfOk result (λ e. e ≡ option_copied entry.entry) }
 {

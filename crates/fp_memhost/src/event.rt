@@ -1,4 +1,4 @@
-//! What was done, as it is kept.
+//! The log's record of a change.
 ghost use Rattle.std.specs.Prelude.{◌≡◌, IfSome};
 ghost use Rattle.fp_host.specs.Calls.{makes_dir, creates, appends, links, makes_link, renames, unlinks, removes_dir, says};
 ghost use Rattle.fp_memhost.specs.Replay.{change_of, is_sync};
@@ -7,53 +7,55 @@ use fp_base::{Blob, Text};
 use fp_host::Path;
 use std::alloc::Global;
 
-/// A change of the host.
+/// A change of the host by one call.
 #[derive(Drop)]
 pub enum Event {
-    /// A folder is made.
+    /// A new directory.
     MakeDir(Path),
-    /// An empty file is made, with these permission bits and this id.
+    /// A new empty file, with these permission bits and this id.
     Create { path: Path, mode: u32, id: u64 },
-    /// Bytes are added at the end of the file at the path.
+    /// Bytes that are appended to the file at the path.
     Append { path: Path, bytes: Blob },
-    /// A hard link, `to`, of the file at `from` is made.
+    /// A new hard link `to` of the file at `from`.
     Link { from: Path, to: Path },
-    /// A symlink with this text is made.
+    /// A new symlink with this text.
     Symlink { text: Text, path: Path },
-    /// What stands at `from` moves to `to`, in the place of a file or a symlink there.
+    /// The renaming of a file or symlink from `from` to `to`, which replaces a file or symlink
+    /// there.
     Rename { from: Path, to: Path },
-    /// A file or a symlink goes away.
+    /// The removal of a file or a symlink.
     Unlink(Path),
-    /// An empty folder goes away.
+    /// The removal of an empty directory.
     RemoveDir(Path),
-    /// What stands lasts from now on.
+    /// A sync, which makes the present content durable.
     Sync,
-    /// Bytes are printed.
+    /// Bytes that are printed.
     Say(Blob),
 }
 
-/// A change with the number of its call, and whether it was done. One that wasn't leaves what
-/// stood, and may come about at a stop.
+/// A change with the number of its call. A change that wasn't done leaves the present content as it
+/// was, but a crash may leave it done.
 #[derive(Drop)]
 pub struct Noted {
-    /// The number of the call, from 0.
+    /// The number of the call, counted from 0.
     pub call: u64,
-    /// Whether the change was made.
+    /// Whether the change was done.
     pub is_done: bool,
     /// The change.
     pub event: Event,
 }
 
-// Each of these copies what the change needs, and gives nothing where there is no memory for it.
+// Each constructor copies its arguments, and returns `None` if memory runs out.
 impl Event {
-    /// A folder is made at the path.
+    /// Returns the event that makes a directory; `None` if memory runs out.
     pub fn make_dir(path: &Path) -> Option<Self>
         ensures { IfSome result (λ e. change_of e ≡ makes_dir path.now) }
     {
         Some(Event::MakeDir(path.copy().ok()?))
     }
 
-    /// An empty file is made at the path, with these permission bits and this id.
+    /// Returns the event that creates an empty file with these permission bits and this id; `None`
+    /// if memory runs out.
     pub fn create(path: &Path, mode: u32, id: u64) -> Option<Self>
         ensures { IfSome result (λ e. change_of e ≡ creates path.now mode id) }
     {
@@ -61,7 +63,7 @@ impl Event {
         Some(Event::Create { path, mode, id })
     }
 
-    /// The bytes are added to the file at the path.
+    /// Returns the event that appends bytes to the file at the path; `None` if memory runs out.
     pub fn append(alloc: Global, path: &Path, bytes: &[u8]) -> Option<Self>
         ensures { IfSome result (λ e. change_of e ≡ appends path.now bytes.now) }
     {
@@ -70,7 +72,8 @@ impl Event {
         Some(Event::Append { path, bytes })
     }
 
-    /// A hard link, `to`, of the file at `from` is made.
+    /// Returns the event that makes `to` a hard link of the file at `from`; `None` if memory runs
+    /// out.
     pub fn link(from: &Path, to: &Path) -> Option<Self>
         ensures { IfSome result (λ e. change_of e ≡ links from.now to.now) }
     {
@@ -79,7 +82,7 @@ impl Event {
         Some(Event::Link { from, to })
     }
 
-    /// A symlink with this text is made at the path.
+    /// Returns the event that makes a symlink with this text; `None` if memory runs out.
     pub fn symlink(alloc: Global, text: &str, path: &Path) -> Option<Self>
         ensures { IfSome result (λ e. change_of e ≡ makes_link text.now path.now) }
     {
@@ -88,7 +91,7 @@ impl Event {
         Some(Event::Symlink { text, path })
     }
 
-    /// What stands at `from` moves to `to`.
+    /// Returns the event that renames `from` to `to`; `None` if memory runs out.
     pub fn rename(from: &Path, to: &Path) -> Option<Self>
         ensures { IfSome result (λ e. change_of e ≡ renames from.now to.now) }
     {
@@ -97,28 +100,28 @@ impl Event {
         Some(Event::Rename { from, to })
     }
 
-    /// The file or symlink at the path goes away.
+    /// Returns the event that removes the file or symlink at the path; `None` if memory runs out.
     pub fn unlink(path: &Path) -> Option<Self>
         ensures { IfSome result (λ e. change_of e ≡ unlinks path.now) }
     {
         Some(Event::Unlink(path.copy().ok()?))
     }
 
-    /// The empty folder at the path goes away.
+    /// Returns the event that removes the empty directory at the path; `None` if memory runs out.
     pub fn remove_dir(path: &Path) -> Option<Self>
         ensures { IfSome result (λ e. change_of e ≡ removes_dir path.now) }
     {
         Some(Event::RemoveDir(path.copy().ok()?))
     }
 
-    /// The piece is printed.
+    /// Returns the event that prints bytes; `None` if memory runs out.
     pub fn say(alloc: Global, piece: &[u8]) -> Option<Self>
         ensures { IfSome result (λ e. change_of e ≡ says piece.now) }
     {
         Some(Event::Say(Blob::from_vec(piece.to_vec(alloc).ok()?)))
     }
 
-    /// Whether this is a sync.
+    /// Returns whether the change is a sync.
     pub fn is_sync(&self) -> bool
         ensures { result ≡ is_sync self.now }
     {

@@ -1,4 +1,4 @@
-//! The files of a host.
+//! The files of a host in memory.
 ghost use Rattle.std.specs.Prelude.{◌≡◌, None, OnOk, OnErr, MatchOption};
 ghost use Rattle.std.specs.Option.{option_copied};
 ghost use Rattle.fp_memhost.specs.Files.{IsFileAt, SameFiles, AddsFile, GrowsFile, SettlesFiles, file_at, files_of, dirty_of};
@@ -6,21 +6,21 @@ ghost use Rattle.fp_memhost.specs.Appended.{size_of};
 
 use std::alloc::AllocError;
 
-/// A file by its id: its permission bits, its bytes, and whether it was created since the last
-/// sync.
+/// A file of a host in memory.
 #[derive(Drop)]
 pub struct Content {
-    /// No other file has it.
+    /// The id by which entries refer to the file. If an image listed an id twice, the first one
+    /// counts.
     pub id: u64,
-    /// The permission bits.
+    /// The file's permission bits.
     pub mode: u32,
-    /// The whole content.
+    /// The file's bytes.
     pub bytes: Vec<u8>,
-    /// Whether it was created since the last sync.
+    /// Whether the file was created since the last sync.
     pub is_new: bool,
 }
 
-/// The place of the file with this id.
+/// Returns the index of the file with this id.
 pub fn find_file(files: &[Content], id: u64) -> Option<usize>
     ensures { MatchOption result (file_at files.now id ≡ None) (IsFileAt files.now id) }
 {
@@ -32,7 +32,7 @@ pub fn find_file(files: &[Content], id: u64) -> Option<usize>
     None
 }
 
-/// The file with this id.
+/// Returns the file with this id.
 pub fn file(files: &[Content], id: u64) -> Option<&Content>
     ensures { option_copied result ≡ file_at files.now id }
 {
@@ -42,7 +42,7 @@ pub fn file(files: &[Content], id: u64) -> Option<&Content>
     }
 }
 
-/// Whether the file with this id was created since the last sync.
+/// Returns whether the file with this id was created since the last sync; false if there is none.
 pub fn is_new(files: &[Content], id: u64) -> bool
     ensures { result ≡ dirty_of files.now id }
 {
@@ -52,7 +52,8 @@ pub fn is_new(files: &[Content], id: u64) -> bool
     }
 }
 
-/// Adds an empty file, created since the last sync.
+/// Adds an empty file with this id, which replaces a file with the id and counts as created since
+/// the last sync. If memory runs out, nothing changes.
 pub fn add_file(files: &mut Vec<Content>, id: u64, mode: u32) -> Result<(), AllocError>
     ensures ok { OnOk result (AddsFile id mode files.old.items files.new.items) }
     ensures err { OnErr result (SameFiles files.old.items files.new.items) }
@@ -70,7 +71,8 @@ pub fn add_file(files: &mut Vec<Content>, id: u64, mode: u32) -> Result<(), Allo
     Ok(())
 }
 
-/// Adds bytes at the end of the file with this id, where there is one.
+/// Appends bytes to the file with this id. Does nothing if there is none. If memory runs out,
+/// nothing changes.
 pub fn grow(files: &mut Vec<Content>, id: u64, bytes: &[u8]) -> Result<(), AllocError>
     ensures ok { OnOk result (GrowsFile id bytes.now files.old.items files.new.items) }
     ensures err { OnErr result (SameFiles files.old.items files.new.items) }
@@ -84,7 +86,7 @@ pub fn grow(files: &mut Vec<Content>, id: u64, bytes: &[u8]) -> Result<(), Alloc
     }
 }
 
-/// No file was created since the last sync.
+/// Records a sync: no file counts as created since the last one.
 pub fn settle(files: &mut Vec<Content>)
     ensures { SettlesFiles files.old.items files.new.items }
 {
@@ -93,7 +95,7 @@ pub fn settle(files: &mut Vec<Content>)
     }
 }
 
-/// An id that no file has.
+/// Returns an id that no file has.
 pub fn fresh_id(files: &[Content]) -> u64
     ensures { file_at files.now result ≡ None }
 {
@@ -104,7 +106,7 @@ pub fn fresh_id(files: &[Content]) -> u64
     id
 }
 
-/// How many bytes the file with this id has.
+/// Returns the length in bytes of the file with this id; 0 if there is none.
 pub fn size_of(files: &[Content], id: u64) -> u64
     ensures { result ≡ size_of (files_of files.now id) }
 {

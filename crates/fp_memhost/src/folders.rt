@@ -1,4 +1,4 @@
-//! What stands in a folder.
+//! The children of directories.
 ghost use Rattle.std.specs.Prelude.{◌≡◌, ◌↔◌, ◌<◌, [], length, drop, IsTrue, IsNone, IfOk, IfSome, is_some};
 ghost use Rattle.std.specs.List.{list_all, list_any};
 ghost use Rattle.fp_host.specs.Paths.{elements_of, is_element};
@@ -9,7 +9,7 @@ use fp_base::Text;
 use fp_host::Path;
 use std::alloc::{AllocError, Global};
 
-/// The text of the folder above; the root has none.
+/// Returns the text of the path's parent, or `None` for the root.
 pub fn folder_above(text: &str) -> Option<&str>
     requires { IsTrue (list_all is_element (elements_of text.now)) }
     ensures none { IsNone result ↔ (elements_of text.now ≡ []) }
@@ -26,7 +26,7 @@ pub fn folder_above(text: &str) -> Option<&str>
     }
 }
 
-/// Whether the path stands directly in the folder with this text.
+/// Returns whether the path is directly in the directory with this text.
 pub fn is_in(path: &Path, folder: &str) -> bool
     ensures { result ≡ child_in (elements_of folder.now) path.now }
 {
@@ -36,7 +36,7 @@ pub fn is_in(path: &Path, folder: &str) -> bool
     }
 }
 
-/// Whether the path stands somewhere below the folder with this text.
+/// Returns whether the path is below the directory with this text, at any level.
 pub fn is_below(path: &Path, folder: &str) -> bool
     ensures { result ≡ is_above (elements_of folder.now) path.now }
 {
@@ -50,7 +50,7 @@ pub fn is_below(path: &Path, folder: &str) -> bool
     false
 }
 
-/// Whether something stands in the folder with this text.
+/// Returns whether something exists directly in the directory with this text.
 pub fn has_child(names: &[Name], folder: &str) -> bool
     ensures { result ≡ list_any (is_child (elements_of folder.now)) names.now }
 {
@@ -59,8 +59,8 @@ pub fn has_child(names: &[Name], folder: &str) -> bool
         .any(|name| name.entry.is_some() && is_in(&name.path, folder))
 }
 
-/// The last element of the name, where something stands there and it is in the folder with this
-/// text.
+/// Returns the last element of the name, or `None` if the name is absent or isn't directly in the
+/// directory with this text.
 fn child_name<'a>(name: &'a Name, folder: &str) -> Option<&'a str>
     ensures some { is_some result ≡ is_child (elements_of folder.now) name.now }
     ensures last { IfSome result (λ x. x.now ≡ last_of name.now.path) }
@@ -72,7 +72,8 @@ fn child_name<'a>(name: &'a Name, folder: &str) -> Option<&'a str>
     name.path.name()
 }
 
-/// The names of what stands in the folder, ascending.
+/// Returns the last elements of the names that exist directly in the directory, in the order of the
+/// list.
 pub fn children(alloc: Global, names: &[Name], folder: &Path) -> Result<Vec<Text>, AllocError>
     ensures names { IfOk result (λ v. v.items ≡ children_of names.now folder.now) }
     ensures good { IfOk result (λ v. IsTrue (list_all is_element v.items)) }

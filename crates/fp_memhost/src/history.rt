@@ -1,4 +1,4 @@
-//! What was done since the start.
+//! The history of a host in memory.
 ghost use Rattle.std.specs.Prelude.{◌≡◌, ◌≤◌, ◌+◌, ◌-◌, ◌^◌, ◌++◌, ◌∷◌, [], false, IfOk, IsTrue, min};
 ghost use Rattle.fp_host.specs.View.{IsTree};
 ghost use Rattle.fp_host.specs.Calls.{Can};
@@ -17,23 +17,25 @@ use crate::scene::Scene;
 use fp_host::Path;
 use std::alloc::{AllocError, Global};
 
-/// What stood at the start, what was done since then, in order, and what stands now.
+/// The history of a host: its content at the start, the changes since then, and its present
+/// content.
 #[derive(Drop)]
 pub struct History {
-    /// What stood at the start.
+    /// The content at the start.
     pub start: Image,
-    /// What stands now.
+    /// The present content.
     pub scene: Scene,
-    /// What was done since then, in order.
+    /// The changes since the start, in order.
     pub log: Vec<Noted>,
-    /// How many calls were made since then.
+    /// The number of calls since the start; it stays at 2^64 - 1 once it gets there.
     pub calls: u64,
     ghost agrees: { seen scene ≡ view_now (opened start) log.items },
     ghost numbered: { IsNumbered calls log.items },
     ghost trees: { ∥ AreTrees (opened start) log.items ∥₁ },
 }
 
-/// Whether there was memory for the step and for its note. Without it nothing that is told changes.
+/// Does a step and records it. Returns whether there was memory for both; otherwise neither is
+/// done.
 fn keep(scene: &mut Scene, log: &mut Vec<Noted>, noted: Noted) -> bool
     ensures yes_scene { IsTrue result → seen scene.new ≡ stepped noted (seen scene.old) }
     ensures yes_log { IsTrue result → log.new.items ≡ log.old.items ++ noted ∷ [] }
@@ -51,7 +53,8 @@ fn keep(scene: &mut Scene, log: &mut Vec<Noted>, noted: Noted) -> bool
 }
 
 impl History {
-    /// Nothing was done yet. The scene shows the image, as it is found when it is opened again.
+    /// Creates a history without calls. The scene must be the image's, as it is when it is opened
+    /// again.
     pub fn new(start: Image, scene: Scene) -> Self
         requires same { seen scene ≡ opened start }
         requires tree { IsTree (opened start) }
@@ -68,7 +71,7 @@ impl History {
         }
     }
 
-    /// A call that changes nothing.
+    /// Counts a call that changes nothing.
     pub fn skip(&mut self)
         ensures start { self.new.start ≡ self.old.start }
         ensures log { self.new.log.items ≡ self.old.log.items }
@@ -78,8 +81,9 @@ impl History {
         self.calls = self.calls.saturating_add(1);
     }
 
-    /// A call that makes this change, or leaves it for a stop to bring about. Whether there was
-    /// memory to keep it; without it nothing that is told changes.
+    /// Counts a call, and records its change. The change is done, or, with `is_done` false, isn't,
+    /// but a crash may leave it done. Returns whether there was memory for it; otherwise only the
+    /// count changes.
     pub fn note(&mut self, event: Event, is_done: bool) -> bool
         requires { Can (change_of event) (seen self.old.scene) }
         ensures start { self.new.start ≡ self.old.start }
@@ -98,12 +102,12 @@ impl History {
         self.calls = self.calls.saturating_add(1);
         keep(&mut self.scene, &mut self.log, noted)
     }
-    /// The allocator of what is kept.
+    /// Returns the allocator of the history.
     fn alloc(&self) -> Global {
         *self.log.allocator()
     }
 
-    /// What stood after this number of calls.
+    /// Returns the content after this number of calls, replayed from the start.
     pub fn scene_after(&self, calls: u64) -> Result<Scene, AllocError>
         ensures { IfOk result (λ s. seen s ≡ view_after (opened self.now.start) self.now.log.items
             calls) }
@@ -116,7 +120,8 @@ impl History {
         }
         Ok(scene)
     }
-    /// How many bytes were appended to files that were created below this path.
+    /// Returns the number of bytes in the files that were created below this path since the start,
+    /// at most 2^64 - 1. They all were appended, since a file is created empty and only grows.
     pub fn appended(&self, front: &Path) -> u64
         ensures { result ≡ min (appended_below front.now (seen self.now.scene).files
             (made_of self.now.log.items)) (2 ^ 64 - 1) }
@@ -128,7 +133,8 @@ impl History {
         count
     }
 
-    /// The size of the file that the event created below this path.
+    /// Returns the length in bytes of the file that the event created below this path; 0 if it
+    /// created none.
     fn grown_by(&self, front: &Path, event: &Event) -> u64
         ensures { result ≡ min (appended_below front.now (seen self.now.scene).files
             (made_by event.now)) (2 ^ 64 - 1) }

@@ -24,9 +24,10 @@ impl Recorder for MemHost {
     ghost story = { story_of };
 }
 
-// Each call is the one of the trait, and says besides what it records: where it isn't to fail, it
-// fails only where memory for its own note runs out, and then nothing changes; where it is, it
-// leaves the view as it is to. One that only reads needs no note, so it is never starved.
+// Besides the clauses of the trait, each call has clauses on what it records. A call that isn't to
+// fail fails only if memory for its own record runs out, and then nothing changes. A call that is
+// to fail leaves the view that `fail_calls` asks for. A call that only reads needs no record, so it
+// never runs out of memory for one.
 impl Host for MemHost {
     ghost moments = { λ m. Some (told_of m) };
 

@@ -1,4 +1,4 @@
-//! What is found on a disk, and what may be chosen of it.
+//! Images of disks, and the choices among those that a crash may leave.
 ghost use Rattle.std.specs.Prelude.{◌≡◌, ◌↔◌, IsTrue};
 ghost use Rattle.std.specs.Option.{option_copied};
 ghost use Rattle.fp_memhost.specs.Names.{slot_of};
@@ -9,40 +9,40 @@ use crate::opening::listed_entry;
 use fp_base::{Blob, Items};
 use fp_host::{Entry, PERMISSION_BITS, Path, is_link_text};
 
-/// A file of an image, by its id: its permission bits and its bytes.
+/// A file of an image.
 #[derive(Debug, Drop)]
 pub struct FileRow {
-    /// Names speak of the file by it.
+    /// The id by which directory entries refer to the file.
     pub id: u64,
-    /// The permission bits.
+    /// The file's permission bits.
     pub mode: u32,
-    /// The whole content.
+    /// The file's bytes.
     pub bytes: Blob,
 }
 
-/// What is found on a disk. The root is a folder, listed or not. Where a path or an id is listed
+/// The content of a disk. The root is a directory, listed or not. If a path or an id is listed
 /// twice, the first counts.
 #[derive(Drop)]
 pub struct Image {
-    /// Each path at which something stands, and what.
+    /// The paths that exist, each with its entry.
     pub names: Items<(Path, Entry)>,
-    /// The files that the names speak of.
+    /// The files that the entries refer to.
     pub files: Items<FileRow>,
 }
 
-/// What a stop leaves of what it may leave. Entry 0 of a name is its present one, and entry n the
-/// n-th one that a stop may bring back, the oldest first. A name that isn't listed takes entry 0,
-/// and a file that isn't listed keeps its bytes. Where a path or an id is listed twice, the first
+/// A choice of one image among those that a crash may leave. Entry 0 of a name is its present one,
+/// and entry n the n-th earlier one, the oldest first. A name that isn't listed has its entry 0,
+/// and a file that isn't listed has its own bytes. If a path or an id is listed twice, the first
 /// counts.
 #[derive(Drop)]
 pub struct Choice {
-    /// Names, each with the number of the entry that it takes.
+    /// Names, each with the number of its entry.
     pub names: Items<(Path, u64)>,
-    /// Files by their ids, each with the bytes that it has.
+    /// Files by their ids, each with its bytes.
     pub files: Items<(u64, Blob)>,
 }
 
-/// The file with this id; the first counts.
+/// Returns the first file with this id.
 fn row(files: &[FileRow], id: u64) -> Option<&FileRow>
     ensures { row_in (option_copied result) ≡ rows_of files.now id }
 {
@@ -54,7 +54,8 @@ fn row(files: &[FileRow], id: u64) -> Option<&FileRow>
     None
 }
 
-/// Whether what a name holds may stand in an image with these files.
+/// Returns whether an entry is valid in an image with these files: a file is listed, and a
+/// symlink's text is valid.
 fn is_good_entry(files: &[FileRow], entry: Option<&Entry>) -> bool
     ensures { result ≡ is_good_slot (rows_of files.now) (slot_of (option_copied entry.entry)) }
 {
@@ -66,7 +67,7 @@ fn is_good_entry(files: &[FileRow], entry: Option<&Entry>) -> bool
 }
 
 impl Image {
-    /// Whether what counts at the path may stand there.
+    /// Returns whether the first listed entry of the path is valid.
     fn is_good_at(&self, path: &Path) -> bool
         ensures { result ≡ is_good_slot (rows_of self.now.files)
             (slots_of self.now.names path.now) }
@@ -80,6 +81,7 @@ impl Image {
         )
     }
 
+    /// Returns whether the entries of all listed names are valid.
     fn are_good_names(&self) -> bool
         ensures { result ≡ are_good_names self.now self.now.names }
     {
@@ -91,7 +93,7 @@ impl Image {
         true
     }
 
-    /// Whether the file that counts with this id has permission bits.
+    /// Returns whether the first file with this id has a mode of at most 0o7777.
     fn has_bits(&self, id: u64) -> bool
         ensures { result ≡ is_good_row (rows_of self.now.files id) }
     {
@@ -101,6 +103,7 @@ impl Image {
         }
     }
 
+    /// Returns whether all listed files have modes of at most 0o7777.
     fn are_good_files(&self) -> bool
         ensures { result ≡ are_good_rows self.now self.now.files }
     {
@@ -112,8 +115,8 @@ impl Image {
         true
     }
 
-    /// Whether a host may begin with it: each file of a name has a row, each link's text is one,
-    /// and permission bits are at most 0o7777.
+    /// Returns whether a host may start with the image: each file that an entry refers to is
+    /// listed, the texts of symlinks are valid, and permission bits are at most 0o7777.
     pub fn is_good(&self) -> bool
         ensures { IsTrue result ↔ IsImage self.now }
     {

@@ -1,4 +1,4 @@
-//! Laws of what a stop leaves. Each is the contract of a function that does nothing.
+//! Laws of what a crash may leave. Each law is the contract of a function with an empty body.
 ghost use Rattle.std.specs.Prelude.{◌≡◌, ◌∷◌, ◌++◌, [], ℕ, true, Some};
 ghost use Rattle.fp_host.specs.Paths.{Elements, Slot, absent};
 ghost use Rattle.fp_host.specs.View.{View, Inode, IsTree, MayBe};
@@ -6,20 +6,20 @@ ghost use Rattle.fp_host.specs.Calls.{renames, syncs, done, half};
 ghost use Rattle.fp_host.specs.Outcome.{Disk, Leaves, spot_of};
 ghost use Rattle.fp_memhost.specs.Stops.{first, second, with_entry, with_row};
 
-/// A stop chooses for each name by itself: what it holds, what it held since the last sync, or what
-/// a failed call might have put there.
+/// States that a crash may leave any possible entry at one name, while all other names keep their
+/// present entries.
 pub fn names_are_chosen_one_by_one()
     ensures { (v : View) (p : Elements) (e : Slot) → MayBe v p e → Leaves v (with_entry v p e) }
 {}
 
-/// A file that was created since the last sync may hold any bytes after a stop, with the permission
-/// bits that it was created with.
+/// States that a crash may leave any bytes in a file created since the last sync, with its
+/// permission bits.
 pub fn new_files_may_hold_any_bytes()
     ensures { (v : View) (id : ℕ) (f g : Inode) → v.dirty id ≡ true → v.files id ≡ Some f
         → f.mode ≡ g.mode → Leaves v (with_row v id g) }
 {}
 
-/// After a rename a stop may still bring back what each of the two names held.
+/// States that after a rename a crash may still bring back the previous entries of both names.
 pub fn a_rename_keeps_what_was()
     ensures from { (v : View) → (done (renames first second) v).names first ≡ absent }
     ensures to { (v : View) → (done (renames first second) v).names second ≡ v.names first }
@@ -29,7 +29,8 @@ pub fn a_rename_keeps_what_was()
         ≡ v.earlier second ++ v.names second ∷ [] }
 {}
 
-/// A rename that failed left both names, and a stop may leave each as if it had been done.
+/// States that a rename that failed and wasn't done leaves both names, and that a crash may leave
+/// each as if it had been done.
 pub fn a_failed_rename_may_be_done()
     ensures names { (v : View) → (half (renames first second) v).names ≡ v.names }
     ensures from { (v : View) → (half (renames first second) v).earlier first
@@ -38,7 +39,7 @@ pub fn a_failed_rename_may_be_done()
         ≡ v.earlier second ++ v.names first ∷ [] }
 {}
 
-/// After a sync every stop leaves what stands.
+/// States that after a sync every crash leaves exactly the present content.
 pub fn a_sync_keeps_what_stands()
     ensures { (v : View) (disk : Disk) → IsTree (done syncs v) → Leaves (done syncs v) disk
         → (q : Elements) → disk q ≡ spot_of v.files (v.names q) }

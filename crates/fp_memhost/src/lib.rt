@@ -1,5 +1,5 @@
-//! Fakes in memory: a host that keeps what was done and tells what a stop would leave, remotes and
-//! a source.
+//! Fakes in memory: a host that records its history and computes the images that a crash may leave,
+//! remotes, and a source.
 #![tactic(auto)]
 
 mod choosing;

@@ -20,8 +20,8 @@ use fp_base::Items;
 use fp_host::{Host, HostError, Path};
 use std::alloc::{AllocError, Global};
 
-/// A host in memory. It keeps what was done, and tells what a stop after any number of calls would
-/// leave.
+/// A host in memory, for tests. It records its changes, and computes the images that a crash after
+/// any number of its calls may leave.
 #[derive(Drop)]
 pub struct MemHost {
     history: History,
@@ -30,7 +30,8 @@ pub struct MemHost {
     starved: u64,
 }
 
-/// Whether the change of a call is made; a failing sync changes nothing.
+/// Returns whether the change of a call is done, by how the call is to fail. A failing sync changes
+/// nothing.
 fn is_to_be_done(verdict: Option<bool>, event: &Event) -> bool
     ensures { result ≡ done_by verdict event.now }
 {
@@ -41,7 +42,7 @@ fn is_to_be_done(verdict: Option<bool>, event: &Event) -> bool
 }
 
 impl MemHost {
-    /// The empty host: the root alone, nothing printed, and no call made.
+    /// Creates an empty host: only the root exists, nothing is printed, and no call was made.
     pub fn new(alloc: Global) -> Result<Self, AllocError>
         ensures { IfOk result (λ m. Begins empty_view (⟦<MemHost as Recorder>⟧.story m)
             (⟦<MemHost as Host>⟧.moments m) (⟦<MemHost as Host>⟧.faults m)) }
@@ -59,8 +60,8 @@ impl MemHost {
         })
     }
 
-    /// The host that is found when the image is opened again: a name counts where each folder above
-    /// it is one. No call was made, and nothing was printed.
+    /// Creates a host that opens the image again: a name counts only if each of its ancestors is a
+    /// directory. No call was made, and nothing is printed.
     pub fn from_image(alloc: Global, image: Image) -> Result<Self, AllocError>
         requires { IsImage image }
         ensures { IfOk result (λ m. Begins (opened image) (⟦<MemHost as Recorder>⟧.story m)
@@ -76,9 +77,10 @@ impl MemHost {
         })
     }
 
-    /// One image that a stop after this number of calls may leave: the one that is chosen. There is
-    /// none exactly where a listed name has no such entry, a listed file wasn't created since the
-    /// last sync, or fewer calls were made.
+    /// Returns the chosen image among those that a crash after this number of calls may leave.
+    /// Returns `None` exactly if a listed name has no entry with its number, a listed file wasn't
+    /// created since the last sync at that moment, or fewer calls were made. Errs if memory runs
+    /// out.
     pub fn image_after(&self, calls: u64, choice: &Choice) -> Result<Option<Image>, AllocError>
         ensures gives { IfOk result (GivesImage ((⟦<MemHost as Recorder>⟧.story self.now).after
             calls) choice.now) }
@@ -94,8 +96,9 @@ impl MemHost {
         Ok(Some(choose(self.alloc(), &scene, choice)?))
     }
 
-    /// After this number of calls: each name at which a stop may bring something back, ascending,
-    /// with how many entries. None where fewer calls were made.
+    /// Returns the names with earlier entries, which a crash after this number of calls may bring
+    /// back, ascending by their texts, each with the number of these entries. The list is empty if
+    /// fewer calls were made. Errs if memory runs out.
     pub fn choices(&self, calls: u64) -> Result<Items<(Path, u64)>, AllocError>
         ensures { IfOk result (ChoicesOf ((⟦<MemHost as Recorder>⟧.story self.now).after calls)) }
     {
@@ -105,8 +108,8 @@ impl MemHost {
         choices_of(self.alloc(), &self.history.scene_after(calls)?)
     }
 
-    /// How many bytes were appended to files that were created below this path, which takes no
-    /// memory; the count stands still at 2^64 - 1.
+    /// Returns the number of bytes that were appended to files created below this path since the
+    /// start, at most 2^64 - 1. Allocates nothing.
     pub fn appended(&self, front: &Path) -> u64
         ensures { TellsAppended front.now (⟦<MemHost as Host>⟧.moments self.now)
             (⟦<MemHost as Recorder>⟧.story self.now).made result }
@@ -114,32 +117,33 @@ impl MemHost {
         self.history.appended(front)
     }
 
-    /// What was printed, which takes no memory.
+    /// Returns all printed bytes. Allocates nothing.
     pub fn printed(&self) -> &[u8]
         ensures { TellsPrinted (⟦<MemHost as Host>⟧.moments self.now) result.now }
     {
         &self.history.scene.printed
     }
 
-    /// How many calls were made; the count stands still at 2^64 - 1.
+    /// Returns the number of calls so far; it stays at 2^64 - 1 once it gets there.
     pub fn calls(&self) -> u64
         ensures { result ≡ (⟦<MemHost as Recorder>⟧.story self.now).calls }
     {
         self.history.calls
     }
 
-    /// How many calls failed because there was no memory to keep them; the count stands still at
-    /// 2^64 - 1.
+    /// Returns the number of calls that failed because memory for their record ran out; it stays at
+    /// 2^64 - 1 once it gets there.
     pub fn starved(&self) -> u64
         ensures { result ≡ (⟦<MemHost as Recorder>⟧.story self.now).starved }
     {
         self.starved
     }
 
-    /// Makes the calls with these numbers, counted from 0 over all calls, fail. The truth value
-    /// says whether what the call asks for is done; a stop may leave either. A failing sync, and a
-    /// failing call whose condition doesn't hold, changes nothing. Where a number is listed twice,
-    /// the first counts. The list takes the place of an earlier one.
+    /// Makes the calls with these numbers, counted from 0 over all calls, fail. The flag is whether
+    /// the call's change is done nevertheless; if not, a crash may still leave it done. A failing
+    /// sync changes nothing, and neither does a failing call whose condition doesn't hold. If a
+    /// number is listed twice, the first counts. The list replaces an earlier one. Errs if memory
+    /// runs out, and then nothing changes.
     pub fn fail_calls(&mut self, list: &[(u64, bool)]) -> Result<(), AllocError>
         ensures ok { OnOk result (⟦<MemHost as Recorder>⟧.story self.new ≡ record
             (⟦<MemHost as Recorder>⟧.story self.old) { fails = fails_at list.now }) }
@@ -153,7 +157,7 @@ impl MemHost {
         Ok(())
     }
 
-    /// Whether the next call is to fail, and then whether what it asks for is done.
+    /// Returns `None` if the next call isn't to fail, else whether its change is done nevertheless.
     fn verdict(&self) -> Option<bool>
         ensures { result ≡ fails_at self.now.failing.items self.now.history.calls }
     {
@@ -166,7 +170,8 @@ impl MemHost {
         None
     }
 
-    /// A call that changes nothing, with this answer where it isn't to fail.
+    /// Counts a call that changes nothing, and returns its answer, or `Failed` if the call is to
+    /// fail.
     pub(crate) fn look<T: Drop>(&mut self, answer: Result<T, HostError>) -> Result<T, HostError>
         ensures { Looked answer self.old self.new result }
     {
@@ -181,7 +186,7 @@ impl MemHost {
         }
     }
 
-    /// A call for whose own note there is no memory.
+    /// Counts a call that fails because memory for its record ran out.
     fn starve(&mut self) -> Result<(), HostError>
         ensures { IsStarved self.old self.new result }
     {
@@ -191,7 +196,8 @@ impl MemHost {
         Err(HostError::Failed)
     }
 
-    /// A call that changes something, where its condition holds and there was memory for its note.
+    /// Counts a call that makes a change, and does and records it if its condition holds. `None` as
+    /// the event means that memory for it ran out.
     pub(crate) fn play(&mut self, can: bool, event: Option<Event>) -> Result<(), HostError>
         requires { IsTrue can → IfSome event (λ e. Can (change_of e)
             (seen self.old.history.scene)) }
@@ -219,11 +225,12 @@ impl MemHost {
         }
     }
 
+    /// Returns the host's allocator.
     pub(crate) fn alloc(&self) -> Global {
         *self.failing.allocator()
     }
 
-    /// What stands now.
+    /// Returns the present content.
     pub(crate) fn scene(&self) -> &Scene
         ensures { result.now ≡ self.now.history.scene }
     {

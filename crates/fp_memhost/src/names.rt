@@ -1,4 +1,4 @@
-//! The names of a host, ascending by their texts.
+//! The names of a host in memory, ascending by their texts.
 ghost use Rattle.std.specs.Prelude.{◌≡◌, ◌↔◌, ℕ, ◌+◌, ◌≤◌, ◌<◌, ◌++◌, ◌∷◌, [], List, true, IsTrue, IsNone, IsErr, OnOk, OnErr, IfOk, IfSome, MatchResult, length, take, drop};
 ghost use Rattle.std.specs.List.{list_all};
 ghost use Rattle.std.specs.Option.{option_copied};
@@ -10,18 +10,19 @@ use std::alloc::AllocError;
 use std::cmp::Ordering;
 use std::mem;
 
-/// A name: what it holds, and what it held since the last sync, the oldest first.
+/// A name with its present entry and its earlier ones.
 #[derive(Drop)]
 pub struct Name {
-    /// The whole path.
+    /// The path of the name.
     pub path: Path,
-    /// What it holds now, or nothing.
+    /// The present entry; `None` if the name is absent.
     pub entry: Option<Entry>,
-    /// What a stop may bring back, the oldest first.
+    /// The other entries that a crash may leave, the oldest first.
     pub earlier: Vec<Option<Entry>>,
 }
 
-/// The place of the name with this text, or the place where it would stand.
+/// Returns the index of the name with this text, or else, as the error, the index where it would be
+/// inserted.
 pub fn find(names: &[Name], text: &str) -> Result<usize, usize>
     requires { IsAscending names.now }
     ensures { MatchResult result (IsAt names.now (elements_of text.now))
@@ -40,7 +41,7 @@ pub fn find(names: &[Name], text: &str) -> Result<usize, usize>
     Err(low)
 }
 
-/// What stands at the name with this text.
+/// Returns the present entry of the name with this text.
 pub fn entry<'a>(names: &'a [Name], text: &str) -> Option<&'a Entry>
     requires { IsAscending names.now }
     ensures { slot_of (option_copied result) ≡ names_of names.now (elements_of text.now) }
@@ -51,8 +52,8 @@ pub fn entry<'a>(names: &'a [Name], text: &str) -> Option<&'a Entry>
     }
 }
 
-/// Makes room for two entries that the name held, and the name itself where it has no row. Nothing
-/// that is told changes.
+/// Reserves room for two more earlier entries of the name, and adds the name as absent if it's
+/// missing. The view stays the same. Errs if memory runs out.
 pub fn ready(names: &mut Vec<Name>, path: &Path) -> Result<(), AllocError>
     requires { IsAscending names.old.items }
     ensures ascending { IsAscending names.new.items }
@@ -81,7 +82,8 @@ pub fn ready(names: &mut Vec<Name>, path: &Path) -> Result<(), AllocError>
     }
 }
 
-/// The name holds this now. There is room for what it held.
+/// Gives the name an entry, and appends the previous one to the earlier ones. There must be room
+/// for it.
 pub fn put(names: &mut Vec<Name>, path: &Path, entry: Option<Entry>)
     requires ascending { IsAscending names.old.items }
     requires room { HasRoom names.old.items path.now 1 }
@@ -97,7 +99,7 @@ pub fn put(names: &mut Vec<Name>, path: &Path, entry: Option<Entry>)
     name.earlier.push(held).unwrap();
 }
 
-/// A stop may leave this at the name. There is room for it.
+/// Appends an entry to those that a crash may leave at the name. There must be room for it.
 pub fn may_put(names: &mut Vec<Name>, path: &Path, entry: Option<Entry>)
     requires ascending { IsAscending names.old.items }
     requires room { HasRoom names.old.items path.now 1 }
@@ -112,7 +114,7 @@ pub fn may_put(names: &mut Vec<Name>, path: &Path, entry: Option<Entry>)
     name.earlier.push(entry).unwrap();
 }
 
-/// Each name held nothing but what it holds.
+/// Clears the earlier entries of all names, as a sync does.
 pub fn forget(names: &mut Vec<Name>)
     requires { IsAscending names.old.items }
     ensures ascending { IsAscending names.new.items }

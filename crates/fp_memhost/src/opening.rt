@@ -1,4 +1,4 @@
-//! A scene that begins with an image.
+//! Opening of an image as a scene.
 ghost use Rattle.std.specs.Prelude.{◌≡◌, ◌↔◌, ℕ, Some, true, IfOk, OnOk, IsTrue, length, map};
 ghost use Rattle.std.specs.List.{list_all};
 ghost use Rattle.std.specs.Option.{option_copied};
@@ -20,7 +20,7 @@ use crate::stood::Stood;
 use fp_host::{Entry, Path};
 use std::alloc::{AllocError, Global};
 
-/// What the list says of the path with this text.
+/// Returns the first listed entry of the path with this text.
 pub fn listed_entry<'a>(names: &'a [(Path, Entry)], text: &str) -> Option<&'a Entry>
     ensures { slot_of (option_copied result) ≡ listed_slot names.now (elements_of text.now) }
 {
@@ -32,7 +32,7 @@ pub fn listed_entry<'a>(names: &'a [(Path, Entry)], text: &str) -> Option<&'a En
     None
 }
 
-/// Whether a folder stands there.
+/// Returns whether the path with this text is listed as a directory, or is the root.
 fn is_folder(names: &[(Path, Entry)], text: &str) -> bool
     requires { IsTrue (list_all is_element (elements_of text.now)) }
     ensures { result ≡ is_folder (slots_of names.now (elements_of text.now)) }
@@ -43,7 +43,7 @@ fn is_folder(names: &[(Path, Entry)], text: &str) -> bool
     }
 }
 
-/// Whether each folder above the path is there.
+/// Returns whether each ancestor of the path is a directory.
 fn is_open(names: &[(Path, Entry)], path: &Path) -> bool
     ensures { result ≡ is_open names.now path.now }
 {
@@ -57,14 +57,15 @@ fn is_open(names: &[(Path, Entry)], path: &Path) -> bool
     true
 }
 
-/// Whether the name counts, and isn't the root.
+/// Returns whether the name counts in the opened image: it isn't the root, and each of its
+/// ancestors is a directory.
 fn may_stand(names: &[(Path, Entry)], path: &Path) -> bool
     ensures { result ≡ may_stand names.now path.now }
 {
     !path.is_root() && is_open(names, path)
 }
 
-/// The name stands there now, where it counts.
+/// Gives the name its entry if `counts` is true, else does nothing.
 fn add_name(
     opened: &mut Vec<Name>,
     counts: bool,
@@ -85,7 +86,8 @@ fn add_name(
     Ok(())
 }
 
-/// The names that count. The last is added first, so that the first of a path counts.
+/// Adds the listed names that count (see `may_stand`). The last one is added first, so that if a
+/// name is listed twice, its first entry stays.
 fn add_names(opened: &mut Vec<Name>, names: &[(Path, Entry)]) -> Result<(), AllocError>
     requires { IsAscending opened.old.items }
     ensures ascending { IsAscending opened.new.items }
@@ -101,7 +103,7 @@ fn add_names(opened: &mut Vec<Name>, names: &[(Path, Entry)]) -> Result<(), Allo
     Ok(())
 }
 
-/// The files of an image.
+/// Returns the files of an image, none of them created since the last sync.
 fn open_files(alloc: Global, rows: &[FileRow]) -> Result<Vec<Content>, AllocError>
     ensures { IfOk result (λ v. OpensFiles rows.now v.items) }
 {
@@ -118,7 +120,7 @@ fn open_files(alloc: Global, rows: &[FileRow]) -> Result<Vec<Content>, AllocErro
     Ok(files)
 }
 
-/// What is remembered of these names.
+/// Returns the listed entries as those that the view remembers.
 fn remembered(alloc: Global, names: &[(Path, Entry)]) -> Result<Vec<Stood>, AllocError>
     ensures { IfOk result (λ v. map stood_of v.items ≡ map put_of names.now) }
 {
@@ -129,7 +131,7 @@ fn remembered(alloc: Global, names: &[(Path, Entry)]) -> Result<Vec<Stood>, Allo
     Ok(stood)
 }
 
-/// The image as it is found when it is opened again.
+/// Returns the scene that opening the image again gives. Errs if memory runs out.
 pub fn open_image(alloc: Global, image: &Image) -> Result<Scene, AllocError>
     ensures { IfOk result (λ s. seen s ≡ opened image.now) }
 {

@@ -18,7 +18,7 @@ use fp_base::{Items, Text};
 use fp_host::{Entry, HostError, Path, Stat, copy_out};
 use std::alloc::Global;
 
-/// The file's id, where the entry is one.
+/// Returns the id of the entry's file, or `None` if it isn't a file.
 fn file_id(entry: Option<&Entry>) -> Option<u64>
     ensures { MatchOption result (IsFile (slot_of (option_copied entry.entry)) → ⊥)
         (λ id. slot_of (option_copied entry.entry) ≡ file id) }
@@ -29,7 +29,7 @@ fn file_id(entry: Option<&Entry>) -> Option<u64>
     }
 }
 
-/// What stands where there is no file.
+/// Returns the status of an entry that isn't a file.
 fn other_stat(entry: Option<&Entry>) -> Stat
     requires { IsFile (slot_of (option_copied entry)) → ⊥ }
     ensures tells { IsOtherStat (slot_of (option_copied entry.entry)) result }
@@ -42,7 +42,7 @@ fn other_stat(entry: Option<&Entry>) -> Stat
     }
 }
 
-/// What stands at the path.
+/// Returns the status of the path.
 pub fn stat_of(scene: &Scene, path: &Path) -> Stat
     requires { IsTree (seen scene.now) }
     ensures tells { IsStat (seen scene.now) ((seen scene.now).names path.now) result }
@@ -58,7 +58,8 @@ pub fn stat_of(scene: &Scene, path: &Path) -> Stat
     }
 }
 
-/// The names in the folder.
+/// Returns the names directly in the directory. Errs with `Clash` if the path is no directory, and
+/// with `NoMemory` if memory runs out.
 pub fn list_of(alloc: Global, scene: &Scene, path: &Path) -> Result<Items<Text>, HostError>
     ensures tells { Reads ((seen scene.now).names path.now ≡ dir)
         (λ xs. (x : List ℕ) → Contains xs x ↔ ((seen scene.now).names (x ∷ path.now) ≢ absent))
@@ -75,7 +76,8 @@ pub fn list_of(alloc: Global, scene: &Scene, path: &Path) -> Result<Items<Text>,
     }
 }
 
-/// The text of the symlink.
+/// Returns the text of the symlink. Errs with `Clash` if the path is no symlink, and with
+/// `NoMemory` if memory runs out.
 pub fn link_of(scene: &Scene, path: &Path) -> Result<Text, HostError>
     ensures tells { Reads ((text : List ℕ) × ((seen scene.now).names path.now ≡ link text))
         (λ text. (seen scene.now).names path.now ≡ link text) result }
@@ -90,7 +92,8 @@ pub fn link_of(scene: &Scene, path: &Path) -> Result<Text, HostError>
     }
 }
 
-/// Bytes of the file, from a place on.
+/// Reads bytes of the file from the byte offset `at` on, as many as fit or are left, and returns
+/// their number. Errs with `Clash` if the path is no file.
 pub fn read_of(scene: &Scene, path: &Path, at: u64, into: &mut [u8]) -> Result<usize, HostError>
     requires { IsTree (seen scene.now) }
     ensures tells { Reads (IsFile ((seen scene.now).names path.now))
@@ -108,7 +111,7 @@ pub fn read_of(scene: &Scene, path: &Path, at: u64, into: &mut [u8]) -> Result<u
     }
 }
 
-/// A file's id, mode and length.
+/// Returns the status of a file: its id, its mode and its length in bytes.
 fn stat_file(file: &Content) -> Stat
     ensures { result ≡ Stat.File file.now.id file.now.mode (length file.now.bytes.items) }
 {

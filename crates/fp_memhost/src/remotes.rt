@@ -12,16 +12,16 @@ use fp_base::{Blob, Text};
 use fp_host::{Node, PERMISSION_BITS, Path, RemoteError, Remotes, copy_out};
 use std::alloc::{AllocError, Global};
 
-/// What may be put at a path of a remote.
+/// A node that can be put at a path of a remote.
 #[derive(Drop)]
 pub enum MemNode {
-    /// A file's permission bits, at most 0o7777, and its bytes.
+    /// A file: its permission bits (at most 0o7777) and its bytes.
     File { mode: u32, bytes: Blob },
-    /// A symlink's text.
+    /// A symlink, by its text.
     Link(Text),
 }
 
-/// What was put at a path of a url.
+/// The node at a path of a URL.
 #[derive(Drop)]
 struct Row {
     url: String,
@@ -29,7 +29,7 @@ struct Row {
     node: MemNode,
 }
 
-/// Remotes in memory. What is put has its folders above it.
+/// Remotes in memory, for tests. The ancestors of each node are directories.
 #[derive(Drop)]
 pub struct MemRemotes {
     rows: Vec<Row>,
@@ -40,7 +40,7 @@ pub struct MemRemotes {
 }
 
 impl MemNode {
-    /// Whether the permission bits are within 0o7777.
+    /// Returns whether the permission bits are at most 0o7777; true for a symlink.
     fn has_bits(&self) -> bool
         ensures { result ≡ node_bits self.now }
     {
@@ -51,14 +51,14 @@ impl MemNode {
     }
 }
 
-/// Whether this is the row of the url and the path.
+/// Returns whether this is the row of the URL and the path.
 fn is_row(row: &Row, url: &str, path: &Path) -> bool
     ensures { result ≡ is_row url.now path.now row.now }
 {
     url == row.url.as_str() && path.is(&row.path)
 }
 
-/// The place of the row of this url and path.
+/// Returns the index of the row of this URL and path.
 fn find_row(rows: &[Row], url: &str, path: &Path) -> Option<usize>
     ensures { MatchOption result (row_at rows.now url.now path.now ≡ None)
         (IsRowAt rows.now url.now path.now) }
@@ -71,7 +71,7 @@ fn find_row(rows: &[Row], url: &str, path: &Path) -> Option<usize>
     None
 }
 
-/// The row of this url and path.
+/// Returns the row of this URL and path.
 fn find<'a>(rows: &'a [Row], url: &str, path: &Path) -> Option<&'a Row>
     ensures { option_copied result ≡ row_at rows.now url.now path.now }
 {
@@ -81,21 +81,21 @@ fn find<'a>(rows: &'a [Row], url: &str, path: &Path) -> Option<&'a Row>
     }
 }
 
-/// Whether a row is below the path.
+/// Returns whether a row of the URL is below the path.
 fn is_folder(rows: &[Row], url: &str, path: &Path) -> bool
     ensures { result ≡ list_any (covers url.now path.now) rows.now }
 {
     rows.iter().any(|row| url == row.url.as_str() && is_below(&row.path, path.text()))
 }
 
-/// Whether a row is above the path.
+/// Returns whether a row of the URL is an ancestor of the path.
 fn has_leaf_above(rows: &[Row], url: &str, path: &Path) -> bool
     ensures { result ≡ list_any (stands_over url.now path.now) rows.now }
 {
     rows.iter().any(|row| url == row.url.as_str() && is_below(path, row.path.text()))
 }
 
-/// Whether the path is a folder.
+/// Returns whether the path is a directory: it has no row, but one is below it.
 fn holds_folder(rows: &[Row], url: &str, path: &Path) -> bool
     ensures { IsTrue result ↔ (held_of rows.now url.now path.now ≡ directory) }
 {
@@ -105,7 +105,8 @@ fn holds_folder(rows: &[Row], url: &str, path: &Path) -> bool
     }
 }
 
-/// Puts the node in the place of the row of this url and path, or adds a row.
+/// Replaces the node of the row of this URL and path, or adds a row. If memory runs out, nothing
+/// changes.
 fn put_row(rows: &mut Vec<Row>, url: &str, path: &Path, node: MemNode) -> Result<(), AllocError>
     ensures ok { OnOk result (PutsRow url.now path.now node rows.old.items rows.new.items) }
     ensures err { OnErr result (rows.new.items ≡ rows.old.items) }
@@ -132,7 +133,7 @@ impl MemRemotes {
     ghost use Rattle.fp_memhost.specs.Holding.{CanPut, put_held, node_held};
     ghost use Rattle.fp_memhost.specs.Keepings.{keeping_of, holdings_of, Fails};
 
-    /// Remotes that hold nothing.
+    /// Creates empty remotes.
     pub fn new(alloc: Global) -> Result<Self, AllocError>
         ensures holds { IfOk result (λ r. ⟦<MemRemotes as Remotes>⟧.holds r ≡ Some
             (λ url path. nothing)) }
@@ -148,8 +149,9 @@ impl MemRemotes {
         })
     }
 
-    /// Whether the node may be put there: the path isn't the root and is no folder, no file or
-    /// symlink is above it, and a file's permission bits are at most 0o7777.
+    /// Returns whether the node can be put at the path of the URL: the path isn't the root and no
+    /// directory, no file or symlink is an ancestor of it, and a file's permission bits are at most
+    /// 0o7777.
     pub fn can_put(&self, url: &str, path: &Path, node: &MemNode) -> bool
         ensures { IsTrue result ↔ CanPut (holdings_of self.now url.now) path.now node.now }
     {
@@ -165,8 +167,8 @@ impl MemRemotes {
         !has_leaf_above(&self.rows, url, path)
     }
 
-    /// Puts a file or a symlink at the path of the url, and folders above it. It takes the place of
-    /// a file or symlink that is there.
+    /// Puts a file or a symlink at the path of the URL, and directories at the path's ancestors. It
+    /// replaces a file or symlink that is there. If memory runs out, nothing changes.
     pub fn put(&mut self, url: &str, path: &Path, node: MemNode) -> Result<(), AllocError>
         requires { CanPut (holdings_of self.old url.now) path.now node }
         ensures ok { OnOk result ((u : List ℕ) (q : Elements) → holdings_of self.new u q ≡ put_held
@@ -179,8 +181,8 @@ impl MemRemotes {
         put_row(&mut self.rows, url, path, node)
     }
 
-    /// Makes the calls with these numbers, counted from 0 over all calls, fail. The list takes the
-    /// place of an earlier one.
+    /// Makes the calls with these numbers, counted from 0 over all calls, fail. The list replaces
+    /// an earlier one. Errs if memory runs out, and then nothing changes.
     pub fn fail_calls(&mut self, list: &[u64]) -> Result<(), AllocError>
         ensures ok { OnOk result (keeping_of self.new ≡ record (keeping_of self.old)
             { fails = λ n. list_any (λ x. eqb x n) list.now }) }
@@ -193,7 +195,7 @@ impl MemRemotes {
         Ok(())
     }
 
-    /// Counts the call; whether it is to fail, which counts a fault.
+    /// Counts the call, and returns whether it is to fail. If so, counts a fault too.
     fn fails(&mut self) -> bool
         ensures { Fails self.old self.new result }
     {
@@ -207,6 +209,7 @@ impl MemRemotes {
     }
 }
 
+/// Returns whether the number of the call is in the list.
 fn is_listed(list: &[u64], call: u64) -> bool
     ensures { result ≡ list_any (λ x. eqb x call) list.now }
 {
@@ -219,7 +222,7 @@ impl Keeper for MemRemotes {
     ghost keeping = { keeping_of };
 }
 
-/// What stands in a row, or else a folder or nothing.
+/// Returns the node of a row; without a row, a directory or `Absent`.
 fn node_of(alloc: Global, row: Option<&Row>, is_folder: bool) -> Result<Node, RemoteError>
     requires { IfSome row (λ r. has_bits r.now ≡ true) }
     ensures node { IfOk result (IsNode (held_in (option_copied row.entry) is_folder)) }
@@ -295,7 +298,8 @@ impl Remotes for MemRemotes {
     }
 }
 
-/// Bytes of a file; anything else has none.
+/// Reads bytes of the row's file from the byte offset `at` on, as many as fit or are left, and
+/// returns their number, which is 0 for a symlink.
 fn read_row(row: &Row, at: u64, into: &mut [u8]) -> usize
     ensures came { CameFrom (bytes_of (node_held row.now.node)) at into.new result }
     ensures bound { result ≤ length into.old }

@@ -1,4 +1,4 @@
-//! What stands at one moment, and what a stop may bring back.
+//! The content of a host in memory at one moment, with what a crash may bring back.
 ghost use Rattle.std.specs.Prelude.{◌≡◌, OnOk, OnErr, IfOk};
 ghost use Rattle.fp_memhost.specs.Names.{IsAscending};
 
@@ -10,16 +10,16 @@ use crate::stood::Stood;
 use fp_host::{Entry, Path};
 use std::alloc::{AllocError, Global};
 
-/// The names, the files, what was printed, and what was put at which name, the oldest first.
+/// The content of a host at one moment, with what a crash may bring back.
 #[derive(Drop)]
 pub struct Scene {
     /// The names, ascending by their texts.
     pub names: Vec<Name>,
-    /// The files, each once.
+    /// The files. If an image listed an id twice, the first one counts.
     pub files: Vec<Content>,
-    /// All bytes that were printed.
+    /// All printed bytes.
     pub printed: Vec<u8>,
-    /// What was put at which name, the oldest first.
+    /// Each entry that a name was given so far, the oldest first.
     pub stood: Vec<Stood>,
     ghost ascending: { IsAscending names.items },
 }
@@ -33,7 +33,7 @@ impl Scene {
     ghost use Rattle.fp_memhost.specs.Start.{empty_view};
     ghost use Rattle.fp_memhost.specs.Replay.{change_of, stepped};
 
-    /// The root alone.
+    /// Creates a scene in which only the root exists.
     pub fn empty(alloc: Global) -> Result<Self, AllocError>
         ensures { IfOk result (λ s. seen s ≡ empty_view) }
     {
@@ -52,7 +52,7 @@ impl Scene {
         })
     }
 
-    /// The name holds this now.
+    /// Gives the name an entry. If memory runs out, the view stays the same.
     fn put(&mut self, path: &Path, entry: Option<Entry>) -> Result<(), AllocError>
         ensures ok { OnOk result (seen self.new ≡ put path.now (slot_of entry) (seen self.old)) }
         ensures err { OnErr result (seen self.new ≡ seen self.old) }
@@ -64,7 +64,8 @@ impl Scene {
         Ok(())
     }
 
-    /// A stop may leave this at the name.
+    /// Adds an entry to those that a crash may leave at the name. If memory runs out, the view
+    /// stays the same.
     fn may_put(&mut self, path: &Path, entry: Option<Entry>) -> Result<(), AllocError>
         ensures ok { OnOk result (seen self.new ≡ may_put path.now (slot_of entry)
             (seen self.old)) }
@@ -75,7 +76,7 @@ impl Scene {
         Ok(())
     }
 
-    /// An empty file more, which the name holds.
+    /// Creates an empty file at the name. If memory runs out, the view stays the same.
     fn create(&mut self, path: &Path, mode: u32, id: u64) -> Result<(), AllocError>
         ensures ok { OnOk result (seen self.new ≡ put path.now (file id)
             (with_file id mode (seen self.old))) }
@@ -90,7 +91,8 @@ impl Scene {
         Ok(())
     }
 
-    /// An empty file more, which a stop may leave at the name.
+    /// Adds an empty file that a crash may leave at the name. If memory runs out, the view stays
+    /// the same.
     fn may_create(&mut self, path: &Path, mode: u32, id: u64) -> Result<(), AllocError>
         ensures ok { OnOk result (seen self.new ≡ may_put path.now (file id)
             (with_file id mode (seen self.old))) }
@@ -102,7 +104,8 @@ impl Scene {
         Ok(())
     }
 
-    /// Bytes more in the file that the name holds.
+    /// Appends bytes to the name's file. Does nothing if the name is no file. If memory runs out,
+    /// the view stays the same.
     fn append(&mut self, path: &Path, bytes: &[u8]) -> Result<(), AllocError>
         ensures ok { OnOk result (seen self.new ≡ done (appends path.now bytes.now)
             (seen self.old)) }
@@ -117,7 +120,7 @@ impl Scene {
         }
     }
 
-    /// The entry of one name at another.
+    /// Moves the entry of one name to another. If memory runs out, the view stays the same.
     fn rename(&mut self, from: &Path, to: &Path) -> Result<(), AllocError>
         ensures ok { OnOk result (seen self.new ≡ done (renames from.now to.now) (seen self.old)) }
         ensures err { OnErr result (seen self.new ≡ seen self.old) }
@@ -135,7 +138,8 @@ impl Scene {
         Ok(())
     }
 
-    /// A stop may leave the entry of one name at another, and the first one absent.
+    /// Adds a rename that isn't done, but that a crash may leave done, at each of the two names
+    /// independently. If memory runs out, the view stays the same.
     fn may_rename(&mut self, from: &Path, to: &Path) -> Result<(), AllocError>
         ensures ok { OnOk result (seen self.new ≡ half (renames from.now to.now) (seen self.old)) }
         ensures err { OnErr result (seen self.new ≡ seen self.old) }
@@ -148,7 +152,7 @@ impl Scene {
         Ok(())
     }
 
-    /// What stands lasts.
+    /// Makes the present content durable.
     fn sync(&mut self)
         ensures { seen self.new ≡ done syncs (seen self.old) }
     {
@@ -156,7 +160,7 @@ impl Scene {
         settle(&mut self.files);
     }
 
-    /// A piece more is printed.
+    /// Prints bytes. If memory runs out, the view stays the same.
     fn say(&mut self, piece: &[u8]) -> Result<(), AllocError>
         ensures ok { OnOk result (seen self.new ≡ done (says piece.now) (seen self.old)) }
         ensures err { OnErr result (seen self.new ≡ seen self.old) }
@@ -164,7 +168,7 @@ impl Scene {
         self.printed.extend_from_slice(piece)
     }
 
-    /// The change is made.
+    /// Does the change. If memory runs out, the view stays the same.
     fn make(&mut self, event: &Event) -> Result<(), AllocError>
         ensures ok { OnOk result (seen self.new ≡ done (change_of event.now) (seen self.old)) }
         ensures err { OnErr result (seen self.new ≡ seen self.old) }
@@ -191,7 +195,8 @@ impl Scene {
         }
     }
 
-    /// The change is not made, and a stop may bring it about.
+    /// Adds a change that isn't done, but that a crash may leave done. If memory runs out, the view
+    /// stays the same.
     fn may_make(&mut self, event: &Event) -> Result<(), AllocError>
         ensures ok { OnOk result (seen self.new ≡ half (change_of event.now) (seen self.old)) }
         ensures err { OnErr result (seen self.new ≡ seen self.old) }
@@ -213,7 +218,7 @@ impl Scene {
         }
     }
 
-    /// One step of the log.
+    /// Replays one step of the log. If memory runs out, the view stays the same.
     pub fn play(&mut self, noted: &Noted) -> Result<(), AllocError>
         ensures ok { OnOk result (seen self.new ≡ stepped noted.now (seen self.old)) }
         ensures err { OnErr result (seen self.new ≡ seen self.old) }

@@ -6,7 +6,7 @@ use crate::story::Supplier;
 use fp_base::Blob;
 use fp_host::{Source, Taken, copy_front};
 
-/// A source of given bytes, which may fail at one call.
+/// A source of given bytes, for tests. It may fail at one call.
 #[derive(Drop)]
 pub struct MemSource {
     bytes: Blob,
@@ -19,8 +19,9 @@ pub struct MemSource {
 }
 
 impl MemSource {
-    /// Gives at most `step` bytes a call, which is not 0, and fails at the call with this number,
-    /// counted from 0. It takes no memory.
+    /// Creates a source of these bytes, which returns at most `step` of them at each call, where
+    /// `step` isn't 0, and fails at the call with the number `fail_at`, counted from 0. Allocates
+    /// nothing.
     pub fn new(bytes: Blob, step: usize, fail_at: Option<u64>) -> Self
         requires { step ≢ 0 }
         ensures supply { ⟦<MemSource as Supplier>⟧.supply result ≡ record
@@ -80,7 +81,7 @@ impl Source for MemSource {
     }
 }
 
-/// Whether this is the call with the number.
+/// Returns whether this call is to fail.
 fn is_call(fail_at: Option<u64>, call: u64) -> bool
     ensures { result ≡ fails_now fail_at call }
 {

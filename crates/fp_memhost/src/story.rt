@@ -1,26 +1,27 @@
-//! What a fake keeps of its calls.
+//! The records that fakes keep of their calls.
 
-/// A fake, which keeps what its calls were and what they left.
+/// A fake host that records its calls.
 pub trait Recorder {
     ghost use Rattle.fp_memhost.specs.Story.{Story};
 
-    /// How many calls were made, the view after each, which calls are to fail, and which files were
-    /// created.
+    /// The record: the number of calls, the view after each, the calls that are to fail, and the
+    /// created files.
     ghost story: { Self → Story };
 }
 
-/// A fake source, which gives its bytes step by step.
+/// A fake source that returns its bytes piece by piece.
 pub trait Supplier {
     ghost use Rattle.fp_memhost.specs.Supply.{Supply};
 
-    /// What is left, how much a call gives, and which call fails.
+    /// The bytes that are left, the maximum of a call, the call that fails, and the number of
+    /// calls.
     ghost supply: { Self → Supply };
 }
 
-/// Fake remotes, some of whose calls fail.
+/// Fake remotes that may fail at some of their calls.
 pub trait Keeper {
     ghost use Rattle.fp_memhost.specs.Holding.{Keeping};
 
-    /// How many calls were made, and which calls fail.
+    /// The number of calls, and the calls that are to fail.
     ghost keeping: { Self → Keeping };
 }

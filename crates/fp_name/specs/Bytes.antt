@@ -2,29 +2,31 @@
 use Rattle.std.specs.Prelude.{ℕ, List, [], ◌∷◌, Bool, false, ◌==◌, ◌||◌}
 use Rattle.std.specs.Char.{is_ascii_alphabetic, is_ascii_alphanumeric}
 
--- a letter or `_`
+-- Tests whether a byte is a letter or `_`
 abbrev pub is_word_start : ℕ → Bool
 is_word_start c = is_ascii_alphabetic c || c == 95
 
--- a letter, a digit or `_`
+-- Tests whether a byte is a letter, a digit or `_`
 abbrev pub is_word : ℕ → Bool
 is_word c = is_ascii_alphanumeric c || c == 95
 
--- a letter, a digit, `_` or `-`
+-- Tests whether a byte is a letter, a digit, `_` or `-`
 abbrev pub is_dashed : ℕ → Bool
 is_dashed c = is_word c || c == 45
 
--- a letter, a digit, `_`, `-` or `.`
+-- Tests whether a byte is a letter, a digit, `_`, `-` or `.`
 abbrev pub is_dotted : ℕ → Bool
 is_dotted c = is_dashed c || c == 46
 
+-- Tests whether a byte is `.`
 abbrev pub is_dot : ℕ → Bool
 is_dot c = c == 46
 
+-- Tests whether a byte is `/`
 abbrev pub is_slash : ℕ → Bool
 is_slash c = c == 47
 
--- the text begins with a byte that passes
+-- Tests whether a text begins with a byte that passes the test
 abbrev pub begins_with : (ℕ → Bool) → List ℕ → Bool
 begins_with passes [] = false
 begins_with passes (c ∷ cs) = passes c

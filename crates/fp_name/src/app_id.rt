@@ -10,7 +10,7 @@ use std::alloc::{AllocError, Global};
 use std::marker::Model;
 use std::str;
 
-/// The ID of an application, a runtime or an extension, as `org.gnome.Maps`.
+/// The ID of an application, a runtime or an extension, such as `org.gnome.Maps`.
 #[derive(Debug, Drop, PartialEq, Eq, PartialOrd, Ord)]
 pub struct AppId {
     text: Text,
@@ -30,7 +30,8 @@ impl Model for AppId {
 }
 
 impl AppId {
-    /// Reads an ID. Bad comes exactly where the text is none.
+    /// Parses an ID. Errs with `Bad` exactly if the text isn't one (see `is_id`), and with
+    /// `NoMemory` if memory runs out.
     #[tactic(auto, using(crate::proofs::Bytes::no_text_no_id))]
     pub fn parse(alloc: Global, text: &[u8]) -> Result<Self, NameError>
         ensures ok { IfOk result (λ id. id ≡ text.now) }
@@ -48,7 +49,7 @@ impl AppId {
         })
     }
 
-    /// The ID of a text that is one.
+    /// Creates an ID of a text that is known to be one.
     pub fn of_id(alloc: Global, id: &str) -> Result<Self, AllocError>
         requires { is_id id.now ≡ true }
         ensures { IfOk result (λ value. value ≡ id.now) }
@@ -58,7 +59,7 @@ impl AppId {
         })
     }
 
-    /// The text of the ID.
+    /// Returns the text of the ID.
     pub fn as_str(&self) -> &str
         ensures text { result.now ≡ self.now }
         ensures good { is_id self.now ≡ true }
@@ -66,7 +67,7 @@ impl AppId {
         self.text.as_str()
     }
 
-    /// The text of the ID, as a text of its own.
+    /// Copies the text of the ID.
     pub fn write(&self) -> Result<Text, AllocError>
         ensures text { IfOk result (λ text. text ≡ self.now) }
         ensures good { is_id self.now ≡ true }
@@ -74,7 +75,7 @@ impl AppId {
         self.text.copy()
     }
 
-    /// Another value of the same ID.
+    /// Returns a copy. Errs if memory runs out.
     pub fn copy(&self) -> Result<Self, AllocError>
         ensures { IfOk result (λ id. id ≡ self.now) }
     {

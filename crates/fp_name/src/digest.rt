@@ -12,7 +12,7 @@ use hex::FromHex;
 use std::alloc::{AllocError, Global};
 use std::marker::Model;
 
-/// A SHA-256 digest: 32 bytes, which contracts see as their list.
+/// A SHA-256 digest. Contracts see it as the list of its 32 bytes.
 #[derive(Clone, Copy, Debug, PartialEq, Eq, PartialOrd, Ord)]
 pub struct Digest {
     bytes: [u8; 32],
@@ -32,14 +32,14 @@ impl Model for Digest {
 }
 
 impl Digest {
-    /// The digest of these bytes.
+    /// Creates a digest with these bytes.
     pub fn from_bytes(bytes: [u8; 32]) -> Self
         ensures { result ≡ bytes }
     {
         Digest { bytes }
     }
 
-    /// The digest of a slice of 32 bytes, and None for a slice of another length.
+    /// Creates a digest with the bytes of a slice, or returns `None` if its length isn't 32.
     pub fn from_slice(bytes: &[u8]) -> Option<Self>
         ensures { SomeIff result (length bytes.now ≡ 32) bytes.now }
     {
@@ -47,7 +47,7 @@ impl Digest {
         Some(Digest::from_bytes(bytes))
     }
 
-    /// Its bytes.
+    /// Returns the digest's bytes.
     pub fn as_bytes(&self) -> &[u8; 32]
         ensures bytes { result.now ≡ self.now }
         ensures good { is_digest self.now ≡ true }
@@ -55,7 +55,8 @@ impl Digest {
         &self.bytes
     }
 
-    /// Reads 64 hexadecimal digits in lower case, which takes no memory. Any other text is Bad.
+    /// Parses 64 lower-case hexadecimal digits. Errs with `Bad` for any other text. Allocates
+    /// nothing.
     #[tactic(auto, using(crate::proofs::HexTexts::unhex_upper))]
     pub fn parse(text: &[u8]) -> Result<Self, NameError>
         ensures { result ≡ ok_or (unhex text.now) NameError.Bad }
@@ -69,7 +70,7 @@ impl Digest {
         }
     }
 
-    /// The 64 hexadecimal digits of the digest, in lower case, which takes no memory.
+    /// Returns the digest as 64 lower-case hexadecimal digits. Allocates nothing.
     #[tactic(auto, using(crate::proofs::HexTexts::hex_is_encoded))]
     pub fn digits(&self) -> [u8; DIGEST_DIGITS]
         ensures { result ≡ hex_text self.now }
@@ -79,7 +80,7 @@ impl Digest {
         digits
     }
 
-    /// The digest as 64 hexadecimal digits in lower case.
+    /// Returns the digest as a text of 64 lower-case hexadecimal digits.
     #[tactic(auto, using(crate::proofs::HexTexts::hex_is_encoded))]
     pub fn write(&self, alloc: Global) -> Result<Text, AllocError>
         ensures text { IfOk result (λ text. text ≡ hex_text self.now) }
@@ -89,7 +90,7 @@ impl Digest {
     }
 }
 
-/// Whether a capital letter stands in a text.
+/// Returns whether an ASCII capital letter is in the text.
 fn has_uppercase(text: &[u8]) -> bool
     ensures { result ≡ list_any is_ascii_uppercase text.now }
 {

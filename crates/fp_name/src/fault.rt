@@ -1,4 +1,4 @@
-//! Why a text was not read as a name.
+//! The error of parsing a name.
 
 ghost use Rattle.std.specs.Prelude.{◌≡◌};
 ghost use Rattle.fp_name.specs.declared.fault.NameError.TheVariants.{NoMemory};
@@ -7,12 +7,12 @@ use std::alloc::AllocError;
 use std::error::Error;
 use std::fmt;
 
-/// Why a text was not read as a name.
+/// The reason why a text was not parsed as a name.
 #[derive(Clone, Copy, Debug, PartialEq, Eq)]
 pub enum NameError {
-    /// The text is not in the grammar of the name.
+    /// The text isn't in the name's grammar.
     Bad,
-    /// There was no memory for the name.
+    /// Memory ran out.
     NoMemory,
 }
 

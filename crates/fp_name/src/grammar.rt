@@ -8,78 +8,82 @@ ghost use Rattle.fp_name.specs.Grammar.{is_element, is_last_element, are_element
 
 use crate::limits::{MOST_NAME_BYTES, MOST_REMOTE_NAME_BYTES, MOST_URL_BYTES};
 
-/// How many dots an ID has at least: they separate three elements.
+/// The minimum number of dots in an ID: they separate three elements.
 const FEWEST_DOTS: usize = 2;
 
-/// A letter or `_`.
+/// Returns whether a byte is an ASCII letter or `_`.
 fn starts_word(byte: u8) -> bool
     ensures { result ≡ is_word_start byte }
 {
     byte.is_ascii_alphabetic() || byte == b'_'
 }
 
-/// A letter, a digit or `_`.
+/// Returns whether a byte is an ASCII letter, a digit or `_`.
 fn is_word_byte(byte: u8) -> bool
     ensures { result ≡ is_word byte }
 {
     byte.is_ascii_alphanumeric() || byte == b'_'
 }
 
-/// A letter, a digit, `_` or `-`.
+/// Returns whether a byte is an ASCII letter, a digit, `_` or `-`.
 fn is_dashed_byte(byte: u8) -> bool
     ensures { result ≡ is_dashed byte }
 {
     is_word_byte(byte) || byte == b'-'
 }
 
-/// A letter, a digit, `_`, `-` or `.`.
+/// Returns whether a byte is an ASCII letter, a digit, `_`, `-` or `.`.
 fn is_dotted_byte(byte: u8) -> bool
     ensures { result ≡ is_dotted byte }
 {
     is_dashed_byte(byte) || byte == b'.'
 }
 
+/// Returns whether each byte is an ASCII letter, a digit or `_`.
 fn all_words(text: &str) -> bool
     ensures { result ≡ list_all is_word text.now }
 {
     text.bytes().all(is_word_byte)
 }
 
+/// Returns whether each byte is an ASCII letter, a digit, `_` or `-`.
 fn all_dashed(text: &str) -> bool
     ensures { result ≡ list_all is_dashed text.now }
 {
     text.bytes().all(is_dashed_byte)
 }
 
+/// Returns whether each byte is an ASCII letter, a digit, `_`, `-` or `.`.
 fn all_dotted(text: &str) -> bool
     ensures { result ≡ list_all is_dotted text.now }
 {
     text.bytes().all(is_dotted_byte)
 }
 
-/// Bytes 0x21 to 0x7e alone.
+/// Returns whether each byte is printable ASCII other than the space: 0x21 to 0x7e.
 fn all_graphic(text: &str) -> bool
     ensures { result ≡ list_all is_ascii_graphic text.now }
 {
     text.bytes().all(|byte| byte.is_ascii_graphic())
 }
 
-/// Whether a text may be an element of an ID other than its last: a letter or `_`, and then
-/// letters, digits and `_`.
+/// Returns whether a text may be an element of an ID other than the last one: an ASCII letter or
+/// `_`, and then letters, digits and `_`.
 pub fn is_inner_element(text: &str) -> bool
     ensures { result ≡ is_element text.now }
 {
     text.bytes().next().is_some_and(starts_word) && all_words(text)
 }
 
-/// The last element of an ID.
+/// Returns whether a text may be the last element of an ID: an ASCII letter or `_`, and then
+/// letters, digits, `_` and `-`.
 fn is_end_element(text: &str) -> bool
     ensures { result ≡ is_last_element text.now }
 {
     text.bytes().next().is_some_and(starts_word) && all_dashed(text)
 }
 
-/// At least three elements, which dots separate.
+/// Returns whether a text is three elements or more, separated by dots.
 fn has_elements(text: &str) -> bool
     ensures { result ≡ (nat_le 3 (length (slice_split is_dot text.now)) && are_elements
         (slice_split is_dot text.now)) }
@@ -96,9 +100,9 @@ fn has_elements(text: &str) -> bool
     dots >= FEWEST_DOTS && is_end_element(rest)
 }
 
-/// Whether a text is the ID of an application, a runtime or an extension: at most 255 bytes, and at
-/// least three elements, which dots separate. An element begins with a letter or `_` and goes on
-/// with letters, digits and `_`; in the last one `-` may stand too, but not first.
+/// Returns whether a text is the ID of an application, a runtime or an extension: at most 255
+/// bytes, and three elements or more, separated by dots, as in D-Bus names. An element is an ASCII
+/// letter or `_`, and then letters, digits and `_`; the last one may have `-` too, but not first.
 #[tactic(auto, unfolding(crate::specs::Grammar::is_id))]
 pub fn is_id(text: &str) -> bool
     ensures { result ≡ is_id text.now }
@@ -106,7 +110,7 @@ pub fn is_id(text: &str) -> bool
     text.len() <= MOST_NAME_BYTES && has_elements(text)
 }
 
-/// Whether a text is an ARCH: 1 to 255 letters, digits and `_`.
+/// Returns whether a text is an architecture: 1 to 255 ASCII letters, digits and `_`.
 #[tactic(auto, unfolding(crate::specs::Grammar::is_arch))]
 pub fn is_arch(text: &str) -> bool
     ensures { result ≡ is_arch text.now }
@@ -116,8 +120,8 @@ pub fn is_arch(text: &str) -> bool
         && all_words(text)
 }
 
-/// Whether a text is a BRANCH: 1 to 255 letters, digits, `_`, `-` and `.`, the first of them no
-/// `.`.
+/// Returns whether a text is a branch: 1 to 255 ASCII letters, digits, `_`, `-` and `.`, not
+/// beginning with `.`.
 #[tactic(auto, unfolding(crate::specs::Grammar::is_branch))]
 pub fn is_branch(text: &str) -> bool
     ensures { result ≡ is_branch text.now }
@@ -127,8 +131,8 @@ pub fn is_branch(text: &str) -> bool
         && all_dotted(text)
 }
 
-/// Whether a text is the name of a remote: 1 to 64 letters, digits, `_`, `-` and `.`, the first of
-/// them a letter, a digit or `_`.
+/// Returns whether a text is the name of a remote: 1 to 64 ASCII letters, digits, `_`, `-` and `.`,
+/// beginning with a letter, a digit or `_`.
 #[tactic(auto, unfolding(crate::specs::Grammar::is_remote_name))]
 pub fn is_remote_name(text: &str) -> bool
     ensures { result ≡ is_remote_name text.now }
@@ -138,8 +142,8 @@ pub fn is_remote_name(text: &str) -> bool
         && all_dotted(text)
 }
 
-/// Whether a text is the url of a remote: `file:///` followed by any number of bytes 0x21 to 0x7e,
-/// at most 1,024 bytes in all.
+/// Returns whether a text is the URL of a remote: `file:///`, and then bytes 0x21 to 0x7e or
+/// nothing, at most 1,024 bytes in all.
 #[tactic(auto, unfolding(crate::specs::Grammar::is_url))]
 pub fn is_url(text: &str) -> bool
     ensures { result ≡ is_url text.now }

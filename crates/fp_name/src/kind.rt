@@ -3,17 +3,17 @@
 ghost use Rattle.std.specs.Prelude.{◌≡◌};
 ghost use Rattle.fp_name.specs.Kinds.{kind_word, kind_of};
 
-/// What a ref names.
+/// The kind of a ref.
 #[derive(Clone, Copy, Debug, PartialEq, Eq, PartialOrd, Ord)]
 pub enum RefKind {
     /// An application.
     App,
-    /// A runtime, or an extension of one.
+    /// A runtime, or an extension of a runtime or an application.
     Runtime,
 }
 
 impl RefKind {
-    /// The word that refs of this kind begin with: `app` or `runtime`.
+    /// Returns the first part of the kind's refs: `app` or `runtime`.
     pub fn word(self) -> &'static str
         ensures { result.now ≡ kind_word self }
     {
@@ -23,7 +23,7 @@ impl RefKind {
         }
     }
 
-    /// The kind of a word, and None for any word but `app` and `runtime`.
+    /// Returns the kind with this word, or `None` for any word but `app` and `runtime`.
     pub fn of_word(word: &str) -> Option<RefKind>
         ensures { result ≡ kind_of word.now }
     {

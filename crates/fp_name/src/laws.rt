@@ -1,4 +1,4 @@
-//! What holds of all names, by their definitions. Nothing is done here: each contract is a law.
+//! Laws of all names. Each law is the contract of a function with an empty body.
 
 ghost use Rattle.std.specs.Prelude.{◌≡◌, ◌↔◌, ℕ, List, true, false, Some};
 ghost use Rattle.std.specs.Ordering.{nat_cmp};
@@ -19,22 +19,23 @@ use crate::remote_name::RemoteName;
 use crate::remote_url::RemoteUrl;
 use fp_base::Text;
 
-/// A ref determines its text and the text its ref: what is written reads back, and only the text of
-/// a good ref reads as it.
+/// States that refs read back: the text of a valid ref parses to that ref, and a text that parses
+/// to a ref is that ref's text.
 pub fn refs_read_back()
     ensures written { (r : Ref) → is_ref r ≡ true → ref_of (ref_text r) ≡ Some r }
     ensures read { (text : List ℕ) (r : Ref) → ref_of text ≡ Some r → (text ≡ ref_text r) ×
         (is_ref r ≡ true) }
 {}
 
-/// The same of digests.
+/// States that digests read back: the text of a digest parses to that digest, and a text that
+/// parses to a digest is that digest's text.
 pub fn digests_read_back()
     ensures written { (d : List ℕ) → is_digest d ≡ true → unhex (hex_text d) ≡ Some d }
     ensures read { (text d : List ℕ) → unhex text ≡ Some d → (text ≡ hex_text d) ×
         (is_digest d ≡ true) }
 {}
 
-/// Each part of a ref, the name of a remote and the text of a digest may be the name of a file.
+/// States that each part of a ref, the name of a remote and the text of a digest may be file names.
 pub fn names_are_file_names()
     ensures ids { (text : List ℕ) → is_id text ≡ true → is_file_name text ≡ true }
     ensures archs { (text : List ℕ) → is_arch text ≡ true → is_file_name text ≡ true }
@@ -43,14 +44,13 @@ pub fn names_are_file_names()
     ensures digests { (d : List ℕ) → is_digest d ≡ true → is_file_name (hex_text d) ≡ true }
 {}
 
-/// The text of a ref is a pattern, which matches this ref alone.
+/// States that the text of a ref is a pattern that matches this ref alone.
 pub fn refs_are_patterns()
     ensures pattern { (r : Ref) → is_ref r ≡ true → is_pin (ref_text r) ≡ true }
     ensures alone { (r s : Ref) → is_ref r ≡ true → (pin_matches (ref_text r) s ≡ true) ↔ (s ≡ r) }
 {}
 
-/// Names are equal where their texts are, and ordered by the bytes of their texts; digests by their
-/// bytes.
+/// States that names are ordered by the bytes of their texts, and digests by their own bytes.
 pub fn names_are_ordered_by_text()
     ensures texts { (a b : List ℕ) → ⟦<Text as Ord>⟧.cmp a b ≡ slice_cmp nat_cmp a b }
     ensures digests { (a b : List ℕ) → ⟦<Digest as Ord>⟧.cmp a b ≡ slice_cmp nat_cmp a b }
@@ -62,7 +62,7 @@ pub fn names_are_ordered_by_text()
         (ref_text b) }
 {}
 
-/// Equality, likewise.
+/// States that names are equal exactly if their texts are, and digests exactly if their bytes are.
 pub fn names_are_equal_by_text()
     ensures texts { (a b : List ℕ) → ⟦<Text as PartialEq>⟧.eq a b ≡ bytes_eq a b }
     ensures digests { (a b : List ℕ) → ⟦<Digest as PartialEq>⟧.eq a b ≡ bytes_eq a b }
@@ -74,7 +74,8 @@ pub fn names_are_equal_by_text()
         (ref_text b) }
 {}
 
-/// The limits of names as numbers. A digest is one of SHA-256, two digits a byte.
+/// States the limits of names as numbers. A digest is a SHA-256 digest, with two digits for each
+/// byte.
 pub fn limits_as_numbers()
     ensures name { MOST_NAME_BYTES ≡ 255 }
     ensures remote_name { MOST_REMOTE_NAME_BYTES ≡ 64 }

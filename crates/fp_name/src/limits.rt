@@ -1,13 +1,13 @@
-//! How long names, urls and digests are.
+//! The maximum lengths of names and URLs, and the length of a digest's text.
 
-/// The most bytes that an ID, an ARCH, a BRANCH and the name of a file have.
+/// The maximum length of an ID, an architecture, a branch and a file name, in bytes.
 pub const MOST_NAME_BYTES: usize = 255;
 
-/// The most bytes that the name of a remote has.
+/// The maximum length of a remote's name, in bytes.
 pub const MOST_REMOTE_NAME_BYTES: usize = 64;
 
-/// The most bytes that the url of a remote has.
+/// The maximum length of a remote's URL, in bytes.
 pub const MOST_URL_BYTES: usize = 1024;
 
-/// How many digits a digest is written with.
+/// The number of hexadecimal digits in a digest's text.
 pub const DIGEST_DIGITS: usize = 64;

@@ -12,28 +12,29 @@ use crate::kind::RefKind;
 use fp_base::Text;
 use std::alloc::{AllocError, Global};
 
-/// KIND/ID/ARCH/BRANCH, whatever stands in the last three.
+/// The parts of a text `KIND/ID/ARCH/BRANCH`, of which only the kind is checked.
 #[derive(Clone, Copy)]
 pub struct Parts<'a> {
-    /// An application or a runtime.
+    /// The first part: an application or a runtime.
     pub kind: RefKind,
-    /// The second part.
+    /// The second part: the ID.
     pub id: &'a str,
-    /// The third part.
+    /// The third part: the architecture.
     pub arch: &'a str,
-    /// The last part.
+    /// The last part: the branch.
     pub branch: &'a str,
 }
 
 impl Parts<'_> {
-    /// Whether each part is in its grammar.
+    /// Returns whether each part is in its grammar, so that the parts are a ref.
     pub fn are_ref(self) -> bool
         ensures { result ≡ is_ref (ref_in self.entry) }
     {
         is_id(self.id) && is_arch(self.arch) && is_branch(self.branch)
     }
 
-    /// Whether each of the last three parts is `*` or in its grammar.
+    /// Returns whether each of the last three parts is `*` or in its grammar, so that the parts are
+    /// a pattern.
     pub fn are_pin(self) -> bool
         ensures { result ≡ are_pin_parts (Some (ref_in self.entry)) }
     {
@@ -42,7 +43,8 @@ impl Parts<'_> {
             && (self.branch == "*" || is_branch(self.branch))
     }
 
-    /// Whether a pattern of these parts matches other parts: each is equal, or `*` in the pattern.
+    /// Returns whether these parts, as a pattern, match other parts: the kinds are equal, and each
+    /// other part of the pattern is equal to its counterpart or `*`.
     pub fn match_parts(self, other: Parts<'_>) -> bool
         ensures { result ≡ parts_match (Some (ref_in self.entry)) (ref_in other.entry) }
     {
@@ -52,7 +54,7 @@ impl Parts<'_> {
             && matches_part(self.branch, other.branch)
     }
 
-    /// The text of the parts: KIND/ID/ARCH/BRANCH.
+    /// Joins the parts to the text `KIND/ID/ARCH/BRANCH`.
     pub fn join(self, alloc: Global) -> Result<Text, AllocError>
         ensures { IfOk result (λ text. text ≡ ref_text (ref_in self.entry)) }
     {
@@ -65,14 +67,16 @@ impl Parts<'_> {
     }
 }
 
-/// Whether a part of a pattern matches a part of a ref.
+/// Returns whether a part of a pattern matches a part of a ref: it is equal, or the pattern's is
+/// `*`.
 fn matches_part(pattern: &str, part: &str) -> bool
     ensures { result ≡ part_matches pattern.now part.now }
 {
     pattern == "*" || pattern == part
 }
 
-/// ID/ARCH/BRANCH after a kind: three parts, which slashes separate.
+/// Splits a text `ID/ARCH/BRANCH` and returns its parts with the kind, or `None` if it doesn't have
+/// exactly two slashes.
 pub fn parts_remainder(kind: RefKind, text: &str) -> Option<Parts<'_>>
     ensures { option_map ref_in result ≡ remainder_kind (slice_split is_slash text.now) kind }
 {
@@ -89,7 +93,8 @@ pub fn parts_remainder(kind: RefKind, text: &str) -> Option<Parts<'_>>
     })
 }
 
-/// The parts of a text: four, which slashes separate, the first of them a kind's word.
+/// Splits a text `KIND/ID/ARCH/BRANCH`. Returns `None` if it doesn't have exactly three slashes, or
+/// if the first part isn't a kind's word.
 pub fn parts_of(text: &str) -> Option<Parts<'_>>
     ensures { option_map ref_in result ≡ parts_of text.now }
 {
@@ -98,7 +103,7 @@ pub fn parts_of(text: &str) -> Option<Parts<'_>>
     parts_remainder(kind, rest)
 }
 
-/// Whether a text is that of a ref.
+/// Returns whether a text is a ref.
 #[tactic(auto, unfolding(crate::specs::Refs::ref_of))]
 pub fn is_ref(text: &str) -> bool
     ensures { result ≡ is_some (ref_of text.now) }
@@ -109,7 +114,7 @@ pub fn is_ref(text: &str) -> bool
     parts.are_ref()
 }
 
-/// Whether a text is a pattern of refs.
+/// Returns whether a text is a pattern of refs.
 #[tactic(auto, unfolding(crate::specs::Pins::is_pin))]
 pub fn is_pin(text: &str) -> bool
     ensures { result ≡ is_pin text.now }

@@ -11,7 +11,8 @@ use std::alloc::{AllocError, Global};
 use std::marker::Model;
 use std::str;
 
-/// A pattern of refs, `KIND/ID/ARCH/BRANCH`, in which each of the last three parts may be `*`.
+/// A pattern of refs, `KIND/ID/ARCH/BRANCH`. Each of its last three parts is that of a ref, or `*`,
+/// which matches any.
 #[derive(Debug, Drop, PartialEq, Eq, PartialOrd, Ord)]
 pub struct PinPattern {
     text: Text,
@@ -31,7 +32,8 @@ impl Model for PinPattern {
 }
 
 impl PinPattern {
-    /// Reads a pattern. Bad comes exactly where the text is none.
+    /// Parses a pattern. Errs with `Bad` exactly if the text isn't one, and with `NoMemory` if
+    /// memory runs out.
     #[tactic(auto, using(crate::proofs::Pins::no_text_no_pin))]
     pub fn parse(alloc: Global, text: &[u8]) -> Result<Self, NameError>
         ensures ok { IfOk result (λ pattern. pattern ≡ text.now) }
@@ -49,7 +51,7 @@ impl PinPattern {
         })
     }
 
-    /// The text of the pattern.
+    /// Returns the text of the pattern.
     pub fn as_str(&self) -> &str
         ensures text { result.now ≡ self.now }
         ensures good { is_pin self.now ≡ true }
@@ -57,7 +59,7 @@ impl PinPattern {
         self.text.as_str()
     }
 
-    /// The text of the pattern, as a text of its own.
+    /// Copies the text of the pattern.
     pub fn write(&self) -> Result<Text, AllocError>
         ensures text { IfOk result (λ text. text ≡ self.now) }
         ensures good { is_pin self.now ≡ true }
@@ -65,7 +67,7 @@ impl PinPattern {
         self.text.copy()
     }
 
-    /// Another value of the same pattern.
+    /// Returns a copy. Errs if memory runs out.
     pub fn copy(&self) -> Result<Self, AllocError>
         ensures { IfOk result (λ pattern. pattern ≡ self.now) }
     {
@@ -74,8 +76,8 @@ impl PinPattern {
         })
     }
 
-    /// Whether the pattern matches a ref: the kinds are equal, and each other part of the pattern
-    /// is equal to the ref's or `*`. It takes no memory.
+    /// Returns whether the pattern matches a ref: the kinds are equal, and each other part of the
+    /// pattern is equal to the ref's or `*`. Allocates nothing.
     #[tactic(auto, unfolding(crate::specs::Pins::pin_matches))]
     pub fn matches(&self, name: &RefName) -> bool
         ensures { result ≡ pin_matches self.now name.now }

@@ -1,4 +1,4 @@
-//! Refs: the names of applications and runtimes.
+//! Refs: the full names of applications, runtimes and extensions.
 
 ghost use Rattle.std.specs.Prelude.{◌≡◌, ◌↔◌, true, false, ◌∷◌, ◌++◌, Some, None, IsTrue, IfOk, OnOk, IsErrOf, is_some};
 ghost use Rattle.std.specs.Ordering.{nat_cmp};
@@ -19,7 +19,8 @@ use std::cmp::Ordering;
 use std::marker::Model;
 use std::str;
 
-/// The name of an application or a runtime: `app/ID/ARCH/BRANCH` or `runtime/ID/ARCH/BRANCH`.
+/// A ref, the full name of an application (`app/ID/ARCH/BRANCH`) or of a runtime or extension
+/// (`runtime/ID/ARCH/BRANCH`).
 #[derive(Debug, Drop)]
 pub struct RefName {
     text: Text,
@@ -42,7 +43,8 @@ impl RefName {
     ghost use Rattle.fp_name.specs.Grammar.{is_id, is_arch, is_branch};
     ghost use Rattle.fp_name.specs.Parts.{ref_in};
 
-    /// Reads the text of a ref. Bad comes exactly where the text is none.
+    /// Parses a ref. Errs with `Bad` exactly if the text isn't one, and with `NoMemory` if memory
+    /// runs out.
     #[tactic(auto, using(crate::proofs::Refs::no_text_no_ref))]
     pub fn parse(alloc: Global, text: &[u8]) -> Result<Self, NameError>
         ensures ok { IfOk result (λ name. ref_of text.now ≡ Some name) }
@@ -59,7 +61,7 @@ impl RefName {
         })
     }
 
-    /// The ref of these parts. Bad comes exactly where one of them is outside its grammar.
+    /// Creates a ref of its parts. Errs with `Bad` exactly if one of them is outside its grammar.
     pub fn new(
         alloc: Global,
         kind: RefKind,
@@ -86,7 +88,8 @@ impl RefName {
         })
     }
 
-    /// The ref of a kind and the text `ID/ARCH/BRANCH`. Bad comes exactly where the two make none.
+    /// Creates a ref of a kind and a text `ID/ARCH/BRANCH`. Errs with `Bad` exactly if they don't
+    /// make a ref.
     #[tactic(auto, using(crate::proofs::Refs::ref_of_kind, crate::proofs::Refs::made, crate::proofs::Refs::refused))]
     pub fn of_kind(alloc: Global, kind: RefKind, text: &str) -> Result<Self, NameError>
         ensures ok { IfOk result (λ name. ref_of (kind_word kind ++ 47 ∷ text.now) ≡ Some name) }
@@ -99,7 +102,7 @@ impl RefName {
         RefName::new(alloc, parts.kind, parts.id, parts.arch, parts.branch)
     }
 
-    /// The text of the ref.
+    /// Returns the text of the ref, `KIND/ID/ARCH/BRANCH`.
     #[tactic(auto, using(crate::proofs::Refs::kept_text, crate::proofs::Refs::kept_good))]
     pub fn as_str(&self) -> &str
         ensures text { result.now ≡ ref_text self.now }
@@ -108,7 +111,7 @@ impl RefName {
         self.text.as_str()
     }
 
-    /// Its parts.
+    /// Returns the parts of the ref.
     #[tactic(auto, using(crate::proofs::Refs::kept_parts, crate::proofs::Refs::kept_good))]
     pub(crate) fn parts(&self) -> Parts<'_>
         ensures parts { ref_in result ≡ self.now }
@@ -117,14 +120,14 @@ impl RefName {
         parts_of(self.text.as_str()).unwrap()
     }
 
-    /// Its kind.
+    /// Returns the kind of the ref.
     pub fn kind(&self) -> RefKind
         ensures { result ≡ self.now.kind }
     {
         self.parts().kind
     }
 
-    /// Its ID.
+    /// Returns the ID of the ref.
     #[tactic(auto, using(crate::proofs::Refs::parts_good))]
     pub fn id(&self) -> &str
         ensures id { result.now ≡ self.now.id }
@@ -133,14 +136,14 @@ impl RefName {
         self.parts().id
     }
 
-    /// Its ID, as a value of its own.
+    /// Copies the ID of the ref.
     pub fn app_id(&self) -> Result<AppId, AllocError>
         ensures { IfOk result (λ id. id ≡ self.now.id) }
     {
         AppId::of_id(self.text.allocator(), self.id())
     }
 
-    /// Its architecture.
+    /// Returns the architecture of the ref.
     #[tactic(auto, using(crate::proofs::Refs::parts_good))]
     pub fn arch(&self) -> &str
         ensures arch { result.now ≡ self.now.arch }
@@ -149,7 +152,7 @@ impl RefName {
         self.parts().arch
     }
 
-    /// Its branch.
+    /// Returns the branch of the ref.
     #[tactic(auto, using(crate::proofs::Refs::parts_good))]
     pub fn branch(&self) -> &str
         ensures branch { result.now ≡ self.now.branch }
@@ -158,7 +161,7 @@ impl RefName {
         self.parts().branch
     }
 
-    /// The text of the ref, as a text of its own.
+    /// Copies the text of the ref, `KIND/ID/ARCH/BRANCH`.
     #[tactic(auto, using(crate::proofs::Refs::kept_text, crate::proofs::Refs::kept_good))]
     pub fn write(&self) -> Result<Text, AllocError>
         ensures text { IfOk result (λ text. text ≡ ref_text self.now) }
@@ -167,14 +170,14 @@ impl RefName {
         self.text.copy()
     }
 
-    /// The ref as a path: KIND/ID/ARCH/BRANCH, the text of the ref.
+    /// Returns the ref as a relative path, `KIND/ID/ARCH/BRANCH`, which is the text of the ref.
     pub fn path(&self) -> Result<Text, AllocError>
         ensures { IfOk result (λ text. text ≡ ref_text self.now) }
     {
         self.write()
     }
 
-    /// Another name of the same ref.
+    /// Returns a copy. Errs if memory runs out.
     pub fn copy(&self) -> Result<Self, AllocError>
         ensures { IfOk result (λ name. name ≡ self.now) }
     {
@@ -184,8 +187,8 @@ impl RefName {
     }
 }
 
-// Refs are equal where their texts are, and ordered by the bytes of their texts. The order of their
-// parts is another one, since `-` and `.` come before `/`.
+// Refs are compared by the bytes of their texts. The order of their parts would be another one,
+// since `-` and `.` come before `/`.
 
 impl PartialEq for RefName {
     ghost use Rattle.std.specs.Ordering.{on};

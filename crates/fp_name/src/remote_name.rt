@@ -10,7 +10,7 @@ use std::alloc::{AllocError, Global};
 use std::marker::Model;
 use std::str;
 
-/// The name of a remote, as `flathub`.
+/// The name of a remote, such as `flathub`.
 #[derive(Debug, Drop, PartialEq, Eq, PartialOrd, Ord)]
 pub struct RemoteName {
     text: Text,
@@ -30,7 +30,8 @@ impl Model for RemoteName {
 }
 
 impl RemoteName {
-    /// Reads a remote's name. Bad comes exactly where the text is none.
+    /// Parses a remote's name. Errs with `Bad` exactly if the text isn't one (see
+    /// `is_remote_name`), and with `NoMemory` if memory runs out.
     #[tactic(auto, using(crate::proofs::Bytes::no_text_no_remote_name))]
     pub fn parse(alloc: Global, text: &[u8]) -> Result<Self, NameError>
         ensures ok { IfOk result (λ name. name ≡ text.now) }
@@ -48,7 +49,7 @@ impl RemoteName {
         })
     }
 
-    /// The text of the name.
+    /// Returns the text of the name.
     pub fn as_str(&self) -> &str
         ensures text { result.now ≡ self.now }
         ensures good { is_remote_name self.now ≡ true }
@@ -56,7 +57,7 @@ impl RemoteName {
         self.text.as_str()
     }
 
-    /// The text of the name, as a text of its own.
+    /// Copies the text of the name.
     pub fn write(&self) -> Result<Text, AllocError>
         ensures text { IfOk result (λ text. text ≡ self.now) }
         ensures good { is_remote_name self.now ≡ true }
@@ -64,7 +65,7 @@ impl RemoteName {
         self.text.copy()
     }
 
-    /// Another value of the same name.
+    /// Returns a copy. Errs if memory runs out.
     pub fn copy(&self) -> Result<Self, AllocError>
         ensures { IfOk result (λ name. name ≡ self.now) }
     {

@@ -1,4 +1,4 @@
-//! The urls of remotes.
+//! The URLs of remotes.
 
 ghost use Rattle.std.specs.Prelude.{◌≡◌, ◌↔◌, true, false, IfOk, OnOk, IsErrOf};
 ghost use Rattle.fp_name.specs.Grammar.{is_url};
@@ -10,7 +10,7 @@ use std::alloc::{AllocError, Global};
 use std::marker::Model;
 use std::str;
 
-/// The url of a remote, as `file:///srv/repo`.
+/// The URL of a remote, such as `file:///srv/repo`.
 #[derive(Debug, Drop, PartialEq, Eq, PartialOrd, Ord)]
 pub struct RemoteUrl {
     text: Text,
@@ -30,7 +30,8 @@ impl Model for RemoteUrl {
 }
 
 impl RemoteUrl {
-    /// Reads a remote's url. Bad comes exactly where the text is none.
+    /// Parses a remote's URL. Errs with `Bad` exactly if the text isn't one (see `is_url`), and
+    /// with `NoMemory` if memory runs out.
     #[tactic(auto, using(crate::proofs::Bytes::no_text_no_url))]
     pub fn parse(alloc: Global, text: &[u8]) -> Result<Self, NameError>
         ensures ok { IfOk result (λ url. url ≡ text.now) }
@@ -48,7 +49,7 @@ impl RemoteUrl {
         })
     }
 
-    /// The text of the url.
+    /// Returns the text of the URL.
     pub fn as_str(&self) -> &str
         ensures text { result.now ≡ self.now }
         ensures good { is_url self.now ≡ true }
@@ -56,7 +57,7 @@ impl RemoteUrl {
         self.text.as_str()
     }
 
-    /// The text of the url, as a text of its own.
+    /// Copies the text of the URL.
     pub fn write(&self) -> Result<Text, AllocError>
         ensures text { IfOk result (λ text. text ≡ self.now) }
         ensures good { is_url self.now ≡ true }
@@ -64,7 +65,7 @@ impl RemoteUrl {
         self.text.copy()
     }
 
-    /// Another value of the same url.
+    /// Returns a copy. Errs if memory runs out.
     pub fn copy(&self) -> Result<Self, AllocError>
         ensures { IfOk result (λ url. url ≡ self.now) }
     {

@@ -5,7 +5,7 @@ use std::fs::{FileTimes, Metadata, OpenFile, Permissions};
 use std::io::{self, Eprint, Read, Seek, SeekFrom, Write};
 use std::time::Clock;
 
-/// An open file of a system, whose bytes are told to a progress as they are read.
+/// An open file that reports the bytes read to a `Progress`.
 pub struct WatchedFile<'a, F, R> {
     file: F,
     progress: &'a Progress<'a, R>,
@@ -23,7 +23,7 @@ impl<F: Drop, R> Drop for WatchedFile<'_, F, R> {
 }
 
 impl<'a, F, R> WatchedFile<'a, F, R> {
-    /// A file, and what its bytes are for.
+    /// Creates a watched file. `watch` is what its bytes contain.
     pub(crate) fn new(file: F, progress: &'a Progress<'a, R>, watch: Watch) -> Self {
         WatchedFile {
             file,
@@ -32,7 +32,7 @@ impl<'a, F, R> WatchedFile<'a, F, R> {
         }
     }
 
-    /// The file itself.
+    /// Returns the wrapped file.
     pub fn inner(&self) -> &F {
         &self.file
     }

@@ -1,5 +1,5 @@
-//! A line on standard error that says how far a long command is, and a system that is watched for
-//! it.
+//! A progress line on standard error for long commands, and a wrapper of the system that watches
+//! its calls for it.
 #![tactic(auto)]
 
 mod file;

@@ -1,4 +1,4 @@
-//! How far a command is, as one line that is rewritten in place.
+//! The progress of a command, as one line that is rewritten in place.
 use crate::seen::seen_at;
 use crate::shown::{COLUMNS, line_of};
 use crate::task::Task;
@@ -8,27 +8,28 @@ use std::cell::{Cell, RefCell};
 use std::io::Eprint;
 use std::time::{Clock, Duration};
 
-/// How many milliseconds a command takes before its line comes, and how many are between two lines.
+/// The milliseconds from a command's start to its first line.
 const FIRST: u64 = 500;
 
+/// The milliseconds between two lines.
 const BETWEEN: u64 = 100;
 
-/// What a line is written over with.
+/// Spaces that overwrite a line.
 const BLANK: &str =
     "                                                                               ";
 
-/// How far a command is. Once it takes longer than half a second, it is said on standard error as
-/// one line without an end: what is worked at, in which phase it is, and how much of it is done. The
-/// line is rewritten at its beginning, at most ten times a second. Where standard error is no
-/// terminal nothing is ever said, and only that the objects were listed is kept.
+/// The progress of a command. If it takes longer than half a second, a line without a newline shows
+/// on standard error what the command does, its current phase and how much of it is done. The line
+/// is rewritten in place, at most ten times a second. If standard error is no terminal, or there is
+/// no clock, no line is printed, and only `has_listed_objects` works.
 pub struct Progress<'a, R> {
     rt: &'a R,
     alloc: Global,
-    // When the line is written next, by the system's clock. None where it never is.
+    // The time of the next line, by the monotonic clock; none if no line is to be printed.
     next: Cell<Option<Duration>>,
-    // Whether the line stands there.
+    // Whether a line is on the screen.
     is_shown: Cell<bool>,
-    // Whether the objects of the host's store were listed.
+    // Whether the directory of the store's objects was listed.
     is_listed: Cell<bool>,
     work: RefCell<Work>,
 }
@@ -47,7 +48,8 @@ impl<R> Drop for Progress<'_, R> {
 }
 
 impl<'a, R: Clock> Progress<'a, R> {
-    /// That of a command that begins now. Standard error is a terminal or not.
+    /// Creates the progress of a command that starts now. `is_terminal` tells whether standard
+    /// error is a terminal.
     pub fn new(rt: &'a R, alloc: Global, task: Task, is_terminal: bool) -> Self {
         let next = if is_terminal {
             time_in(rt, FIRST)
@@ -65,7 +67,7 @@ impl<'a, R: Clock> Progress<'a, R> {
     }
 }
 
-/// The time after these milliseconds. None where the clock tells none.
+/// Returns the time in this many milliseconds, or `None` if the clock fails.
 fn time_in<R: Clock>(rt: &R, millis: u64) -> Option<Duration> {
     match rt.monotonic() {
         Ok(now) => now.checked_add(Duration::from_millis(millis)),
@@ -74,7 +76,8 @@ fn time_in<R: Clock>(rt: &R, millis: u64) -> Option<Duration> {
 }
 
 impl<R: Clock + Eprint> Progress<'_, R> {
-    /// A file is opened to be read, of a remote or of the host. Answers what its bytes are for.
+    /// Notes that a file of a remote or of the host is opened for reading. Returns what its bytes
+    /// contain.
     pub(crate) fn note_open(&self, path: &str, is_remote: bool) -> Watch {
         if self.next.get().is_none() {
             return Watch::Nothing;
@@ -87,7 +90,7 @@ impl<R: Clock + Eprint> Progress<'_, R> {
         watch
     }
 
-    /// Bytes of an open file were read.
+    /// Notes bytes that were read from an open file.
     pub(crate) fn note_read(&self, watch: Watch, bytes: &[u8]) {
         if watch == Watch::Nothing {
             return;
@@ -98,7 +101,7 @@ impl<R: Clock + Eprint> Progress<'_, R> {
         self.show();
     }
 
-    /// The phase is at work, so many times.
+    /// Notes that the phase made this many steps, and makes it the current one.
     pub(crate) fn note_step(&self, phase: Phase, count: usize) {
         if self.next.get().is_none() {
             return;
@@ -109,7 +112,7 @@ impl<R: Clock + Eprint> Progress<'_, R> {
         self.show();
     }
 
-    /// The same, where the phase is at work already.
+    /// Notes one step of the phase if it is the current one.
     pub(crate) fn note_step_on(&self, phase: Phase) {
         if self.next.get().is_none() {
             return;
@@ -119,18 +122,19 @@ impl<R: Clock + Eprint> Progress<'_, R> {
         }
     }
 
-    /// The objects of the host's store are listed.
+    /// Notes that the directory of the store's objects is listed.
     pub(crate) fn note_listed(&self) {
         self.is_listed.set(true);
     }
 
-    /// Whether the objects of the host's store were listed. A change lists them once it knows which
-    /// are used, so where it didn't, an object is missing or damaged that says which are.
+    /// Returns whether the directory of the store's objects was listed. A change lists it after it
+    /// has found which objects are used. If it didn't list it, an object that it had to read for
+    /// that may be missing or damaged.
     pub fn has_listed_objects(&self) -> bool {
         self.is_listed.get()
     }
 
-    /// Takes the line away, so that another one may be written.
+    /// Erases the line, so that something else can be printed.
     pub(crate) fn clear(&self) {
         if self.is_shown.get() {
             self.is_shown.set(false);
@@ -138,7 +142,7 @@ impl<R: Clock + Eprint> Progress<'_, R> {
         }
     }
 
-    /// Takes the line away, and shows none any more.
+    /// Erases the line, and prints none from then on.
     pub fn end(&self) {
         self.next.set(None);
         self.clear();
@@ -166,7 +170,7 @@ impl<R: Clock + Eprint> Progress<'_, R> {
         }
     }
 
-    /// Writes the line over the one before. Without memory for it nothing is written.
+    /// Writes the line over the previous one. If memory runs out, writes nothing.
     fn write(&self) {
         if let Ok(work) = self.work.try_borrow()
             && let Ok(line) = line_of(self.alloc, &work)

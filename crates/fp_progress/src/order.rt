@@ -1,20 +1,20 @@
-//! The objects of a commit, in the order in which they are taken.
+//! The objects of a commit, in the order in which a pull takes them.
 use crate::seen::mark_of;
 use ost_object::DirTree;
 use std::alloc::{AllocError, Global};
 
-/// How many objects are read before the first of them is taken, at most.
+/// The most objects that are read before the first of them is taken.
 const BATCH: usize = 64;
 
-/// What is known of the objects of a commit, by their marks: the commit, and for each dirtree that
-/// was read itself, its dirmeta and its files.
+/// The known objects of a commit, by their marks: the commit, and for each dirtree that was read
+/// the dirtree, its dirmeta (as 0) and its files.
 pub(crate) struct Order {
     marks: Vec<u64>,
-    // How many files and links are among them.
+    // The number of files and symlinks among them.
     files: usize,
-    // How many dirtrees are named that weren't read yet.
+    // The number of dirtrees that are named but not read yet.
     awaited: usize,
-    // How many objects are taken.
+    // The number of objects that are taken.
     taken: usize,
 }
 
@@ -30,7 +30,7 @@ impl Drop for Order {
 }
 
 impl Order {
-    /// No commit.
+    /// Creates an order without a commit.
     pub(crate) fn nothing(alloc: Global) -> Self {
         Order {
             marks: Vec::new(alloc),
@@ -40,7 +40,7 @@ impl Order {
         }
     }
 
-    /// Begins that of a commit, of which nothing was read yet.
+    /// Starts with a commit of which nothing else was read yet.
     pub(crate) fn begin(&mut self, commit: u64) -> Result<(), AllocError> {
         self.marks.clear();
         self.files = 0;
@@ -50,7 +50,7 @@ impl Order {
         Ok(())
     }
 
-    /// Adds what a dirtree names.
+    /// Adds a dirtree that was read, with its dirmeta and its files.
     pub(crate) fn add(&mut self, mark: u64, tree: &DirTree) -> Result<(), AllocError> {
         self.marks.push(mark)?;
         self.marks.push(0)?;
@@ -65,7 +65,7 @@ impl Order {
         Ok(())
     }
 
-    /// Nothing is known of it any more.
+    /// Forgets the commit.
     pub(crate) fn forget(&mut self) {
         self.marks.clear();
         self.files = 0;
@@ -73,17 +73,18 @@ impl Order {
         self.taken = 0;
     }
 
-    /// Whether it is that of this commit, and all dirtrees were read.
+    /// Returns whether this is the commit, and all its dirtrees were read.
     pub(crate) fn is_whole(&self, commit: u64) -> bool {
         self.awaited == 0 && self.marks.first() == Some(&commit)
     }
 
-    /// How many objects there are, with repeats.
+    /// Returns the number of known objects, with repeats.
     pub(crate) fn len(&self) -> usize {
         self.marks.len()
     }
 
-    /// How many files and links there are, with repeats. None where not all dirtrees were read.
+    /// Returns the number of files and symlinks, with repeats, or `None` if there are none or not
+    /// all dirtrees were read.
     pub(crate) fn files(&self) -> Option<usize> {
         if self.awaited == 0 && self.files > 0 {
             Some(self.files)
@@ -92,12 +93,13 @@ impl Order {
         }
     }
 
-    /// How many objects are taken.
+    /// Returns the number of objects that are taken.
     pub(crate) fn taken(&self) -> usize {
         self.taken
     }
 
-    /// The object is taken, and all before it.
+    /// Notes that the object is taken, and all before it. An object that is among the last 64 taken
+    /// ones changes nothing.
     pub(crate) fn take(&mut self, mark: u64) {
         let before = self.taken.saturating_sub(BATCH);
         let is_before = match self.marks.get(before..self.taken) {

@@ -1,25 +1,26 @@
-//! What a path of a store tells of what stands there.
+//! The content of files in an OSTree repository, as their paths show it.
 use fp_name::Digest;
 
-/// How many hexadecimal digits a mark has.
+/// The number of hexadecimal digits of a mark.
 const DIGITS: usize = 16;
 
-/// What a path tells of what stands there. An object is told by its mark, a part of its digest.
+/// The content of a file, as its path shows it. An object is identified by its mark, eight bytes of
+/// its digest.
 #[derive(Clone, Copy)]
 pub(crate) enum Seen<'a> {
-    /// The file of a ref.
+    /// The file of a ref, with the ref's name below `refs/heads`.
     Ref(&'a str),
-    /// A commit.
+    /// A commit, by its mark.
     Commit(u64),
-    /// A dirtree.
+    /// A dirtree, by its mark.
     Tree(u64),
-    /// Another object.
+    /// Another object, by its mark.
     Object(u64),
-    /// Anything else.
+    /// Any other file.
     Other,
 }
 
-/// What stands at the path.
+/// Returns the content that the path shows.
 pub(crate) fn seen_at(path: &str) -> Seen<'_> {
     if let Some((_, name)) = path.rsplit_once("/refs/heads/") {
         return Seen::Ref(name);
@@ -30,7 +31,8 @@ pub(crate) fn seen_at(path: &str) -> Seen<'_> {
     }
 }
 
-/// The object of a name such as `ab/cd..ef.file`.
+/// Returns the object of a name such as `ab/cd..ef.file`, which is two digits of the digest, a
+/// slash, the others and the object's type.
 fn object(name: &str) -> Seen<'_> {
     let Some((digits, kind)) = name.rsplit_once('.') else {
         return Seen::Other;
@@ -46,7 +48,7 @@ fn object(name: &str) -> Seen<'_> {
     }
 }
 
-/// The mark that the first digits are.
+/// Returns the mark that the first 16 digits spell.
 fn mark_in(digits: &str) -> Option<u64> {
     match digits.get(..DIGITS) {
         Some(digits) => u64::from_str_radix(digits, 16).ok(),
@@ -54,7 +56,7 @@ fn mark_in(digits: &str) -> Option<u64> {
     }
 }
 
-/// The mark of the commit that the file of a ref names.
+/// Returns the mark of the commit in a ref's file.
 pub(crate) fn mark_of_ref(bytes: &[u8]) -> Option<u64> {
     match bytes.get(2..2 + DIGITS) {
         Some(digits) => match str::from_utf8(digits) {
@@ -65,14 +67,15 @@ pub(crate) fn mark_of_ref(bytes: &[u8]) -> Option<u64> {
     }
 }
 
-/// The mark of an object: the digest's bytes from the second to the ninth.
+/// Returns the mark of an object: the second to the ninth byte of its digest, as a big-endian
+/// number.
 pub(crate) fn mark_of(digest: &Digest) -> u64 {
     match digest.as_bytes() {
         [_, a, b, c, d, e, f, g, h, ..] => u64::from_be_bytes([*a, *b, *c, *d, *e, *f, *g, *h]),
     }
 }
 
-/// The ID in the name of a ref.
+/// Returns the ID in a ref's name, as in `app/ID/ARCH/BRANCH`.
 pub(crate) fn id_in(name: &str) -> &str {
     match name.split('/').nth(1) {
         Some(id) => id,

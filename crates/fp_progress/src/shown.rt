@@ -1,16 +1,16 @@
-//! The line of a command, as text.
+//! The text of a progress line.
 use crate::task::Task;
 use crate::work::{Phase, Work};
 use std::alloc::{AllocError, Global};
 
-/// How many columns a line has, at most.
+/// The most columns of a line.
 pub(crate) const COLUMNS: usize = 79;
 
 const KIB: u64 = 1024;
 
 const MIB: u64 = 1024 * KIB;
 
-/// The line of a command, within 79 columns. It takes the command as it is, and changes nothing.
+/// Returns the line of a command, of at most 79 columns.
 pub(crate) fn line_of(alloc: Global, work: &Work) -> Result<String, AllocError> {
     let verb = work.task.verb();
     let done = done_in(alloc, work)?;
@@ -23,8 +23,8 @@ pub(crate) fn line_of(alloc: Global, work: &Work) -> Result<String, AllocError> 
     Ok(line)
 }
 
-/// Puts a name of plain letters after a text, a blank between them, and the name's end alone where
-/// there is no room for all.
+/// Appends a space and an ASCII name. If there is no room for all of it, appends its end only,
+/// after `..`.
 fn push_fitted(line: &mut String, name: &str, room: usize) -> Result<(), AllocError> {
     if name.len() <= room {
         return write!(line, " {name}");
@@ -36,7 +36,7 @@ fn push_fitted(line: &mut String, name: &str, room: usize) -> Result<(), AllocEr
     }
 }
 
-/// What was done, and of how much.
+/// Returns how much of the phase is done, and the total if it is known.
 fn done_in(alloc: Global, work: &Work) -> Result<String, AllocError> {
     if work.task == Task::Check {
         let objects = counted(alloc, work.count, "object")?;
@@ -79,13 +79,13 @@ fn linked_in(alloc: Global, work: &Work) -> Result<String, AllocError> {
     }
 }
 
-/// So many things, and what was done to them.
+/// Returns a number of things and what was done to them, as in `3 files synced`.
 fn done_to(alloc: Global, count: u64, thing: &str, done: &str) -> Result<String, AllocError> {
     let things = counted(alloc, count, thing)?;
     format!(in alloc; "{things} {done}")
 }
 
-/// So many things.
+/// Returns a number of things, in the plural except for 1.
 fn counted(alloc: Global, count: u64, thing: &str) -> Result<String, AllocError> {
     let number = grouped(alloc, count)?;
     if count == 1 {
@@ -95,7 +95,7 @@ fn counted(alloc: Global, count: u64, thing: &str) -> Result<String, AllocError>
     }
 }
 
-/// A number of bytes.
+/// Returns a number of bytes, rounded down to KiB or from 1 MiB on to MiB.
 fn size_of(alloc: Global, bytes: u64) -> Result<String, AllocError> {
     if bytes < MIB {
         let kib = bytes / KIB;
@@ -106,7 +106,7 @@ fn size_of(alloc: Global, bytes: u64) -> Result<String, AllocError> {
     }
 }
 
-/// A number, with a comma before each three digits.
+/// Returns a number with a comma between each three digits.
 fn grouped(alloc: Global, number: u64) -> Result<String, AllocError> {
     let digits = format!(in alloc; "{number}")?;
     let mut text = String::new(alloc);

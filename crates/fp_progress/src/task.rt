@@ -1,22 +1,22 @@
-//! What a command is for.
+//! The purpose of a command.
 
-/// What a command is for, as far as its line says.
+/// The purpose of a command, as its progress line shows it.
 #[derive(Clone, Copy, PartialEq, Eq)]
 pub enum Task {
-    /// It installs.
+    /// Installing a ref.
     Install,
-    /// It updates.
+    /// Updating refs.
     Update,
-    /// It takes away.
+    /// Uninstalling a ref.
     Uninstall,
-    /// It looks at each object of a store.
+    /// Checking each object of a store.
     Check,
     /// Anything else.
     Other,
 }
 
 impl Task {
-    /// What the command does, in a word.
+    /// Returns the verb that starts the line.
     pub(crate) fn verb(self) -> &'static str {
         match self {
             Task::Install => "installing",

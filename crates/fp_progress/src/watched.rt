@@ -1,4 +1,4 @@
-//! A system that is watched for how far a command is.
+//! A system whose calls are watched for the progress of a command.
 ghost use Rattle.std.specs.Thread.{IsSync};
 
 use crate::file::WatchedFile;
@@ -14,14 +14,14 @@ use std::rt::Files;
 use std::thread::Threads;
 use std::time::Clock;
 
-/// How many files or folders are synced between two lines.
+/// The number of files or directories that are synced between two updates of the progress.
 const PART: usize = 1000;
 
-/// Where the objects of a store are.
+/// The end of the path of a store's directory of objects.
 const OBJECTS: &str = "/objects";
 
-/// Whether the folder has the objects of a store. Its path may end with a slash, as that of a folder
-/// does which is opened.
+/// Returns whether the path is a store's directory of objects. It may end with a slash, as paths of
+/// directories do that are opened.
 fn has_objects(folder: &str) -> bool {
     match folder.strip_suffix("/") {
         Some(path) => path.ends_with(OBJECTS),
@@ -29,8 +29,8 @@ fn has_objects(folder: &str) -> bool {
     }
 }
 
-/// A system, and how far the command is that it is used for. The line of the command is taken away
-/// before anything is printed.
+/// A system that reports its calls to the progress of a command. It erases the progress line before
+/// anything is printed.
 pub struct Watched<'a, R> {
     rt: &'a R,
     progress: &'a Progress<'a, R>,
@@ -49,7 +49,7 @@ impl<R> Drop for Watched<'_, R> {
 }
 
 impl<'a, R> Watched<'a, R> {
-    /// The system of a host.
+    /// Creates the system of a host.
     pub fn host(rt: &'a R, progress: &'a Progress<'a, R>) -> Self {
         Watched {
             rt,
@@ -58,7 +58,7 @@ impl<'a, R> Watched<'a, R> {
         }
     }
 
-    /// The system of remotes.
+    /// Creates the system of the remotes.
     pub fn remotes(rt: &'a R, progress: &'a Progress<'a, R>) -> Self {
         Watched {
             rt,
@@ -230,8 +230,7 @@ impl<R: System + Clock> System for Watched<'_, R> {
         if met.is_some() {
             return met;
         }
-        // Where there was no memory for a list of all of them, the others are synced one after
-        // another.
+        // If memory ran out for a list of all files, the others are synced one after another.
         let listed = inner.len();
         for (i, file) in files.iter().enumerate() {
             if i >= listed
@@ -249,12 +248,12 @@ impl<R: System + Clock> System for Watched<'_, R> {
     }
 }
 
-/// Whether an object stands at the path.
+/// Returns whether the path is that of an object in a store.
 fn is_stored(path: &str) -> bool {
     path.contains("/objects/")
 }
 
-/// The same failure, where the list before the one that it was met in has this length.
+/// Returns the failure with its index raised by the number of items before its list.
 fn failure_after(before: usize, failure: Failure) -> Failure {
     Failure {
         place: before.saturating_add(failure.place),

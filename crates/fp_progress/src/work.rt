@@ -1,57 +1,57 @@
-//! What is known of how far a command is.
+//! The progress of a command, as far as its calls show it.
 use crate::order::Order;
 use crate::seen::{Seen, id_in, mark_of_ref};
 use crate::task::Task;
 use ost_object::read_dirtree;
 use std::alloc::{AllocError, Global};
 
-/// What a command does at the moment.
+/// The current phase of a command.
 #[derive(Clone, Copy, PartialEq, Eq)]
 pub(crate) enum Phase {
-    /// It finds out what there is.
+    /// Finding out what there is to do.
     Looking,
-    /// It takes a commit's objects from a remote.
+    /// Fetching a commit's objects from a remote.
     Fetching,
-    /// It makes files and folders last.
+    /// Syncing files and directories.
     Syncing,
-    /// It gives objects their names in the store.
+    /// Moving objects into the store.
     Storing,
-    /// It lays out a commit's files.
+    /// Checking out a commit's files.
     Linking,
-    /// It takes files away.
+    /// Removing files.
     Removing,
 }
 
-/// What the bytes of an open file are for.
+/// The content of an open file, as far as it matters for the progress.
 #[derive(Clone, Copy, PartialEq, Eq)]
 pub(crate) enum Watch {
-    /// Nothing is known of them.
+    /// Nothing that matters.
     Nothing,
-    /// They name a ref's commit.
+    /// The commit of a ref.
     Ref,
-    /// They are a dirtree of the commit at hand.
+    /// A dirtree of the current commit.
     Tree,
-    /// They are an object.
+    /// Another object.
     Object,
 }
 
-/// How far a command is, as far as its calls have told.
+/// The progress of a command, as far as its calls show it.
 pub(crate) struct Work {
     alloc: Global,
     pub(crate) task: Task,
     pub(crate) phase: Phase,
-    // How often the phase was seen at work.
+    // The number of steps that the phase made.
     pub(crate) count: u64,
-    // How many bytes of objects were read since the phase began.
+    // The number of bytes of refs and objects that were read in this phase.
     pub(crate) bytes: u64,
     pub(crate) order: Order,
-    // The ID of the commit at hand. Empty where no ref that was read leads to it.
+    // The ID of the current commit; empty if no ref that was read names the commit.
     pub(crate) id: String,
-    // The marks of commits, each with the ID of a ref that leads to it.
+    // The marks of commits, each with the ID of a ref that names it.
     named: Vec<(u64, String)>,
-    // The ID of the ref whose file is read.
+    // The ID of the ref whose file is being read.
     reading: String,
-    // The mark and the bytes of the dirtree that is read.
+    // The mark and the bytes of the dirtree that is being read.
     tree: Option<u64>,
     bytes_of_tree: Vec<u8>,
 }
@@ -75,7 +75,7 @@ impl Drop for Work {
 }
 
 impl Work {
-    /// A command that begins. It takes no memory.
+    /// Creates the progress of a command that starts. It allocates no memory.
     pub(crate) fn new(alloc: Global, task: Task) -> Self {
         Work {
             alloc,
@@ -92,7 +92,7 @@ impl Work {
         }
     }
 
-    /// A file is opened to be read. Answers what its bytes are for.
+    /// Notes that a file is opened for reading. Returns what its bytes contain.
     pub(crate) fn open(&mut self, seen: Seen<'_>, is_remote: bool) -> Watch {
         self.settle_tree();
         match seen {
@@ -108,7 +108,7 @@ impl Work {
         }
     }
 
-    /// Bytes of an open file were read.
+    /// Notes bytes that were read from an open file.
     pub(crate) fn read(&mut self, watch: Watch, bytes: &[u8]) {
         self.bytes = self.bytes.saturating_add(bytes.len() as u64);
         let noted = match watch {
@@ -121,7 +121,8 @@ impl Work {
         }
     }
 
-    /// The phase is at work, so many times. Looking at a store has no other phase.
+    /// Notes that the phase made this many steps, and makes it the current one. A check of a store
+    /// has one phase only and notes nothing here.
     pub(crate) fn step(&mut self, phase: Phase, count: u64) {
         if self.task == Task::Check {
             return;
@@ -135,7 +136,7 @@ impl Work {
         self.count = self.count.saturating_add(count);
     }
 
-    /// The same, where the phase is at work already.
+    /// Notes one step of the phase if it is the current one.
     pub(crate) fn step_on(&mut self, phase: Phase) {
         if self.phase == phase {
             self.step(phase, 1);
@@ -158,7 +159,8 @@ impl Work {
         Watch::Object
     }
 
-    /// The objects of a commit are taken once all of its dirtrees were read.
+    /// Notes that a commit is opened. If all its dirtrees were read and it is a remote's, its
+    /// objects are fetched from now on.
     fn open_commit(&mut self, mark: u64, is_remote: bool) -> Watch {
         if self.task == Task::Check {
             return self.open_object(mark);
@@ -189,7 +191,7 @@ impl Work {
         }
     }
 
-    /// Keeps which ID the commit has that the file of a ref names.
+    /// Notes the ID of the commit that a ref's file names.
     fn note_ref(&mut self, bytes: &[u8]) -> Result<(), AllocError> {
         if let Some(mark) = mark_of_ref(bytes) {
             let id = self.reading.as_str().to_string(self.alloc)?;
@@ -203,8 +205,8 @@ impl Work {
         Ok(())
     }
 
-    /// Adds the dirtree that was read to what is known of the commit. What is none leaves the number
-    /// of objects unknown, since others are awaited then.
+    /// Adds the dirtree that was read to the known objects. If its bytes are no dirtree, it stays
+    /// awaited, so the total remains unknown.
     fn settle_tree(&mut self) {
         if let Some(mark) = self.tree {
             self.tree = None;

@@ -1,10 +1,10 @@
--- What contracts see of a host over a folder of the system.
+-- The part of a host over a real directory that contracts see.
 use Rattle.std.specs.Prelude.{ℕ, Bool}
 
 pub record Seen : Type 0 where
-  -- how often a call failed
+  -- The number of failed calls
   pub faults : ℕ
-  -- whether nothing waits for a sync
+  -- Whether no change waits for a sync
   pub is_settled : Bool
-  -- how many bytes were printed
+  -- The number of bytes printed
   pub printed : ℕ

@@ -1,4 +1,4 @@
-//! The calls of a host over a folder of the system that change it.
+//! The calls that change a real directory.
 ghost use Rattle.std.specs.Prelude.{◌≢◌, ◌≤◌, [], OnOk};
 
 use crate::below::is_below;
@@ -16,16 +16,16 @@ use std::io::Write;
 use std::rt::Files;
 use std::thread::Threads;
 
-/// A change at one path, but for new files.
+/// A change of one path, other than creating a file.
 #[derive(Clone, Copy)]
 pub enum Change<'a> {
-    /// A folder is made.
+    /// Making a directory.
     MakeDir,
-    /// A symlink with this text is made.
+    /// Making a symlink with this text.
     Symlink(&'a str),
-    /// A file or a symlink goes away.
+    /// Removing a file or a symlink.
     Unlink,
-    /// An empty folder goes away.
+    /// Removing an empty directory.
     RemoveDir,
 }
 
@@ -35,20 +35,21 @@ impl Change<'_> {
     }
 }
 
-/// Whether no look reads what stands at the path: it is work.
+/// Returns whether the path is below the directory of temporary files, which readers ignore.
 fn is_work(path: &Path) -> bool {
     is_below(path.text(), LAYOUT.work)
 }
 
-/// Whether no look sees the move: it is one of work, or gives a new object its name, which nothing
-/// needs that a look reads.
+/// Returns whether readers can't notice the move: it is one of temporary files, or it stores a new
+/// object, to which nothing that a reader sees refers yet.
 fn is_unseen(from: &Path, to: &Path, is_stored: bool, moved: &Move) -> bool {
     is_work(from) && (is_work(to) || is_stored && !moved.replaces)
 }
 
 impl<R: System> Tree<'_, R> {
-    /// Makes the change. Folders get the permission bits 0755. A file that waits at the path is made
-    /// before. Where a name goes, those who look are kept out.
+    /// Makes the change. A new directory gets the permission bits 0o755. A file that waits at the
+    /// path is created first. Before a name is removed outside the temporary files, readers are
+    /// locked out.
     pub fn change<T: System + Threads>(
         &mut self,
         crew: &Crew<'_, T>,
@@ -75,9 +76,10 @@ impl<R: System> Tree<'_, R> {
         }
     }
 
-    /// Creates an empty file that is told with exactly these permission bits; the sticky bit may not
-    /// be among them. It waits where it may, and is made later. Where many files are open that wait
-    /// for a sync, they are synced before.
+    /// Creates an empty file with exactly these permission bits, as `stat` reports them. Errs with
+    /// `BadBits` if they are more than 0o7777 or contain the sticky bit. The file may wait with its
+    /// content and be created later. If too many files are open that wait for a sync, those are
+    /// synced first.
     pub fn create<T: System + Threads>(
         &mut self,
         crew: &Crew<'_, T>,
@@ -128,8 +130,9 @@ impl<R: System> Tree<'_, R> {
         )
     }
 
-    /// Adds bytes at the end of a file that was created since the last sync. Where it would be larger
-    /// than the process may make one, Linux would end the process: so that is an error.
+    /// Appends bytes to a file that was created since the last sync. Errs with `NotNew` for another
+    /// file, and with `TOO_LARGE` if the file would exceed the limit of the process, since Linux
+    /// would end the process.
     pub fn append<T: System + Threads>(
         &mut self,
         crew: &Crew<'_, T>,
@@ -143,13 +146,14 @@ impl<R: System> Tree<'_, R> {
         }
     }
 
-    /// Whether the file at the path of the call would be too large with so many bytes more.
+    /// Returns whether the file at the path of the call would be too large with this many more
+    /// bytes.
     fn is_too_large(&self, count: usize) -> bool {
         let largest = self.gate.largest_file();
         largest < u64::MAX && self.size_now().saturating_add(count as u64) > largest
     }
 
-    /// How many bytes the file at the path of the call has.
+    /// Returns the length in bytes of the file at the path of the call.
     fn size_now(&self) -> u64 {
         match self.notes.made.stat(&self.at) {
             Some(Stat::File { size, .. }) => size,
@@ -176,8 +180,8 @@ impl<R: System> Tree<'_, R> {
         }
     }
 
-    /// Takes an empty folder away, which isn't the root. All files that wait are made before: one
-    /// may be in it.
+    /// Removes an empty directory. Errs with `IsRoot` for the root. All files that wait are created
+    /// first, since one may be in the directory.
     pub fn remove_dir<T: System + Threads>(
         &mut self,
         crew: &Crew<'_, T>,
@@ -192,7 +196,7 @@ impl<R: System> Tree<'_, R> {
         self.change(crew, path, Change::RemoveDir)
     }
 
-    /// Gives a regular file a second name.
+    /// Makes the second path a hard link of the regular file at the first.
     pub fn link<T: System + Threads>(
         &mut self,
         crew: &Crew<'_, T>,
@@ -208,8 +212,8 @@ impl<R: System> Tree<'_, R> {
         }
     }
 
-    /// Moves a file or symlink to nothing, or in the place of another one. Where a look may see it,
-    /// those who look are kept out.
+    /// Moves a file or symlink, and replaces a file or symlink at the second path. If readers could
+    /// notice it, they are locked out first.
     pub fn rename<T: System + Threads>(
         &mut self,
         crew: &Crew<'_, T>,
@@ -240,7 +244,7 @@ impl<R: System> Tree<'_, R> {
     }
 }
 
-/// How many bytes a file has, as far as the system tells it.
+/// Returns the length in bytes of a file, 0 if it can't be looked up.
 fn size_at<R: System>(rt: &R, at: &str) -> u64 {
     match look(rt, at) {
         Ok(found) => found.size,
@@ -341,7 +345,7 @@ fn rename_at<R: Files>(
     done
 }
 
-/// A name was taken away, or holds something else now.
+/// Closes the file at a path whose name was removed or replaced.
 fn forget<F: OpenFile + Write + Drop>(
     at: &str,
     reader: &mut Reader<F>,

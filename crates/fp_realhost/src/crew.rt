@@ -1,12 +1,12 @@
-//! Who makes new files.
+//! The threads that create new files.
 use fp_realroot::{System, Team};
 use fp_system::{NewFile, Work};
 use std::thread::Threads;
 
-/// The leave to start threads, and the system that makes new files where that is another one than
-/// the system of the host.
+/// The permission to start threads, and the system that creates new files if it isn't the host's
+/// own.
 pub struct Crew<'a, T> {
-    /// The leave to start threads.
+    /// The permission to start threads.
     pub team: Team<T>,
     maker: Option<&'a T>,
 }
@@ -18,7 +18,7 @@ impl<T> Drop for Crew<'_, T> {
 }
 
 impl<'a, T: Threads> Crew<'a, T> {
-    /// The system of the host makes its files.
+    /// Creates a crew whose files are created by the host's own system.
     pub fn of(threads: &T) -> Self {
         Crew {
             team: Team::of(threads),
@@ -26,7 +26,7 @@ impl<'a, T: Threads> Crew<'a, T> {
         }
     }
 
-    /// Another system makes them.
+    /// Creates a crew whose files are created by this system.
     pub fn with(maker: &'a T) -> Self {
         Crew {
             team: Team::of(maker),
@@ -36,7 +36,7 @@ impl<'a, T: Threads> Crew<'a, T> {
 }
 
 impl<T: System + Threads> Crew<'_, T> {
-    /// Begins to make new files.
+    /// Starts to create new files.
     pub fn make_files<R: System>(&self, rt: &R, files: Vec<NewFile>) -> Work {
         match self.maker {
             Some(maker) => maker.make_files(&self.team, files),

@@ -1,4 +1,4 @@
-//! Folders that are made.
+//! Making directories.
 use fp_realnotes::{Grants, Notes};
 use fp_system::{Cause, FOLDER_BITS, known, look};
 use std::fs;
@@ -6,12 +6,12 @@ use std::fs::{DirBuilder, Permissions};
 use std::os::unix::fs::{DirBuilderExt, PermissionsExt};
 use std::rt::Files;
 
-/// Makes a folder that all may read and its owner may change, whatever the umask.
+/// Makes a directory with the permission bits 0o755, whatever the umask. Errs if the path exists.
 pub fn make_dir<R: Files>(rt: &R, at: &str, notes: &mut Notes) -> Result<(), Cause> {
     let done = make(rt, at, &mut notes.grants);
     match done {
         Ok(()) => notes.add_made(at),
-        // It may be there without its permission bits.
+        // The directory may exist without its permission bits.
         Err(_) => notes.add_half_made(at),
     }
     done
@@ -24,7 +24,7 @@ fn make<R: Files>(rt: &R, at: &str, grants: &mut Grants) -> Result<(), Cause> {
     }
 }
 
-/// The umask may have taken some bits.
+/// Sets the permission bits if the umask cleared some of them.
 fn give_bits<R: Files>(rt: &R, at: &str, grants: &mut Grants) -> Result<(), Cause> {
     if grants.has(at, FOLDER_BITS) {
         return Ok(());

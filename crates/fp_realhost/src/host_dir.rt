@@ -1,4 +1,4 @@
-//! A real folder as a host.
+//! A real directory as a host.
 ghost use Rattle.std.specs.Prelude.{◌≡◌, ◌≢◌, ◌↔◌, ◌≤◌, [], None, true, length, IfOk, OnOk};
 ghost use Rattle.fp_host.specs.Moments.{NeedsNoMemory};
 ghost use Rattle.fp_host.specs.Reads.{AreNames, HasBits};
@@ -18,62 +18,62 @@ use std::marker::Model;
 use std::rt::Files;
 use std::thread::Threads;
 
-/// A folder of the system as a host, and where it prints.
+/// A real directory as a host, and the output that it prints to.
 ///
-/// It tells nothing of its content. Whatever the system refuses, and whatever breaks a call's
-/// condition, is counted and answered `Failed`, and so is running out of memory in a call that may
-/// not answer `NoMemory`; no call answers `Clash`.
+/// It doesn't report its content to contracts. Each error of the system and each condition that
+/// doesn't hold is counted and returned as `Failed`, and so is running out of memory in a call that
+/// may not return `NoMemory`. No call returns `Clash`.
 ///
-/// It is opened to look or to change, and takes advisory locks (`flock`). One that changes takes
-/// that of the file `.lock` at the top of the root at its first call, but for `say`, and keeps it
-/// as long as it is there. One that looks takes the lock of the root folder so, which looks share,
-/// until it prints. One that changes has that lock alone from the first call that a look may see,
-/// which takes a name away or moves one outside `repo/tmp`, but for a new object, to the `sync`
-/// after it. Where another holds a lock, that it waits is said on standard error, and after ten
-/// seconds who holds it. Where what is locked was taken away meanwhile, it begins anew.
+/// It is opened to read or to change, and takes advisory locks (flock(2)). A host that changes
+/// takes the exclusive lock of the file `.lock` at the top of the root at its first call other than
+/// `say`, and keeps it as long as it exists. A host that reads takes a shared lock of the root
+/// directory at its first call, and releases it when it prints. A host that changes takes the lock
+/// of the root directory exclusively before its first call that a reader could notice, and releases
+/// it after the next `sync`. Such a call removes a name outside `repo/tmp`, or moves one, unless it
+/// moves it within `repo/tmp` or from there to the path of a new object. A host that waits for a
+/// lock prints that on standard error, and after ten seconds which processes hold the lock. If what
+/// is locked was removed or replaced meanwhile, it starts again.
 ///
-/// A folder without the lock file, which shows no installation and holds what fpk would take away,
-/// is not changed: the first call fails. A host that looks makes nothing: an absent root reads as
-/// an empty folder, and every change fails. A host that changes makes the root, the folders above
-/// it and the lock file at its first call, where they are absent. The list of the root's names
-/// leaves the lock file out.
+/// A directory without a lock file is not changed if no file marks it as an installation and fpk
+/// would remove something in it: the first call fails. A host that reads makes nothing: an absent
+/// root reads as an empty directory, and every change fails. A host that changes makes the root,
+/// the directories above it and the lock file at its first call, if they are absent. `list` of the
+/// root leaves the lock file out.
 ///
-/// A folder below the root and the root itself get the permission bits 0755 and a file is told with
-/// exactly those that were asked for, whatever the umask. Folders above it get the bits that the
-/// umask leaves. Where a file's owner was not to read it, it stands on the disk with 0400 and the
-/// sticky bit besides, which tells that and means nothing else there. What is moved to where the
-/// objects of the store stand, or written where they wait, gets the modification time 0, as
-/// OSTree's objects have. Ids are the numbers of inodes, and of a file that the host made itself a
-/// number of its own. A pipe, a socket and a device are never opened: each is told as a symlink
-/// whose text says what it is.
+/// The root and each directory below it get the permission bits 0o755, whatever the umask.
+/// Directories above the root get the bits that the umask leaves. `stat` reports exactly the bits
+/// that `create` was asked for. A file that its owner may not read has 0o400 and the sticky bit on
+/// the disk in addition, which Linux ignores there. A file that is moved to the store's objects, or
+/// written where they wait, gets the modification time 0, as OSTree's objects have. The id of a
+/// file is its inode number; a file that the host created has a number of the host's own. A pipe, a
+/// socket and a device are never opened: each is reported as a symlink whose text names its type.
 ///
-/// The root may be a symlink or stand below one. Below the root no symlink is followed: a call
-/// fails where one stands in the place of a folder above its path. What was found is remembered
-/// until the host changes it, and so is what the host made itself: each folder and file is looked
-/// at once, and a folder that is absent too. The names in a folder that it made, and the bits and
-/// size of a file, it answers itself. What another program puts in its place later is followed, or
-/// not seen.
+/// The root may be a symlink or be below one. Below the root no symlink is followed: a call fails
+/// if a symlink is in the place of a directory above its path. The host remembers what it found and
+/// made until it changes it: each directory and file is looked up once, and an absent directory
+/// too. From what it remembers, it lists the directories that it made and reports the bits and
+/// lengths of files. What another program puts there later is followed, or not seen.
 ///
-/// A new file of at most 256 KiB waits with its bytes until a `sync` comes, a call needs it, or 800
-/// files or 8 MiB wait. Threads make it then, while other calls are done. What is asked of it
-/// meanwhile is answered from memory. What its making met is answered by the next `sync`, and no
-/// later one succeeds.
+/// A new file of at most 256 KiB waits in memory until the next `sync`, until a call needs it on
+/// the disk, or until 800 files or 8 MiB wait. Then threads create the files while other calls are
+/// done. What is asked of such a file meanwhile is answered from memory. If it can't be created,
+/// the next `sync` fails, and each later one.
 ///
-/// A `sync` makes last each file and then each folder that was changed since the last one, many of
-/// them by several threads. At most 192 larger files that wait for it stay open: where more are
-/// made, those are synced before. Where the process may have no more open files, what is open is
-/// synced and closed, and the call tried once more. While changes wait for it, the lock file holds
-/// the text that Linux gives this start of the machine, and else a line of dashes, or nothing where
-/// it is new. Where an earlier run of the same start left a mark or an empty file, or the root was
-/// there without one, the first `sync` makes last every file and folder that may be opened, at the
-/// names that fpk keeps at the top. The folders above the root are synced, too, where their file
-/// system takes it. After a sync of a file or folder that failed no later one succeeds, nor after a
-/// change that there was no memory to note.
+/// A `sync` syncs each file and then each directory that was changed since the last one, many of
+/// them by several threads. At most 192 larger files stay open until then: if there are more, those
+/// are synced earlier. If the process runs out of open files, the open ones are synced and closed,
+/// and the call is tried once more. While changes wait for a `sync`, the lock file contains the
+/// boot id of Linux as a mark; after a `sync` it contains a line of dashes; a new one is empty. If
+/// an earlier command of the same boot left a mark or an empty file, or the root existed without a
+/// lock file, the first `sync` syncs every file and directory that can be opened at fpk's names at
+/// the top. The directories above the root are synced too, if their file system supports it. After
+/// a failed sync of a file or directory, or a change for whose note memory ran out, no later `sync`
+/// succeeds.
 ///
-/// Where the system lets a file have no more names, `link` makes a copy of it, a new file.
+/// If the file system allows no more links of a file, `link` makes a copy of it, a new file.
 ///
-/// Contracts see how often it failed, whether nothing waits for a sync, and how many bytes were
-/// printed.
+/// Contracts see the number of failures, whether no change waits for a sync, and the number of
+/// bytes printed.
 pub struct HostDir<'a, R: Files, T, O> {
     tree: Tree<'a, R>,
     crew: Crew<'a, T>,
@@ -101,8 +101,8 @@ impl<R: Files, T, O> Drop for HostDir<'_, R, T, O> {
 }
 
 impl<'a, R: System, T: System + Threads, O: Print> HostDir<'a, R, T, O> {
-    /// The host over the folder of this name, which prints to this output; the empty name is the
-    /// current folder. It asks nothing of the system yet.
+    /// Creates the host over this directory, printing to this output; the empty path is the current
+    /// directory. It makes no system call.
     pub fn new(
         rt: &'a R,
         threads: &T,
@@ -117,8 +117,8 @@ impl<'a, R: System, T: System + Threads, O: Print> HostDir<'a, R, T, O> {
         HostDir::with_crew(rt, Crew::of(threads), out, alloc, root, access)
     }
 
-    /// The same, whose small new files another system makes, which has the same paths. It ends by
-    /// `finish`.
+    /// Creates the host over this directory, with new small files created by another system that
+    /// has the same paths. Call `finish` before it is dropped.
     pub fn with_maker(
         rt: &'a R,
         maker: &'a T,
@@ -152,7 +152,7 @@ impl<'a, R: System, T: System + Threads, O: Print> HostDir<'a, R, T, O> {
         })
     }
 
-    /// Waits until no thread is at work. A file that still waits is never made.
+    /// Waits until no thread creates files. A file that still waits is never created.
     pub fn finish(&mut self)
         ensures faults { self.new.faults ≡ self.old.faults }
     {
@@ -161,26 +161,26 @@ impl<'a, R: System, T: System + Threads, O: Print> HostDir<'a, R, T, O> {
 }
 
 impl<'a, R: Files, T, O> HostDir<'a, R, T, O> {
-    /// How often a call has failed; the count stands still at 2^64 - 1.
+    /// Returns the number of failures; it stays at 2^64 - 1 once it gets there.
     pub fn faults(&self) -> u64
         ensures { result ≡ self.now.faults }
     {
         self.faults.count()
     }
 
-    /// What the system refused last, which is there exactly where the count of faults is not 0.
+    /// Returns the last error of the system, or `None` if the number of failures is 0.
     pub fn last_error(&self) -> Option<&SystemError>
         ensures { (result ≡ None) ↔ (self.now.faults ≡ 0) }
     {
         self.faults.last()
     }
 
-    /// Whether no folder was there when it was looked at.
+    /// Returns whether the root directory was absent when it was last looked up.
     pub fn is_absent(&self) -> bool {
         self.tree.gate.is_absent()
     }
 
-    /// Counts what was refused.
+    /// Counts a failure.
     fn fail(&mut self, refusal: SystemError) -> HostError
         ensures answer { result ≡ Failed }
         ensures more { self.new ≡ record self.old { faults = one_more self.old.faults } }
@@ -190,7 +190,7 @@ impl<'a, R: Files, T, O> HostDir<'a, R, T, O> {
         HostError::Failed
     }
 
-    /// The answer of a call on a path. Each error is a fault.
+    /// Returns the result of a call on a path, and counts each error.
     fn answer<A>(&mut self, call: Call, path: &Path, done: Result<A, Cause>) -> Result<A, HostError>
         ensures counts { Counts self.old.faults self.new.faults result }
         ensures needs_no_memory { NeedsNoMemory result }
@@ -205,7 +205,7 @@ impl<'a, R: Files, T, O> HostDir<'a, R, T, O> {
         }
     }
 
-    /// The same of a call that may answer `NoMemory`.
+    /// Returns the result of a call that may return `NoMemory`, and counts each other error.
     fn answer_or_starve<A>(
         &mut self,
         call: Call,
@@ -224,7 +224,8 @@ impl<'a, R: Files, T, O> HostDir<'a, R, T, O> {
 }
 
 impl<R: System, T: System + Threads, O> HostDir<'_, R, T, O> {
-    /// Changes what stands at the path.
+    /// Makes a change at the path. If the process runs out of open files, closes the open ones and
+    /// tries once more.
     fn change(&mut self, call: Call, path: &Path, change: Change<'_>) -> Result<(), HostError>
         ensures counts { Counts self.old.faults self.new.faults result }
         ensures needs_no_memory { NeedsNoMemory result }

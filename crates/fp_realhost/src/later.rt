@@ -1,5 +1,5 @@
-//! New files that are made later: they wait until there are many, or until a call needs them, and
-//! threads make them while other calls are done.
+//! New files that wait in memory until there are many or a call needs them. Then threads create
+//! them while other calls are done.
 ghost use Rattle.std.specs.Prelude.{◌≤◌, length, IfSome};
 
 use crate::crew::Crew;
@@ -14,18 +14,18 @@ use std::alloc::{AllocError, Global};
 use std::rt::Files;
 use std::thread::Threads;
 
-/// The files that wait, and those that are being made.
+/// The files that wait, and those that threads are creating.
 #[derive(Drop)]
 pub struct Later {
     alloc: Global,
     waiting: Waiting,
-    // The paths of those that are being made.
+    // The paths of the files that threads are creating.
     at_work: PathMap<usize>,
     work: Work,
 }
 
 impl Later {
-    /// None.
+    /// Creates an empty set.
     pub fn nothing(alloc: Global) -> Self {
         Later {
             alloc,
@@ -35,17 +35,17 @@ impl Later {
         }
     }
 
-    /// Whether none waits or is being made.
+    /// Returns whether no file waits or is being created.
     pub fn is_empty(&self) -> bool {
         self.waiting.is_empty() && self.at_work.is_empty()
     }
 
-    /// Whether the file at the path waits or is being made.
+    /// Returns whether the file at the path waits or is being created.
     pub fn has(&self, at: &str) -> bool {
         self.waiting.has(at) || self.at_work.has(at)
     }
 
-    /// Adds an empty file that is to wait. It errs where there is no memory.
+    /// Adds an empty file that waits. Errs if memory runs out.
     fn add(
         &mut self,
         at: &str,
@@ -63,7 +63,8 @@ impl Later {
         })
     }
 
-    /// Reads a file that waits from a place on.
+    /// Reads a waiting file from the byte offset `from` on. Returns the number of bytes read, or
+    /// `None` if no file waits at the path.
     pub fn read(&self, at: &str, from: u64, into: &mut [u8]) -> Option<usize>
         ensures { IfSome result (λ n. n ≤ length into.old) }
     {
@@ -72,7 +73,7 @@ impl Later {
 }
 
 impl<R: System> Tree<'_, R> {
-    /// Begins to make the files that wait, once those before them are made.
+    /// Starts to create the waiting files, once those started before are done.
     pub(crate) fn start_waiting<T: System + Threads>(&mut self, crew: &Crew<'_, T>) {
         self.join(crew);
         if !self.later.waiting.is_empty() {
@@ -82,7 +83,7 @@ impl<R: System> Tree<'_, R> {
         }
     }
 
-    /// Waits until the files are made that threads are at work on.
+    /// Waits until the threads are done, and notes the outcome.
     pub(crate) fn join<T: System + Threads>(&mut self, crew: &Crew<'_, T>) {
         if self.later.at_work.is_empty() {
             return;
@@ -99,8 +100,8 @@ impl<R: System> Tree<'_, R> {
         self.later.at_work.clear();
     }
 
-    /// Where a thread found too many open files, what the host has open is closed, and the rest is
-    /// made here.
+    /// Notes the outcome of one thread. If it ran out of open files, the host's open files are
+    /// closed and the rest of its files is created here.
     fn end_share<T: System + Threads>(&mut self, crew: &Crew<'_, T>, mut share: Share) {
         if share.is_crowded() {
             self.close_all(crew);
@@ -109,28 +110,28 @@ impl<R: System> Tree<'_, R> {
         note_share(&share, &mut self.notes.touched, &mut self.writer);
     }
 
-    /// Makes all files that wait, and waits until they last.
+    /// Creates all waiting files, and waits until they are synced.
     pub(crate) fn make_waiting<T: System + Threads>(&mut self, crew: &Crew<'_, T>) {
         self.start_waiting(crew);
         self.join(crew);
     }
 
-    /// The same where the file at the path of the call waits.
+    /// Creates all waiting files if the one at the path of the call waits or is being created.
     pub(crate) fn make_at<T: System + Threads>(&mut self, crew: &Crew<'_, T>) {
         if self.later.has(&self.at) {
             self.make_waiting(crew);
         }
     }
 
-    /// The same where the file at the first path of the call does, or at the second.
+    /// Creates all waiting files if one at either path of the call waits or is being created.
     pub(crate) fn make_both<T: System + Threads>(&mut self, crew: &Crew<'_, T>) {
         if self.later.has(&self.from) || self.later.has(&self.at) {
             self.make_waiting(crew);
         }
     }
 
-    /// Whether a new file at the path of the call may wait: a folder is above it, and nothing is
-    /// there. A file that waits there is made before.
+    /// Returns whether a new file at the path of the call may wait: its parent is a directory, and
+    /// nothing is at the path. A file that waits there already is created first.
     fn may_wait<T: System + Threads>(&mut self, crew: &Crew<'_, T>) -> Result<bool, Cause> {
         let is_in_folder = self.is_in_folder();
         if is_in_folder && self.notes.made.is_absent(&self.at) {
@@ -143,13 +144,13 @@ impl<R: System> Tree<'_, R> {
         }
     }
 
-    /// Whether the folder above the path of the call is known to be there.
+    /// Returns whether the parent of the call's path is known to be a directory.
     fn is_in_folder(&self) -> bool {
         let folder = folder_of(&self.at);
         folder == self.gate.root() || self.notes.folders.has(folder)
     }
 
-    /// Lets an empty file wait at the path of the call, where it may. Answers whether it does.
+    /// Lets an empty file wait at the path of the call, if it may. Returns whether it waits.
     pub(crate) fn let_wait<T: System + Threads>(
         &mut self,
         crew: &Crew<'_, T>,
@@ -162,7 +163,7 @@ impl<R: System> Tree<'_, R> {
         }
     }
 
-    /// Where many wait, they begin to be made before.
+    /// Adds the file to those that wait. If these are many, starts to create them first.
     fn add_waiting<T: System + Threads>(
         &mut self,
         crew: &Crew<'_, T>,
@@ -181,8 +182,8 @@ impl<R: System> Tree<'_, R> {
         is_added
     }
 
-    /// Adds bytes to the file at the path of the call, where it waits. Answers whether it has them.
-    /// Where it is to wait no longer, it is made.
+    /// Appends bytes to the file at the path of the call if it waits. Returns whether they were
+    /// appended: if the file would get too large to wait, it is created instead, without them.
     pub(crate) fn append_waiting<T: System + Threads>(
         &mut self,
         crew: &Crew<'_, T>,
@@ -204,7 +205,8 @@ impl<R: System> Tree<'_, R> {
         }
     }
 
-    /// Makes a file that waits no longer, which stays open.
+    /// Creates a file that waits no longer, and keeps it open. Returns false, since the bytes of
+    /// the call are still to be appended.
     fn make_taken<T: System + Threads>(
         &mut self,
         crew: &Crew<'_, T>,
@@ -232,13 +234,13 @@ impl<R: System> Tree<'_, R> {
     }
 }
 
-/// What is told where it isn't known what became of a file.
+/// The failure noted if memory ran out for the result of creating a file.
 const LOST: Unsynced = Unsynced {
     call: Call::Sync,
     cause: Cause::NoMemory,
 };
 
-/// Notes which files last and are dated, and the first that could not be made.
+/// Notes the files that are synced and dated, and the first that could not be created.
 fn note_share<F: Drop>(share: &Share, touched: &mut Touched, writer: &mut Writer<F>) {
     for file in share.made() {
         touched.add_synced(&file.at);

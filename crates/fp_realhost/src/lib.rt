@@ -1,4 +1,4 @@
-//! A real folder as a host, and the standard output.
+//! A real directory as a host, and the standard output.
 #![tactic(auto)]
 
 mod below;

@@ -1,4 +1,4 @@
-//! Names that come into a folder or go, but for moves.
+//! Adding and removing names, other than by moves.
 use fp_realnotes::{Made, Notes};
 use fp_realroot::{find_file, open_to_read};
 use fp_system::{Cause, Found, Kind, NO_ENTRY, create_new, give_bits, known, look};
@@ -7,8 +7,8 @@ use std::io::{ErrorKind, copy};
 use std::os::unix;
 use std::rt::Files;
 
-/// Gives a file a second name. Where the file system lets the file have no more names, a copy of it
-/// gets the second name, as in OSTree.
+/// Makes the second path a hard link of the regular file at the first. If the file system allows no
+/// more links of the file (`EMLINK`), the second path becomes a copy, as in OSTree.
 pub fn link<R: Files>(rt: &R, from: &str, to: &str, notes: &mut Notes) -> Result<(), Cause> {
     match link_file(rt, from, to, notes) {
         Ok(()) => {
@@ -20,7 +20,7 @@ pub fn link<R: Files>(rt: &R, from: &str, to: &str, notes: &mut Notes) -> Result
     }
 }
 
-/// The copy is a new file, which waits for a sync. Its bits and size are looked at when they are
+/// Makes a copy, a new file that waits for a sync. Its bits and length are looked up when they are
 /// asked for.
 fn copy_file<R: Files>(rt: &R, from: &str, to: &str, notes: &mut Notes) -> Result<(), Cause> {
     match copy_new(rt, from, to) {
@@ -36,8 +36,8 @@ fn copy_file<R: Files>(rt: &R, from: &str, to: &str, notes: &mut Notes) -> Resul
     }
 }
 
-/// Nothing stands at the second path: what came there meanwhile, a symlink too, is an error and
-/// stays as it is. The copy has all permission bits of the file.
+/// Copies the file with all its permission bits. Errs if anything, even a symlink, is at the second
+/// path by now, and leaves it unchanged.
 fn copy_new<R: Files>(rt: &R, from: &str, to: &str) -> Result<(), Cause> {
     match find_file(rt, from) {
         Ok(found) => copy_with(rt, from, to, found.permission_bits()),
@@ -59,7 +59,8 @@ fn link_file<R: Files>(rt: &R, from: &str, to: &str, notes: &Notes) -> Result<()
     }
 }
 
-/// A file that was found or made isn't looked at again.
+/// Checks that a regular file is at the path. A file that was found or created before isn't looked
+/// up again.
 fn check_file<R: Files>(rt: &R, at: &str, notes: &Notes) -> Result<(), Cause> {
     if notes.made.is_file(at) || notes.files.has(at) {
         return Ok(());
@@ -70,7 +71,7 @@ fn check_file<R: Files>(rt: &R, at: &str, notes: &Notes) -> Result<(), Cause> {
     }
 }
 
-/// Makes a symlink with this text, and notes it. It errs where the system refuses it.
+/// Makes a symlink with this text, and notes it.
 pub fn symlink<R: Files>(rt: &R, text: &str, at: &str, notes: &mut Notes) -> Result<(), Cause> {
     match known(unix::fs::symlink(rt, text, at)) {
         Ok(()) => {
@@ -81,7 +82,7 @@ pub fn symlink<R: Files>(rt: &R, text: &str, at: &str, notes: &mut Notes) -> Res
     }
 }
 
-/// Takes a file or symlink away.
+/// Removes a file or a symlink, and notes it.
 pub fn unlink<R: Files>(rt: &R, at: &str, notes: &mut Notes) -> Result<(), Cause> {
     match known(fs::remove_file(rt, at)) {
         Ok(()) => {
@@ -92,8 +93,8 @@ pub fn unlink<R: Files>(rt: &R, at: &str, notes: &mut Notes) -> Result<(), Cause
     }
 }
 
-/// Why nothing was taken away. Linux takes no folder away so, but doesn't say on each file system
-/// that it is one.
+/// Returns the reason why nothing was removed. On Linux `unlink` doesn't remove a directory, but
+/// the errno of some file systems doesn't show that it is one.
 fn unlink_refusal<R: Files>(rt: &R, at: &str, made: &Made, refused: Cause) -> Cause {
     match leaf_kind(rt, at, made) {
         Ok(_) => refused,
@@ -101,7 +102,8 @@ fn unlink_refusal<R: Files>(rt: &R, at: &str, made: &Made, refused: Cause) -> Ca
     }
 }
 
-/// Whether a file or a symlink is at the path, or what is told as one. A folder is an error.
+/// Returns the type of the file, symlink or special file at the path. Errs with `NO_ENTRY` if
+/// nothing is there and with `NoLeaf` for a directory.
 pub fn leaf_kind<R: Files>(rt: &R, at: &str, made: &Made) -> Result<Kind, Cause> {
     if made.is_file(at) {
         return Ok(Kind::File);
@@ -112,7 +114,8 @@ pub fn leaf_kind<R: Files>(rt: &R, at: &str, made: &Made) -> Result<Kind, Cause>
     }
 }
 
-/// The file or symlink at the path, or what is told as one.
+/// Returns the status of the file, symlink or special file at the path. Errs with `NO_ENTRY` if
+/// nothing is there and with `NoLeaf` for a directory.
 pub fn find_leaf<R: Files>(rt: &R, at: &str) -> Result<Found, Cause> {
     match look(rt, at) {
         Ok(found) if is_leaf(&found) => Ok(found),
@@ -121,7 +124,7 @@ pub fn find_leaf<R: Files>(rt: &R, at: &str) -> Result<Found, Cause> {
     }
 }
 
-/// Whether no folder is there, and not nothing.
+/// Returns whether something is there that is no directory.
 pub fn is_leaf(found: &Found) -> bool {
     found.is_leaf() || found.kind == Kind::Other
 }
@@ -133,7 +136,7 @@ fn no_leaf(kind: Kind) -> Cause {
     }
 }
 
-/// Takes an empty folder away, and notes it. It errs where the system refuses it.
+/// Removes an empty directory, and notes it.
 pub fn remove_folder<R: Files>(rt: &R, at: &str, notes: &mut Notes) -> Result<(), Cause> {
     match known(fs::remove_dir(rt, at)) {
         Ok(()) => {

@@ -1,4 +1,4 @@
-//! Files and symlinks that get another name.
+//! Moving files and symlinks.
 use crate::links::{find_leaf, is_leaf, leaf_kind};
 use crate::writer::Writer;
 use fp_realnotes::{Made, Notes};
@@ -8,16 +8,16 @@ use std::fs::OpenFile;
 use std::io::Write;
 use std::rt::Files;
 
-/// A move that may be made.
+/// A move that is allowed.
 #[derive(Clone, Copy)]
 pub struct Move {
     kind: Kind,
-    /// Whether it replaces what stands at the second path.
+    /// Whether something at the second path is replaced.
     pub replaces: bool,
 }
 
-/// Moves a file or symlink to nothing, or in the place of another one. A file that goes into the
-/// store is dated.
+/// Moves a file or symlink, replaces one at the second path, and notes it. With `is_dated`, the
+/// file gets the modification time 0 first.
 pub fn rename<F: Write + OpenFile + Drop, R: Files<File = F>>(
     rt: &R,
     from: &str,
@@ -50,7 +50,9 @@ fn rename_dated<F: Write + OpenFile + Drop, R: Files<File = F>>(
 }
 
 impl Move {
-    /// What the move from the first path to the second does. It errs where that may not be.
+    /// Checks a move. Errs with `NO_ENTRY` if nothing is at the first path, with `NoLeaf` if a
+    /// directory is there, with `OneFile` if both paths are hard links of one file, and with
+    /// `InTheWay` if a directory is at the second path.
     pub fn of<R: Files>(rt: &R, from: &str, to: &str, made: &Made) -> Result<Self, Cause> {
         if made.is_absent(to) {
             return Move::to_nothing(leaf_kind(rt, from, made));
@@ -86,7 +88,7 @@ impl Move {
         }
     }
 
-    /// Whether a file is moved.
+    /// Returns whether a regular file is moved.
     pub fn is_of_file(&self) -> bool {
         self.kind == Kind::File
     }

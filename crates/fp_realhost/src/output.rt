@@ -1,12 +1,12 @@
-//! What a host prints.
+//! The output of a host.
 ghost use Rattle.std.specs.Prelude.{◌≡◌, length, OnOk};
 ghost use Rattle.fp_system.specs.Counts.{many_more};
 
 use fp_system::{Cause, known};
 use std::marker::Model;
 
-/// The standard output. Contracts see how many bytes were printed; the number stands still at 2^64
-/// - 1.
+/// An output with the number of bytes printed, which contracts see; it stays at 2^64 - 1 once it
+/// gets there.
 pub struct Output<'a, O> {
     out: &'a O,
     printed: u64,
@@ -27,14 +27,14 @@ impl<'a, O> Model for Output<'a, O> {
 }
 
 impl<'a, O> Output<'a, O> {
-    /// Nothing was printed yet.
+    /// Creates the output, with nothing printed yet.
     pub fn new(out: &'a O) -> Self {
         Output { out, printed: 0 }
     }
 }
 
 impl<O: Print> Output<'_, O> {
-    /// Prints the whole piece. It errs where the system refuses it; then some of it may be printed.
+    /// Prints all the bytes. On an error some of them may be printed.
     pub fn print(&mut self, piece: &[u8]) -> Result<(), Cause>
         ensures printed { OnOk result (self.new ≡ many_more self.old (length piece.now)) }
     {

@@ -1,5 +1,5 @@
-//! The calls of a host over a folder of the system that only read. They make nothing: a root that
-//! is absent reads as an empty folder.
+//! The calls that only read a real directory. They make nothing: an absent root reads as an empty
+//! directory.
 ghost use Rattle.std.specs.Prelude.{◌≤◌, length, IfOk, IfSome};
 ghost use Rattle.fp_host.specs.Reads.{AreNames, HasBits};
 
@@ -17,7 +17,7 @@ use std::rt::Files;
 use std::thread::Threads;
 
 impl<R: System> Tree<'_, R> {
-    /// What stands at the path.
+    /// Returns what is at the path.
     pub fn stat<T: System + Threads>(
         &mut self,
         crew: &Crew<'_, T>,
@@ -36,7 +36,7 @@ impl<R: System> Tree<'_, R> {
         }
     }
 
-    /// What the system tells of the path. A file that waits there is made before.
+    /// Looks the path up. If a file waits at it, all waiting files are created first.
     fn look<T: System + Threads>(&mut self, crew: &Crew<'_, T>, below: usize) -> Result<Stat, Cause>
         ensures { IfOk result HasBits }
     {
@@ -44,8 +44,8 @@ impl<R: System> Tree<'_, R> {
         stat_at(self.rt, &self.at, below, &mut self.notes)
     }
 
-    /// The names in a folder, without that of the lock file. Where the system is asked for them, all
-    /// files that wait are made before.
+    /// Lists the names in a directory, without the lock file. If the directory has to be read from
+    /// the disk, all waiting files are created first.
     pub fn list<T: System + Threads>(
         &mut self,
         crew: &Crew<'_, T>,
@@ -75,8 +75,8 @@ impl<R: System> Tree<'_, R> {
         }
     }
 
-    /// Reads the file from a place on, until the buffer is full or the file ends, and answers how
-    /// many bytes it read.
+    /// Reads the file from the byte offset `from` on, until the buffer is full or the file ends.
+    /// Returns the number of bytes read.
     pub fn read_at<T: System + Threads>(
         &mut self,
         crew: &Crew<'_, T>,
@@ -108,7 +108,7 @@ impl<R: System> Tree<'_, R> {
         read_piece(self.rt, &self.at, is_found, &mut self.reader, from, into)
     }
 
-    /// The text of a symlink.
+    /// Returns the text of a symlink, or for a pipe, socket or device a text that names its type.
     pub fn read_link<T: System + Threads>(
         &mut self,
         crew: &Crew<'_, T>,
@@ -125,13 +125,13 @@ impl<R: System> Tree<'_, R> {
     }
 }
 
-/// Whether a file was found or made there.
+/// Returns whether a regular file was found or created at the path before.
 fn is_file(at: &str, notes: &Notes) -> bool {
     notes.files.has(at) || notes.made.is_file(at)
 }
 
-/// What is remembered of the path, which isn't looked at again. Most paths that are asked for are
-/// files.
+/// Returns what is remembered of the path, without a system call. Files come first, since most
+/// calls ask for files.
 fn known_stat(at: &str, notes: &Notes) -> Option<Result<Stat, Cause>>
     ensures { IfSome result (λ known. IfOk known HasBits) }
 {
@@ -150,7 +150,7 @@ fn known_stat(at: &str, notes: &Notes) -> Option<Result<Stat, Cause>>
     None
 }
 
-/// What stands at the path, by the system.
+/// Looks up the directories above the path, then the path.
 fn stat_at<R: Files>(rt: &R, at: &str, below: usize, notes: &mut Notes) -> Result<Stat, Cause>
     ensures { IfOk result HasBits }
 {
@@ -161,7 +161,7 @@ fn stat_at<R: Files>(rt: &R, at: &str, below: usize, notes: &mut Notes) -> Resul
     }
 }
 
-/// The same of a path above which no symlink stands.
+/// Looks up a path above which there is no symlink.
 fn stat_below<R: Files>(rt: &R, at: &str, notes: &mut Notes) -> Result<Stat, Cause>
     ensures { IfOk result HasBits }
 {
@@ -174,7 +174,8 @@ fn stat_below<R: Files>(rt: &R, at: &str, notes: &mut Notes) -> Result<Stat, Cau
     }
 }
 
-/// A file is told with the bits that were asked for. A pipe, socket or device is told as a symlink.
+/// Converts what was found to a host's `Stat`. A file gets the bits that were asked for, and a
+/// pipe, socket or device is reported as a symlink.
 fn stat_of(found: &Found) -> Result<Stat, Cause>
     ensures { IfOk result HasBits }
 {
@@ -191,7 +192,7 @@ fn stat_of(found: &Found) -> Result<Stat, Cause>
     }
 }
 
-/// All but the file that is locked.
+/// Lists the root without the lock file. An absent root is empty.
 fn list_root<R: System>(
     rt: &R,
     alloc: Global,
@@ -222,7 +223,7 @@ fn list_folder<R: System>(
     }
 }
 
-/// The same of a folder that the host didn't make.
+/// Lists a directory that the host didn't make.
 fn list_found<R: System>(
     rt: &R,
     alloc: Global,
@@ -254,7 +255,8 @@ fn read_piece<R: Files>(
     }
 }
 
-/// Opens the file where the read begins it. One that was found isn't looked at again.
+/// Opens the file, unless the read continues the open one. A file that was found before isn't
+/// looked up again.
 fn begin<R: Files>(
     rt: &R,
     at: &str,

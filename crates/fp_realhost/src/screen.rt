@@ -1,12 +1,12 @@
-//! The standard output, shown so that nothing that is printed drives a terminal.
+//! The standard output, with escapes for characters that would control a terminal.
 use std::alloc::{AllocError, Global};
 use std::fmt::{Display, Write};
 use std::io;
 
-/// The standard output of a system. Where it is a terminal, control characters but the newline (C0,
-/// DEL and C1) and those that turn the direction of text (Unicode's Bidi_Control) are shown as
-/// escapes, as `\u{1b}`; of bytes that are no UTF-8 those outside ASCII too, as `\x9b`. Elsewhere
-/// the bytes are untouched.
+/// The standard output of a system. On a terminal, control characters except the newline (C0, DEL
+/// and C1) and characters that change the direction of text (Unicode's Bidi_Control) are printed as
+/// escapes such as `\u{1b}`. If the bytes aren't UTF-8, those outside ASCII are printed as `\x9b`.
+/// To anything but a terminal, the bytes are printed unchanged.
 #[derive(Drop)]
 pub struct Screen<'a, R> {
     rt: &'a R,
@@ -15,7 +15,7 @@ pub struct Screen<'a, R> {
 }
 
 impl<'a, R: Print> Screen<'a, R> {
-    /// The output of a system, which is a terminal or not.
+    /// Creates the output of a system. `is_terminal` tells whether it is a terminal.
     pub fn new(rt: &'a R, alloc: Global, is_terminal: bool) -> Self {
         Screen {
             rt,
@@ -51,7 +51,7 @@ impl<R: Print> Print for Screen<'_, R> {
     }
 }
 
-/// The bytes with escapes.
+/// Returns the bytes as a text with escapes.
 fn shown(alloc: Global, bytes: &[u8]) -> Result<String, AllocError> {
     let mut text = String::new(alloc);
     let pushed = match std::str::from_utf8(bytes) {
@@ -89,7 +89,7 @@ fn push_bytes(shown: &mut String, bytes: &[u8]) -> Result<(), AllocError> {
     Ok(())
 }
 
-/// Whether a terminal may do something else at the character than show it.
+/// Returns whether a terminal may do more with the character than show it.
 fn is_driving(letter: char) -> bool {
     match letter {
         '\n' => false,

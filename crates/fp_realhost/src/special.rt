@@ -1,4 +1,4 @@
-//! Pipes, sockets and devices, which no call opens.
+//! Pipes, sockets and devices, which are never opened.
 use fp_base::Text;
 use fp_system::{Cause, Kind, kind_at, known, read_link};
 use std::alloc::Global;
@@ -7,8 +7,8 @@ use std::fs::FileType;
 use std::os::unix::fs::FileTypeExt;
 use std::rt::Files;
 
-/// The text of the symlink at the path. A pipe, socket or device is told as a symlink whose text
-/// says what it is.
+/// Returns the text of the symlink at the path. For a pipe, a socket or a device, returns a text
+/// that names its type, such as `a named pipe`.
 pub fn link_text<R: Files>(rt: &R, alloc: Global, at: &str) -> Result<Text, Cause> {
     match read_link(rt, alloc, at) {
         Ok(text) => Ok(text),

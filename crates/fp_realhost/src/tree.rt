@@ -1,4 +1,4 @@
-//! A folder of the system, with what was changed in it since the last sync.
+//! A real directory, with its changes since the last sync.
 ghost use Rattle.std.specs.Prelude.{◌≡◌, true, OnOk};
 
 use crate::crew::Crew;
@@ -17,26 +17,26 @@ use std::mem::swap;
 use std::rt::Files;
 use std::thread::Threads;
 
-/// A folder of the system under the calls of a host. Each call answers the system's refusal as a
-/// cause. Contracts see whether nothing waits for a sync.
+/// A real directory, with the calls of a host. Each call returns the error of the system as a
+/// `Cause`. Contracts see whether no change waits for a sync.
 pub struct Tree<'a, R: Files> {
     pub(crate) rt: &'a R,
     alloc: Global,
     pub(crate) gate: Gate<R::File>,
-    // The folder of the host below which objects stand.
+    // The directory of the store's objects, below the root.
     pub(crate) store: &'a str,
-    // The path of a call for the system, and where it has two, the first one.
+    // The system path of the call, and in `from` the first one of a call with two paths.
     pub(crate) at: String,
     pub(crate) from: String,
     pub(crate) notes: Notes,
-    // The file that was read last and the one that was written last.
+    // The file that was read last and the file that was written last.
     pub(crate) reader: Reader<R::File>,
     pub(crate) writer: Writer<R::File>,
-    // The files that were written before, and wait for a sync.
+    // The files that were written earlier and wait for a sync.
     pub(crate) open: OpenFiles<R::File>,
-    // The new files that are made later.
+    // The new files that wait in memory.
     pub(crate) later: Later,
-    // Whether what an earlier run left was made to last.
+    // Whether the changes that an earlier command may have left are noted for a sync.
     is_caught_up: bool,
 }
 
@@ -68,8 +68,8 @@ impl<R: Files> Drop for Tree<'_, R> {
 }
 
 impl<'a, R: Files> Tree<'a, R> {
-    /// The folder of this name; the empty name is the current folder. It asks nothing of the system
-    /// yet.
+    /// Creates a tree over this directory; the empty path is the current directory. It makes no
+    /// system call.
     pub fn new(rt: &'a R, alloc: Global, root: &str, access: Access) -> Result<Self, AllocError> {
         let gate = Gate::new(alloc, root, access)?;
         let root = gate.root();
@@ -90,18 +90,18 @@ impl<'a, R: Files> Tree<'a, R> {
         })
     }
 
-    /// What a call on the path met.
+    /// Returns the error of a call on this path.
     pub fn refusal(&self, call: Call, path: &Path, cause: Cause) -> SystemError {
         refusal(self.alloc, &self.gate, call, path, cause)
     }
 
-    /// What the last sync met.
+    /// Returns the error of the last sync.
     pub fn unsynced(&self, met: Unsynced) -> SystemError {
         refusal_of_sync(self.alloc, &self.at, met)
     }
 }
 
-/// Before the root is known no call comes further.
+/// Returns the error of a call on this path. If the root isn't known, it is an error of the root.
 fn refusal<F>(alloc: Global, gate: &Gate<F>, call: Call, path: &Path, cause: Cause) -> SystemError {
     if !gate.is_known() {
         return gate.refusal(alloc, cause);
@@ -121,7 +121,8 @@ fn refusal_of_sync(alloc: Global, at: &str, met: Unsynced) -> SystemError {
 }
 
 impl<R: System> Tree<'_, R> {
-    /// Writes the path for the system, and answers where its part below the root begins.
+    /// Enters the gate and writes the system path to `at`. Returns the byte offset of its part
+    /// below the root.
     pub(crate) fn locate(&mut self, path: &Path) -> Result<usize, Cause> {
         match self.gate.enter(self.rt, &mut self.notes.touched) {
             Ok(()) => locate(&self.gate, path, &mut self.at),
@@ -129,7 +130,7 @@ impl<R: System> Tree<'_, R> {
         }
     }
 
-    /// The same. No symlink stands above the path.
+    /// Writes the system path to `at`, and checks that no symlink is above it.
     pub(crate) fn reach(&mut self, path: &Path) -> Result<(), Cause> {
         match self.locate(path) {
             Ok(below) => look_above(self.rt, &self.at, below, &mut self.notes.folders),
@@ -137,7 +138,8 @@ impl<R: System> Tree<'_, R> {
         }
     }
 
-    /// The same for a change, which waits for a sync.
+    /// Prepares a change: writes the path, checks that no symlink is above it, and marks the lock
+    /// file.
     pub(crate) fn reach_to_change(&mut self, path: &Path) -> Result<(), Cause> {
         match self.reach(path) {
             Ok(()) => self.gate.mark(),
@@ -145,7 +147,7 @@ impl<R: System> Tree<'_, R> {
         }
     }
 
-    /// The same for a change with two paths.
+    /// Prepares a change with two paths, `from` and `at`.
     pub(crate) fn reach_both(&mut self, from: &Path, to: &Path) -> Result<(), Cause> {
         match self.reach(from) {
             Ok(()) => {
@@ -156,7 +158,7 @@ impl<R: System> Tree<'_, R> {
         }
     }
 
-    /// Notes what an earlier run may have left.
+    /// Enters the gate and notes what an earlier command may have left unsynced.
     fn catch_up(&mut self) -> Result<(), Cause> {
         match self.gate.enter(self.rt, &mut self.notes.touched) {
             Ok(()) => self.note_left(),
@@ -179,8 +181,9 @@ impl<R: System> Tree<'_, R> {
 }
 
 impl<R: System> Tree<'_, R> {
-    /// Makes all changes last, the first time also what an earlier run may have left. Threads make
-    /// the new files while the open ones are synced. Afterwards those who look are let in.
+    /// Syncs all changes, and the first time also what an earlier command may have left. Threads
+    /// create the waiting files while the open ones are synced. Afterwards the lock file's mark is
+    /// cleared and readers are let in.
     pub fn sync<T: System + Threads>(&mut self, crew: &Crew<'_, T>) -> Result<(), Unsynced>
         ensures settled { OnOk result (self.new ≡ true) }
     {
@@ -208,21 +211,21 @@ impl<R: System> Tree<'_, R> {
 }
 
 impl<R: System> Tree<'_, R> {
-    /// Makes the files last that are open to be written, and closes them.
+    /// Syncs and closes the files that are open for writing.
     fn close_written<T: Threads>(&mut self, crew: &Crew<'_, T>) {
         self.writer.finish(&mut self.open);
         sync_open(self.rt, &crew.team, &mut self.open, &mut self.notes.touched);
     }
 
-    /// Closes all files of the host, the written ones once they last.
+    /// Closes all files of the host, and syncs the written ones first.
     pub(crate) fn close_all<T: Threads>(&mut self, crew: &Crew<'_, T>) {
         self.reader = Reader::nothing(self.alloc);
         self.close_written(crew);
     }
 
-    /// Whether a call is to be tried again: it was refused since the process has as many open files
-    /// as it may have, and those of the host and of its threads are closed now, the written ones
-    /// once they last.
+    /// Returns whether a call should be tried again: it failed since the process has too many open
+    /// files. Then the files of the host and of its threads are closed, the written ones after a
+    /// sync.
     pub fn makes_room<T: System + Threads, A>(
         &mut self,
         crew: &Crew<'_, T>,
@@ -256,8 +259,9 @@ fn look_above<R: Files>(
     }
 }
 
-/// Notes the folders above the root, and what is below it where an earlier run may have left
-/// something. Where nothing was changed or left, it does nothing and answers that.
+/// Syncs the directories above the root, and notes the root, and everything below it if an earlier
+/// command may have left unsynced changes. Returns false, and does nothing, if no change waits for
+/// a sync and no earlier command may have left one.
 fn add_left<R: System>(
     rt: &R,
     alloc: Global,

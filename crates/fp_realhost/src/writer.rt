@@ -7,14 +7,14 @@ use std::fs::{OpenFile, OpenOptions};
 use std::io::Write;
 use std::rt::Files;
 
-/// At most one open file, with its path. An object that waits for the store is dated when it was
-/// written, while it is open.
+/// At most one file that is open for writing, with its path. An object that waits to be stored gets
+/// the modification time 0 while it is open.
 pub struct Writer<F> {
-    // The folder below which objects wait.
+    // The directory below which objects wait to be stored.
     waiting: String,
     at: String,
     file: Option<F>,
-    // The objects that were dated, and not written since.
+    // The objects whose modification time is set, and which were not written since.
     dated: PathMap<()>,
 }
 
@@ -30,7 +30,8 @@ impl<F: Drop> Drop for Writer<F> {
 }
 
 impl<F: Drop> Writer<F> {
-    /// No file is open, and no object was dated. Objects wait below this folder of the system.
+    /// Creates a writer without an open file. Objects wait to be stored below the directory
+    /// `waiting`.
     pub fn nothing(alloc: Global, waiting: String) -> Self {
         Writer {
             waiting,
@@ -40,7 +41,8 @@ impl<F: Drop> Writer<F> {
         }
     }
 
-    /// The path has no file any more, or another one.
+    /// Closes the file at the path if it is the open one. Called when it was removed, moved or
+    /// replaced.
     pub fn close_at(&mut self, at: &str) {
         self.dated.remove(at);
         if self.at.as_str() == at {
@@ -48,12 +50,12 @@ impl<F: Drop> Writer<F> {
         }
     }
 
-    /// Whether the file at the path is dated once it is written.
+    /// Returns whether the file at the path gets the modification time 0 once it is written.
     pub fn dates(&self, at: &str) -> bool {
         is_below(at, &self.waiting)
     }
 
-    /// The file at the path was dated when it was made.
+    /// Notes that the file at the path has the modification time 0.
     pub fn add_dated(&mut self, at: &str) {
         let _noted = self.dated.put(at, ());
     }
@@ -62,7 +64,7 @@ impl<F: Drop> Writer<F> {
         self.file.is_some() && self.at.as_str() == at
     }
 
-    /// Keeps the file in the place of the one before.
+    /// Keeps the file open, and closes the previous one.
     fn keep(&mut self, at: &str, file: F) -> Result<(), Cause> {
         self.at.clear();
         match self.at.push_str(at) {
@@ -79,8 +81,8 @@ impl<F: Drop> Writer<F> {
 }
 
 impl<F: Write + OpenFile + Drop> Writer<F> {
-    /// Keeps a file that was created, and gives it exactly these permission bits, unless it is
-    /// known to have them.
+    /// Keeps a new file open and sets exactly these permission bits, unless it is known to have
+    /// them.
     pub fn keep_new(&mut self, at: &str, file: F, mode: u32, is_given: bool) -> Result<(), Cause> {
         let given = if is_given {
             Ok(())
@@ -93,8 +95,9 @@ impl<F: Write + OpenFile + Drop> Writer<F> {
         }
     }
 
-    /// Lets the file go that was written last, which stays open until it is synced. Where it is an
-    /// object that waits for the store, it is dated; where that fails, it is dated later.
+    /// Ends writing the open file, and keeps it among those that wait for a sync. An object that
+    /// waits to be stored gets the modification time 0; if that fails, it is set before the object
+    /// is moved.
     pub fn finish(&mut self, open: &mut OpenFiles<F>) {
         if let Some(file) = self.file.take() {
             if is_below(&self.at, &self.waiting) && date(&file).is_ok() {
@@ -104,7 +107,7 @@ impl<F: Write + OpenFile + Drop> Writer<F> {
         }
     }
 
-    /// Makes a file with its bytes, which may be written on.
+    /// Creates a file with its content and keeps it open. More bytes may be appended to it.
     pub fn make<R: Files<File = F>>(
         &mut self,
         rt: &R,
@@ -145,7 +148,7 @@ impl<F: Write + OpenFile + Drop> Writer<F> {
         }
     }
 
-    /// Writes at the end of a file of ours.
+    /// Appends to one of fpk's own files.
     pub fn append<R: Files<File = F>>(
         &mut self,
         rt: &R,
@@ -178,8 +181,8 @@ impl<F: Write + OpenFile + Drop> Writer<F> {
         }
     }
 
-    /// Dates the last change of a file of ours to the beginning of 1970, as OSTree dates what it
-    /// stores.
+    /// Sets the modification time of one of fpk's own files to 0, as OSTree does for stored
+    /// objects, unless that is done already.
     pub fn date<R: Files<File = F>>(&self, rt: &R, at: &str) -> Result<(), Cause> {
         if self.dated.has(at) {
             return Ok(());

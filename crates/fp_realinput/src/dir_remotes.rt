@@ -1,4 +1,4 @@
-//! Folders of the system as remotes.
+//! Real directories as remotes.
 ghost use Rattle.std.specs.Prelude.{◌≡◌, ◌↔◌, ◌≤◌, None, IfOk, IsErrOf, length};
 ghost use Rattle.fp_host.specs.Remote.{HasNodeBits};
 ghost use Rattle.fp_system.specs.Counts.{RemoteCounts};
@@ -10,16 +10,16 @@ use std::alloc::Global;
 use std::marker::Model;
 use std::rt::Files;
 
-/// The remotes whose urls are `file://` and the absolute path of a folder, byte for byte. Contracts
-/// see it as its count of faults.
+/// The remotes whose URLs are `file://` followed by the absolute path of a directory, byte for byte
+/// without percent-encoding. Contracts see the number of failures.
 ///
-/// It tells nothing of what they hold. Whatever the system refuses, a url of another form and a
-/// socket, pipe or device are counted and answered `Failed`, and so is running out of memory in
-/// `read_at`.
+/// It doesn't report its content to contracts. Each error of the system, a URL of another form and
+/// a socket, pipe or device are counted and returned as `Failed`, and so is running out of memory
+/// in `read_at`.
 ///
-/// The folder that a url names may be a symlink or stand below one. Below it no symlink is
-/// followed: a call fails where one stands in the place of a folder above its path. Each folder is
-/// looked at once: a symlink that another program puts in its place later is followed.
+/// The directory of a URL may be a symlink or be below one. Below it no symlink is followed: a call
+/// fails if a symlink is in the place of a directory above its path. Each directory is looked up
+/// once; a symlink that another program puts in its place later is followed.
 pub struct DirRemotes<'a, R: Files> {
     places: Places<'a, R>,
     faults: Faults,
@@ -43,7 +43,7 @@ impl<'a, R: Files> Model for DirRemotes<'a, R> {
 }
 
 impl<'a, R: Files + AllocGlobal> DirRemotes<'a, R> {
-    /// The remotes of a system. It takes no memory, and asks nothing of the system yet.
+    /// Creates the remotes of a system. It allocates no memory and makes no system call.
     pub fn new(rt: &'a R, alloc: Global) -> Self
         ensures untold { ⟦<DirRemotes<'a, R> as Remotes>⟧.holds result ≡ None }
         ensures faults { ⟦<DirRemotes<'a, R> as Remotes>⟧.faults result ≡ 0 }
@@ -56,21 +56,21 @@ impl<'a, R: Files + AllocGlobal> DirRemotes<'a, R> {
 }
 
 impl<'a, R: Files> DirRemotes<'a, R> {
-    /// How often a call has failed; the count stands still at 2^64 - 1.
+    /// Returns the number of failures; it stays at 2^64 - 1 once it gets there.
     pub fn faults(&self) -> u64
         ensures { result ≡ self.now }
     {
         self.faults.count()
     }
 
-    /// What the system refused last, which is there exactly where the count of faults is not 0.
+    /// Returns the last error of the system, or `None` if the number of failures is 0.
     pub fn last_error(&self) -> Option<&SystemError>
         ensures { (result ≡ None) ↔ (self.now ≡ 0) }
     {
         self.faults.last()
     }
 
-    /// The answer of a call at a path of a remote. Each error is a fault.
+    /// Returns the result of a call at a path of a remote, and counts each error.
     fn answer<T>(
         &mut self,
         call: Call,

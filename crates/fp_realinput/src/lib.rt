@@ -1,4 +1,4 @@
-//! Folders that `file://` names as remotes, and the standard input as a source.
+//! Directories with `file://` URLs as remotes, and the standard input as a source.
 #![tactic(auto)]
 
 mod dir_remotes;

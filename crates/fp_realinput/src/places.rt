@@ -1,4 +1,4 @@
-//! What stands at the paths of remotes.
+//! Looking up and reading the paths of remotes.
 ghost use Rattle.std.specs.Prelude.{◌≤◌, IfOk, length};
 ghost use Rattle.fp_host.specs.Remote.{HasNodeBits};
 
@@ -9,14 +9,14 @@ use fp_system::{
 use std::alloc::Global;
 use std::rt::Files;
 
-/// The folders of remotes that were looked at, and the file that was read last.
+/// The directories of remotes that were looked up, and the file that was read last.
 pub struct Places<'a, R: Files> {
     rt: &'a R,
     alloc: Global,
     folders: Folders,
-    // The path of a call for the system.
+    // The system path of the call.
     at: String,
-    // The path at which a file was found last.
+    // The path at which a regular file was last found.
     file: String,
     reader: Reader<R::File>,
 }
@@ -35,7 +35,7 @@ impl<R: Files> Drop for Places<'_, R> {
 }
 
 impl<'a, R: Files> Places<'a, R> {
-    /// No folder was looked at yet, and no file read.
+    /// Creates the places of a system, with nothing looked up yet.
     pub fn new(rt: &'a R, alloc: Global) -> Self {
         Places {
             rt,
@@ -47,13 +47,13 @@ impl<'a, R: Files> Places<'a, R> {
         }
     }
 
-    /// The allocator of what is kept.
+    /// Returns the allocator.
     pub fn alloc(&self) -> Global {
         self.alloc
     }
 
-    /// Finds the path for the system, and answers whether all folders above it are there. No
-    /// symlink stands above it, below the folder of the url.
+    /// Writes the system path to `at`, and returns whether each path above it, below the URL's
+    /// directory, is a directory. Errs with `IsSymlink` if one is a symlink.
     fn reach(&mut self, url: &str, path: &Path) -> Result<bool, Cause> {
         match write_path(url, path, &mut self.at) {
             Ok(below) => self.folders.look_above(self.rt, &self.at, below),
@@ -61,8 +61,9 @@ impl<'a, R: Files> Places<'a, R> {
         }
     }
 
-    /// What stands at the path of the remote at the url: absent where a folder above it is. It errs
-    /// where the url is none of a folder or the system fails.
+    /// Returns what is at the path of the remote; `Absent` if something above it is no directory.
+    /// Errs with `BadUrl`, with `IsSymlink` if a symlink is above the path, with `IsOther` for a
+    /// socket, pipe or device, and with each error of the system.
     pub fn node(&mut self, alloc: Global, url: &str, path: &Path) -> Result<Node, Cause>
         ensures bits { IfOk result HasNodeBits }
     {
@@ -73,8 +74,10 @@ impl<'a, R: Files> Places<'a, R> {
         }
     }
 
-    /// Reads from this place on of the file at the path, counted in bytes from 0. Answers how many
-    /// bytes came: 0 where the file ends or a folder above it is absent. It errs as `node` does.
+    /// Reads the file at the path from the byte offset `from` on, until the buffer is full or the
+    /// file ends. Returns the number of bytes read, 0 if no regular file is there. Errs with
+    /// `BadUrl`, with `IsSymlink` if a symlink is above the path, and with each error of the
+    /// system.
     pub fn read_at(
         &mut self,
         url: &str,
@@ -92,13 +95,13 @@ impl<'a, R: Files> Places<'a, R> {
     }
 }
 
-/// The folder that the url names, which is absolute in a url of a remote.
+/// Returns the path in the URL, which is absolute if the URL is valid; empty without `file://`.
 fn folder_of_url(url: &str) -> &str {
     url.strip_prefix("file://").unwrap_or("")
 }
 
-/// Writes the path for the system: the folder of the url, a slash and the elements. Answers where
-/// the elements begin.
+/// Replaces the content of `into` with the system path: the URL's directory, a slash and the
+/// elements. Returns the byte offset of the elements. Errs with `BadUrl` or `NoMemory`.
 fn write_path(url: &str, path: &Path, into: &mut String) -> Result<usize, Cause> {
     let folder = folder_of_url(url);
     if !folder.starts_with('/') {
@@ -110,7 +113,7 @@ fn write_path(url: &str, path: &Path, into: &mut String) -> Result<usize, Cause>
     }
 }
 
-/// What a call at a path of a remote met.
+/// Returns the error of a call at a path of a remote.
 pub fn refusal(alloc: Global, call: Call, url: &str, path: &Path, cause: Cause) -> SystemError {
     let mut at = String::new(alloc);
     match write_path(url, path, &mut at) {
@@ -161,7 +164,7 @@ fn link_at<R: Files>(rt: &R, alloc: Global, at: &str) -> Result<Node, Cause>
     }
 }
 
-/// Keeps the path where there is memory.
+/// Remembers the path, if there is memory to do so.
 fn remember(at: &str, into: &mut String) {
     into.clear();
     if into.push_str(at).is_err() {
@@ -169,7 +172,7 @@ fn remember(at: &str, into: &mut String) {
     }
 }
 
-/// What is no file has no bytes.
+/// Reads the file at the path. Anything but a regular file has no bytes.
 fn read_piece<R: Files>(
     rt: &R,
     at: &str,
@@ -187,7 +190,7 @@ fn read_piece<R: Files>(
     }
 }
 
-/// Opens the file where the read begins it. Answers whether there is one.
+/// Opens the file, unless the read continues the open one. Returns whether a regular file is there.
 fn begin<R: Files>(
     rt: &R,
     at: &str,
@@ -211,7 +214,8 @@ fn open<R: Files>(rt: &R, at: &str, reader: &mut Reader<R::File>) -> Result<bool
     }
 }
 
-/// Whether a file is at the path. What was found there last isn't looked at again.
+/// Returns whether a regular file is at the path. The file that was found last isn't looked up
+/// again.
 fn is_file<R: Files>(rt: &R, at: &str, file: &str) -> Result<bool, Cause> {
     if at == file {
         return Ok(true);

@@ -13,8 +13,9 @@ use std::marker::Model;
 /// The most bytes that are kept.
 const MOST_KEPT: usize = 1024 * 1024;
 
-/// The standard input, which tells nothing of what is left in it. It may keep what was taken, as
-/// long as that is at most 1 MiB. Contracts see it as its count of faults and what it keeps.
+/// The standard input. It doesn't report to contracts what is left in it. It can keep the bytes
+/// that were read, as long as they are at most 1 MiB. Contracts see the number of failures and the
+/// kept bytes.
 #[derive(Drop)]
 pub struct StdinSource<'a, R> {
     rt: &'a R,
@@ -32,7 +33,7 @@ impl<'a, R> Model for StdinSource<'a, R> {
 }
 
 impl<'a, R: Input> StdinSource<'a, R> {
-    /// The standard input of a system. It takes no memory, keeps nothing, and reads nothing yet.
+    /// Creates the source, which keeps nothing. It allocates no memory and reads nothing yet.
     pub fn new(rt: &'a R) -> Self
         ensures untold { ⟦<StdinSource<'a, R> as Source>⟧.left result ≡ None }
         ensures faults { ⟦<StdinSource<'a, R> as Source>⟧.faults result ≡ 0 }
@@ -45,7 +46,7 @@ impl<'a, R: Input> StdinSource<'a, R> {
         }
     }
 
-    /// The same, which keeps what is taken from it.
+    /// Creates the source, which keeps the bytes that are read.
     pub fn keeping(rt: &'a R, alloc: Global) -> Self
         ensures untold { ⟦<StdinSource<'a, R> as Source>⟧.left result ≡ None }
         ensures faults { ⟦<StdinSource<'a, R> as Source>⟧.faults result ≡ 0 }
@@ -60,21 +61,22 @@ impl<'a, R: Input> StdinSource<'a, R> {
 }
 
 impl<'a, R> StdinSource<'a, R> {
-    /// How often a call has failed; the count stands still at 2^64 - 1.
+    /// Returns the number of failures; it stays at 2^64 - 1 once it gets there.
     pub fn faults(&self) -> u64
         ensures { result ≡ self.now.faults }
     {
         self.faults.count()
     }
 
-    /// What the system refused last, which is there exactly where the count of faults is not 0.
+    /// Returns the last error of the system, or `None` if the number of failures is 0.
     pub fn last_error(&self) -> Option<&SystemError>
         ensures { (result ≡ None) ↔ (self.now.faults ≡ 0) }
     {
         self.faults.last()
     }
 
-    /// All that was taken. `None` where it isn't kept, was more than 1 MiB, or found no memory.
+    /// Returns all bytes that were read, or `None` if they aren't kept, were more than 1 MiB, or
+    /// memory ran out.
     pub fn kept(&self) -> Option<&[u8]>
         ensures { option_map (λ b. b.now) result ≡ self.now.kept }
     {
@@ -84,7 +86,7 @@ impl<'a, R> StdinSource<'a, R> {
         }
     }
 
-    /// Counts what was refused.
+    /// Counts a failure.
     fn fail(&mut self, cause: Cause) -> Taken
         ensures answer { result ≡ Failed }
         ensures more { self.new ≡ record self.old { faults = one_more self.old.faults } }
@@ -95,7 +97,7 @@ impl<'a, R> StdinSource<'a, R> {
         Taken::Failed
     }
 
-    /// Keeps bytes after those that were kept, where they still are.
+    /// Adds bytes to the kept ones, if they are still kept.
     fn keep(&mut self, more: &[u8])
         ensures faults { self.new.faults ≡ self.old.faults }
         ensures kept { KeepsMore self.old.kept more.now self.new.kept }
@@ -107,7 +109,8 @@ impl<'a, R> StdinSource<'a, R> {
     }
 }
 
-/// Bytes with more after them, unless they are too many or there is no memory.
+/// Returns the bytes followed by more, or `None` if they are more than 1 MiB in all or memory runs
+/// out.
 fn with_more(mut kept: Vec<u8>, more: &[u8]) -> Option<Vec<u8>>
     ensures all { IfSome result (λ all. all.items ≡ kept.items ++ more.now) }
     ensures most { IfSome result (λ all. length all.items ≤ MOST_KEPT) }

@@ -1,4 +1,4 @@
-//! What this host put into one folder.
+//! The names that this host added to one directory.
 ghost use Rattle.std.specs.Prelude.{IfSome};
 ghost use Rattle.fp_host.specs.Reads.{HasBits};
 
@@ -7,19 +7,19 @@ use fp_host::{PERMISSION_BITS, Stat};
 use std::alloc::{AllocError, Global};
 use std::collections::BTreeMap;
 
-/// A file that was made. Its size is known as long as each write of it succeeded.
+/// A file that this host created. Its length is known as long as each write succeeded.
 #[derive(Clone, Copy)]
 pub struct MadeFile {
-    /// A number of its own.
+    /// A number of its own, which no other file of this host has.
     pub id: u64,
     /// The permission bits that were asked for.
     pub mode: u32,
-    /// How many bytes it has, where that is known.
+    /// The length in bytes, if it is known.
     pub size: Option<u64>,
 }
 
 impl MadeFile {
-    /// What is known of it.
+    /// Returns the status of the file, if its length is known.
     pub fn stat(&self) -> Option<Stat>
         ensures { IfSome result HasBits }
     {
@@ -33,7 +33,7 @@ impl MadeFile {
         }
     }
 
-    /// Bytes were written at its end.
+    /// Notes that this many bytes were appended.
     pub fn grow(&mut self, count: usize) {
         self.size = match self.size {
             Some(size) => size.checked_add(count as u64),
@@ -42,17 +42,17 @@ impl MadeFile {
     }
 }
 
-/// The names that came into a folder.
+/// The names that this host added to a directory.
 #[derive(Drop)]
 pub struct Contents {
-    /// Whether the folder was made, so that no other name is in it.
+    /// Whether this host made the directory, so that no other name is in it.
     pub is_made: bool,
-    // With each name, the file that was made there, where it is one.
+    // The names, each with the file if this host created one there.
     names: BTreeMap<String, Option<MadeFile>>,
 }
 
 impl Contents {
-    /// No name came yet.
+    /// Creates a record without names.
     pub fn nothing(alloc: Global, is_made: bool) -> Self {
         Contents {
             is_made,
@@ -60,12 +60,12 @@ impl Contents {
         }
     }
 
-    /// Whether the name is known not to be there.
+    /// Returns whether the name is known to be absent.
     pub fn lacks(&self, name: &str) -> bool {
         self.is_made && !self.names.contains_key(name)
     }
 
-    /// The file that was made at the name.
+    /// Returns the file that was created at the name.
     pub fn file(&self, name: &str) -> Option<&MadeFile> {
         match self.names.get(name) {
             Some(Some(file)) => Some(file),
@@ -73,7 +73,7 @@ impl Contents {
         }
     }
 
-    /// The same, to be changed.
+    /// Returns a mutable reference to the file that was created at the name.
     pub fn file_mut(&mut self, name: &str) -> Option<&mut MadeFile> {
         match self.names.get_mut(name) {
             Some(Some(file)) => Some(file),
@@ -81,7 +81,7 @@ impl Contents {
         }
     }
 
-    /// The name came into the folder. It errs where there is no memory to note it.
+    /// Adds the name. Errs if memory runs out.
     pub fn put(
         &mut self,
         alloc: Global,
@@ -93,12 +93,12 @@ impl Contents {
         Ok(())
     }
 
-    /// The name went.
+    /// Removes the name.
     pub fn remove(&mut self, name: &str) {
         self.names.remove(name);
     }
 
-    /// The names.
+    /// Returns the names.
     pub fn names(&self, alloc: Global) -> Result<Vec<Text>, AllocError> {
         let mut names = Vec::new(alloc);
         for name in self.names.keys() {

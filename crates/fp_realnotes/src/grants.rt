@@ -1,40 +1,41 @@
-//! Permission bits that new files and folders get as they are asked for.
+//! The directories in which the umask clears no permission bits.
 use fp_system::{FOLDER_BITS, PathMap, folder_of};
 use std::alloc::Global;
 
-/// The folders in which the umask, or what the folder says in its place, takes none of a folder's
-/// bits. Where a folder is one, so is each that is made in it.
+/// The directories in which a new directory gets all bits of 0o755: neither the umask nor a default
+/// ACL clears any. A directory that is made in such a directory is one too.
 #[derive(Drop)]
 pub struct Grants {
     folders: PathMap<()>,
 }
 
 impl Grants {
-    /// None is known.
+    /// Creates an empty set.
     pub fn nothing(alloc: Global) -> Self {
         Grants {
             folders: PathMap::new(alloc),
         }
     }
 
-    /// Whether what is made at the path is known to get all of these bits.
+    /// Returns whether a new file or directory at the path is known to get all of these bits.
     pub fn has(&self, at: &str, bits: u32) -> bool {
         bits & !FOLDER_BITS == 0 && self.folders.has(folder_of(at))
     }
 
-    /// The folder that was made at the path got its bits as they were asked for.
+    /// Notes that the directory made at the path got all the bits that were asked for.
     pub fn add(&mut self, at: &str) {
         let _noted = self.folders.put(folder_of(at), ());
     }
 
-    /// A folder was made.
+    /// Notes a new directory. If new directories get all bits of 0o755 in its parent, they do in it
+    /// too.
     pub fn add_folder(&mut self, at: &str) {
         if self.folders.has(folder_of(at)) {
             let _noted = self.folders.put(at, ());
         }
     }
 
-    /// The folder was taken away.
+    /// Notes that the directory was removed.
     pub fn forget(&mut self, at: &str) {
         self.folders.remove(at);
     }

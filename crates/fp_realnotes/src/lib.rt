@@ -1,4 +1,4 @@
-//! What is remembered of the folder of a host, which needn't be asked of the system.
+//! The notes of a host on its directory, which spare system calls.
 #![tactic(auto)]
 
 mod contents;

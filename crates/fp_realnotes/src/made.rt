@@ -1,4 +1,4 @@
-//! What this host made, which needn't be looked at.
+//! The directories, files and symlinks that this host made.
 ghost use Rattle.std.specs.Prelude.{IfSome};
 ghost use Rattle.fp_host.specs.Reads.{HasBits};
 
@@ -8,24 +8,24 @@ use fp_host::Stat;
 use fp_system::{PathMap, split_name};
 use std::alloc::{AllocError, Global};
 
-/// The folders, files and other things that were made. In a folder that was made nothing stands but
-/// what was made there, as long as no other program puts something there.
+/// The directories, files and symlinks that this host made. A directory that it made contains only
+/// what it made there, unless another program adds something.
 #[derive(Drop)]
 pub struct Made {
     alloc: Global,
-    // What came into each folder.
+    // The names added to each directory.
     folders: PathMap<Contents>,
-    // Whether there was memory to note all of it, and each folder was made as it was asked for.
+    // Whether all changes could be noted, and everything was made as asked.
     is_whole: bool,
-    // Whether no file was written that has a second name: its size is then noted under one of them
-    // alone.
+    // Whether no file with several names was written: its length would be noted under one name
+    // only.
     has_sizes: bool,
-    // How many files were made.
+    // The number of files created.
     count: u64,
 }
 
 impl Made {
-    /// Nothing yet.
+    /// Creates an empty record.
     pub fn nothing(alloc: Global) -> Self {
         Made {
             alloc,
@@ -52,13 +52,13 @@ impl Made {
         }
     }
 
-    /// Whether a regular file that was made stands there.
+    /// Returns whether a regular file that this host created is at the path.
     pub fn is_file(&self, at: &str) -> bool {
         self.file(at).is_some()
     }
 
-    /// What is known of a file that was made. Its id is none that the system gives: they count down
-    /// from the greatest number.
+    /// Returns the status of a file that this host created, if it is known. Its id isn't an inode
+    /// number: ids count down from the largest number.
     pub fn stat(&self, at: &str) -> Option<Stat>
         ensures { IfSome result HasBits }
     {
@@ -71,7 +71,7 @@ impl Made {
         }
     }
 
-    /// Whether nothing stands there, or at the folder above. A folder that was made stands.
+    /// Returns whether the path, or its parent directory, is known to be absent.
     pub fn is_absent(&self, at: &str) -> bool {
         if !self.is_whole {
             return false;
@@ -91,7 +91,7 @@ impl Made {
         }
     }
 
-    /// What is in the folder, where it was made.
+    /// Returns the names in a directory that this host made.
     fn made(&self, at: &str) -> Option<&Contents> {
         match self.folders.get(at) {
             Some(contents) if self.is_whole && contents.is_made => Some(contents),
@@ -99,12 +99,12 @@ impl Made {
         }
     }
 
-    /// Whether the names in the folder are known, since it was made.
+    /// Returns whether all names in the directory are known, since this host made it.
     pub fn has_names(&self, at: &str) -> bool {
         self.made(at).is_some()
     }
 
-    /// The names in a folder that was made, in no order.
+    /// Returns the names in a directory that this host made, in no particular order.
     pub fn names(&self, alloc: Global, at: &str) -> Option<Result<Vec<Text>, AllocError>> {
         match self.made(at) {
             Some(contents) => Some(contents.names(alloc)),
@@ -116,7 +116,7 @@ impl Made {
         self.is_whole &= noted.is_ok();
     }
 
-    /// An empty file with these permission bits was made.
+    /// Notes a new empty file with these permission bits.
     pub fn add_file(&mut self, at: &str, mode: u32) {
         self.count = self.count.saturating_add(1);
         let file = MadeFile {
@@ -127,7 +127,7 @@ impl Made {
         self.put(at, Some(file));
     }
 
-    /// A file or something else came to the path.
+    /// Notes that a file or something else was put at the path.
     fn put(&mut self, at: &str, file: Option<MadeFile>) {
         let (folder, name) = split_name(at);
         let noted = match self.folders.get_mut(folder) {
@@ -137,7 +137,7 @@ impl Made {
         self.keep(noted);
     }
 
-    /// The first name came into a folder that was not made.
+    /// Notes the first name in a directory that this host didn't make.
     fn put_first(
         &mut self,
         folder: &str,
@@ -149,36 +149,37 @@ impl Made {
         self.folders.put(folder, contents)
     }
 
-    /// Bytes were written at the end of a file.
+    /// Notes that this many bytes were appended to a file.
     pub fn add_bytes(&mut self, at: &str, count: usize) {
         if let Some(file) = self.file_mut(at) {
             file.grow(count);
         }
     }
 
-    /// A file may be otherwise than it was asked for.
+    /// Notes that the status of a file is unknown.
     pub fn doubt_file(&mut self, at: &str) {
         if let Some(file) = self.file_mut(at) {
             file.size = None;
         }
     }
 
-    /// A file was written that may have a second name.
+    /// Notes that a file was written that may have several names.
     pub fn doubt_sizes(&mut self) {
         self.has_sizes = false;
     }
 
-    /// A folder may have been made, but not as it was asked for.
+    /// Notes that something may have been made, but not as asked. From then on no absence, list of
+    /// names or status is known.
     pub fn doubt_folder(&mut self) {
         self.is_whole = false;
     }
 
-    /// A symlink was made, or what else isn't known.
+    /// Notes a symlink, or something else of which nothing more is known.
     pub fn add_other(&mut self, at: &str) {
         self.put(at, None);
     }
 
-    /// A folder was made.
+    /// Notes a new directory.
     pub fn add_folder(&mut self, at: &str) {
         let contents = Contents::nothing(self.alloc, true);
         let noted = self.folders.put(at, contents);
@@ -186,20 +187,20 @@ impl Made {
         self.add_other(at);
     }
 
-    /// The second path became another name of the first one's file.
+    /// Notes that the second path became a hard link of the file at the first.
     pub fn add_linked(&mut self, from: &str, to: &str) {
         let file = self.file(from).copied();
         self.put(to, file);
     }
 
-    /// The file or symlink went to the second path.
+    /// Notes that the file or symlink was moved to the second path.
     pub fn add_moved(&mut self, from: &str, to: &str) {
         self.add_gone(to);
         self.add_linked(from, to);
         self.add_gone(from);
     }
 
-    /// The file or symlink was taken away.
+    /// Notes that the file or symlink was removed.
     pub fn add_gone(&mut self, at: &str) {
         let (folder, name) = split_name(at);
         if let Some(contents) = self.folders.get_mut(folder) {
@@ -207,7 +208,7 @@ impl Made {
         }
     }
 
-    /// The folder was taken away.
+    /// Notes that the directory was removed.
     pub fn add_gone_folder(&mut self, at: &str) {
         self.folders.remove(at);
         self.add_gone(at);

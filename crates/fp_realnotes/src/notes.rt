@@ -1,4 +1,4 @@
-//! What is remembered of the folder.
+//! The notes of a host on its directory.
 use crate::found_files::FoundFiles;
 use crate::grants::Grants;
 use crate::made::Made;
@@ -7,21 +7,21 @@ use fp_system::{Folders, Found, Kind};
 use std::alloc::Global;
 use std::marker::Model;
 
-/// The folders and files that were looked at, what was made, with which bits, and what waits for a
-/// sync. Contracts see whether nothing waits.
+/// A host's notes on its directory: what was looked up, what was made, and what waits for a sync.
+/// Contracts see whether no change waits.
 #[derive(Drop)]
 pub struct Notes {
-    /// The folders that were looked at.
+    /// The directories that were looked up.
     pub folders: Folders,
-    /// The files that were looked at.
+    /// The files that were looked up.
     pub files: FoundFiles,
-    /// What was made.
+    /// The directories, files and symlinks that this host made.
     pub made: Made,
-    /// The folders in which no permission bit is taken away.
+    /// The directories in which the umask clears no permission bits.
     pub grants: Grants,
-    /// What waits for a sync.
+    /// The changes that wait for a sync.
     pub touched: Touched,
-    // Whether a file got a second name that may still be written.
+    // Whether a file that may still be written got a second name.
     is_linked: bool,
 }
 
@@ -34,7 +34,7 @@ impl Model for Notes {
 }
 
 impl Notes {
-    /// Nothing was looked at or made.
+    /// Creates notes of nothing.
     pub fn nothing(alloc: Global) -> Self {
         Notes {
             folders: Folders::none(alloc),
@@ -46,7 +46,7 @@ impl Notes {
         }
     }
 
-    /// This was found at the path, above which no symlink stands.
+    /// Notes what was found at the path, above which there is no symlink.
     pub fn add_found(&mut self, at: &str, found: Found) {
         match found.kind {
             Kind::Dir => self.folders.add(at),
@@ -55,7 +55,7 @@ impl Notes {
         }
     }
 
-    /// A folder was made, above which no symlink stands.
+    /// Notes a new directory, above which there is no symlink.
     pub fn add_made(&mut self, at: &str) {
         self.folders.add(at);
         self.made.add_folder(at);
@@ -63,20 +63,20 @@ impl Notes {
         self.touched.add_made(at);
     }
 
-    /// A folder may have been made, but not as it was asked for.
+    /// Notes that a directory may have been made, but not as asked.
     pub fn add_half_made(&mut self, at: &str) {
         self.folders.forget(at);
         self.made.doubt_folder();
     }
 
-    /// A file was created with these permission bits.
+    /// Notes a new file with these permission bits.
     pub fn add_created(&mut self, at: &str, mode: u32) {
         self.files.forget(at);
         self.made.add_file(at, mode);
         self.touched.add_created(at);
     }
 
-    /// Bytes are written to the file, which may have other names.
+    /// Notes that bytes are appended to the file, which may have other names.
     pub fn add_written(&mut self, at: &str) {
         self.touched.add_written(at);
         if self.is_linked {
@@ -87,7 +87,7 @@ impl Notes {
         }
     }
 
-    /// A symlink was made.
+    /// Notes a new symlink.
     pub fn add_symlink(&mut self, at: &str) {
         self.folders.forget(at);
         self.files.forget(at);
@@ -95,7 +95,7 @@ impl Notes {
         self.touched.add_name(at);
     }
 
-    /// The second path became another name of the first one's file.
+    /// Notes that the second path became a hard link of the file at the first.
     pub fn add_linked(&mut self, from: &str, to: &str) {
         self.is_linked |= self.touched.has_file(from);
         self.files.forget(to);
@@ -103,7 +103,7 @@ impl Notes {
         self.touched.add_linked(from, to);
     }
 
-    /// The file or symlink went to the second path.
+    /// Notes that the file or symlink was moved to the second path.
     pub fn add_moved(&mut self, from: &str, to: &str) {
         self.folders.forget(to);
         self.files.forget(from);
@@ -112,14 +112,14 @@ impl Notes {
         self.touched.add_moved(from, to);
     }
 
-    /// The file or symlink was taken away.
+    /// Notes that the file or symlink was removed.
     pub fn add_gone(&mut self, at: &str) {
         self.files.forget(at);
         self.made.add_gone(at);
         self.touched.add_gone(at);
     }
 
-    /// The folder was taken away.
+    /// Notes that the directory was removed.
     pub fn add_gone_folder(&mut self, at: &str) {
         self.folders.forget(at);
         self.grants.forget(at);

@@ -1,50 +1,51 @@
-//! New files that wait until they are made.
+//! New files that wait in memory until they are created.
 ghost use Rattle.std.specs.Prelude.{◌≤◌, length, IfSome};
 
 use fp_system::{NewFile, PathMap};
 use std::alloc::{AllocError, Global};
 use std::mem::replace;
 
-/// The most files that wait, and the most bytes that they have: once there are more, no other one
-/// comes to them.
+/// The number of waiting files from which on no other file is added.
 const MOST_FILES: usize = 800;
 
+/// The number of bytes in all waiting files from which on no other file is added.
 const MOST_BYTES: usize = 8 * 1024 * 1024;
 
-/// The most bytes of one file.
+/// The largest length of one file in bytes.
 const LARGEST: usize = 256 * 1024;
 
-/// New files with their bytes, in the order in which they were created.
+/// New files with their content, in the order of creation.
 #[derive(Drop)]
 pub struct Waiting {
     alloc: Global,
-    // The place of each in the list, by its path.
+    // The index of each file in the list, by path.
     places: PathMap<usize>,
     files: Vec<NewFile>,
-    // How many bytes they have.
+    // The number of bytes in all of them.
     size: usize,
 }
 
 /// Files that waited together.
 #[derive(Drop)]
 pub struct Batch {
-    /// Their paths.
+    /// Their paths, each with the file's index.
     pub paths: PathMap<usize>,
     /// The files.
     pub files: Vec<NewFile>,
 }
 
-/// What becomes of bytes that are added to a file.
+/// The result of appending bytes to a waiting file.
 #[derive(Clone, Copy, PartialEq, Eq)]
 pub enum Appended {
-    /// The file has them.
+    /// The bytes are appended.
     Done,
-    /// The file has to be made before: it would be too large to wait, or there is no memory.
+    /// The file has to be created first: it would be too large to wait, memory ran out, or it
+    /// doesn't wait.
     Unfit,
 }
 
 impl Waiting {
-    /// None.
+    /// Creates an empty list.
     pub fn nothing(alloc: Global) -> Self {
         Waiting {
             alloc,
@@ -54,22 +55,23 @@ impl Waiting {
         }
     }
 
-    /// Whether none waits.
+    /// Returns whether no file waits.
     pub fn is_empty(&self) -> bool {
         self.files.is_empty()
     }
 
-    /// Whether no other one is to come to them.
+    /// Returns whether no other file is to be added.
     pub fn is_full(&self) -> bool {
         self.files.len() >= MOST_FILES || self.size >= MOST_BYTES
     }
 
-    /// Whether the file at the path waits.
+    /// Returns whether the file at the path waits.
     pub fn has(&self, at: &str) -> bool {
         self.place_of(at).is_some()
     }
 
-    /// The file that came last is mostly the one that is asked for.
+    /// Returns the index of the file at the path. Tries the last file first, since most calls ask
+    /// for it.
     fn place_of(&self, at: &str) -> Option<usize> {
         match self.files.last() {
             None => None,
@@ -78,7 +80,7 @@ impl Waiting {
         }
     }
 
-    /// Adds a file that is still empty. It errs where there is no memory; then it doesn't wait.
+    /// Adds a file that is still empty. Errs if memory runs out; then it doesn't wait.
     pub fn add(&mut self, file: NewFile) -> Result<(), AllocError> {
         self.places.put(&file.at, self.files.len())?;
         match self.files.push(file) {
@@ -90,7 +92,7 @@ impl Waiting {
         }
     }
 
-    /// Adds bytes at the end of a file that waits.
+    /// Appends bytes to a waiting file.
     pub fn append(&mut self, at: &str, bytes: &[u8]) -> Appended {
         let place = self.place_of(at);
         match place.and_then(|place| self.files.get_mut(place)) {
@@ -102,7 +104,8 @@ impl Waiting {
         }
     }
 
-    /// Reads a file that waits from a place on, and answers how many bytes came.
+    /// Reads a waiting file from the byte offset `from` on. Returns the number of bytes read, or
+    /// `None` if no file waits at the path.
     pub fn read(&self, at: &str, from: u64, into: &mut [u8]) -> Option<usize>
         ensures { IfSome result (λ n. n ≤ length into.old) }
     {
@@ -111,7 +114,7 @@ impl Waiting {
         Some(copy_from(file.bytes.as_slice(), from, into))
     }
 
-    /// Takes the file out that came last, where it is the one at the path: it waits no longer.
+    /// Removes and returns the file that was added last, if it is the one at the path.
     pub fn take_last(&mut self, at: &str) -> Option<NewFile> {
         match self.files.last() {
             Some(last) if last.at.as_str() == at => self.pop(),
@@ -128,7 +131,7 @@ impl Waiting {
         last
     }
 
-    /// Takes all of them out: none waits any longer.
+    /// Removes and returns all files.
     pub fn take(&mut self) -> Batch {
         self.size = 0;
         Batch {
@@ -149,7 +152,7 @@ fn extend(file: &mut NewFile, bytes: &[u8]) -> Appended {
     }
 }
 
-/// Copies bytes from a place on, as many as there is room for.
+/// Copies bytes from the offset `from` on, as many as fit or are left. Returns their number.
 fn copy_from(bytes: &[u8], from: u64, into: &mut [u8]) -> usize
     ensures { result ≤ length into.old }
 {

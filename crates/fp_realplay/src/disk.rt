@@ -1,4 +1,4 @@
-//! What other programs make on the disk, and what they see there.
+//! Changes and checks of the disk, as another program would make them.
 use crate::Log;
 use crate::words::{bits, pair};
 use fp_host::PERMISSION_BITS;
@@ -9,7 +9,7 @@ use std::os::unix::fs::{MetadataExt, PermissionsExt, symlink};
 use std::time::{SystemTime, UNIX_EPOCH};
 use std::{fs, io};
 
-/// Plays the lines of what is made and seen without a host.
+/// Plays lines for the disk, without a host. The first that doesn't hold is noted in the log.
 pub fn play_disk(rt: &HostRuntime, log: &Log<'_>, lines: &str) {
     for (i, line) in lines.lines().enumerate() {
         let (verb, rest) = pair(line);
@@ -17,7 +17,8 @@ pub fn play_disk(rt: &HostRuntime, log: &Log<'_>, lines: &str) {
     }
 }
 
-/// Whether what the line says is made or seen, where it is such a line.
+/// Makes or checks what the line says. Returns whether it was made or holds; none if the verb isn't
+/// one for the disk.
 pub(crate) fn on_disk(rt: &HostRuntime, alloc: Global, verb: &str, rest: &str) -> Option<bool> {
     let (at, text) = pair(rest);
     match verb {
@@ -33,7 +34,7 @@ fn gets_bits(rt: &HostRuntime, at: &str, mode: u32) -> io::Result<()> {
     fs::set_permissions(rt, at, Permissions::from_mode(mode))
 }
 
-/// A text as it stands in a file: each bar is the end of a line.
+/// Returns the content of a file for a text: each `|` becomes a newline.
 fn as_written(alloc: Global, text: &str) -> Option<String> {
     text.replace(alloc, "|", "\n").ok()
 }
@@ -45,7 +46,8 @@ fn is_written(rt: &HostRuntime, alloc: Global, at: &str, text: &str) -> bool {
     }
 }
 
-/// Whether others see this, where the word says what they look for.
+/// Returns whether the check with this verb holds at the path; none if the verb isn't one of a
+/// check.
 fn sees(rt: &HostRuntime, alloc: Global, verb: &str, at: &str, text: &str) -> Option<bool> {
     match verb {
         "free" => Some(is_open_to(rt, at, true, true)),
@@ -59,7 +61,8 @@ fn sees(rt: &HostRuntime, alloc: Global, verb: &str, at: &str, text: &str) -> Op
     }
 }
 
-/// Whether nobody holds a lock that is in the way, where that can be found out.
+/// Returns whether the lock of a file or directory can be taken with this access; none if it can't
+/// be opened or locked.
 fn is_free(rt: &HostRuntime, at: &str, access: Access) -> Option<bool> {
     match fs::open(rt, at) {
         Ok(file) => rt.try_lock(&file, access).ok(),
@@ -67,7 +70,8 @@ fn is_free(rt: &HostRuntime, at: &str, access: Access) -> Option<bool> {
     }
 }
 
-/// Whether others could share the lock of a file or folder, and have it alone.
+/// Returns whether the lock of a file or directory can be taken shared (`looks`) and exclusively
+/// (`changes`), as given.
 fn is_open_to(rt: &HostRuntime, at: &str, looks: bool, changes: bool) -> bool {
     is_free(rt, at, Access::Look) == Some(looks) && is_free(rt, at, Access::Change) == Some(changes)
 }
@@ -100,7 +104,7 @@ fn modified(rt: &HostRuntime, at: &str) -> Option<SystemTime> {
     }
 }
 
-/// Whether a file is dated the start of 1970, or later.
+/// Returns whether the modification time is 0 (`1970`), or greater (`later`).
 fn is_dated(rt: &HostRuntime, at: &str, want: &str) -> bool {
     match modified(rt, at) {
         Some(found) if want == "1970" => found == UNIX_EPOCH,

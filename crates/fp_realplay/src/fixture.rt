@@ -1,4 +1,4 @@
-//! Paths, urls and texts of a test.
+//! Paths, URLs and error messages of a test.
 use crate::Log;
 use crate::words::{number, pair};
 use fp_host::Path;
@@ -6,12 +6,14 @@ use fp_system::SystemError;
 use std::alloc::Global;
 use std::fs;
 
-/// Takes away what an earlier run left.
+/// Removes the directory and everything below it, which an earlier run of the test may have left.
+/// Errors are ignored.
 pub fn clear(rt: &HostRuntime, folder: &str) {
     let _ = fs::remove_dir_all(rt, folder);
 }
 
-/// The path of a text that is one. A dot is the root.
+/// Parses a path; `.` and the empty text are the root. If the text is no path, notes that in the
+/// log and returns the root.
 pub fn path(log: &Log<'_>, text: &str) -> Path {
     if text == "." || text.is_empty() {
         return Path::root(log.alloc);
@@ -25,7 +27,8 @@ pub fn path(log: &Log<'_>, text: &str) -> Path {
     }
 }
 
-/// The url of what stands at this path of the current folder.
+/// Returns the `file://` URL of a path below the current directory. If it can't be found out, notes
+/// that in the log and returns an empty text.
 pub fn url_of(rt: &HostRuntime, log: &Log<'_>, at: &str) -> String {
     match url_below(rt, at) {
         Some(url) => url,
@@ -41,7 +44,8 @@ fn url_below(rt: &HostRuntime, at: &str) -> Option<String> {
     format!(in rt.alloc(); "file://{here}/{at}").ok()
 }
 
-/// Whether there is an error, and this is its text. After two dots stands how the text ends.
+/// Returns whether there is an error with this message. If `want` begins with `..`, the message
+/// only has to end with the rest of it.
 pub fn is_message(alloc: Global, error: Option<&SystemError>, want: &str) -> bool {
     match error {
         Some(error) => is_text(alloc, error, want),
@@ -63,12 +67,14 @@ fn is_such(text: &str, want: &str) -> bool {
     }
 }
 
-/// The permission bits and the size of a file.
+/// Returns the permission bits in octal and the size in bytes, separated by a space; none if memory
+/// runs out.
 pub(crate) fn bits_and_size(alloc: Global, mode: u32, size: u64) -> Option<String> {
     format!(in alloc; "{mode:o} {size}").ok()
 }
 
-/// A text without its last line, and the rest of that line, where this begins it.
+/// Splits a block at its last line that begins with `faults `, which is returned without that word.
+/// Without such a line, the second part is `0`.
 pub(crate) fn told_of(block: &str) -> (&str, &str) {
     match block.rsplit_once("\nfaults ") {
         Some(both) => both,
@@ -76,7 +82,8 @@ pub(crate) fn told_of(block: &str) -> (&str, &str) {
     }
 }
 
-/// Whether this is how often a call failed, and the last refusal where one is told.
+/// Returns whether the number of failures is the first word of `told`, and the last error has the
+/// message that follows it, if one does.
 pub(crate) fn tells(alloc: Global, faults: u64, error: Option<&SystemError>, told: &str) -> bool {
     let (count, last) = pair(told);
     faults == number(count) && (last.is_empty() || is_message(alloc, error, last))

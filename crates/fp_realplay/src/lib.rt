@@ -1,4 +1,4 @@
-//! Tests of the adapters as texts, and what plays them.
+//! Plays tests of the adapters that are written as texts.
 #![tactic(auto)]
 
 mod disk;

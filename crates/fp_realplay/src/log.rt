@@ -1,38 +1,41 @@
-//! What a test notes: what its system is asked to change, in order, and what doesn't hold.
+//! The log of a test: the changes that its system is asked for, in order, and the first line that
+//! doesn't hold.
 use crate::words::{number, pair};
 use std::alloc::Global;
 use std::cell::Cell;
 use std::io;
 
-/// What is other than in the system below it.
+/// The difference of a `Logged` system from the real one.
 #[derive(Clone, Copy)]
 pub enum Kind<'a> {
-    /// Nothing.
+    /// No difference.
     Plain,
-    /// This line fails. Nothing of that call is done.
+    /// Each call that is logged as this line fails, and isn't done.
     Failing(&'a str),
-    /// Somebody else holds each lock until it is waited for.
+    /// Another process holds each lock until it is waited for.
     Busy,
-    /// The same, and for longer than the seconds for which it is waited first.
+    /// Another process holds each lock, also when the first wait, of some seconds, ends.
     Stuck,
-    /// The same, and this many times its file is taken away meanwhile. Whether another one comes in
-    /// its place.
+    /// Another process holds each lock until it is waited for. During each of the first waits, of
+    /// this number, the locked file or directory is removed. The flag tells whether a new one is
+    /// then in its place.
     Losing(u64, bool),
-    /// What is looked at is noted, too.
+    /// Lookups and listings are logged, too.
     TellingLooks,
-    /// The file or folder at this path may not be opened.
+    /// The file or directory at this path can't be opened for lack of permission (`EACCES`).
     Denying(&'a str),
-    /// No file may have a second name, and this line fails.
+    /// No hard link can be made (`EMLINK`), and each call that is logged as this line fails.
     Crowded(&'a str),
-    /// No more files than this many may be open.
+    /// At most this many files can be open (`EMFILE`).
     Narrow(u64),
-    /// What the process may do is told by the file at this path.
+    /// The file at this path is read in place of `/proc/self/limits`.
     Limited(&'a str),
-    /// Each look at the clock is a second after the one before.
+    /// Each reading of the monotonic clock is one second after the previous one.
     Slow,
 }
 
-/// What a tale's first line says is other. Any other word is nothing.
+/// Parses how the system differs, from the rest of a tale's first line. An unknown word means no
+/// difference.
 pub(crate) fn kind_of(text: &str) -> Kind<'_> {
     let (word, rest) = pair(text);
     match word {
@@ -50,34 +53,35 @@ pub(crate) fn kind_of(text: &str) -> Kind<'_> {
     }
 }
 
-/// The system's number of the error that a file may have no more names: EMLINK of Linux.
+/// The errno `EMLINK` of Linux: the file has too many hard links.
 const CROWDED: i32 = 31;
 
-/// The system's number of the error that no more files may be open: EMFILE of Linux.
+/// The errno `EMFILE` of Linux: the process has too many open files.
 const NARROW: i32 = 24;
 
-/// Where Linux tells what a process may have.
+/// The file in which Linux reports the limits of a process.
 const LIMITS: &str = "/proc/self/limits";
 
-/// The calls since they were read last, and the first row of a table that didn't hold.
+/// The log of a test: the calls since it was read last, and the first line of a test that didn't
+/// hold.
 #[derive(Drop)]
 pub struct Log<'a> {
-    /// What memory is asked for.
+    /// The allocator of the test.
     pub alloc: Global,
     lines: Cell<String>,
     kind: Kind<'a>,
-    // How many lock files were taken away.
+    // The number of waits for a lock that were counted for `Losing`.
     lost: Cell<u64>,
-    // How many files are open.
+    // The number of open files.
     open: Cell<u64>,
-    // How often the clock was looked at.
+    // The number of readings of the clock.
     seconds: Cell<u64>,
     is_wrong: Cell<bool>,
     wrong: Cell<String>,
 }
 
 impl<'a> Log<'a> {
-    /// Nothing is noted yet, and all holds.
+    /// Creates a log with no calls, in which everything holds so far.
     pub fn new(alloc: Global, kind: Kind<'a>) -> Self {
         Log {
             alloc,
@@ -91,7 +95,7 @@ impl<'a> Log<'a> {
         }
     }
 
-    /// Notes a row of a table where it doesn't hold. The first one is kept.
+    /// Notes a line or row of a test if it doesn't hold. Only the first one is kept.
     pub fn demand(&self, holds: bool, row: usize, what: &str) {
         if holds || self.is_wrong.replace(true) {
             return;
@@ -101,7 +105,7 @@ impl<'a> Log<'a> {
         }
     }
 
-    /// Whether all rows held. Where one didn't, standard error is told which.
+    /// Returns whether all lines and rows held. If one didn't, prints the first on standard error.
     pub fn all_held(&self, rt: &HostRuntime) -> bool {
         let is_wrong = self.is_wrong.get();
         if is_wrong {
@@ -111,7 +115,7 @@ impl<'a> Log<'a> {
         !is_wrong
     }
 
-    /// Notes a call, and answers whether it is to be done.
+    /// Logs a call. Returns whether it is to be done: not if it is to fail, or memory ran out.
     pub(crate) fn lets(&self, what: &str, at: &str) -> bool {
         let mut lines = self.take();
         let is_noted = add_line(&mut lines, what, at);
@@ -133,7 +137,8 @@ impl<'a> Log<'a> {
         }
     }
 
-    /// Whether what is at the path may not be opened. A folder's path may end in a slash.
+    /// Returns whether the file or directory at the path can't be opened. The path of a directory
+    /// may end with a slash.
     pub(crate) fn denies(&self, at: &str) -> bool {
         match self.kind {
             Kind::Denying(denied) => at.strip_suffix('/').unwrap_or(at) == denied,
@@ -141,12 +146,12 @@ impl<'a> Log<'a> {
         }
     }
 
-    /// Whether no file may have a second name.
+    /// Returns whether no hard link can be made.
     pub(crate) fn is_crowded(&self) -> bool {
         matches!(self.kind, Kind::Crowded(_))
     }
 
-    /// Whether no more files may be open.
+    /// Returns whether no more files can be open.
     pub(crate) fn is_full(&self) -> bool {
         match self.kind {
             Kind::Narrow(most) => self.open.get() >= most,
@@ -154,7 +159,8 @@ impl<'a> Log<'a> {
         }
     }
 
-    /// The file that is opened in the place of the one that tells limits, where there is one.
+    /// Returns the path of the file that is read in place of `/proc/self/limits`; none for every
+    /// other path, and if there is no such file.
     pub(crate) fn limits_for(&self, at: &str) -> Option<&'a str> {
         match self.kind {
             Kind::Limited(limits) if at == LIMITS => Some(limits),
@@ -162,7 +168,7 @@ impl<'a> Log<'a> {
         }
     }
 
-    /// How many seconds a clock shows that isn't the system's.
+    /// Returns the next time of the slow clock in seconds; none if the system's clock is read.
     pub(crate) fn next_second(&self) -> Option<u64> {
         match self.kind {
             Kind::Slow => Some(self.seconds.replace(self.seconds.get().saturating_add(1))),
@@ -186,8 +192,8 @@ impl<'a> Log<'a> {
         matches!(self.kind, Kind::Stuck)
     }
 
-    /// Whether a lock file is taken away that is waited for, and whether another one comes in its
-    /// place.
+    /// Returns whether a new file or directory is in the place of a locked one that is removed
+    /// while its lock is waited for; none if it isn't removed.
     pub(crate) fn loses(&self) -> Option<bool> {
         match self.kind {
             Kind::Losing(times, comes) if self.counts_to(times) => Some(comes),
@@ -195,14 +201,14 @@ impl<'a> Log<'a> {
         }
     }
 
-    /// Counts one more, where there are not as many yet.
+    /// Counts one more, and returns whether fewer than this many were counted before.
     fn counts_to(&self, times: u64) -> bool {
         let lost = self.lost.get();
         self.lost.set(lost.saturating_add(1));
         lost < times
     }
 
-    /// The same for a call of which no more is done.
+    /// Logs a call of which nothing else is done. Errs if it is to fail.
     pub(crate) fn answer(&self, what: &str, at: &str) -> io::Result<()> {
         if self.lets(what, at) {
             Ok(())
@@ -211,24 +217,26 @@ impl<'a> Log<'a> {
         }
     }
 
-    /// The calls since the last time. Each is ended by a semicolon and a blank.
+    /// Returns the calls since the last time and removes them from the log. Each ends with a
+    /// semicolon and a space.
     pub fn take(&self) -> String {
         self.lines.replace(String::new(self.alloc))
     }
 
-    /// Forgets the calls since the last time.
+    /// Removes the calls from the log.
     pub(crate) fn forget(&self) {
         self.lines.set(String::new(self.alloc));
     }
 
-    /// Whether just these calls were noted since the last time. Between two of them stand a
-    /// semicolon and a blank.
+    /// Returns whether exactly these calls, separated by a semicolon and a space, were logged since
+    /// the last time. Removes them from the log.
     pub fn is_noted(&self, want: &str) -> bool {
         let noted = self.take();
         noted.strip_suffix("; ").unwrap_or("") == want
     }
 
-    /// Whether just this call was.
+    /// Returns whether exactly this one call was logged since the last time. Removes it from the
+    /// log.
     pub fn is_one(&self, what: &str, at: &str) -> bool {
         match self.take().strip_suffix("; ") {
             Some(line) => is_line(line, what, at),
@@ -236,7 +244,8 @@ impl<'a> Log<'a> {
         }
     }
 
-    /// How many syncs of numbered files were noted since the last time.
+    /// Returns the number of syncs since the last time of files whose paths contain `/f`. Removes
+    /// all calls from the log.
     pub(crate) fn count_synced(&self) -> u64 {
         let noted = self.take();
         let mut count = 0u64;
@@ -265,25 +274,25 @@ fn is_line(line: &str, what: &str, at: &str) -> bool {
     }
 }
 
-/// The system's error where something may not be opened: EACCES of Linux.
+/// The errno `EACCES` of Linux: permission is lacking.
 const DENIED: i32 = 13;
 
-/// The error of what may not be opened.
+/// Returns the error `EACCES`.
 pub(crate) fn denied() -> io::Error {
     io::Error::from_raw_os_error(DENIED)
 }
 
-/// The error that a file may have no more names.
+/// Returns the error `EMLINK`.
 pub(crate) fn crowded() -> io::Error {
     io::Error::from_raw_os_error(CROWDED)
 }
 
-/// The error that no more files may be open.
+/// Returns the error `EMFILE`.
 pub(crate) fn narrow() -> io::Error {
     io::Error::from_raw_os_error(NARROW)
 }
 
-/// The error of a call that fails.
+/// Returns the error of a call that is made to fail. It has no errno.
 pub(crate) fn out() -> io::Error {
     io::Error::other("the cable is out")
 }

@@ -1,4 +1,4 @@
-//! The system that notes, over the real one.
+//! A system over the real one that logs the calls that change something.
 use crate::log::{Log, crowded, denied, narrow, out};
 use fp_realroot::{Access, Failure, System, Unsynced, sync_in_turn};
 use fp_system::{Call, known};
@@ -12,17 +12,20 @@ use std::rt::Files;
 use std::thread::Threads;
 use std::time::{Clock, Duration};
 
-/// A system that notes what it is asked to change.
+/// A system over the real one that logs changes, locks, syncs and printed texts, and differs from
+/// it as its log says. It neither syncs nor prints. Changes of permission bits, and removals of
+/// whole directories at once, aren't logged.
 #[derive(Drop)]
 pub struct Logged<'a> {
-    /// The system below it.
+    /// The real system.
     pub rt: &'a HostRuntime,
-    /// Where it notes.
+    /// The log.
     pub log: &'a Log<'a>,
 }
 
 impl Logged<'_> {
-    /// Takes a lock file or folder away that is waited for, where that is to be.
+    /// Removes or replaces the file or directory whose lock is waited for, if the log's `Kind` asks
+    /// for it.
     fn lose(&self, at: &str) -> io::Result<()> {
         match self.log.loses() {
             Some(comes) => lose_file(self.rt, at, comes),
@@ -48,11 +51,11 @@ fn lose_folder(rt: &HostRuntime, at: &str, comes: bool) -> io::Result<()> {
     }
 }
 
-/// An open file of it.
+/// An open file of a `Logged` system.
 pub struct LoggedFile<'a> {
     log: &'a Log<'a>,
     at: String,
-    // Whether it is written at its end alone.
+    // Whether it was opened for appending.
     appends: bool,
     file: File,
 }
@@ -70,7 +73,8 @@ impl Drop for LoggedFile<'_> {
 }
 
 impl LoggedFile<'_> {
-    /// What a write of this many bytes is called.
+    /// Returns the name in the log of a write of this many bytes: `write over` if it stays within
+    /// the file's current size and the file wasn't opened for appending, else `write`.
     fn name_of_write(&mut self, count: usize) -> io::Result<&'static str> {
         if self.appends {
             return Ok("write");
@@ -258,7 +262,8 @@ impl OpenFile for LoggedFile<'_> {
         }
     }
 
-    // It is noted alone: what a test makes need not last, and a busy disk takes minutes for many.
+    // The sync is only logged: a test's files need not be durable, and on a busy disk many syncs
+    // take minutes.
     fn sync_all(&self) -> io::Result<()> {
         self.log.answer("sync", &self.at)
     }

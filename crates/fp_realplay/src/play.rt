@@ -1,4 +1,4 @@
-//! What is asked of a host, line by line, and what is to come of it.
+//! Plays lines over a host: calls, and checks of their outcome.
 use crate::Log;
 use crate::disk::on_disk;
 use crate::fixture::path;
@@ -6,14 +6,14 @@ use crate::step::{change, shows};
 use crate::words::{number, pair};
 use fp_host::{Host, HostError, Stat};
 
-/// Plays the lines, and notes those that are otherwise.
+/// Plays the lines over the host. The first that doesn't hold is noted in the log.
 pub fn play_lines<H: Host>(rt: &HostRuntime, log: &Log<'_>, host: &mut H, lines: &str) {
     for (i, line) in lines.lines().enumerate() {
         log.demand(play(rt, log, host, line), i, line);
     }
 }
 
-/// Whether it is as the line says.
+/// Plays a line. Returns whether its call was done, or its check holds.
 fn play<H: Host>(rt: &HostRuntime, log: &Log<'_>, host: &mut H, line: &str) -> bool {
     let (verb, rest) = pair(line);
     match verb {
@@ -36,7 +36,8 @@ fn stat_at<H: Host>(log: &Log<'_>, host: &mut H, at: &str) -> Option<Stat> {
     host.stat(&path(log, at)).ok()
 }
 
-/// Whether two names show the same, where both can be looked at.
+/// Returns whether the two paths have the same status, which includes a file's id; none if one of
+/// them can't be looked up.
 fn are_one<H: Host>(log: &Log<'_>, host: &mut H, names: &str) -> Option<bool> {
     let (a, b) = pair(names);
     match (stat_at(log, host, a), stat_at(log, host, b)) {
@@ -45,7 +46,8 @@ fn are_one<H: Host>(log: &Log<'_>, host: &mut H, names: &str) -> Option<bool> {
     }
 }
 
-/// Whether the file gives from a place on as many bytes as are told, and what four dots are then.
+/// Returns whether a read into a buffer of four dots returns this many bytes and leaves this text
+/// there. The line has the path, the byte offset, the number of bytes and the text.
 fn gives<H: Host>(log: &Log<'_>, host: &mut H, rest: &str) -> bool {
     let (at, rest) = pair(rest);
     let (place, rest) = pair(rest);
@@ -55,7 +57,7 @@ fn gives<H: Host>(log: &Log<'_>, host: &mut H, rest: &str) -> bool {
     read.ok() == Some(number(count) as usize) && into.as_slice() == want.as_bytes()
 }
 
-/// Makes a file of this number, and answers whether it is done.
+/// Creates the file with this number, such as `f07`. Returns whether that was done.
 fn makes_one<H: Host>(log: &Log<'_>, host: &mut H, number: u64) -> bool {
     match format!(in log.alloc; "create f{number:02} 644") {
         Ok(line) => change(log, host, &line).is_none(),
@@ -63,7 +65,7 @@ fn makes_one<H: Host>(log: &Log<'_>, host: &mut H, number: u64) -> bool {
     }
 }
 
-/// Makes this many files, and answers whether all are made.
+/// Creates this many numbered files. Returns whether all were created.
 fn makes<H: Host>(log: &Log<'_>, host: &mut H, count: u64) -> bool {
     let mut is_done = true;
     for i in 0..count {

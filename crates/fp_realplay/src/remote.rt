@@ -1,4 +1,4 @@
-//! What is asked of remotes, line by line.
+//! Plays lines over a directory as a remote.
 use crate::Log;
 use crate::fixture::{bits_and_size, path, tells, told_of, url_of};
 use crate::words::{number, pair};
@@ -6,10 +6,11 @@ use fp_host::{Node, Path, RemoteError, Remotes};
 use fp_realinput::DirRemotes;
 use std::alloc::Global;
 
-/// What stands at a path where both calls fail.
+/// The expected node of a path at which both calls of a remote fail.
 const FAULT: &str = "a fault";
 
-/// Plays the lines over a folder as a remote, and notes those that are otherwise.
+/// Plays the lines over the directory as a remote, and checks the number of failures and the last
+/// error. The first line that doesn't hold is noted in the log.
 pub(crate) fn ask_remote(rt: &HostRuntime, log: &Log<'_>, folder: &str, block: &str) {
     let url = url_of(rt, log, folder);
     let mut remotes = DirRemotes::new(rt, log.alloc);
@@ -25,8 +26,9 @@ fn ask_lines<M: Remotes>(log: &Log<'_>, remotes: &mut M, url: &str, lines: &str)
     }
 }
 
-/// Whether it is as the line says: what stands at a path and how many bytes it has from the seventh
-/// on, or that both calls fail at another url. The first line names the folder.
+/// Plays a line, and returns whether it holds. `node` has a path, the number of bytes from offset 6
+/// on, and the expected node. `url` has a URL at whose root both calls have to fail. The first line
+/// of the block, `remote`, always holds.
 fn ask<M: Remotes>(log: &Log<'_>, remotes: &mut M, url: &str, line: &str) -> bool {
     let (verb, rest) = pair(line);
     match verb {
@@ -48,7 +50,7 @@ fn ask_node<M: Remotes>(log: &Log<'_>, remotes: &mut M, url: &str, rest: &str) -
     )
 }
 
-/// Whether this is shown there, and has so many bytes from the seventh on.
+/// Returns whether the path has this node, and a read from offset 6 on returns this many bytes.
 fn is_there<M: Remotes>(
     alloc: Global,
     remotes: &mut M,
@@ -67,7 +69,8 @@ fn is_node<M: Remotes>(alloc: Global, remotes: &mut M, url: &str, at: &Path, wan
     }
 }
 
-/// Whether a node is shown so.
+/// Returns whether the node is the expected one: `absent`, `dir`, a file's permission bits and
+/// size, or a symlink's text.
 fn is_shown(alloc: Global, node: &Node, want: &str) -> bool {
     match node {
         Node::Absent => want == "absent",
@@ -84,7 +87,8 @@ fn is_file(alloc: Global, mode: u32, size: u64, want: &str) -> bool {
     }
 }
 
-/// Whether this many bytes come from the seventh on, or the call fails.
+/// Returns whether a read of at most 8 bytes from offset 6 on returns this many, or fails if `want`
+/// is `FAULT`.
 fn gives<M: Remotes>(remotes: &mut M, url: &str, at: &Path, want: &str, count: u64) -> bool {
     match remotes.read_at(url, at, 6, &mut [0u8; 8]) {
         Ok(read) => read as u64 == count && want != FAULT,

@@ -1,4 +1,4 @@
-//! Calls of a host by their lines, and what a folder shows.
+//! Calls of a host, each written as a line, and checks of what is at a path.
 use crate::Log;
 use crate::fixture::{bits_and_size, path};
 use crate::words::{bits, pair};
@@ -6,7 +6,7 @@ use fp_base::Text;
 use fp_host::{Host, HostError, Path, Stat};
 use std::alloc::Global;
 
-/// Makes the call of a line, and answers why it was not done.
+/// Makes the call of a line. Returns its error; none if it was done.
 pub(crate) fn change<H: Host>(log: &Log<'_>, host: &mut H, line: &str) -> Option<HostError> {
     let (verb, rest) = pair(line);
     let (first, second) = pair(rest);
@@ -19,7 +19,8 @@ pub(crate) fn change<H: Host>(log: &Log<'_>, host: &mut H, line: &str) -> Option
     }
 }
 
-/// Makes the call of this name at a path, with another word.
+/// Makes the call with this verb at a path, with another word as its argument. Returns its error;
+/// none if it was done.
 fn change_at<H: Host>(
     alloc: Global,
     host: &mut H,
@@ -39,8 +40,8 @@ fn change_at<H: Host>(
     }
 }
 
-/// Makes the call of this name that changes nothing. Any other name is no call: neither done nor
-/// failed.
+/// Makes the call with this verb that only reads. Returns its error; none if it was done. An
+/// unknown verb returns `NoMemory`, by which the line counts neither as done nor as failed.
 fn look_at<H: Host>(alloc: Global, host: &mut H, verb: &str, at: &Path) -> Option<HostError> {
     match verb {
         "stat" => host.stat(at).err(),
@@ -51,8 +52,8 @@ fn look_at<H: Host>(alloc: Global, host: &mut H, verb: &str, at: &Path) -> Optio
     }
 }
 
-/// Whether a path shows this: a folder's names, a file's permission bits, size and first bytes, a
-/// symlink's text.
+/// Returns whether the path has what the line says: `absent`, `dir` and the names in it, a file's
+/// permission bits, size and bytes (at most 16), or a symlink's text.
 pub(crate) fn shows<H: Host>(log: &Log<'_>, host: &mut H, rest: &str) -> bool {
     let (at, want) = pair(rest);
     shows_at(log.alloc, host, &path(log, at), want)
@@ -78,7 +79,8 @@ fn is_link<H: Host>(alloc: Global, host: &mut H, at: &Path, want: &str) -> bool 
     }
 }
 
-/// What is left of a text after the permission bits and the size.
+/// Returns the rest of the text after the permission bits, the size and a space; none if it doesn't
+/// begin with them.
 fn after_bits(alloc: Global, bits: (u32, u64), text: &str) -> Option<&str> {
     let (mode, size) = bits;
     let head = bits_and_size(alloc, mode, size)?;
@@ -88,7 +90,7 @@ fn after_bits(alloc: Global, bits: (u32, u64), text: &str) -> Option<&str> {
     }
 }
 
-/// Whether the file's first bytes are these.
+/// Returns whether the file's first bytes, at most 16, are these; false if there is no text.
 fn holds<H: Host>(host: &mut H, at: &Path, want: Option<&str>) -> bool {
     let mut into = [0u8; 16];
     match (host.read_at(at, 0, &mut into), want) {
@@ -112,7 +114,7 @@ fn are_names(names: &[Text], want: &str) -> bool {
     rest == Some("")
 }
 
-/// What is left of a text after a blank and a word.
+/// Returns the rest of the text after a space and a word; none if it doesn't begin with them.
 fn after_word<'a>(text: Option<&'a str>, word: &str) -> Option<&'a str> {
     text?.strip_prefix(' ')?.strip_prefix(word)
 }

@@ -1,4 +1,4 @@
-//! A test as a text: what is done one after another in a folder, and what is to come of it.
+//! Tales: tests that are texts. Each has lines that are played in order in a directory of its own.
 use crate::disk::play_disk;
 use crate::fixture::{tells, told_of};
 use crate::log::kind_of;
@@ -11,8 +11,8 @@ use fp_realroot::{Access, System};
 use std::io::Print;
 use std::thread::Threads;
 
-/// Whether each tale of the text is as it says. Where one isn't, standard error is told of its first
-/// line that isn't so. README.md says how tales are written.
+/// Plays each tale of the text, and returns whether all hold. Of each that doesn't, the first wrong
+/// line is printed on standard error. README.md describes how tales are written.
 pub fn tell<T: System + Threads + Sync>(rt: &HostRuntime, threads: &T, text: &str) -> bool {
     let mut all_held = true;
     for tale in text.split("# ") {
@@ -21,8 +21,8 @@ pub fn tell<T: System + Threads + Sync>(rt: &HostRuntime, threads: &T, text: &st
     all_held
 }
 
-/// The same for each row of a table, which stands in the places of two braces. Between two rows
-/// stands a line of two dashes.
+/// Plays the text once for each row of a table, with the row in place of each `{}`. A line of two
+/// dashes separates the rows. Returns whether all tales hold.
 pub fn tell_each<T: System + Threads + Sync>(
     rt: &HostRuntime,
     threads: &T,
@@ -39,7 +39,7 @@ pub fn tell_each<T: System + Threads + Sync>(
     all_held
 }
 
-/// Whether a tale is as it says. Its folder is cleared before and after.
+/// Plays a tale, and returns whether it holds. Its directory is cleared before and after.
 fn is_so<T: System + Threads + Sync>(rt: &HostRuntime, threads: &T, tale: &str) -> bool {
     let Some((head, blocks)) = tale.split_once('\n') else {
         return false;
@@ -64,7 +64,7 @@ fn play_blocks<T: System + Threads + Sync>(
     }
 }
 
-/// Plays a block: its first line says over what.
+/// Plays a block. Its first line names what its other lines are played over.
 fn play_block<T: System + Threads + Sync>(
     rt: &HostRuntime,
     threads: &T,
@@ -108,7 +108,8 @@ fn run_plain<T: System + Threads + Sync>(
     }
 }
 
-/// Plays the lines on a folder of this system, which prints what the host says too.
+/// Plays the lines over a host on a directory of this system, which also prints what the host
+/// prints.
 fn run_over<R: System + Print, T: System + Threads + Sync>(
     rt: &HostRuntime,
     system: &R,
@@ -148,7 +149,8 @@ fn run_watched<'a, T: System + Threads + Sync>(
     run_over(rt, &system, threads, log, place, lines);
 }
 
-/// Plays the lines over the system that notes, and once more where it is watched as a command is.
+/// Plays the lines over a `Logged` system, and again over one whose progress is watched, as that of
+/// a command. The directory is cleared in between.
 fn run_both<T: System + Threads + Sync>(
     rt: &HostRuntime,
     threads: &T,

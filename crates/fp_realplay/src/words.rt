@@ -1,6 +1,6 @@
 //! The words of a line.
 
-/// The first word of a text, and what comes after the blank behind it.
+/// Splits a text at its first space. Without a space, the second part is empty.
 pub fn pair(text: &str) -> (&str, &str) {
     match text.split_once(' ') {
         Some(both) => both,
@@ -8,7 +8,7 @@ pub fn pair(text: &str) -> (&str, &str) {
     }
 }
 
-/// The number that a word is, or 0.
+/// Parses a decimal number; 0 if the word is none.
 pub(crate) fn number(word: &str) -> u64 {
     match word.parse::<u64>() {
         Ok(found) => found,
@@ -16,7 +16,7 @@ pub(crate) fn number(word: &str) -> u64 {
     }
 }
 
-/// The permission bits that a word is, or 0.
+/// Parses permission bits in octal; 0 if the word is no octal number.
 pub(crate) fn bits(word: &str) -> u32 {
     match u32::from_str_radix(word, 8) {
         Ok(found) => found,

@@ -1,4 +1,4 @@
-//! The lock of the root folder, by which looks and the steps of a change keep one another out.
+//! The lock of the root directory, by which readers and the steps of a change exclude each other.
 use crate::standing::leads_to;
 use crate::waiting::{Wanted, wait};
 use fp_realsync::{Access, System};
@@ -6,21 +6,21 @@ use fp_system::{Cause, has_folder, known};
 use std::fs;
 use std::io::ErrorKind;
 
-/// What another one does for whom a look waits.
+/// The verb in the message of a reader that waits: another fpk changes the directory.
 const WORKS: &str = "works on";
 
-/// What another one does for whom a change waits.
+/// The verb in the message of a change that waits: another fpk reads the directory.
 const LOOKS: &str = "looks at";
 
-/// What a look has of the root folder.
+/// The result of a reader's attempt to lock the root directory.
 pub enum Sight<F> {
-    /// There is none.
+    /// The directory doesn't exist.
     Absent,
-    /// It may not be opened: who may not read it looks without a lock.
+    /// The directory can't be opened for lack of permission; it is read without a lock.
     Unlocked,
-    /// Its lock, which looks share.
+    /// The open directory, with a shared lock.
     Shared(F),
-    /// Another folder came to its path meanwhile.
+    /// The directory was removed or replaced meanwhile.
     Replaced,
 }
 
@@ -34,17 +34,17 @@ impl<F: Drop> Drop for Sight<F> {
 }
 
 impl<F: Drop> Sight<F> {
-    /// Whether there is no folder.
+    /// Returns whether the directory doesn't exist.
     pub fn is_absent(&self) -> bool {
         matches!(self, Sight::Absent)
     }
 
-    /// Whether another folder came to its path.
+    /// Returns whether the directory was removed or replaced meanwhile.
     pub fn is_replaced(&self) -> bool {
         matches!(self, Sight::Replaced)
     }
 
-    /// The folder whose lock it is.
+    /// Returns the locked directory, if there is one.
     pub fn take(self) -> Option<F> {
         match self {
             Sight::Shared(folder) => Some(folder),
@@ -53,7 +53,7 @@ impl<F: Drop> Sight<F> {
     }
 }
 
-/// Takes the lock of the root folder to look, once no step of a change is under way.
+/// Takes a shared lock of the root directory, and waits while a change holds the exclusive one.
 pub fn look_at<R: System>(rt: &R, root: &str) -> Result<Sight<R::File>, Cause> {
     match has_folder(rt, root) {
         Ok(true) => open_to_look(rt, root),
@@ -86,7 +86,7 @@ fn share<R: System>(rt: &R, folder: R::File, root: &str) -> Result<Sight<R::File
     }
 }
 
-/// Takes the lock of the root folder alone, once nobody looks.
+/// Takes an exclusive lock of the root directory, and waits while others read.
 pub fn hold_alone<R: System>(rt: &R, root: &str) -> Result<R::File, Cause> {
     let wanted = Wanted {
         at: root,

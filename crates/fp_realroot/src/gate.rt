@@ -1,4 +1,4 @@
-//! The root folder, and the lock.
+//! The root directory and its locks.
 use crate::folder::{Sight, hold_alone, look_at};
 use crate::hold::Hold;
 use crate::layout::LAYOUT;
@@ -15,43 +15,44 @@ use std::fs::{OpenFile, OpenOptions, Permissions};
 use std::io::{ErrorKind, Seek, Write};
 use std::os::unix::fs::{OpenOptionsExt, PermissionsExt};
 
-/// The name of the file at the top of an installation by which changes keep one another out. No
-/// command looks at it.
+/// The name of the lock file at the top of an installation, by which changes exclude each other. A
+/// command that only reads ignores it.
 pub const LOCK_NAME: &str = ".lock";
 
-/// Its permission bits.
+/// The permission bits of the lock file.
 const LOCK_BITS: u32 = 0o644;
 
-/// How often what is locked is opened anew that was taken away while its lock was waited for.
+/// The most attempts to lock a file or directory that is removed or replaced while its lock is
+/// waited for.
 const TRIES: u32 = 100;
 
-/// What it is called where a file would be larger than the process may make one: EFBIG of Linux.
+/// The errno `EFBIG` of Linux: a file would get larger than the process may write.
 pub const TOO_LARGE: Cause = Cause::Number(27);
 
-/// What another one does for whom a change waits.
+/// The verb in the message of a change that waits: another fpk changes the directory.
 const WORKS: &str = "works on";
 
-/// What it is called where it was taken away each time.
+/// The error if the file or directory was removed or replaced at each attempt.
 const BUSY: Cause = Cause::Kind(ErrorKind::ResourceBusy);
 
-/// What is known of the root folder.
+/// The state of the root directory, as far as it is known.
 #[derive(Clone, Copy, PartialEq, Eq)]
 enum Root {
-    // It was not looked at, or is no folder.
+    // It was not looked up yet, or that failed.
     Unknown,
     Absent,
     There,
 }
 
-/// What keeps others out.
+/// The lock that is held.
 enum Lock<F> {
-    // It was not asked for.
+    // No call asked for it yet.
     NotYet,
-    // There is no root to look at, or none that may be opened.
+    // None: a reader found no root, or could not open it.
     Open,
-    // The lock of the root folder, which looks share.
+    // The root directory with a shared lock, for reading.
     Shared(F),
-    // The lock file, which a change has alone.
+    // The lock file with an exclusive lock, for changing.
     Whole(Hold<F>),
 }
 
@@ -65,13 +66,14 @@ impl<F: Drop> Drop for Lock<F> {
     }
 }
 
-/// The root folder of a host, which is held against other processes while the host is at work.
+/// The root directory of a host, which is locked against other processes while the host is used.
 ///
-/// There are two locks. Changes keep one another out by the file `.lock`, for all of their time.
-/// Looks share the lock of the root folder, and a change has it alone only from the first call that
-/// a look may see to the sync after it. So what a look reads stands still but for what a change
-/// adds, which no state has yet. A change takes the lock file first and then the folder; a look
-/// takes the folder alone, and waits for no lock while it has it: no two wait for each other.
+/// There are two locks. Changes exclude each other by the file `.lock`, as long as the host exists.
+/// Readers share the lock of the root directory, and a change takes it exclusively only from the
+/// first call that a reader may notice to the next sync. So while a reader holds it, a change may
+/// only add files that nothing refers to yet. A change takes the lock file first and then the
+/// directory; a reader takes the directory alone, and waits for no lock while it holds it. So no
+/// two processes wait for each other.
 pub struct Gate<F> {
     root: String,
     // The path of the lock file.
@@ -79,13 +81,14 @@ pub struct Gate<F> {
     access: Access,
     state: Root,
     lock: Lock<F>,
-    // The root folder, while a change keeps those out who look.
+    // The root directory, while a change holds its lock exclusively.
     alone: Option<F>,
-    // How many bytes a file may have that is changed.
+    // The largest size in bytes of a file that is changed.
     largest: u64,
-    // Whether an earlier run may have left changes that are not on the disk.
+    // Whether an earlier command may have left unsynced changes.
     has_left: bool,
-    // The path of what isn't ours, where that keeps the folder from being an installation.
+    // The path of something that isn't fpk's, if it is the reason why the directory isn't used as
+    // an installation.
     others: Option<String>,
 }
 
@@ -106,7 +109,8 @@ impl<F: Drop> Drop for Gate<F> {
 }
 
 impl<F> Gate<F> {
-    /// The empty name is the current folder.
+    /// Creates a gate for the root directory at this path; the empty path is the current directory.
+    /// It makes no system call.
     pub fn new(alloc: Global, root: &str, access: Access) -> Result<Self, AllocError> {
         let root = if root.is_empty() { "." } else { root };
         let lock_at = format!(in alloc; "{root}/{LOCK_NAME}")?;
@@ -134,27 +138,28 @@ impl<F> Gate<F> {
         }
     }
 
-    /// The path of the root folder.
+    /// Returns the path of the root directory.
     pub fn root(&self) -> &str {
         &self.root
     }
 
-    /// Whether the root was found, or found absent.
+    /// Returns whether the root is known to exist or to be absent.
     pub fn is_known(&self) -> bool {
         self.state != Root::Unknown
     }
 
-    /// Whether the root folder was there when it was looked at last.
+    /// Returns whether the root directory existed when it was last looked up.
     pub fn is_there(&self) -> bool {
         self.state == Root::There
     }
 
-    /// Whether no folder was there when it was looked at last.
+    /// Returns whether the root directory was absent when it was last looked up.
     pub fn is_absent(&self) -> bool {
         self.state == Root::Absent
     }
 
-    /// Why the root could not be entered, with what stands there that isn't ours.
+    /// Returns the error for a root that could not be used. It names the path of what isn't fpk's
+    /// there, if that is the reason.
     pub fn refusal(&self, alloc: Global, cause: Cause) -> SystemError {
         match &self.others {
             Some(at) => SystemError::on(alloc, Call::TakeOver, at, cause),
@@ -162,25 +167,25 @@ impl<F> Gate<F> {
         }
     }
 
-    /// Whether an earlier run may have left changes that are not on the disk.
+    /// Returns whether an earlier command may have left unsynced changes.
     pub fn has_left(&self) -> bool {
         self.has_left
     }
 
-    /// How many bytes a file may have that is changed.
+    /// Returns the largest size in bytes of a file that is changed.
     pub fn largest_file(&self) -> u64 {
         self.largest
     }
 
-    /// Writes the path for the system: the root, a slash and the elements.
+    /// Replaces the content of `into` with the root, a slash and the elements of the path.
     pub fn write_path(&self, path: &Path, into: &mut String) -> Result<(), Cause> {
         join(&self.root, path.text(), into)
     }
 }
 
 impl<F: Write + Seek + OpenFile + Drop> Gate<F> {
-    /// Finds the root and takes the lock, once. A host that changes makes the root for it where it
-    /// is absent.
+    /// Finds the root and takes the lock, at the first call. If the host changes, an absent root is
+    /// made. Errs with `ResourceBusy` if what is locked was replaced 100 times.
     pub fn enter<R: System<File = F>>(
         &mut self,
         rt: &R,
@@ -193,7 +198,8 @@ impl<F: Write + Seek + OpenFile + Drop> Gate<F> {
         }
     }
 
-    /// A folder that was taken away meanwhile keeps nobody out: it begins anew.
+    /// Takes a reader's lock. Starts again if the directory was replaced meanwhile, since its lock
+    /// then excludes nobody.
     fn enter_to_look<R: System<File = F>>(&mut self, rt: &R) -> Result<(), Cause> {
         self.state = Root::Unknown;
         for _ in 0..TRIES {
@@ -206,7 +212,8 @@ impl<F: Write + Seek + OpenFile + Drop> Gate<F> {
         Err(BUSY)
     }
 
-    /// An absent root stays absent to the look, whatever is made meanwhile.
+    /// Keeps the lock. An absent root stays absent for this reader until `release`, even if another
+    /// process makes it meanwhile.
     fn keep_sight(&mut self, sight: Sight<F>) {
         self.state = if sight.is_absent() {
             Root::Absent
@@ -219,8 +226,9 @@ impl<F: Write + Seek + OpenFile + Drop> Gate<F> {
         };
     }
 
-    /// A lock file that was taken away meanwhile keeps nobody out: it begins anew. Where no mark may
-    /// be written, nothing is changed.
+    /// Makes the root if it is absent, and takes the lock of the lock file. Starts again if the
+    /// lock file was removed meanwhile, since its lock then excludes nobody. Errs with `TOO_LARGE`
+    /// if the process may not write a file as large as a mark.
     fn enter_to_change<R: System<File = F>>(
         &mut self,
         rt: &R,
@@ -238,7 +246,8 @@ impl<F: Write + Seek + OpenFile + Drop> Gate<F> {
         Err(BUSY)
     }
 
-    /// Answers whether it has the lock of the file that stands there.
+    /// Tries once to take the lock of the lock file, and returns whether the locked file is still
+    /// at its path.
     fn try_to_change<R: System<File = F>>(
         &mut self,
         rt: &R,
@@ -255,7 +264,8 @@ impl<F: Write + Seek + OpenFile + Drop> Gate<F> {
         }
     }
 
-    /// A folder without a lock file may be another's: what fpk would take away there is an error.
+    /// Errs with `NotOurs` if the directory, which has no lock file, may be another's: fpk would
+    /// remove something in it.
     fn must_be_ours<R: System<File = F>>(&mut self, rt: &R) -> Result<(), Cause> {
         self.others = find_others(rt, rt.alloc(), &self.root, &LAYOUT)?;
         match self.others {
@@ -264,7 +274,8 @@ impl<F: Write + Seek + OpenFile + Drop> Gate<F> {
         }
     }
 
-    /// A lock file that is absent from a folder that was there before says nothing of earlier runs.
+    /// Keeps the lock. If the directory existed without a lock file, an earlier command may have
+    /// left unsynced changes, so a mark is written.
     fn keep(&mut self, mut hold: Hold<F>, found: Entry) -> Result<bool, Cause> {
         let is_unknown = found == Entry::Unlocked;
         self.has_left = is_unknown || hold.is_marked();
@@ -277,14 +288,15 @@ impl<F: Write + Seek + OpenFile + Drop> Gate<F> {
         }
     }
 
-    /// Lets a lock to look go. Where another call comes it is taken again.
+    /// Releases a reader's lock. The next call takes it again.
     pub fn release(&mut self) {
         if matches!(self.lock, Lock::Shared(_) | Lock::Open) {
             self.lock = Lock::NotYet;
         }
     }
 
-    /// Keeps those out who look: a change is about to take a name away or to replace it.
+    /// Takes the lock of the root directory exclusively: a change is about to remove or replace a
+    /// name.
     pub fn keep_looks_out<R: System<File = F>>(&mut self, rt: &R) -> Result<(), Cause> {
         if self.alone.is_some() {
             return Ok(());
@@ -298,12 +310,13 @@ impl<F: Write + Seek + OpenFile + Drop> Gate<F> {
         }
     }
 
-    /// Lets those in again who look: all changes are synced.
+    /// Releases the exclusive lock of the root directory: all changes are synced.
     pub fn let_looks_in(&mut self) {
         self.alone = None;
     }
 
-    /// Marks that changes wait for a sync.
+    /// Marks in the lock file that changes wait for a sync. Errs with `OnlyLooks` if the host only
+    /// reads.
     pub fn mark(&mut self) -> Result<(), Cause> {
         match &mut self.lock {
             Lock::Whole(hold) => hold.mark(),
@@ -311,7 +324,7 @@ impl<F: Write + Seek + OpenFile + Drop> Gate<F> {
         }
     }
 
-    /// Takes the mark away.
+    /// Clears the mark in the lock file.
     pub fn clear(&mut self) -> Result<(), Cause> {
         match &mut self.lock {
             Lock::Whole(hold) => hold.clear(),
@@ -320,18 +333,18 @@ impl<F: Write + Seek + OpenFile + Drop> Gate<F> {
     }
 }
 
-/// How a host that changes finds the root.
+/// The state in which a change finds the root.
 #[derive(Clone, Copy, PartialEq, Eq)]
 enum Entry {
-    // It was made.
+    // It was just made.
     New,
-    // It is there without a lock file.
+    // It exists without a lock file.
     Unlocked,
     // It has a lock file.
     Old,
 }
 
-/// Makes the root where it is absent.
+/// Makes the root if it is absent. Returns the state in which it was found.
 fn find_or_make_root<R: System>(
     rt: &R,
     touched: &mut Touched,
@@ -345,7 +358,8 @@ fn find_or_make_root<R: System>(
     }
 }
 
-/// What there is of a lock file. A symlink isn't followed, and nothing but a regular file is opened.
+/// Returns `Old` if the root has a lock file, else `Unlocked`. Doesn't follow a symlink: errs with
+/// `NoLock` for anything but a regular file.
 fn find_lock_file<R: System>(rt: &R, lock_at: &str) -> Result<Entry, Cause> {
     match kind_at(rt, lock_at) {
         Ok(Kind::Absent) => Ok(Entry::Unlocked),
@@ -362,7 +376,7 @@ fn make_new_root<R: System>(rt: &R, touched: &mut Touched, root: &str) -> Result
     }
 }
 
-/// The lock to change, and none where another file is there by now.
+/// Takes the exclusive lock of the lock file. Returns `None` if another file is at the path by now.
 fn take_lock<R: System>(
     rt: &R,
     at: &str,
@@ -375,8 +389,8 @@ fn take_lock<R: System>(
     }
 }
 
-/// The lock of the file that stood there. It is opened only: what came in its place isn't changed
-/// before it is known to stand there.
+/// Locks the lock file that was found. It is opened without being created or truncated: if another
+/// file took its place, that one stays unchanged.
 fn hold_old<R: System>(rt: &R, at: &str, root: &str) -> Result<Option<Hold<R::File>>, Cause> {
     match known(OpenOptions::new().write(true).open(rt, at)) {
         Ok(file) => hold_opened(rt, file, at, root),
@@ -398,7 +412,8 @@ fn hold_opened<R: System>(
     }
 }
 
-/// The lock of a file that is made. What came there before is no error: it begins anew.
+/// Creates and locks the lock file. Returns `None` if another process created one first: the caller
+/// starts again.
 fn hold_new<R: System>(rt: &R, at: &str, root: &str) -> Result<Option<Hold<R::File>>, Cause> {
     match make_lock(rt, at) {
         Ok(file) => hold_made(rt, file, at, root),
@@ -429,7 +444,8 @@ fn hold_made<R: System>(
     }
 }
 
-/// Once a new file is held, all may read it, whatever the umask.
+/// Sets the permission bits of the new lock file once it is locked, so that all may read it,
+/// whatever the umask.
 fn open_to_all<R: System>(rt: &R, file: R::File, at: &str) -> Result<Option<Hold<R::File>>, Cause> {
     match known(file.set_permissions(Permissions::from_mode(LOCK_BITS))) {
         Ok(()) => Ok(Some(Hold::made(rt, file, at))),
@@ -437,7 +453,7 @@ fn open_to_all<R: System>(rt: &R, file: R::File, at: &str) -> Result<Option<Hold
     }
 }
 
-/// Takes the lock file alone, and answers whether it still stands at the path.
+/// Takes the exclusive lock of the lock file, and returns whether the file is still at the path.
 fn wait_for_file<R: System>(rt: &R, file: &R::File, at: &str, root: &str) -> Result<bool, Cause> {
     let wanted = Wanted {
         at,

@@ -1,4 +1,4 @@
-//! A lock file that is held to change an installation, and the mark of what is not yet synced.
+//! The locked lock file of a change, and its mark for unsynced changes.
 use crate::text::{CLEARED, UNKNOWN, is_mark, is_start};
 use fp_system::{Cause, known};
 use std::fs::OpenFile;
@@ -6,26 +6,27 @@ use std::io::{Seek, SeekFrom, Write};
 use std::rt::Files;
 use std::{fs, io};
 
-/// Where Linux tells a text that is another one after each start of the machine.
+/// The file in which Linux reports the boot id, a text that differs after each start of the
+/// machine.
 const BOOT_ID: &str = "/proc/sys/kernel/random/boot_id";
 
-/// A lock file that is open and locked. While changes are not yet synced, it holds the text of the
-/// machine's start as a mark. What is seen of an earlier start is on the disk, so its mark means
-/// nothing. What takes a mark's place is as long as it: no change but the first one of a new lock
-/// file takes a block of the disk for it.
+/// A lock file that is open and locked. While changes are unsynced it contains the boot id as a
+/// mark. What an earlier boot left is on the disk, so its mark means nothing. All texts have the
+/// same length and overwrite each other: only the first write to a new lock file needs a block of
+/// the disk.
 pub struct Hold<F> {
     file: F,
     boot: Option<String>,
     mark: Marking,
 }
 
-/// What is known of the mark.
+/// The state of the mark, as far as it is known.
 #[derive(Clone, Copy, PartialEq, Eq)]
 enum Marking {
     Absent,
-    // The text that this run writes.
+    // The text that this command writes.
     Ours,
-    // Another one, or what was written over it, or one that could not be cleared.
+    // Another text, one that was written over a mark, or a mark that could not be cleared.
     Other,
 }
 
@@ -40,26 +41,26 @@ impl<F: Drop> Drop for Hold<F> {
 }
 
 impl<F: Write + Seek + OpenFile + Drop> Hold<F> {
-    /// Of a file that is locked and stood there.
+    /// Creates the hold of a locked file that existed before.
     pub fn old<R: Files<File = F> + AllocGlobal>(rt: &R, file: F, at: &str) -> Self {
         let boot = read_start(rt);
         let mark = find_mark(rt, at, &boot);
         Hold { file, boot, mark }
     }
 
-    /// Of one that this process made.
+    /// Creates the hold of a locked file that this process created.
     pub fn made<R: Files<File = F> + AllocGlobal>(rt: &R, file: F, at: &str) -> Self {
         let boot = read_start(rt);
         let mark = find_mark_of_made(rt, &file, at, &boot);
         Hold { file, boot, mark }
     }
 
-    /// Whether there is a mark: a change may be unsynced.
+    /// Returns whether there is a mark: a change may be unsynced.
     pub fn is_marked(&self) -> bool {
         self.mark != Marking::Absent
     }
 
-    /// A change comes that is not yet synced.
+    /// Writes the mark before a change, unless it is written already.
     pub fn mark(&mut self) -> Result<(), Cause> {
         if self.mark == Marking::Ours {
             return Ok(());
@@ -71,7 +72,7 @@ impl<F: Write + Seek + OpenFile + Drop> Hold<F> {
         marked
     }
 
-    /// All changes are synced.
+    /// Clears the mark after a sync.
     pub fn clear(&mut self) -> Result<(), Cause> {
         if self.mark == Marking::Absent {
             return Ok(());
@@ -86,7 +87,7 @@ impl<F: Write + Seek + OpenFile + Drop> Hold<F> {
     }
 }
 
-/// The text of the machine's start, where the system tells one.
+/// Returns the boot id, if the system reports it.
 fn read_start<R: Files + AllocGlobal>(rt: &R) -> Option<String> {
     match fs::read_to_string(rt, BOOT_ID) {
         Ok(text) if is_start(text.as_str()) => Some(text),
@@ -101,7 +102,7 @@ fn mark_of(boot: &Option<String>) -> &str {
     }
 }
 
-/// What the file holds of a mark. One that can't be read may hold it.
+/// Reads the mark of the file. A file that can't be read may contain one.
 fn find_mark<R: Files + AllocGlobal>(rt: &R, at: &str, boot: &Option<String>) -> Marking {
     match fs::read_to_string(rt, at) {
         Ok(text) if text.as_str() == mark_of(boot) => Marking::Ours,
@@ -110,7 +111,8 @@ fn find_mark<R: Files + AllocGlobal>(rt: &R, at: &str, boot: &Option<String>) ->
     }
 }
 
-/// The same of a file that this process made. As long as it is empty nobody changed anything.
+/// Reads the mark of a file that this process created. An empty file has none: nothing was changed
+/// yet.
 fn find_mark_of_made<R: Files + AllocGlobal>(
     rt: &R,
     file: &R::File,
@@ -130,7 +132,7 @@ fn write_cleared<F: Write + Seek + OpenFile>(file: &mut F) -> io::Result<()> {
     }
 }
 
-/// Writes over what stands at the start of the file.
+/// Overwrites the start of the file.
 fn write_text<F: Write + Seek>(file: &mut F, text: &str) -> io::Result<()> {
     match file.seek(SeekFrom::Start(0)) {
         Ok(_) => file.write_all(text.as_bytes()),
@@ -138,7 +140,7 @@ fn write_text<F: Write + Seek>(file: &mut F, text: &str) -> io::Result<()> {
     }
 }
 
-/// Takes away what stood there that was longer than a mark.
+/// Truncates the file to the length of a mark.
 fn cut_rest<F: OpenFile>(file: &F) -> io::Result<()> {
     let length = CLEARED.len() as u64;
     match file.metadata() {

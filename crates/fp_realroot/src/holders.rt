@@ -1,4 +1,4 @@
-//! Who holds a lock, as Linux tells it.
+//! The processes that hold a lock, as Linux lists them.
 use fp_realsync::System;
 use fp_system::known;
 use std::alloc::{AllocError, Global};
@@ -6,13 +6,14 @@ use std::fs::{self, OpenFile};
 use std::os::unix::fs::MetadataExt;
 use std::rt::Files;
 
-/// Where Linux lists the locks that are held, and those that are waited for.
+/// The file in which Linux lists the locks that are held or waited for.
 const LOCKS: &str = "/proc/locks";
 
-/// What the line of a lock is called that `flock` took.
+/// The type of a lock taken by flock(2), in its line.
 const FLOCK: &str = "FLOCK";
 
-/// Says on standard error who holds the lock of an open file or folder, where the system tells it.
+/// Prints on standard error which processes hold the lock of an open file or directory, if the
+/// system reports it.
 pub fn tell_holders<R: System>(rt: &R, file: &R::File, at: &str) {
     match find_holders(rt, rt.alloc(), file) {
         Ok(Some(holders)) => {
@@ -24,7 +25,8 @@ pub fn tell_holders<R: System>(rt: &R, file: &R::File, at: &str) {
     }
 }
 
-/// The processes that hold the lock, with their names.
+/// Returns the processes that hold the lock, with their names, or `None` if the system reports no
+/// such process.
 fn find_holders<R: System>(
     rt: &R,
     alloc: Global,
@@ -41,15 +43,16 @@ fn find_holders<R: System>(
     name_all(rt, alloc, &processes)
 }
 
-/// How a file is named in the list of locks: the numbers of its device, and that of its inode.
+/// Returns the name of a file in `/proc/locks`: the major and minor numbers of its device in
+/// hexadecimal and the number of its inode in decimal, with colons between.
 pub fn place_of(alloc: Global, device: u64, inode: u64) -> Result<String, AllocError> {
     let major = device >> 8 & 0xfff;
     let minor = device & 0xff | device >> 12 & 0xfff00;
     format!(in alloc; "{major:02x}:{minor:02x}:{inode}")
 }
 
-/// The numbers of the processes that hold a lock at the place, in a list of locks. Who waits for
-/// one holds none.
+/// Returns the ids of the processes that hold a lock of this file, in a text as that of
+/// `/proc/locks`. Those that wait for one are left out.
 pub fn holders_at<'a>(
     alloc: Global,
     locks: &'a str,
@@ -64,8 +67,8 @@ pub fn holders_at<'a>(
     Ok(found)
 }
 
-/// The process of a line `1: FLOCK ADVISORY WRITE 4074 fe:00:131 0 EOF`. That of one that waits has
-/// an arrow in the second place.
+/// Returns the process of a line such as `1: FLOCK ADVISORY WRITE 4074 fe:00:131 0 EOF`. The line
+/// of a process that waits has `->` as its second word.
 fn holder_in<'a>(line: &'a str, place: &str) -> Option<&'a str> {
     let mut words = line.split_ascii_whitespace();
     let _number = words.next()?;
@@ -82,7 +85,7 @@ fn holder_in<'a>(line: &'a str, place: &str) -> Option<&'a str> {
     }
 }
 
-/// The processes with their names, and commas between. None where there is none.
+/// Returns the processes with their names, separated by commas, or `None` if the list is empty.
 fn name_all<R: Files + AllocGlobal>(
     rt: &R,
     alloc: Global,

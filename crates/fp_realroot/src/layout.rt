@@ -1,26 +1,28 @@
-//! What fpk keeps below a root.
+//! The paths below a root that fpk uses.
 
-/// The paths below a root at which fpk keeps something.
+/// The paths below a root that fpk uses.
 #[derive(Clone, Copy)]
 pub struct Layout {
-    /// The names at the top, those of older layouts too. What stands there under another name isn't
-    /// fpk's: the root may be a home folder, or the whole machine.
+    /// The names at the top, also those of older layouts. Any other name there isn't fpk's: the
+    /// root may be a home directory, or the whole machine.
     pub names: &'static [&'static str],
-    /// The files of which each installation has one, once something stands at the next two paths.
+    /// The files that mark an installation: it has at least one of them once anything is in
+    /// `exports` or `work`.
     pub signs: &'static [&'static str],
-    /// The folder of what is exported. What else stands below it is taken away.
+    /// The directory of exports. Anything else below it is removed.
     pub exports: &'static str,
-    /// The folder of work, which is emptied.
+    /// The directory of temporary files, which is emptied.
     pub work: &'static str,
-    /// How the names of new files there begin. A number follows.
+    /// The start of the names of new files in `work`. A number follows.
     pub new_file: &'static str,
-    /// The folder of the store's objects. Files that go there are dated.
+    /// The directory of the store's objects. Files that are moved there get the modification time
+    /// 0.
     pub objects: &'static str,
-    /// The folder where objects wait until they are moved there.
+    /// The directory where pulled objects wait until they are moved to `objects`.
     pub waiting: &'static str,
 }
 
-/// The paths of an installation. The tests see that they are those of its definitions.
+/// The paths of an installation. A test compares them with those of the specification.
 pub const LAYOUT: Layout = Layout {
     names: &[
         "app",

@@ -1,4 +1,4 @@
-//! What an earlier run may have left that was stopped before its own sync.
+//! The files and directories that an earlier command may have left unsynced when it crashed.
 use crate::gate::LOCK_NAME;
 use crate::roots::{above_root, folder_at};
 use fp_base::Text;
@@ -8,8 +8,8 @@ use std::alloc::Global;
 use std::io::ErrorKind;
 use std::rt::Files;
 
-/// Syncs the folders above the root, since a run that was stopped may have made them, and notes the
-/// root. A file system may take no sync of those above.
+/// Syncs the directories above the root, which a crashed command may have made, and notes the root.
+/// It is no error if their file system doesn't support a sync.
 pub fn sync_above_root<R: Files>(rt: &R, root: &str, touched: &mut Touched) {
     add_above(rt, above_root(root), touched);
     for end in 1..root.len() {
@@ -20,7 +20,8 @@ pub fn sync_above_root<R: Files>(rt: &R, root: &str, touched: &mut Touched) {
     touched.add_left(root);
 }
 
-/// A sync that failed is answered by the next sync of all. What could not be opened is opened then.
+/// Syncs a directory above the root. If the sync fails, the next sync of all returns the failure. A
+/// directory that could not be opened is noted, and opened again then.
 fn add_above<R: Files>(rt: &R, at: &str, touched: &mut Touched) {
     match sync_above(rt, at) {
         Some(unsynced) if unsynced.call == Call::Sync => touched.lose(at, unsynced),
@@ -29,8 +30,8 @@ fn add_above<R: Files>(rt: &R, at: &str, touched: &mut Touched) {
     }
 }
 
-/// Notes each file and folder of ours below the root. What may not be looked at or listed isn't
-/// ours, nor what has a name that isn't UTF-8: it is left alone.
+/// Notes each file and directory of fpk's below the root. Leaves out what can't be looked up or
+/// listed for lack of permission, and names that aren't UTF-8, since they aren't fpk's.
 pub fn add_below<R: Files + AllocGlobal>(
     rt: &R,
     alloc: Global,
@@ -45,7 +46,8 @@ pub fn add_below<R: Files + AllocGlobal>(
     }
 }
 
-/// Notes the lock file and what stands at our names at the top, and gathers the folders of them.
+/// Notes the lock file and what is at fpk's names at the top, and collects the directories among
+/// them.
 fn add_own<R: Files>(
     rt: &R,
     alloc: Global,
@@ -61,7 +63,7 @@ fn add_own<R: Files>(
     Ok(())
 }
 
-/// Goes through the folders, and those that are found in them.
+/// Notes the content of the directories, and of those that are found in them.
 fn add_folders<R: Files + AllocGlobal>(
     rt: &R,
     alloc: Global,
@@ -90,7 +92,8 @@ fn add_in<R: Files + AllocGlobal>(
     }
 }
 
-/// What isn't ours, or went away since, is left alone.
+/// Ignores the error of what was removed meanwhile, or can't be read for lack of permission since
+/// it isn't fpk's.
 fn spare(cause: Cause) -> Result<(), Cause> {
     if cause.is_absence() || cause.is(ErrorKind::PermissionDenied) {
         return Ok(());
@@ -126,7 +129,7 @@ fn add_name<R: Files>(
     }
 }
 
-/// Notes the file or folder that stands there.
+/// Notes the file or directory at the path.
 fn add_found<R: Files>(
     rt: &R,
     at: String,

@@ -1,4 +1,4 @@
-//! The root folder of a host, and the lock that keeps others out.
+//! The root directory of a host, and the locks that keep other processes out.
 #![tactic(auto)]
 
 mod folder;

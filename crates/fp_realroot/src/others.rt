@@ -1,13 +1,13 @@
-//! Whether a folder without a lock file holds what isn't fpk's.
+//! The search in a directory without a lock file for what isn't fpk's.
 use crate::layout::Layout;
 use fp_base::Text;
 use fp_system::{Cause, Kind, OddNames, folder_of, kind_at, read_names};
 use std::alloc::Global;
 use std::rt::Files;
 
-/// The path of something that isn't fpk's, and that a change would take away. None where a file
-/// shows that the folder is fpk's: it is looked for once more at the end, since another fpk may
-/// begin meanwhile.
+/// Returns the path of something that isn't fpk's and that a change would remove. Returns `None` if
+/// there is nothing, or a file marks the directory as an installation; that is checked again at the
+/// end, since another fpk may begin to use it meanwhile. Errs at a name that isn't UTF-8.
 pub fn find_others<R: Files + AllocGlobal>(
     rt: &R,
     alloc: Global,
@@ -23,7 +23,7 @@ pub fn find_others<R: Files + AllocGlobal>(
     }
 }
 
-/// Whether one of the files stands there of which each installation has one.
+/// Returns whether one of the files that mark an installation exists.
 fn has_sign<R: Files>(rt: &R, alloc: Global, root: &str, layout: &Layout) -> Result<bool, Cause> {
     for sign in layout.signs {
         if kind_below(rt, alloc, root, sign)? != Kind::Absent {
@@ -33,7 +33,7 @@ fn has_sign<R: Files>(rt: &R, alloc: Global, root: &str, layout: &Layout) -> Res
     Ok(false)
 }
 
-/// What stands below the root at a path. A symlink isn't followed.
+/// Returns the type of what is at a path below the root, without following a symlink.
 fn kind_below<R: Files>(rt: &R, alloc: Global, root: &str, path: &str) -> Result<Kind, Cause> {
     match format!(in alloc; "{root}/{path}") {
         Ok(at) => kind_at(rt, &at),
@@ -41,7 +41,8 @@ fn kind_below<R: Files>(rt: &R, alloc: Global, root: &str, path: &str) -> Result
     }
 }
 
-/// Something in the folder of what is exported, or else what is no new file in that of work.
+/// Returns a path in the directory of exports, or else one in the directory of temporary files that
+/// is no new file of fpk's.
 fn find_other<R: Files + AllocGlobal>(
     rt: &R,
     alloc: Global,
@@ -54,7 +55,8 @@ fn find_other<R: Files + AllocGlobal>(
     }
 }
 
-/// The path of a name in a folder below the root, but those of files that begin so.
+/// Returns the path of one name in a directory below the root, leaving out fpk's new files, whose
+/// names start with `new_file`. Returns `None` if there is no such name, or no such directory.
 fn find_in<R: Files + AllocGlobal>(
     rt: &R,
     alloc: Global,
@@ -70,7 +72,8 @@ fn find_in<R: Files + AllocGlobal>(
     find_name(rt, alloc, &folder, &names, new_file)
 }
 
-/// Whether a folder is at a path below the root, and what is above it there is one, too.
+/// Returns whether a directory is at a path of one or two elements below the root, and no symlink
+/// above it.
 fn is_folder_below<R: Files>(
     rt: &R,
     alloc: Global,
@@ -109,7 +112,7 @@ fn path_in(alloc: Global, folder: &str, name: &str) -> Result<Option<String>, Ca
     }
 }
 
-/// Whether it is a file whose name begins so and ends in a number.
+/// Returns whether it is a regular file whose name is `new_file` and a number.
 fn is_new_file<R: Files>(
     rt: &R,
     alloc: Global,

@@ -1,11 +1,11 @@
-//! The root folder of a host and those above it.
+//! The root directory of a host and the directories above it.
 use fp_realsync::Touched;
 use fp_system::{Cause, FOLDER_BITS, has_folder, known, set_bits};
 use std::fs::{self, DirBuilder};
 use std::os::unix::fs::DirBuilderExt;
 use std::rt::Files;
 
-/// Makes a folder that all may read and its owner may change, whatever the umask.
+/// Makes a directory with the permission bits 0o755, whatever the umask. Errs if the path exists.
 pub fn make_folder<R: Files>(rt: &R, at: &str) -> Result<(), Cause> {
     match known(DirBuilder::new().mode(FOLDER_BITS).create(rt, at)) {
         Ok(()) => set_bits(rt, at, FOLDER_BITS),
@@ -13,8 +13,8 @@ pub fn make_folder<R: Files>(rt: &R, at: &str) -> Result<(), Cause> {
     }
 }
 
-/// Makes the folder and those above it where they are absent. Those above it get the permission
-/// bits that the umask leaves: they aren't ours.
+/// Makes the directory and those above it, where they are absent, and notes each one that it made.
+/// Those above it aren't fpk's and get the permission bits that the umask leaves.
 pub fn make_root<R: Files>(rt: &R, touched: &mut Touched, root: &str) -> Result<(), Cause> {
     for end in 1..root.len() {
         if let Some(above) = folder_at(root, end) {
@@ -26,7 +26,7 @@ pub fn make_root<R: Files>(rt: &R, touched: &mut Touched, root: &str) -> Result<
     note_made(rt, touched, root, made)
 }
 
-/// The folder above the root whose path ends at this place of its text.
+/// Returns the directory above the root whose path ends at this byte offset, if a slash is there.
 pub fn folder_at(root: &str, end: usize) -> Option<&str> {
     match root.split_at_checked(end) {
         Some((above, rest)) if rest.starts_with('/') => Some(above),
@@ -34,7 +34,8 @@ pub fn folder_at(root: &str, end: usize) -> Option<&str> {
     }
 }
 
-/// Notes a folder that was made. It may have been there before, and another process may come before.
+/// Notes a directory that was made. It is no error if a directory was there already, or another
+/// process made it first.
 fn note_made<R: Files>(
     rt: &R,
     touched: &mut Touched,
@@ -58,7 +59,7 @@ fn must_be_there<R: Files>(rt: &R, at: &str, refused: Cause) -> Result<(), Cause
     }
 }
 
-/// The folder that the first one of the root's path stands in.
+/// Returns the directory in which the first element of the root's path is: `/` or `.`.
 pub fn above_root(root: &str) -> &str {
     if root.starts_with('/') { "/" } else { "." }
 }

@@ -1,10 +1,10 @@
-//! Whether an open file still stands at its path.
+//! The test whether an open file is still at its path.
 use fp_system::{Cause, known};
 use std::fs::{self, Metadata, OpenFile};
 use std::os::unix::fs::MetadataExt;
 use std::rt::Files;
 
-/// Whether what stands at the path is the open file. A symlink isn't followed.
+/// Returns whether the open file is at the path, without following a symlink.
 pub fn stands_at<R: Files>(rt: &R, file: &R::File, at: &str) -> Result<bool, Cause> {
     match known(file.metadata()) {
         Ok(opened) => is_at(rt, &opened, at),
@@ -12,7 +12,7 @@ pub fn stands_at<R: Files>(rt: &R, file: &R::File, at: &str) -> Result<bool, Cau
     }
 }
 
-/// Whether the path leads to the open folder. A symlink is followed.
+/// Returns whether the path leads to the open directory, following symlinks.
 pub fn leads_to<R: Files>(rt: &R, folder: &R::File, at: &str) -> Result<bool, Cause> {
     match known(folder.metadata()) {
         Ok(opened) => is_one_with(&opened, known(fs::metadata(rt, at))),
@@ -24,7 +24,7 @@ fn is_at<R: Files>(rt: &R, opened: &Metadata, at: &str) -> Result<bool, Cause> {
     is_one_with(opened, known(fs::symlink_metadata(rt, at)))
 }
 
-/// Where nothing stands there any more, it isn't.
+/// Returns whether both are the same inode of the same device; false if nothing is at the path.
 fn is_one_with(opened: &Metadata, found: Result<Metadata, Cause>) -> Result<bool, Cause> {
     match found {
         Ok(found) => Ok(are_one(opened, &found)),

@@ -1,22 +1,24 @@
-//! What a lock file may hold. Its texts are of one length, so that each is written over another.
+//! The texts of a lock file. All have the same length, so that each can overwrite another in place.
 
-/// A mark where the system tells no text of the machine's start.
+/// The mark if the system reports no boot id.
 pub const UNKNOWN: &str = "unknown-----------------------------\n";
 
-/// What takes the place of a mark once all is synced.
+/// The text that replaces a mark after a sync.
 pub const CLEARED: &str = "------------------------------------\n";
 
-/// How many bytes each of these texts has.
+/// The length of each of these texts in bytes.
 pub const MARK_BYTES: u64 = 37;
 
-/// The places of the dashes in the text of a start, and where its line ends.
+/// The offsets of the dashes in a boot id.
 const DASHES: [usize; 4] = [8, 13, 18, 23];
 
+/// The offset of the newline after a boot id.
 const END: usize = 36;
 
-/// Whether the text of a lock file that stood there marks changes that may be unsynced, in this
-/// start of the machine. A cleared one is none, nor the text of another start. Anything else was
-/// written over one; and the empty text is that of a file that took the place of another.
+/// Returns whether the text of a lock file marks changes that may be unsynced. `CLEARED` is no
+/// mark. If the boot id `boot` is known, another boot id is no mark either, since what an earlier
+/// boot left is on the disk. Any other text is a mark, also the empty one: that of a new file which
+/// replaced another.
 pub fn is_mark(text: &str, boot: &Option<String>) -> bool {
     match boot {
         _ if text == CLEARED => false,
@@ -25,7 +27,8 @@ pub fn is_mark(text: &str, boot: &Option<String>) -> bool {
     }
 }
 
-/// Whether it may be the text of a start: a line of hexadecimal digits, with dashes.
+/// Returns whether the text may be a boot id: a line of 36 hexadecimal digits and dashes, as a
+/// UUID.
 pub fn is_start(text: &str) -> bool {
     text.len() == CLEARED.len() && is_spelled(text)
 }

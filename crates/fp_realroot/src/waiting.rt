@@ -1,26 +1,26 @@
-//! Locks that are waited for, and what is said of that.
+//! Waiting for a lock, with messages on standard error.
 use crate::holders::tell_holders;
 use fp_realsync::{Access, System};
 use fp_system::{Cause, known};
 
-/// After so many seconds it is said again that a lock is waited for, and who holds it.
+/// The seconds of waiting after which a second message names the processes that hold the lock.
 const PATIENCE: u64 = 10;
 
-/// What is waited for.
+/// A lock to take.
 #[derive(Clone, Copy)]
 pub struct Wanted<'a> {
-    /// The path of what is locked.
+    /// The path of the file or directory.
     pub at: &'a str,
-    /// What it is locked for.
+    /// The kind of lock.
     pub access: Access,
-    /// What another one does that holds it, as it is said.
+    /// The verb in the message: what the process that holds the lock does.
     pub doing: &'a str,
-    /// The root folder.
+    /// The path of the root directory.
     pub root: &'a str,
 }
 
-/// Takes the lock of an open file or folder. Who has to wait says so, and after a while who holds
-/// it.
+/// Takes the lock of an open file or directory. If it has to wait, prints a message on standard
+/// error, and after ten seconds another that names the processes that hold the lock.
 pub fn wait<R: System>(rt: &R, file: &R::File, wanted: Wanted<'_>) -> Result<(), Cause> {
     match known(rt.try_lock(file, wanted.access)) {
         Ok(true) => Ok(()),

@@ -1,4 +1,4 @@
-//! What the adapters need of a system, and what waits there for a sync.
+//! The system calls that the adapters need, and the changes that wait for a sync.
 #![tactic(auto)]
 
 mod open_files;

@@ -6,12 +6,12 @@ use std::alloc::{AllocError, Global};
 use std::collections::BTreeMap;
 use std::thread::Threads;
 
-/// As many are open at most. A thread costs a dozen calls of the system, so they are synced many at
-/// a time. Where a process may have no more than 256 open files, that leaves enough for what is
-/// read and for what the process was given.
+/// The most files that stay open. Starting a thread costs a dozen system calls, so many files are
+/// synced at a time. With a limit of 256 open files, this leaves enough for the files that are read
+/// and those that the process inherited.
 const MOST: usize = 192;
 
-/// New files that stay open, by their paths, so that none is opened again for its sync.
+/// New files that stay open, by path, so that none has to be opened again to be synced.
 pub struct OpenFiles<F> {
     alloc: Global,
     files: BTreeMap<String, F>,
@@ -24,7 +24,7 @@ impl<F: Drop> Drop for OpenFiles<F> {
 }
 
 impl<F: Drop> OpenFiles<F> {
-    /// None yet.
+    /// Creates an empty set.
     pub fn nothing(alloc: Global) -> Self {
         OpenFiles {
             alloc,
@@ -32,20 +32,20 @@ impl<F: Drop> OpenFiles<F> {
         }
     }
 
-    /// Whether no more are to stay open.
+    /// Returns whether no more files may stay open.
     pub fn are_full(&self) -> bool {
         self.files.len() >= MOST
     }
 
-    /// Keeps a file open, where there is memory and no more are open than may be. Else it is
-    /// closed, and synced by its path.
+    /// Keeps a file open. If too many are open, or memory runs out, closes it; it is then synced by
+    /// its path.
     pub fn keep(&mut self, at: &str, file: F) {
         if self.files.len() < MOST {
             let _kept = insert(self.alloc, &mut self.files, at, file);
         }
     }
 
-    /// The path has no file any more, or another one.
+    /// Closes the file at the path if it is open. Called when it was removed, moved or replaced.
     pub fn close_at(&mut self, at: &str) {
         self.files.remove(at);
     }
@@ -62,8 +62,9 @@ fn insert<F: Drop>(
     Ok(())
 }
 
-/// Makes the files last, by several threads where the system has them, and closes them. Where there
-/// is no memory for a list of them, they are only closed.
+/// Syncs and closes the files, by several threads if the system has them, and notes the outcome in
+/// `touched`. If memory runs out for a list of them, only closes them; they are then synced by
+/// their paths.
 pub fn sync_open<R: System, T: Threads + Sync>(
     rt: &R,
     threads: &T,
@@ -99,7 +100,7 @@ fn list_of<'a, F>(alloc: Global, files: &'a BTreeMap<String, F>) -> Result<Vec<&
     Ok(list)
 }
 
-/// Notes that the files are synced, or which of them is not.
+/// Notes that the files are synced, or the first that could not be.
 fn tell<F>(files: &BTreeMap<String, F>, met: Option<Failure>, touched: &mut Touched) {
     match met {
         Some(failure) => tell_failure(files, failure, touched),

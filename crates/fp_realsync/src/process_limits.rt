@@ -1,24 +1,25 @@
-//! How many threads make files at one time, and how large a file may be.
+//! The limits of the process: how many threads create files, and how large a file may get.
 use std::fs;
 use std::rt::Files;
 
-/// As many at most. A journal takes the syncs of all that wait for it together.
+/// The most threads that create files. A file system's journal commits the syncs of all threads
+/// that wait for it together.
 const MOST: usize = 64;
 
-/// Where Linux tells what a process may have.
+/// The file in which Linux lists the limits of the process.
 const LIMITS: &str = "/proc/self/limits";
 
-/// How the line begins that says how many files it may have open.
+/// The start of the line with the limit of open files.
 const OPEN_FILES: &str = "Max open files";
 
-/// How the line begins that says how large a file may be that the process writes.
+/// The start of the line with the limit of a file's size.
 const FILE_SIZE: &str = "Max file size";
 
-/// How many there may be where the system doesn't tell it.
+/// The assumed limit of open files if the system reports none.
 const FEW: usize = 64;
 
-/// How many threads make files, each of which has one open: at most a quarter of the files that the
-/// process may have open.
+/// Returns the number of threads that may create files, each of which has one open: a quarter of
+/// the limit of open files, at least 1 and at most 64.
 pub fn most_threads<R: Files + AllocGlobal>(rt: &R) -> usize {
     let files = match fs::read_to_string(rt, LIMITS) {
         Ok(text) => limit_in(&text, OPEN_FILES).unwrap_or(FEW),
@@ -27,8 +28,8 @@ pub fn most_threads<R: Files + AllocGlobal>(rt: &R) -> usize {
     (files / 4).clamp(1, MOST)
 }
 
-/// How many bytes a file may have that the process writes. Who writes more is ended by Linux
-/// (SIGXFSZ), so nothing asks for it.
+/// Returns the largest size in bytes of a file that the process may write. Linux ends a process
+/// that exceeds it (SIGXFSZ), so the size is checked before each write.
 pub fn largest_file<R: Files + AllocGlobal>(rt: &R) -> u64 {
     let bytes = match fs::read_to_string(rt, LIMITS) {
         Ok(text) => limit_in(&text, FILE_SIZE).unwrap_or(usize::MAX),
@@ -37,8 +38,8 @@ pub fn largest_file<R: Files + AllocGlobal>(rt: &R) -> u64 {
     bytes as u64
 }
 
-/// What the text of the limits says in a line that begins so. Where there is no limit, its line has
-/// no number.
+/// Returns the soft limit in the line that starts with `begin`, the largest number for `unlimited`,
+/// and `None` without such a line.
 fn limit_in(limits: &str, begin: &str) -> Option<usize> {
     for line in limits.lines() {
         if let Some(rest) = line.strip_prefix(begin) {

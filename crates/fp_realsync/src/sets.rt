@@ -1,12 +1,13 @@
-//! Sets of paths that are made to last.
+//! Sets of paths that are synced.
 use crate::system::System;
 use fp_system::{Failure, PathMap, Unsynced, is_denied, sync_each, sync_own};
 use std::alloc::{AllocError, Global};
 use std::thread::Threads;
 
-/// Makes all of a set last but the files that are synced already, by several threads where the
-/// system has them. The path of a failure is kept where there is memory. What may not be opened is
-/// spared where others may own it.
+/// Syncs all paths of a set, by several threads if the system has them, except those of `files`
+/// that are synced already. `spares` also leaves out paths that can't be opened for lack of
+/// permission, since others may own them. On an error, `refused` holds the path, if there was
+/// memory for it.
 pub fn sync_set<R: System, T: Threads + Sync, V>(
     rt: &R,
     threads: &T,
@@ -22,7 +23,8 @@ pub fn sync_set<R: System, T: Threads + Sync, V>(
     }
 }
 
-/// The paths of the set, ascending, without the files that are synced.
+/// Returns the paths of the set, ascending by their bytes, without the files that are synced
+/// already.
 fn list_of<'a, V>(
     alloc: Global,
     set: &'a PathMap<V>,
@@ -33,8 +35,9 @@ fn list_of<'a, V>(
     Ok(list)
 }
 
-/// What may not be opened as it is, is opened one after another: its permission bits are widened
-/// meanwhile, and a file may stand in the list under several names.
+/// Syncs the paths by threads. From the first one on that can't be opened for lack of permission,
+/// syncs them one after another: opening them changes permission bits for a moment, and a file may
+/// be in the list under several names.
 fn sync_list<R: System, T: Threads + Sync>(
     rt: &R,
     threads: &T,
@@ -47,7 +50,7 @@ fn sync_list<R: System, T: Threads + Sync>(
     }
 }
 
-/// The paths before this place are synced.
+/// Syncs the paths from this index on, one after another; those before it are synced.
 fn sync_rest<R: System>(rt: &R, paths: &[&str], place: usize, spares: bool) -> Option<Failure> {
     match paths.split_at_checked(place) {
         Some((_, rest)) => sync_own(rt, place, rest, spares),
@@ -75,7 +78,7 @@ fn keep(at: &str, refused: &mut String) {
     let _kept = refused.push_str(at);
 }
 
-/// One after another, where there is no memory for a list.
+/// Syncs the paths one after another, without memory for a list.
 fn sync_in_turn<R: System, V>(
     rt: &R,
     set: &PathMap<V>,

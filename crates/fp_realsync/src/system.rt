@@ -1,4 +1,4 @@
-//! What the adapters need of a system beside what std names.
+//! The system calls that the adapters need besides those of std.
 ghost use Rattle.std.specs.Thread.{IsSync};
 
 use crate::process_limits::most_threads;
@@ -10,33 +10,33 @@ use std::rt::Files;
 use std::thread::Threads;
 use std::time::{Clock, Duration};
 
-/// What an installation is opened for, and what a lock is taken for.
+/// The purpose for which an installation is opened or a lock is taken.
 #[derive(Clone, Copy, PartialEq, Eq)]
 pub enum Access {
-    /// Reading: others may have the lock at the same time.
+    /// Reading, with a shared lock.
     Look,
-    /// Changing: nobody else may have the lock meanwhile.
+    /// Changing, with an exclusive lock.
     Change,
 }
 
-/// How often a lock is asked for in a second by whom it keeps waiting.
+/// The number of attempts per second to take a lock that another process holds.
 const TRIES_A_SECOND: u64 = 200;
 
-/// How many milliseconds there are between two of these tries.
+/// The pause between two attempts, in milliseconds.
 const PAUSE: u64 = 5;
 
-/// A system whose open files have advisory locks, as `flock` of Linux gives them: the system takes
-/// a lock away when the process that holds it ends, however it ends.
+/// A system whose open files have advisory locks, as by flock(2): the system releases a lock when
+/// the process that holds it ends, however it ends.
 pub trait System: Files + Eprint + AllocGlobal {
-    /// Takes the lock of the open file, and answers whether nobody else holds one that is in the
-    /// way.
+    /// Tries to take the lock of an open file without waiting. Returns false if a conflicting lock
+    /// is held.
     fn try_lock(&self, file: &Self::File, access: Access) -> io::Result<bool>;
 
-    /// Takes the lock of the open file, and waits while somebody else holds one that is in the way.
+    /// Takes the lock of an open file, and waits as long as a conflicting lock is held.
     fn lock(&self, file: &Self::File, access: Access) -> io::Result<()>;
 
-    /// The same for about so many seconds, and answers whether it has the lock then. A system that
-    /// knows no clock waits as long as it takes.
+    /// Takes the lock of an open file, and waits about this many seconds at most. Returns whether
+    /// the lock is taken. A system without a clock waits without a limit.
     fn lock_within(&self, file: &Self::File, access: Access, _seconds: u64) -> io::Result<bool> {
         match self.lock(file, access) {
             Ok(()) => Ok(true),
@@ -44,29 +44,29 @@ pub trait System: Files + Eprint + AllocGlobal {
         }
     }
 
-    /// Makes the files and folders at these paths last, as they may be opened, and answers the
-    /// first that failed; but one whose sync failed comes before one that could not be opened. What
-    /// is gone is left out.
+    /// Syncs the files and directories at these paths, without changing permission bits to open
+    /// them. Returns the first failure; but a failed sync precedes a path that could not be opened.
+    /// Absent paths are left out.
     fn sync_paths<T: Threads + Sync>(&self, threads: &T, paths: &[&str]) -> Option<Failure>
         requires sync { IsSync T.row };
 
-    /// Makes open files last, and answers the first that failed.
+    /// Syncs open files, and returns the first failure.
     fn sync_files<T: Threads + Sync>(&self, _threads: &T, files: &[&Self::File]) -> Option<Failure>
         requires sync { IsSync T.row }
     {
         sync_open_in_turn(files)
     }
 
-    /// Makes new files, which last then. They may be made at once, or by threads that are at work
-    /// until they are joined.
+    /// Creates and syncs new files, either before it returns or by threads that run until they are
+    /// joined.
     fn make_files<T: Threads>(&self, _threads: &T, files: Vec<NewFile>) -> Work {
         Work::at_once(self, self.alloc(), files)
     }
 
-    /// Whether the standard output is a terminal.
+    /// Returns whether standard output is a terminal.
     fn prints_to_terminal(&self) -> bool;
 
-    /// Whether standard error is a terminal.
+    /// Returns whether standard error is a terminal.
     fn complains_to_terminal(&self) -> bool {
         false
     }

@@ -1,4 +1,4 @@
-//! What was changed since the last sync.
+//! The changes since the last sync.
 ghost use Rattle.std.specs.Prelude.{◌≡◌, Bool, true, OnOk};
 
 use crate::sets::sync_set;
@@ -8,22 +8,23 @@ use std::alloc::{AllocError, Global};
 use std::marker::Model;
 use std::thread::Threads;
 
-/// The files that were created or written and the folders whose names changed since the last sync,
-/// by their paths. A file stands here under each of its names. Where there is no memory to note a
-/// change, no later sync succeeds. Contracts see whether nothing waits for a sync.
+/// The changes that wait for a sync, by path: the files that were created since the last one, each
+/// under all of its names, the directories whose names changed, and what an earlier command may
+/// have left unsynced. If memory runs out for a change, no later sync succeeds. Contracts see
+/// whether nothing waits for a sync.
 #[derive(Drop)]
 pub struct Touched {
     alloc: Global,
-    // What an earlier run may have left.
+    // The files and directories that an earlier command may have left unsynced.
     left: PathMap<()>,
-    // The files, and whether each was synced, and not written since.
+    // The files, each with whether it was synced and not written since.
     files: PathMap<bool>,
     folders: PathMap<()>,
     is_settled: bool,
-    // A change could not be noted, or a sync of it failed, after which the system forgets it: no
-    // later sync succeeds.
+    // A change could not be noted, or a sync failed, after which the system may have dropped the
+    // data: no later sync succeeds.
     is_lost: bool,
-    // What the sync of an open file met, until it is answered, and the path.
+    // The first failure with an open or new file and its path, until the next sync returns it.
     met: Option<Unsynced>,
     met_at: String,
 }
@@ -37,7 +38,7 @@ impl Model for Touched {
 }
 
 impl Touched {
-    /// Nothing was changed.
+    /// Creates an empty set of changes.
     pub fn nothing(alloc: Global) -> Self {
         Touched {
             alloc,
@@ -51,17 +52,17 @@ impl Touched {
         }
     }
 
-    /// Whether nothing waits for a sync.
+    /// Returns whether nothing waits for a sync.
     pub fn is_settled(&self) -> bool {
         self.is_settled
     }
 
-    /// Whether the file was created since the last sync.
+    /// Returns whether the file was created since the last sync.
     pub fn has_file(&self, at: &str) -> bool {
         self.files.has(at)
     }
 
-    /// An earlier run may have left this file or folder.
+    /// Notes a file or directory that an earlier command may have left unsynced.
     pub fn add_left(&mut self, at: &str) {
         let noted = self.left.put(at, ());
         self.keep(noted);
@@ -82,29 +83,29 @@ impl Touched {
         self.is_lost |= noted.is_err();
     }
 
-    /// A name came into the folder, or went.
+    /// Notes that the name of the path was added to its directory, or removed.
     pub fn add_name(&mut self, at: &str) {
         self.add_folder(folder_of(at));
     }
 
-    /// A folder was made.
+    /// Notes a directory that was made.
     pub fn add_made(&mut self, at: &str) {
         self.add_folder(at);
         self.add_name(at);
     }
 
-    /// A file was created.
+    /// Notes a file that was created.
     pub fn add_created(&mut self, at: &str) {
         self.add_file(at);
         self.add_name(at);
     }
 
-    /// Bytes are written to a file that was created.
+    /// Notes that bytes are appended to a file that was created since the last sync.
     pub fn add_written(&mut self, at: &str) {
         self.mark(at, false);
     }
 
-    /// The file is synced before the next sync of all.
+    /// Notes that the file is synced already, so that the next `sync` leaves it out.
     pub fn add_synced(&mut self, at: &str) {
         self.mark(at, true);
     }
@@ -115,7 +116,8 @@ impl Touched {
         }
     }
 
-    /// A file could not be synced, which the next sync answers.
+    /// Notes a file that could not be synced. The next `sync` returns the failure, and no later one
+    /// succeeds.
     pub fn lose(&mut self, at: &str, met: Unsynced) {
         if self.met.is_none() {
             self.met = Some(met);
@@ -125,7 +127,7 @@ impl Touched {
         self.is_lost = true;
     }
 
-    /// The second path became another name of the first one's file.
+    /// Notes that the second path became a hard link of the file at the first.
     pub fn add_linked(&mut self, from: &str, to: &str) {
         if self.has_file(from) {
             self.add_file(to);
@@ -133,7 +135,7 @@ impl Touched {
         self.add_name(to);
     }
 
-    /// The file or symlink went to the second path.
+    /// Notes that the file or symlink was moved to the second path.
     pub fn add_moved(&mut self, from: &str, to: &str) {
         self.files.remove(to);
         if self.files.remove(from).is_some() {
@@ -143,20 +145,21 @@ impl Touched {
         self.add_name(to);
     }
 
-    /// The file or symlink was taken away.
+    /// Notes that the file or symlink was removed.
     pub fn add_gone(&mut self, at: &str) {
         self.files.remove(at);
         self.add_name(at);
     }
 
-    /// The folder was taken away.
+    /// Notes that the directory was removed.
     pub fn add_gone_folder(&mut self, at: &str) {
         self.folders.remove(at);
         self.add_name(at);
     }
 
-    /// Makes all of it last, the files before the folders. On an error it stays as it was, and the
-    /// path is in the buffer.
+    /// Syncs all noted files and directories: first what an earlier command left, then the files,
+    /// then the directories. On an error the notes stay, and `at` holds the path, or is empty if it
+    /// isn't known. If a sync itself failed, no later one succeeds.
     pub fn sync<R: System, T: Threads + Sync>(
         &mut self,
         rt: &R,
@@ -206,8 +209,7 @@ impl Touched {
     }
 }
 
-/// What the sync of an open file met, with its path in the buffer, or else that something may be
-/// lost.
+/// Returns the noted failure, with its path in `at`; else `MayBeLost`, with an empty `at`.
 fn told(met: Option<Unsynced>, met_at: &str, at: &mut String) -> Unsynced {
     at.clear();
     match met {

@@ -1,7 +1,8 @@
-//! The permission bits of files that their owner is to read nothing of.
+//! The permission bits of files that their owner may not read.
 use fp_realplay::tell;
 
-/// What is asked for is told, and what stands on the disk; also of a copy in the place of a second name.
+/// Files, and a copy in place of a hard link, whose `stat` reports the bits asked for. On the disk,
+/// the owner may read them and the sticky bit marks those that he wasn't to read.
 const BITS: &str = "\
 # bits
 -- On the disk the owner may read each, and the sticky bit tells which he was not to.

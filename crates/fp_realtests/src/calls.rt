@@ -1,7 +1,8 @@
-//! What each call does to a real folder.
+//! The effect of each call on a real directory.
 use fp_realplay::tell;
 
-/// Calls that are done, and what shows them; calls that are refused; ids and pieces of files.
+/// Calls that are done, with their effects; calls that fail; the ids of files; and reads at
+/// offsets.
 const CALLS: &str = "\
 # asked
 -- Calls, a path, and what it shows after each.

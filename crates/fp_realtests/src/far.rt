@@ -1,4 +1,4 @@
-//! How far a command is, as its line says on a terminal.
+//! The progress line of a command on a terminal.
 use fp_progress::{Progress, Task, Watched};
 use fp_realplay::{Kind, Log, Logged, clear, pair, play_disk};
 use fp_realroot::System;
@@ -30,12 +30,12 @@ const FILE_B: &str =
 const FILE_C: &str =
     "far/hub/objects/6e/56590e2bb5709ac248a8207966749ea44c0fa06551d263704596ba4fd93dd4.file";
 
-/// A ref with a long ID.
+/// The path of a ref with a long ID.
 const LONG_REF: &str =
     "far/hub/refs/heads/app/org.example.a.b.c.d.e.f.g.h.i.j.k.l.m.n.o.p.q.r.s.t.u.v.w.x\
     .y.z.Long.Name/x86_64/1";
 
-/// The folders that stand before.
+/// The directories that exist before the calls.
 const FOLDERS: &str = "\
 folder far/hub/refs/heads/app/org.x.App/x86_64
 folder far/hub/refs/heads/app/org.example.a.b.c.d.e.f.g.h.i.j.k.l.m.n.o.p.q.r.s.t.u.v.w.x\
@@ -50,10 +50,11 @@ folder far/hub/objects/6e
 folder far/repo/objects/23
 ";
 
-/// What both refs name.
+/// The content of both refs: the digest of the commit.
 const NAMED: &[u8] = b"7f2461fb4eec56b10606e193425ebfd413e516485530fe77cf1637c1836c0360\n";
 
-/// What `ostree commit` wrote of a tree with the files `a` and `b`, and a folder with the file `c`.
+/// The dirtree that `ostree commit` wrote for a tree with the files `a` and `b` and a directory
+/// with the file `c`.
 const TOP_TREE: &[u8] =
     b"a\x00\x23\x01\xb5\x92\x37\x20\xc3\xed\xc1\xf0\x46\x7a\xdd\xb5\xc2\x87\xfd\x55\x59\xe3\xe0\
     \xcd\x13\x96\xe7\xf1\xed\xb6\xb0\x1b\xe9\xf0\x02b\x00\x7e\x01\x01\x8c\x6b\xe1\x6a\x17\x97\
@@ -63,12 +64,12 @@ const TOP_TREE: &[u8] =
     \x67\xf3\xb6\x03\xe5\x85\xc7\xee\xee\xb6\x75\xfa\xa4\x12\xd5\xec\x73\xf6\x29\x88\xeb\x0b\
     \x6c\x54\x88\x22\x02\x44\x48";
 
-/// The same of the folder.
+/// The dirtree that `ostree commit` wrote for the directory with the file `c`.
 const TREE_BELOW: &[u8] =
     b"c\x00\x6e\x56\x59\x0e\x2b\xb5\x70\x9a\xc2\x48\xa8\x20\x79\x66\x74\x9e\xa4\x4c\x0f\xa0\x65\
     \x51\xd2\x63\x70\x45\x96\xba\x4f\xd9\x3d\xd4\x02\x23\x24";
 
-/// What an install asks, and what its line says then.
+/// The calls of an install, each with the progress line after it.
 const INSTALL: &str = "\
 fetch ref: installing ..
 fetch commit: installing org.x.App ..
@@ -91,7 +92,8 @@ remove far/laid: installing org.x.App 1 file removed
 remove far/out: installing org.x.App 2 files removed
 ";
 
-/// What an update asks that finds all but the commit and a file in the store.
+/// The calls of an update that finds all objects but the commit and one file in the store, each
+/// with the progress line after it.
 const UPDATE: &str = "\
 fetch ref: updating ..
 fetch commit: updating org.x.App ..
@@ -103,15 +105,15 @@ fetch commit: updating org.x.App 1 of 8 objects, 0 KiB
 fetch c: updating org.x.App 8 of 8 objects, 0 KiB
 ";
 
-/// What a look at each object asks.
+/// The reads of a check of objects, each with the progress line after it.
 const CHECK: &str = "\
 read commit: checking 1 object, 0 KiB
 read top: checking 2 objects, 0 KiB
 read a: checking 3 objects, 0 KiB
 ";
 
-/// What an uninstall asks of an application with a long ID. Its end alone is shown, so that a line has
-/// 79 columns.
+/// The calls of an uninstall of an application with a long ID, each with the progress line after
+/// it. Only the end of the ID is shown, so that a line has at most 79 columns.
 const UNINSTALL: &str = "\
 fetch long-ref: uninstalling ..
 fetch commit: uninstalling ..a.b.c.d.e.f.g.h.i.j.k.l.m.n.o.p.q.r.s.t.u.v.w.x.y.z.Long.Name ..
@@ -122,7 +124,8 @@ fn put(rt: &HostRuntime, log: &Log<'_>, at: &str, bytes: &[u8]) {
     log.demand(fs::write(rt, at, bytes).is_ok(), 0, at);
 }
 
-/// Of the objects but the dirtrees the names count alone.
+/// Writes the refs and the objects. Only the dirtrees have real content; of the other objects, only
+/// the names matter.
 fn write_all(rt: &HostRuntime, log: &Log<'_>) {
     play_disk(rt, log, FOLDERS);
     put(rt, log, REF, NAMED);
@@ -136,7 +139,7 @@ fn write_all(rt: &HostRuntime, log: &Log<'_>) {
     put(rt, log, FILE_C, b"hu");
 }
 
-/// The path that a word stands for, or the word itself.
+/// Returns the path that a word stands for, or the word itself.
 fn place(word: &str) -> &str {
     match word {
         "ref" => REF,
@@ -152,8 +155,8 @@ fn place(word: &str) -> &str {
     }
 }
 
-/// Whether what is asked for was done: bytes of a remote's file or of a host's, a sync of two
-/// folders, or a name that a file gets or loses.
+/// Makes a call and returns whether it was done: a read of a file of the remote or of the host, a
+/// sync of two directories, a rename, a link or a removal.
 fn is_done<T: Threads + Sync>(
     threads: &T,
     host: &Watched<'_, Logged<'_>>,
@@ -174,7 +177,8 @@ fn is_done<T: Threads + Sync>(
     }
 }
 
-/// The line that was said last, without the blanks at its end.
+/// Returns the last progress line that was printed since the last time, without the spaces at its
+/// end; none if there was none.
 fn last_line(alloc: Global, log: &Log<'_>) -> Option<String> {
     let noted = log.take();
     let (_, said) = noted.as_str().rsplit_once("complain \r")?;
@@ -182,7 +186,7 @@ fn last_line(alloc: Global, log: &Log<'_>) -> Option<String> {
     line.trim_end().to_string(alloc).ok()
 }
 
-/// Whether this is the line on a terminal. Elsewhere there is none.
+/// Returns whether the printed line is the expected one on a terminal, or there is none elsewhere.
 fn is_right(said: Option<&String>, is_terminal: bool, want: &str) -> bool {
     match said {
         Some(line) => is_terminal && line.as_str() == want,
@@ -190,8 +194,8 @@ fn is_right(said: Option<&String>, is_terminal: bool, want: &str) -> bool {
     }
 }
 
-/// Asks all of it, of a command for this whose line is on a terminal or not, and demands what each
-/// makes its line say. Nothing is said elsewhere.
+/// Makes the calls as a command with this task, and checks the progress line after each. If
+/// standard error is no terminal, no line may be printed.
 fn ask_all<'a, T: Threads + Sync>(
     rt: &'a HostRuntime,
     threads: &T,
@@ -212,7 +216,7 @@ fn ask_all<'a, T: Threads + Sync>(
     }
 }
 
-/// The same of a folder that is made before, and cleared.
+/// Sets up the directory, makes and checks the calls there, and clears it.
 fn ask_there<T: Threads + Sync>(
     rt: &HostRuntime,
     threads: &T,
@@ -226,7 +230,8 @@ fn ask_there<T: Threads + Sync>(
     clear(rt, "far");
 }
 
-/// Whether a command for this says these lines on a terminal, and none elsewhere.
+/// Returns whether a command with this task prints the expected lines on a terminal, and none
+/// elsewhere.
 fn says<T: Threads + Sync>(rt: &HostRuntime, threads: &T, task: Task, asks: &str) -> bool {
     let log = Log::new(rt.alloc(), Kind::Slow);
     ask_there(rt, threads, &log, (task, true), asks);

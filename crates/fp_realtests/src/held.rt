@@ -1,9 +1,9 @@
-//! The locks of an installation: a file for those who change it, and the folder for those who look.
+//! The locks of an installation: a change locks a file, and a reader locks the directory.
 use fp_realplay::{pair, tell, tell_each};
 use fp_realroot::{holders_at, place_of};
 use std::alloc::Global;
 
-/// A folder that comes while one looks.
+/// A root directory that is made while a command reads.
 const LATE: &str = "\
 # late_root
 -- A folder that comes after a look found none isn't looked into: what came first there would be
@@ -28,7 +28,7 @@ fn a_folder_that_was_absent_stays_so_to_a_look(rt: HostRuntime) {
     assert!(rt; tell(&rt, &rt, LATE));
 }
 
-/// What is waited for is replaced, or taken away.
+/// A file or directory that is replaced or removed while its lock is waited for.
 const REPLACED: &str = "\
 # lost replacing 1
 -- A lock file stands there.
@@ -98,7 +98,8 @@ fn the_lock_that_is_held_is_of_the_file_that_stands_there(rt: HostRuntime) {
     assert!(rt; tell(&rt, &rt, REPLACED));
 }
 
-/// A lock file that is replaced a hundred times is given up.
+/// A file or directory that is replaced 99 times while its lock is waited for, and is locked then;
+/// and one that is replaced each time, for which the call fails.
 const OFTEN: &str = "\
 # lost replacing 99
 -- What is opened for either gets a lock, or doesn't.
@@ -152,7 +153,7 @@ fn a_lock_is_not_waited_for_without_end(rt: HostRuntime) {
     assert!(rt; tell(&rt, &rt, OFTEN));
 }
 
-/// Whom the locks keep out, and who waits.
+/// The locks that a change and a reader hold after each call, and how they wait.
 const KEPT_OUT: &str = "\
 # held
 -- What a host is opened for, its call, and of the lock file and of the folder whether others
@@ -255,7 +256,8 @@ fn the_lock_keeps_others_out(rt: HostRuntime) {
     assert!(rt; tell(&rt, &rt, KEPT_OUT));
 }
 
-/// Those who look are kept out only from what they may see to the sync after it.
+/// A change that keeps readers out only from the first call whose effect they may notice to the
+/// next sync. A row of `SEEN` is that call.
 const STEPS: &str = "\
 # seen
 -- What a change does before a look may see any of it: it adds names, and does what it likes at
@@ -293,7 +295,8 @@ free seen
 held seen/.lock
 ";
 
-/// What a look may see: a name goes, gets another file, or comes with all that it leads to.
+/// Calls whose effect a reader may notice: each removes a name, replaces a file, or moves one into
+/// or out of what readers read.
 const SEEN: &str = "\
 unlink app/f
 --
@@ -314,7 +317,7 @@ fn a_look_is_kept_out_of_few_steps_of_a_change(rt: HostRuntime) {
     assert!(rt; tell_each(&rt, &rt, STEPS, SEEN));
 }
 
-/// A change that waits for those who look, and one that can't have the lock.
+/// A change that waits for readers before it removes a name, and one that can't take their lock.
 const WAITING: &str = "\
 # busy busy
 disk
@@ -356,7 +359,7 @@ fn a_change_waits_for_those_who_look(rt: HostRuntime) {
     assert!(rt; tell(&rt, &rt, WAITING));
 }
 
-/// Who waits for long says so once more.
+/// Commands that wait for more than ten seconds, and print that again.
 const STUCK: &str = "\
 # stuck stuck
 disk
@@ -382,8 +385,8 @@ fn who_waits_for_long_says_so_again(rt: HostRuntime) {
     assert!(rt; tell(&rt, &rt, STUCK));
 }
 
-/// Locks as Linux lists them: of three files, one of them held by two who look and waited for by
-/// one who changes.
+/// Locks as `/proc/locks` lists them, of three files. Two readers hold the lock of one of them, and
+/// a change waits for it.
 const LISTED: &str = "1: POSIX  ADVISORY  WRITE 3568 fd:00:2531452 0 EOF\n\
     2: FLOCK  ADVISORY  READ  3548 fe:00:131 0 EOF\n\
     2: -> FLOCK  ADVISORY  WRITE 3517 fe:00:131 0 EOF\n\
@@ -391,7 +394,7 @@ const LISTED: &str = "1: POSIX  ADVISORY  WRITE 3568 fd:00:2531452 0 EOF\n\
     4: FLOCK  ADVISORY  WRITE 4074 103:01:131 0 EOF\n\
     5: LEASE  ACTIVE    READ  21568 fe:00:131 0 EOF\n";
 
-/// The device and inode of a file, and which processes hold its lock.
+/// The device and inode numbers of files, and the processes that hold the flock(2) lock of each.
 const HOLDERS: &str = "\
 65024 131: 3548 3465
 66305 131: 4074
@@ -400,7 +403,7 @@ const HOLDERS: &str = "\
 1050668 131:
 ";
 
-/// How devices are written that are numbered so.
+/// The numbers of devices, and how `/proc/locks` writes the file with the inode 7 of each.
 const DEVICES: &str = "\
 65024 fe:00:7
 66305 103:01:7
@@ -408,7 +411,7 @@ const DEVICES: &str = "\
 37 00:25:7
 ";
 
-/// Whether the words of a text are these.
+/// Returns whether the text is these words, each after a space.
 fn are_words(words: &[&str], want: &str) -> bool {
     let mut rest = Some(want);
     for word in words {
@@ -448,7 +451,7 @@ fn is_place(alloc: Global, row: &str) -> bool {
     }
 }
 
-/// The first row that isn't so.
+/// Returns the first wrong row of both tables; none if all rows hold.
 fn wrong_row(alloc: Global) -> Option<&'static str> {
     for row in HOLDERS.lines() {
         if !are_held(alloc, row.trim_end()) {

@@ -1,7 +1,7 @@
-//! What other programs put in the way, how few files may be open, and how small they may have to be.
+//! Files that other programs put in the way, and low limits of open files and of a file's size.
 use fp_realplay::tell;
 
-/// A device, and a symlink in the place of a copy.
+/// A device, and a symlink at the path of a copy.
 const IN_THE_WAY: &str = "\
 # none
 -- A device is told as a symlink, and never opened.
@@ -30,7 +30,7 @@ fn what_is_in_the_way_is_left_alone(rt: HostRuntime) {
     assert!(rt; tell(&rt, &rt, IN_THE_WAY));
 }
 
-/// Four files may be open, the lock among them.
+/// A process that may have four open files, one of which is the lock file.
 const FEW: &str = "\
 # few narrow 4
 -- With four open files, the lock among them, each call is done: what is open is synced and
@@ -69,7 +69,7 @@ fn few_open_files_are_enough(rt: HostRuntime) {
     assert!(rt; tell(&rt, &rt, FEW));
 }
 
-/// What Linux tells of the size of files where `ulimit` has set it, and where it hasn't.
+/// Limits of a file's size as Linux reports them, with and without one set by `ulimit`.
 const LARGE: &str = "\
 # large limited large/limits
 disk

@@ -1,4 +1,4 @@
-//! An input as a source.
+//! A standard input as a source.
 use fp_host::{Source, Taken};
 use fp_realinput::StdinSource;
 use fp_realplay::is_message;
@@ -7,7 +7,7 @@ use std::cell::Cell;
 use std::io;
 use std::io::{BufRead, ErrorKind, Input, Lines, Read};
 
-/// An input whose reads are interrupted, give two bytes, fail, and are at the end, in turn.
+/// An input whose reads are interrupted, return two bytes, fail, and find the end, in turn.
 #[derive(Drop)]
 struct Turns<'a> {
     turn: &'a Cell<u8>,
@@ -55,7 +55,7 @@ impl<'a> Input for Turns<'a> {
     }
 }
 
-/// Three takes with room for four bytes, and one without room.
+/// Takes three times with room for four bytes, and once without room.
 fn takes<S: Source>(source: &mut S) -> [Taken; 4] {
     let mut into = [0u8; 4];
     [
@@ -66,7 +66,8 @@ fn takes<S: Source>(source: &mut S) -> [Taken; 4] {
     ]
 }
 
-/// Whether the four takes answer this in turn, and the fault is counted and told.
+/// Returns whether the four takes have the expected results, and the failure is counted and is the
+/// last error.
 fn is_source(alloc: Global) -> bool {
     let turn = Cell::new(0);
     let turns = Turns { turn: &turn };
@@ -83,7 +84,7 @@ fn an_input_is_a_source(rt: HostRuntime) {
     assert!(rt; is_source(rt.alloc()));
 }
 
-/// Whether what was taken is kept, where that is asked for.
+/// Returns whether a source that keeps its input keeps the bytes that were taken.
 fn keeps(alloc: Global) -> bool {
     let turn = Cell::new(1);
     let turns = Turns { turn: &turn };

@@ -1,4 +1,4 @@
-//! New files that threads make.
+//! New files that threads create.
 ghost use Rattle.std.specs.Thread.{IsSync};
 
 use fp_host::Host;
@@ -15,15 +15,15 @@ use std::rt::Files;
 use std::thread::{JoinHandle, Threads, spawn};
 use std::time::{Clock, Duration};
 
-/// How many milliseconds a thread needs to open a file.
+/// The milliseconds that a thread takes to open a file.
 const SLOWLY: u64 = 40;
 
-/// A file of this name is made by no thread, since the disk is full: ENOSPC of Linux.
+/// The name of a file that no thread can create, since the disk is full (`ENOSPC`).
 const FULL: &str = "full";
 
 const NO_SPACE: i32 = 28;
 
-/// One of this name is made by no thread, since too many files are open: EMFILE of Linux.
+/// The name of a file that no thread can create, since too many files are open (`EMFILE`).
 const CROWDED: &str = "crowded";
 
 const TOO_MANY: i32 = 24;
@@ -158,7 +158,8 @@ impl System for Slow {
     }
 }
 
-/// Files that threads make, and one among them, which is created in the second place.
+/// The first of the files that threads create. The file of a row comes next, and then those of
+/// `AFTER`.
 const BEFORE: &str = "create a 644\nappend a bytes";
 
 const AFTER: &str = "\
@@ -169,25 +170,25 @@ create d 644
 create e 644
 append e last";
 
-/// What they hold once they are made.
+/// The content of the files of `BEFORE` and `AFTER` once they are created.
 const MADE: &str = "\
 holds late/a bytes
 holds late/c more bytes
 holds late/d
 holds late/e last";
 
-/// What is asked between the other files, and what is asked last.
+/// The lines that are played between `BEFORE` and `AFTER`, and those that are played last.
 #[derive(Clone, Copy)]
 struct Row {
     between: &'static str,
     last: &'static str,
-    // The refusal that is told then, where there is one.
+    // The message of the last error; empty if there is none.
     told: &'static str,
 }
 
-/// The sync makes all; so does a rename of a file that waits, and what is read of one is there. A
-/// file that finds too many open files is made later, and one that cannot be made is told by the
-/// sync, once more by the next one.
+/// A sync creates all waiting files, and so does a rename of one of them, which has its bytes then.
+/// A file for which there were too many open files is created later. If a file can't be created,
+/// the next sync fails with the reason, and each later one fails too.
 const ROWS: [Row; 5] = [
     Row {
         between: "create b 644",
@@ -216,7 +217,7 @@ const ROWS: [Row; 5] = [
     },
 ];
 
-/// Whether just this refusal is told, or none.
+/// Returns whether the last error is the one of the row, or there is none if the row has none.
 fn is_told(alloc: Global, row: &Row, error: Option<&SystemError>) -> bool {
     match row.told {
         "" => error.is_none(),
@@ -224,7 +225,7 @@ fn is_told(alloc: Global, row: &Row, error: Option<&SystemError>) -> bool {
     }
 }
 
-/// What is done without a refusal stands on the disk.
+/// Plays a row. If it has no error, checks that its files are on the disk.
 fn play_row<H: Host>(rt: &HostRuntime, log: &Log<'_>, host: &mut H, row: &Row) {
     for lines in [BEFORE, row.between, AFTER, row.last] {
         play_lines(rt, log, host, lines);

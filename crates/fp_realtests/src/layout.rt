@@ -1,4 +1,4 @@
-//! The paths that the adapter knows are those of an installation's definitions.
+//! The paths of the adapter's `LAYOUT` are those that dep_states defines.
 use dep_states::{
     EXPORTS_NAME, NEW_FILE, OBJECTS_FOLDER, SIGN_FILES, TOP_NAMES, WAITING_FOLDER, WORK_FOLDER,
 };

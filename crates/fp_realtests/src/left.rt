@@ -1,7 +1,7 @@
-//! What an earlier run may have left, and the mark in the lock file that tells of it.
+//! What an earlier command may have left unsynced, and the mark in the lock file that shows it.
 use fp_realplay::{tell, tell_each};
 
-/// A run that is stopped, what stands in the lock file then, and a run that has nothing to do.
+/// A command that crashes, a text in the lock file, and a command that finds nothing to sync.
 const IDLES: &str = "\
 # left
 -- What a run does that is stopped.
@@ -30,7 +30,7 @@ disk
 holds left/root/.lock {}
 ";
 
-/// No mark is a cleared one, and the text of another start of the machine.
+/// Texts that are no mark: a cleared one, and the boot ids of other starts of the machine.
 const CLEARED: &str = "\
 ------------------------------------|
 --
@@ -38,7 +38,8 @@ const CLEARED: &str = "\
 --
 fedcba98-7654-3210-fedc-ba9876543210|";
 
-/// The same, and a run that makes all of it last.
+/// A command that crashes, a text in the lock file, and a command that syncs everything and clears
+/// the mark.
 const CATCHES_UP: &str = "\
 # left
 -- What a run does that is stopped.
@@ -72,7 +73,8 @@ disk
 holds left/root/.lock ------------------------------------|
 ";
 
-/// Anything else was written over one, also by halves.
+/// Texts that count as a mark, since they are neither a cleared one nor a boot id. A crash may have
+/// left one half overwritten.
 const MARKS: &str = "\
 unknown-----------------------------|
 --
@@ -84,7 +86,8 @@ unknown-----------------------------|
 --
 00000000-0000-0000------------------|";
 
-/// The same where what stands in the lock file is shorter than a mark.
+/// A command that crashes, a text in the lock file that is shorter than a mark, and a command that
+/// syncs everything.
 const FILLS_UP: &str = "\
 # left
 -- What a run does that is stopped.
@@ -118,7 +121,8 @@ disk
 holds left/root/.lock ------------------------------------|
 ";
 
-/// Also an empty file, which took the place of another.
+/// Texts shorter than a mark, which count as one. The last is empty: the lock file may have been
+/// replaced by an empty file.
 const SHORT: &str = "\
 unknown|
 --
@@ -128,7 +132,8 @@ pinned app/*/*/*|
 --
 ";
 
-/// The same where it is longer.
+/// A command that crashes, a text in the lock file that is longer than a mark, and a command that
+/// syncs everything and truncates the file.
 const CUTS_OFF: &str = "\
 # left
 -- What a run does that is stopped.
@@ -162,7 +167,7 @@ disk
 holds left/root/.lock ------------------------------------|
 ";
 
-/// A line too many.
+/// Texts with a line too many, which count as a mark.
 const LONG: &str = "\
 00000000-0000-0000-0000-000000000000||
 --
@@ -178,7 +183,8 @@ fn what_stands_in_the_lock_file_tells_of_a_stop(rt: HostRuntime) {
     );
 }
 
-/// What a run leaves that is stopped.
+/// A command that crashes and those after it: one that syncs everything, also if the system reports
+/// no boot id, and one whose sync fails.
 const LEFT: &str = "\
 # left
 -- What a run does that is stopped.
@@ -311,7 +317,8 @@ fn what_was_left_is_made_to_last(rt: HostRuntime) {
     assert!(rt; tell(&rt, &rt, LEFT));
 }
 
-/// What stands in a root without a lock file.
+/// Directories without a lock file. Only files and directories at fpk's names are synced, and no
+/// symlink is followed.
 const OURS: &str = "\
 # old
 -- What stands in a root without a lock file: each name of ours, and names that are others'.
@@ -364,7 +371,7 @@ fn what_is_ours_is_made_to_last(rt: HostRuntime) {
     assert!(rt; tell(&rt, &rt, OURS));
 }
 
-/// What may not be opened, above the root and below it.
+/// Directories above the root and below it that can't be opened, which a sync leaves out.
 const DENIED: &str = "\
 # old denying old
 -- What stands in a root without a lock file.

@@ -1,5 +1,6 @@
-//! Tests of the adapters over real folders: what a host's calls do, what the system is asked, in
-//! order, what several threads sync, the lock, folders as remotes, and an input as a source.
+//! Tests of the adapters over real directories: the effects of a host's calls, the calls of the
+//! system in order, syncs by several threads, the locks, directories as remotes, and an input as a
+//! source.
 #![tactic(auto)]
 
 #[cfg(test)]

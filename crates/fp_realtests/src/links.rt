@@ -1,7 +1,8 @@
 //! Symlinks above a path, which no call follows.
 use fp_realplay::tell;
 
-/// Symlinks in the place of folders, in those of a remote, and in the place of the lock file.
+/// Symlinks in the place of a directory, of a remote's directory and of the lock file; and an
+/// absent root, where a reader makes nothing.
 const LINKS: &str = "\
 # links
 -- No call follows the symlink, and each is a fault; nor is a symlink followed that the host put

@@ -1,18 +1,18 @@
-//! Names that aren't UTF-8.
+//! File names that aren't UTF-8.
 use fp_system::{OddNames, list_names, read_names};
 use std::alloc::{Alloc, Allocator, Global};
 use std::fs::{File, Metadata, OpenOptions};
 use std::io::{self, ErrorKind, Read};
 use std::rt::Files;
 
-/// A system with one folder, whose names are these. Each is ended by a NUL.
+/// A system with one directory, in which these names are. Each ends with a NUL.
 #[derive(Drop)]
 struct Odd {
     alloc: Global,
     names: &'static [u8],
 }
 
-/// Its names that were not read yet.
+/// The names of the directory that weren't read yet.
 #[derive(Drop)]
 struct Names {
     left: &'static [u8],
@@ -90,8 +90,8 @@ impl Alloc for Odd {
     }
 }
 
-/// Whether the folder is listed as `a` and `b`, and whether its names are an error where those that
-/// aren't UTF-8 are one.
+/// Returns whether the directory is listed as `a` and `b`, and whether reading its names errs, as
+/// given, if names that aren't UTF-8 are refused.
 fn is_listed(alloc: Global, names: &'static [u8], is_error: bool) -> bool {
     let odd = Odd { alloc, names };
     let listed = match list_names(&odd, alloc, "app", ".lock") {

@@ -1,4 +1,5 @@
-//! A list of a store's objects is noted, by which fpk knows that a change looked at all of them.
+//! The progress notes a list of the store's objects. By that, fpk knows that a change looked at all
+//! of them.
 use fp_host::Host;
 use fp_progress::{Progress, Task, Watched};
 use fp_realhost::HostDir;
@@ -8,7 +9,7 @@ use std::fs;
 use std::panic::Expect;
 use std::thread::Threads;
 
-/// Whether it is noted when this folder of a host is listed.
+/// Returns whether a list of this directory is noted as one of the store's objects.
 fn is_noted<T: System + Threads>(rt: &HostRuntime, maker: &T, log: &Log<'_>, folder: &str) -> bool {
     let progress = Progress::new(rt, log.alloc, Task::Other, false);
     let system = Watched::host(rt, &progress);

@@ -1,7 +1,7 @@
-//! What the system is asked, in order, and what a failure of it does.
+//! The calls of the system in order, and the effects of their failures.
 use fp_realplay::{tell, tell_each};
 
-/// Calls, and what the system is asked for each; also what is looked at.
+/// Calls of a host, and the calls of the system that each makes. The last tale includes lookups.
 const IN_ORDER: &str = "\
 # order
 -- Calls, and what the system is asked for each.
@@ -197,12 +197,13 @@ fn the_system_is_asked_in_order(rt: HostRuntime) {
     assert!(rt; tell(&rt, &rt, IN_ORDER));
 }
 
-/// What fails, and what is done then.
+/// A tale of a call of the system that fails. A row of `FAILURES` takes the place of the braces.
 const FAILING: &str = "\
 # fails failing {}
 ";
 
-/// What the system fails at, the call that fails by it, and whether a sync succeeds afterwards.
+/// Rows of a call of the system that fails, the call of the host that fails by it, and whether a
+/// sync succeeds afterwards.
 const FAILURES: &str = "\
 make fails/root
 both fails/root
@@ -291,7 +292,7 @@ fn what_the_system_fails_at_is_not_done(rt: HostRuntime) {
     assert!(rt; tell_each(&rt, &rt, FAILING, FAILURES));
 }
 
-/// What was renamed, and what an earlier run made.
+/// A file that was renamed before a sync, and a root that an earlier command made.
 const STANDING: &str = "\
 # moved failing sync moved/root/y
 -- A file that was renamed is synced by its path.
@@ -325,7 +326,7 @@ fn what_stands_there_is_synced(rt: HostRuntime) {
     assert!(rt; tell(&rt, &rt, STANDING));
 }
 
-/// Names that are given and taken away.
+/// Names that are added and removed, and the syncs of their files and directories.
 const NAMES: &str = "\
 # names
 -- What takes a name away or gives a second one makes its folder last, and a file that waits for a
@@ -376,7 +377,7 @@ fn changed_names_are_synced(rt: HostRuntime) {
     assert!(rt; tell(&rt, &rt, NAMES));
 }
 
-/// A second name that is a copy, and a copy that fails.
+/// A copy in place of a hard link, and one that fails.
 const COPIED: &str = "\
 # crowded crowded
 -- Where a file may have no more names, the second name gets a copy, which is synced as a new \
@@ -414,7 +415,7 @@ fn a_file_with_no_more_names_is_copied(rt: HostRuntime) {
     assert!(rt; tell(&rt, &rt, COPIED));
 }
 
-/// Files that wait by the hundred.
+/// Hundreds of new files that wait, and syncs of them.
 const MANY: &str = "\
 # many
 -- How many files are made, and the sync that fails. Where 800 files wait, they are made before

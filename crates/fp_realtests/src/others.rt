@@ -1,7 +1,8 @@
-//! Folders that are another's, and what is above an installation.
+//! Directories that aren't fpk's, and the directories above an installation.
 use fp_realplay::{tell, tell_each};
 
-/// A change is refused, and nothing is made.
+/// A tale in which a change is refused and makes nothing. A row of `OTHERS` takes the place of the
+/// braces.
 const REFUSED: &str = "\
 # others
 disk
@@ -15,7 +16,7 @@ disk
 absent others/root/.lock
 ";
 
-/// What stands below `exports` and `repo/tmp` in folders that fpk didn't make.
+/// The content of `exports` and `repo/tmp` in directories that fpk didn't make.
 const OTHERS: &str = "\
 folder others/root/exports/photos
 file others/root/exports/photos/a.jpg a
@@ -46,7 +47,8 @@ fn a_folder_of_others_is_not_changed(rt: HostRuntime) {
     assert!(rt; tell_each(&rt, &rt, REFUSED, OTHERS));
 }
 
-/// What stands there is named, is kept, and may be looked at.
+/// Files that aren't fpk's: the error names them, they stay, and they can be read. With a `config`
+/// beside them, a change is done.
 const KEPT: &str = "\
 # others
 -- What stands there is named, is kept, and may be looked at.
@@ -101,7 +103,7 @@ fn what_is_of_others_is_named_and_kept(rt: HostRuntime) {
     assert!(rt; tell(&rt, &rt, KEPT));
 }
 
-/// A change is done.
+/// A tale in which a change is done. A row of `OURS` takes the place of the braces.
 const TAKEN: &str = "\
 # others
 disk
@@ -114,9 +116,9 @@ stat none
 sync
 ";
 
-/// What stands in a folder that is fpk's, or may become so: the folder alone, other names at the top,
-/// what `export` and `override` make, what a first command leaves that was stopped, one of the files
-/// that each installation has beside what is exported and work, and last nothing.
+/// The content of directories that are fpk's or may become so: nothing, other names at the top,
+/// what `export` and `override` make, the new files of a first command that crashed, a lock file,
+/// and each file that marks an installation. In the last row the directory is absent.
 const OURS: &str = "\
 folder others/root
 --
@@ -156,7 +158,7 @@ fn a_folder_that_may_be_ours_is_taken(rt: HostRuntime) {
     assert!(rt; tell_each(&rt, &rt, TAKEN, OURS));
 }
 
-/// What takes no sync above the root, and what fails there.
+/// Directories above the root that don't support a sync, and one whose sync fails otherwise.
 const ABOVE: &str = "\
 # others
 -- The folders of `/proc` above it take no sync: Linux answers EINVAL.

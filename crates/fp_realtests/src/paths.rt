@@ -1,9 +1,9 @@
-//! Maps from paths, where two paths have one number.
+//! Maps from paths, with two paths that have the same hash.
 use fp_system::PathMap;
 use std::alloc::{AllocError, Global};
 use std::hash::{FoldHasher, Hasher};
 
-/// Two paths of which one number is made.
+/// A path that has the same hash as `SECOND`.
 const FIRST: &str = "RN6psTB\u{6fa}7\u{7a9}BFmb";
 
 const SECOND: &str = "LC7SsUe\u{624}:\u{7ca}BGJa";
@@ -21,7 +21,7 @@ fn map_of_both(alloc: Global) -> Result<PathMap<u32>, AllocError> {
     Ok(map)
 }
 
-/// Whether both are there, each with what it is mapped to, and in order.
+/// Returns whether the map has both paths, each with its value, and lists all paths in order.
 fn keeps_both(alloc: Global) -> Result<bool, AllocError> {
     let mut map = map_of_both(alloc)?;
     map.put(FIRST, 3)?;
@@ -32,7 +32,7 @@ fn keeps_both(alloc: Global) -> Result<bool, AllocError> {
     Ok(is_kept && is_listed && paths.get(1) == Some(&FIRST))
 }
 
-/// Whether the second is found once the first is gone, and changed where it stands.
+/// Returns whether the second path is still found, and can be changed, once the first is removed.
 fn loses_first(alloc: Global) -> Result<bool, AllocError> {
     let mut map = map_of_both(alloc)?;
     let is_taken = map.remove(FIRST) == Some(1) && !map.has(FIRST);
@@ -41,7 +41,7 @@ fn loses_first(alloc: Global) -> Result<bool, AllocError> {
     Ok(is_taken && map.remove(SECOND) == Some(5) && !map.has(SECOND) && map.get(FIRST) == Some(&6))
 }
 
-/// Whether the first stays when the second goes, and none is left at last.
+/// Returns whether the first path stays once the second is removed, and a cleared map has none.
 fn loses_second(alloc: Global) -> Result<bool, AllocError> {
     let mut map = map_of_both(alloc)?;
     let is_taken = map.remove(SECOND) == Some(2) && map.remove(SECOND).is_none();

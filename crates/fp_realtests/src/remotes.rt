@@ -1,9 +1,9 @@
-//! Folders as remotes.
+//! Directories as remotes.
 use fp_host::{Path, Remotes};
 use fp_realinput::DirRemotes;
 use fp_realplay::{Kind, Log, Logged, clear, path, play_disk, tell, url_of};
 
-/// What stands there.
+/// The files of the remote.
 const MADE: &str = "\
 folder remote
 file remote/file hello world
@@ -11,7 +11,7 @@ bits remote/file 640
 leads remote/link file
 ";
 
-/// A folder as a remote, and urls of no remote.
+/// A directory as a remote, and URLs that aren't those of a remote.
 const REMOTES: &str = "\
 # remote
 disk
@@ -48,7 +48,8 @@ fn folders_are_remotes_and_other_urls_are_faults(rt: HostRuntime) {
     assert!(rt; tell(&rt, &rt, REMOTES));
 }
 
-/// Whether a path is looked at once when its node is asked for, and not again when it is read.
+/// Returns whether a path is looked up once when its node is asked for, and not again when it is
+/// read.
 fn reads_found<M: Remotes>(
     log: &Log<'_>,
     remotes: &mut M,
@@ -67,7 +68,7 @@ fn looks_once(rt: &HostRuntime, log: &Log<'_>, folder: &str, file: &str, at: &Pa
     reads_found(log, &mut remotes, folder, file, at)
 }
 
-/// Whether the file of the remote is.
+/// Returns whether a file of the remote is looked up only once.
 fn is_found(rt: &HostRuntime, log: &Log<'_>) -> bool {
     let folder = url_of(rt, log, "remote");
     let file = url_of(rt, log, "remote/file");

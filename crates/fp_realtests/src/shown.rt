@@ -1,10 +1,10 @@
-//! What is printed to a terminal.
+//! Texts that are printed to a terminal.
 use fp_realhost::Screen;
 use fp_realplay::{Kind, Log, Logged};
 use std::panic::Expect;
 use std::process::Abort;
 
-/// What drives a terminal, and what is shown in its place.
+/// Texts, and what is printed of them to a terminal: what would control it is escaped.
 const SHOWN: [(&str, &str); 5] = [
     ("plain\n", "plain\n"),
     (
@@ -19,7 +19,7 @@ const SHOWN: [(&str, &str); 5] = [
     ("", ""),
 ];
 
-/// Prints these bytes.
+/// Prints these bytes, to a terminal or elsewhere.
 fn print_bytes(
     rt: &HostRuntime,
     test: &impl Abort,
@@ -32,7 +32,7 @@ fn print_bytes(
     screen.write_all(bytes).expect(test, "a write");
 }
 
-/// Whether the text is shown so on a terminal, and elsewhere as it is.
+/// Returns whether the text is printed as expected to a terminal, and unchanged elsewhere.
 fn is_shown(rt: &HostRuntime, test: &impl Abort, log: &Log<'_>, text: &str, want: &str) -> bool {
     print_bytes(rt, test, log, true, text.as_bytes());
     let terminal = log.is_one("print", want);
@@ -60,7 +60,7 @@ fn bytes_that_are_no_text_are_shown_so(rt: HostRuntime) {
     assert!(rt; log.is_noted("print a\\x9b\\xff\\u{1b}\n"));
 }
 
-/// Whether a failure of the system to print is told, on a terminal or elsewhere.
+/// Returns whether printing errs if the system fails to print, to a terminal or elsewhere.
 fn is_told(rt: &HostRuntime, is_terminal: bool) -> bool {
     let log = Log::new(rt.alloc(), Kind::Failing("print words"));
     let system = Logged { rt, log: &log };

@@ -1,7 +1,7 @@
-//! Times and bits of stored files.
+//! The modification times of stored files.
 use fp_realplay::tell;
 
-/// An object of the store is dated, another file isn't.
+/// A file that is moved to the store's objects gets the modification time 0, another doesn't.
 const DATED: &str = "\
 # stored
 change stored

@@ -1,4 +1,4 @@
-//! Syncs of many things at once, by several threads.
+//! Syncs of many items, by several threads.
 use fp_progress::{Progress, Task, Watched};
 use fp_realplay::{Kind, Log};
 use fp_realroot::System;
@@ -8,14 +8,14 @@ use std::fs;
 use std::sync::atomic::{AtomicU64, Ordering};
 use std::thread::Threads;
 
-/// What is synced: its place, and how often that was.
+/// An item to sync: its index, and how often it was synced.
 #[derive(Drop)]
 struct Item {
     place: usize,
     syncs: AtomicU64,
 }
 
-/// Where each of these is tried first, the process may have no more open files: EMFILE of Linux.
+/// A syncer that runs out of open files (`EMFILE`) at the first try of each item at these indices.
 #[derive(Clone, Copy)]
 struct Crowded {
     places: &'static [usize],
@@ -34,7 +34,7 @@ impl Syncer<Item> for Crowded {
     }
 }
 
-/// How many there are, and where they are crowded.
+/// The number of items, and the indices at which the process runs out of open files.
 const CROWDS: [(usize, &[usize]); 4] = [
     (32, &[0]),
     (33, &[32]),
@@ -42,7 +42,7 @@ const CROWDS: [(usize, &[usize]); 4] = [
     (1000, &[999]),
 ];
 
-/// Whether each was tried, and those that were crowded twice.
+/// Returns whether each item was tried, and each at a crowded index at least twice.
 fn are_retried(items: &[Item], crowded: &Crowded) -> bool {
     for item in items {
         let tries = item.syncs.load(Ordering::SeqCst);
@@ -83,7 +83,7 @@ fn what_finds_no_open_file_is_synced_later(rt: HostRuntime) {
     assert!(rt; log.all_held(&rt));
 }
 
-/// The places of what cannot be opened, and of what cannot be synced.
+/// A syncer that can't open the items at some indices, and can't sync those at others.
 #[derive(Clone, Copy)]
 struct Failing {
     closed: &'static [usize],
@@ -110,9 +110,9 @@ fn unsynced(call: Call) -> Unsynced {
     }
 }
 
-/// How many there are, the places of what cannot be opened, and of what cannot be synced, and what
-/// is answered: a place and a call. From 32 on they are cut. The first failure is answered, but a
-/// sync that failed before all others.
+/// The number of items, the indices of those that can't be opened and of those that can't be
+/// synced, and the expected failure: its index and call. From 32 items on, threads share them. The
+/// first failure is returned, but a failed sync before one that couldn't be opened.
 const ROWS: [(usize, &[usize], &[usize], Option<(usize, Call)>); 14] = [
     (0, &[], &[], None),
     (1, &[], &[], None),
@@ -141,7 +141,7 @@ fn make_items(alloc: Global, count: usize) -> Result<Vec<Item>, AllocError> {
     Ok(items)
 }
 
-/// Whether each was synced once. After a failure some are left out.
+/// Returns whether each item was synced once. After a failure, some may be left out.
 fn are_synced(items: &[Item], leaves_out: bool) -> bool {
     for item in items {
         let syncs = item.syncs.load(Ordering::SeqCst);
@@ -152,7 +152,8 @@ fn are_synced(items: &[Item], leaves_out: bool) -> bool {
     true
 }
 
-/// Whether this failure is answered, at this place and by this call.
+/// Returns whether the failure has the expected index and call, or there is none if none is
+/// expected.
 fn is_met(met: Option<Failure>, want: Option<(usize, Call)>) -> bool {
     match (met, want) {
         (None, None) => true,
@@ -163,7 +164,8 @@ fn is_met(met: Option<Failure>, want: Option<(usize, Call)>) -> bool {
     }
 }
 
-/// Whether of this many each is synced, up to what fails, and this is answered.
+/// Returns whether each of this many items is synced once, up to a failure, and the failure is the
+/// expected one.
 fn holds<T: Threads + Sync>(
     threads: &T,
     alloc: Global,
@@ -198,12 +200,12 @@ fn each_is_synced_once(rt: HostRuntime) {
     assert!(rt; log.all_held(&rt));
 }
 
-/// A device, which cannot be synced, and a path below it, where nothing is.
+/// The path of a device, which can't be synced.
 const DEVICE: &str = "/dev/null";
 
 const GONE: &str = "/dev/null/none";
 
-/// How many stand before the device in a list, and after it.
+/// The number of items before the device in a list, and the number after it.
 const PLACES: [(usize, usize); 7] = [
     (0, 0),
     (1, 0),
@@ -214,7 +216,7 @@ const PLACES: [(usize, usize); 7] = [
     (1200, 1300),
 ];
 
-/// A list of this one, and others before it and after.
+/// Returns a list of one item with others before and after it.
 fn list_around<I: Copy>(
     alloc: Global,
     one: I,
@@ -229,7 +231,7 @@ fn list_around<I: Copy>(
     Ok(list)
 }
 
-/// Whether the system finds which of the paths cannot be synced.
+/// Returns whether the system reports which of the paths can't be synced.
 fn fails_by_path<R: System, T: Threads + Sync>(
     system: &R,
     threads: &T,
@@ -245,7 +247,7 @@ fn fails_by_path<R: System, T: Threads + Sync>(
     }
 }
 
-/// Whether the system finds which of the open files cannot be synced.
+/// Returns whether the system reports which of the open files can't be synced.
 fn fails_by_file<R: System, T: Threads + Sync>(
     system: &R,
     threads: &T,
@@ -265,7 +267,7 @@ fn fails_by_file<R: System, T: Threads + Sync>(
     }
 }
 
-/// Whether the system finds that the open file at this place cannot be synced.
+/// Returns whether the system reports that the open file at this index can't be synced.
 fn fails_at<R: System, T: Threads + Sync>(
     system: &R,
     threads: &T,

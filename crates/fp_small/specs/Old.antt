@@ -1,4 +1,4 @@
--- The two files of an installation of layout 1.
+-- The files `remotes.conf` and `pins` of an installation of layout 1.
 use Rattle.std.specs.Prelude.{◌≡◌, ◌≤◌, ◌&&◌, ◌==◌, ℕ, Bool, true, nat_le, List, [], ◌∷◌, length, map, Option, Some, None, Result, Ok, Err, if◌then◌else◌}
 use Rattle.std.specs.List.{list_all}
 use Rattle.std.specs.Option.{is_some}
@@ -15,47 +15,50 @@ use Rattle.fp_small.specs.declared.state.RemoteRow.{RemoteRow}
 
 -- ---- `remotes.conf`: a key file
 
--- each group is a remote, and there are at most 256
+-- Tests whether groups are a `remotes.conf`: each is a remote, and there are at most 256
 abbrev pub are_remotes : List Group → Bool
 are_remotes file =
     list_all (λ g. is_some (remote_of g)) file && nat_le (length (remotes_in file)) MOST_REMOTES
 
+-- The remotes of the groups of a `remotes.conf`, in order of their names; nothing for any other
+-- groups
 abbrev pub remotes_seen : List Group → Option (List RemoteRow)
 remotes_seen file = if are_remotes file then Some (sorted_by name_of (remotes_in file)) else None
 
+-- The remotes of a parsed key file; nothing if it wasn't parsed
 abbrev pub remotes_read : Result (List Group) KeyFault → Option (List RemoteRow)
 remotes_read (Ok file) = remotes_seen file
 remotes_read (Err fault) = None
 
--- what the bytes of `remotes.conf` say, where they read
+-- The remotes that the bytes of a `remotes.conf` parse to; nothing for any other bytes
 unfoldable pub remotes_of : List ℕ → Option (List RemoteRow)
 remotes_of bytes = remotes_read (file_of bytes)
 
 -- ---- `pins`: one pattern a line
 
--- the last byte ends a line
+-- Tests whether the last byte is a newline; true if there are no bytes
 abbrev pub is_ended : List ℕ → Bool
 is_ended [] = true
 is_ended (b ∷ []) = b == 10
 is_ended (b ∷ c ∷ bytes) = is_ended (c ∷ bytes)
 
--- patterns, strictly ascending, and at most 1,024
+-- Tests whether lines are patterns, strictly ascending, and at most 1,024
 abbrev pub are_pins : List (List ℕ) → Bool
 are_pins lines = list_all is_pin lines && (is_ascending lines && nat_le (length lines) MOST_PINS)
 
--- what the bytes of `pins` say, where they read
+-- The pins that the bytes of a `pins` parse to; nothing for any other bytes
 unfoldable pub pins_of : List ℕ → Option (List (List ℕ))
 pins_of bytes = if is_ended bytes && are_pins (lines_of bytes) then Some (lines_of bytes) else None
 
--- ---- what they say
+-- ---- valid remotes and pins
 
--- good names and URLs, ascending, and no more than the limit
+-- Valid remotes: their names and URLs are valid, they ascend strictly, and there are at most 256
 pub record AreRows (rows : List RemoteRow) : Type 0 where
   pub good : list_all is_row rows ≡ true
   pub ascend : is_ascending (map name_of rows) ≡ true
   pub few : length rows ≤ MOST_REMOTES
 
--- patterns, ascending, and no more than the limit
+-- Valid pins: they are patterns, ascend strictly, and are at most 1,024
 pub record ArePatterns (pins : List (List ℕ)) : Type 0 where
   pub good : list_all is_pin pins ≡ true
   pub ascend : is_ascending pins ≡ true

@@ -1,4 +1,4 @@
-//! Names that are taken away, with all that is below them.
+//! Clearing of whole trees.
 ghost use Rattle.std.specs.Prelude.{◌≡◌, ◌-◌, length, OnOk, IsErrOf};
 ghost use Rattle.fp_host.specs.OverHost.{AtReturn, FailsOnly};
 ghost use Rattle.fp_host.specs.Paths.{dir};
@@ -9,15 +9,16 @@ use crate::limits::MOST_ELEMENTS;
 use fp_host::{Host, HostEnd, Path, Stat};
 use std::alloc::Global;
 
-/// How many folders below the path a path of an installation may go.
+/// Returns how many more elements a path below this one may have.
 fn levels_below(path: &Path) -> usize
     ensures { result ≡ MOST_ELEMENTS - length path.now }
 {
     MOST_ELEMENTS.saturating_sub(path.len())
 }
 
-/// Takes the path away, and all that is below it. Where it is absent, nothing is done. It isn't for
-/// the root, nor for paths of more than 128 elements.
+/// Clears the path and everything below it. Does nothing if it is absent. Errs if the path is the
+/// root, or if a path below it has more than 128 elements; what was removed until then stays
+/// removed.
 pub fn clear<H: Host>(alloc: Global, host: &mut H, path: &Path) -> Result<(), HostEnd>
     ensures frame { Frame (GoneWithin path.now) (AbsentWithin path.now) NoPath
         (H.moments host.old) (H.moments host.new) }
@@ -31,8 +32,9 @@ pub fn clear<H: Host>(alloc: Global, host: &mut H, path: &Path) -> Result<(), Ho
     clear_within(alloc, host, path, levels_below(path))
 }
 
-/// Takes away all that is below the path, and leaves the path itself. Where it is no folder,
-/// nothing is done. It isn't for paths of more than 128 elements.
+/// Clears everything below the path, and leaves the path itself. Does nothing if it is no
+/// directory. Errs if a path below it has more than 128 elements; what was removed until then stays
+/// removed.
 pub fn clear_below<H: Host>(alloc: Global, host: &mut H, path: &Path) -> Result<(), HostEnd>
     ensures frame { Frame (GoneBelow path.now) (AbsentBelow path.now) NoPath
         (H.moments host.old) (H.moments host.new) }
@@ -49,7 +51,7 @@ pub fn clear_below<H: Host>(alloc: Global, host: &mut H, path: &Path) -> Result<
     }
 }
 
-/// Takes away the path, and what is at most `depth` folders below it.
+/// Clears the path and everything below it. Errs if anything is more than `depth` levels below it.
 #[cycle(clear)]
 fn clear_within<H: Host>(
     alloc: Global,
@@ -76,7 +78,7 @@ fn clear_within<H: Host>(
     }
 }
 
-/// Takes away what is in the folder, at most `depth` folders below it.
+/// Clears everything in the directory. Errs if anything is more than `depth` levels below it.
 #[cycle(clear)]
 fn clear_names<H: Host>(
     alloc: Global,

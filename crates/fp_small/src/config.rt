@@ -1,4 +1,4 @@
-//! The file `config`.
+//! The content of the file `config`, and the error of parsing it.
 ghost use Rattle.std.specs.Prelude.{◌≡◌};
 ghost use Rattle.fp_small.specs.ConfigErrors.{key_fault, name_fault};
 ghost use Rattle.fp_small.specs.declared.config.ConfigError.TheVariants.{NoMemory};
@@ -11,7 +11,8 @@ use std::alloc::{AllocError, AllocFailed};
 use std::error::Error;
 use std::fmt;
 
-/// The remotes and the pins of an installation, each ascending by name.
+/// The remotes and the pins of an installation, each strictly ascending by the bytes of their
+/// names.
 #[derive(Drop)]
 pub struct Settings {
     /// The remotes.
@@ -20,10 +21,10 @@ pub struct Settings {
     pub pins: Items<PinPattern>,
 }
 
-/// Why a `config` was not read.
+/// The reason why a `config` was not parsed.
 #[derive(Clone, Copy, Debug, PartialEq, Eq)]
 pub enum ConfigError {
-    /// The bytes are no `config`.
+    /// The bytes aren't a valid `config`.
     Bad,
     /// Memory ran out.
     NoMemory,

@@ -1,4 +1,4 @@
-//! The file `config`, as it is read.
+//! Parsing of the file `config`.
 ghost use Rattle.std.specs.Prelude.{◌≡◌, ◌∷◌, [], codes, length, true, Some, None, IfOk, IsErrOf};
 ghost use Rattle.std.specs.List.{list_all, list_any};
 ghost use Rattle.std.specs.Option.{option_map, option_copied, is_some};
@@ -18,7 +18,7 @@ use fp_name::{PinPattern, RemoteName, RemoteUrl, is_pin, is_remote_name, is_url}
 use std::alloc::Global;
 use std::str;
 
-/// Whether the pairs are this one.
+/// Returns whether the pairs are exactly this one.
 fn is_pair(pairs: &[Pair], key: &str, value: &str) -> bool
     ensures { result ≡ spec.is_pair pairs.now key.now value.now }
 {
@@ -28,49 +28,50 @@ fn is_pair(pairs: &[Pair], key: &str, value: &str) -> bool
     }
 }
 
-/// Whether the group says the layout.
+/// Returns whether the group is `installation` with exactly the pair `layout=2`.
 fn is_layout(group: &Group) -> bool
     ensures { result ≡ spec.is_layout group.now }
 {
     group.name.as_str() == "installation" && is_pair(group.pairs.as_slice(), "layout", "2")
 }
 
-/// Whether the pair says a pin.
+/// Returns whether the pair is a pin: a pattern with the value `true`.
 fn is_pin_pair(pair: &Pair) -> bool
     ensures { result ≡ spec.is_pin_pair pair.now }
 {
     is_pin(pair.key.as_str()) && pair.value.as_str() == "true"
 }
 
-/// Whether each pair says a pin.
+/// Returns whether each pair is a pin.
 fn are_pin_pairs(pairs: &[Pair]) -> bool
     ensures { result ≡ list_all spec.is_pin_pair pairs.now }
 {
     pairs.iter().all(|pair| is_pin_pair(pair))
 }
 
-/// Whether the group says the pins.
+/// Returns whether the group is `pins` and has only pins.
 fn is_pins(group: &Group) -> bool
     ensures { result ≡ spec.is_pins group.now }
 {
     group.name.as_str() == "pins" && are_pin_pairs(group.pairs.as_slice())
 }
 
-/// The NAME of `remote "NAME"`.
+/// Returns the NAME of a header `remote "NAME"`, or `None` for any other header.
 fn quoted_name(header: &[u8]) -> Option<&[u8]>
     ensures { option_copied result ≡ spec.quoted_name header.now }
 {
     header.strip_prefix(b"remote \"")?.strip_suffix(b"\"")
 }
 
-/// The name and the url of a remote that a group says.
+/// The name and the URL of a remote, borrowed from its group.
 #[derive(Clone, Copy)]
 struct Said<'a> {
     name: &'a str,
     url: &'a str,
 }
 
-/// What the pairs say of the remote of a name.
+/// Returns the remote with this name and these pairs, or `None` if they aren't exactly a valid
+/// `url`, or the name isn't valid.
 #[tactic(auto, using(crate::proofs::ConfigReads::no_row))]
 fn said_of<'a>(name: &'a [u8], pairs: &'a [Pair]) -> Option<Said<'a>>
     ensures { option_map (λ s. record { name = s.name.now; url = s.url.now }) result ≡ spec.row_of
@@ -90,7 +91,7 @@ fn said_of<'a>(name: &'a [u8], pairs: &'a [Pair]) -> Option<Said<'a>>
     }
 }
 
-/// The remote that a group says.
+/// Returns the remote that a group defines, or `None` if it defines none.
 #[tactic(auto, unfolding(crate::specs::Config::remote_of))]
 fn said_by(group: &Group) -> Option<Said<'_>>
     ensures { option_map (λ s. record { name = s.name.now; url = s.url.now }) result ≡
@@ -100,45 +101,49 @@ fn said_by(group: &Group) -> Option<Said<'_>>
     said_of(name, group.pairs.as_slice())
 }
 
-/// Whether the group says a remote.
+/// Returns whether the group defines a remote.
 pub(crate) fn is_remote(group: &Group) -> bool
     ensures { result ≡ is_some (spec.remote_of group.now) }
 {
     said_by(group).is_some()
 }
 
-/// Whether the group may stand in a `config`.
+/// Returns whether the group may be in a `config`: it is the layout, the pins or a remote.
 fn is_part(group: &Group) -> bool
     ensures { result ≡ spec.is_part group.now }
 {
     is_layout(group) || is_pins(group) || is_remote(group)
 }
 
+/// Returns whether one of the groups is the layout.
 fn has_layout(groups: &[Group]) -> bool
     ensures { result ≡ list_any spec.is_layout groups.now }
 {
     groups.iter().any(|group| is_layout(group))
 }
 
+/// Returns whether each group may be in a `config`.
 fn are_parts(groups: &[Group]) -> bool
     ensures { result ≡ list_all spec.is_part groups.now }
 {
     groups.iter().all(|group| is_part(group))
 }
 
+/// Returns the number of groups that define a remote.
 pub(crate) fn count_remotes(groups: &[Group]) -> usize
     ensures { result ≡ length (remotes_in groups.now) }
 {
     groups.iter().filter(|group| is_remote(group)).count()
 }
 
-/// The group of the pins.
+/// Returns the group `pins`, if there is one.
 fn pins_group(groups: &[Group]) -> Option<&Group>
     ensures { option_copied result ≡ group_at groups.now (codes "pins") }
 {
     groups.iter().find(|group| group.name.as_str() == "pins")
 }
 
+/// Returns the number of pairs in the group `pins`.
 fn count_pins(groups: &[Group]) -> usize
     ensures { result ≡ length (pins_in groups.now) }
 {
@@ -148,7 +153,7 @@ fn count_pins(groups: &[Group]) -> usize
     }
 }
 
-/// Whether the groups are those of a `config`.
+/// Returns whether the groups are a valid `config`.
 #[tactic(auto, unfolding(crate::specs::Config::is_config))]
 fn is_config(groups: &[Group]) -> bool
     ensures { result ≡ spec.is_config groups.now }
@@ -159,7 +164,7 @@ fn is_config(groups: &[Group]) -> bool
         && count_pins(groups) <= MOST_PINS
 }
 
-/// The row of a remote.
+/// Creates a remote's row. The name and the URL must be known to be valid.
 fn row_of(alloc: Global, name: &str, url: &str) -> Result<RemoteRow, ConfigError>
     requires name { grammar.is_remote_name name.now ≡ true }
     requires url { grammar.is_url url.now ≡ true }
@@ -172,7 +177,7 @@ fn row_of(alloc: Global, name: &str, url: &str) -> Result<RemoteRow, ConfigError
     })
 }
 
-/// The remotes that the groups say, ascending.
+/// Returns the remotes that the groups define, ascending by name.
 pub(crate) fn remote_rows(alloc: Global, groups: &[Group]) -> Result<Vec<RemoteRow>, ConfigError>
     ensures ok { IfOk result (λ rows. rows.items ≡ sorted_by spec.name_of (remotes_in groups.now)) }
     ensures needs_no_memory { IsErrOf result ConfigError.Bad → ⊥ }
@@ -187,7 +192,7 @@ pub(crate) fn remote_rows(alloc: Global, groups: &[Group]) -> Result<Vec<RemoteR
     Ok(rows)
 }
 
-/// The pins that the pairs say, ascending.
+/// Returns the pins of these pairs, ascending.
 fn pin_keys(alloc: Global, pairs: &[Pair]) -> Result<Vec<PinPattern>, ConfigError>
     requires { list_all spec.is_pin_pair pairs.now ≡ true }
     ensures ok { IfOk result (λ pins. pins.items ≡ sorted_by (λ pin. pin) (keys_of pairs.now)) }
@@ -201,7 +206,7 @@ fn pin_keys(alloc: Global, pairs: &[Pair]) -> Result<Vec<PinPattern>, ConfigErro
     Ok(pins)
 }
 
-/// The pins that the groups say, ascending.
+/// Returns the pins of these groups, ascending.
 fn pins_of(alloc: Global, groups: &[Group]) -> Result<Vec<PinPattern>, ConfigError>
     requires { list_all spec.is_part groups.now ≡ true }
     ensures ok { IfOk result (λ pins. pins.items ≡ sorted_by (λ pin. pin) (pins_in groups.now)) }
@@ -213,7 +218,7 @@ fn pins_of(alloc: Global, groups: &[Group]) -> Result<Vec<PinPattern>, ConfigErr
     }
 }
 
-/// The settings that the groups say.
+/// Returns the settings of these groups. Errs with `Bad` if they aren't a valid `config`.
 fn settings_of(alloc: Global, groups: &[Group]) -> Result<Settings, ConfigError>
     ensures ok { IfOk result (λ s. settings_of groups.now ≡ Some s) }
     ensures bad { IsErrOf result ConfigError.Bad → settings_of groups.now ≡ None }
@@ -227,10 +232,10 @@ fn settings_of(alloc: Global, groups: &[Group]) -> Result<Settings, ConfigError>
     })
 }
 
-/// Reads a `config`: the group `installation` with the one key `layout=2`, the groups `remote
-/// "NAME"` with the one key `url`, and the group `pins`, whose keys are patterns with the value
-/// `true`. There are at most 256 remotes and at most 1,024 pins. The bytes are Bad where they are
-/// anything else.
+/// Parses a `config`, a key file with these groups in any order: `installation` with exactly the
+/// pair `layout=2`; at most 256 groups `remote "NAME"` with a valid name, each with exactly the key
+/// `url` and a valid URL; and, optionally, `pins` with at most 1,024 patterns as keys, each with
+/// the value `true`. Errs with `Bad` for any other bytes.
 pub fn read_config(alloc: Global, bytes: &[u8]) -> Result<Settings, ConfigError>
     ensures ok { IfOk result (λ s. config_of bytes.now ≡ Some s) }
     ensures good { IfOk result (λ s. IsSettings s) }

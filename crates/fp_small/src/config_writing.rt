@@ -1,4 +1,4 @@
-//! The file `config`, as it is written.
+//! Writing of the file `config`.
 ghost use Rattle.std.specs.Prelude.{◌≡◌, ◌∷◌, [], codes, map, Some, IfOk};
 ghost use Rattle.fp_small.specs.Config as spec;
 ghost use Rattle.fp_small.specs.Config.{IsSettings, config_of, config_text, config_file, pin_pair};
@@ -9,7 +9,7 @@ use fp_keyfile::{Group, KeyFile, Pair};
 use fp_name::PinPattern;
 use std::alloc::{AllocError, Global};
 
-/// The group of this one pair.
+/// Creates a group with one pair.
 fn group_of(alloc: Global, name: &str, key: &str, value: &str) -> Result<Group, AllocError>
     ensures { IfOk result (λ g. g ≡ record {
       name = name.now;
@@ -24,12 +24,14 @@ fn group_of(alloc: Global, name: &str, key: &str, value: &str) -> Result<Group, 
     })
 }
 
+/// Creates the group `installation`.
 fn layout_group(alloc: Global) -> Result<Group, AllocError>
     ensures { IfOk result (λ g. g ≡ spec.layout_group) }
 {
     group_of(alloc, "installation", "layout", "2")
 }
 
+/// Creates the group of a remote.
 fn remote_group(alloc: Global, row: &RemoteRow) -> Result<Group, AllocError>
     ensures { IfOk result (λ g. g ≡ spec.remote_group row.now) }
 {
@@ -37,6 +39,7 @@ fn remote_group(alloc: Global, row: &RemoteRow) -> Result<Group, AllocError>
     group_of(alloc, &name, "url", row.url.as_str())
 }
 
+/// Creates the group `pins`.
 fn pins_group(alloc: Global, pins: &[PinPattern]) -> Result<Group, AllocError>
     ensures { IfOk result (λ g. g ≡ record { name = codes "pins"; pairs = map pin_pair pins.now }) }
 {
@@ -50,7 +53,7 @@ fn pins_group(alloc: Global, pins: &[PinPattern]) -> Result<Group, AllocError>
     })
 }
 
-/// The groups of a `config`.
+/// Creates the groups of a `config`.
 fn config_groups(
     alloc: Global,
     remotes: &[RemoteRow],
@@ -70,9 +73,9 @@ fn config_groups(
     Ok(groups)
 }
 
-/// The text of the `config` of these remotes and pins, which `read_config` reads as the same: the
-/// layout, the remotes and then the pins, each in order. Where there is no pin, it has no group of
-/// pins.
+/// Returns the text of a `config` with these remotes and pins: the layout, the remotes and then the
+/// pins, each in order. Without pins it has no group `pins`. `read_config` reads the text back as
+/// the same settings.
 pub fn write_config(
     alloc: Global,
     remotes: &[RemoteRow],

@@ -1,5 +1,5 @@
-//! Laws of the words that the contracts use, for crates that build on them. Each is the contract of
-//! a function that does nothing.
+//! Laws of the definitions in the contracts, for crates that build on them. Each law is the
+//! contract of a function with an empty body.
 
 ghost use Rattle.std.specs.Prelude.{◌≡◌, ◌≢◌, ◌↔◌, ◌⊎◌, ◌<◌, ◌+◌, ℕ, List, length, true, false, Some, Contains};
 ghost use Rattle.std.specs.Prelude.{map, not, ◌∷◌, [], None, codes};
@@ -29,17 +29,17 @@ ghost use Rattle.fp_small.specs.Old.{remotes_of, pins_of, AreRows, ArePatterns};
 ghost use Rattle.fp_small.specs.declared.config.Settings.{Settings};
 ghost use Rattle.fp_small.specs.declared.state.RemoteRow.{RemoteRow};
 
-/// A `config` that is written reads back as it was.
+/// States that the text of a `config` parses to the settings that it was written from.
 pub fn written_config_reads_back()
     ensures { (s : Settings) → IsSettings s → config_of (config_text s) ≡ Some s }
 {}
 
-/// What a `config` says can be written.
+/// States that the settings of a parsed `config` are valid, so that they can be written.
 pub fn read_config_is_good()
     ensures { (bytes : List ℕ) (s : Settings) → config_of bytes ≡ Some s → IsSettings s }
 {}
 
-/// What the two files of layout 1 say can be written.
+/// States that the remotes and pins of layout 1's two files are valid, so that they can be written.
 pub fn read_old_files_are_good()
     ensures remotes { (bytes : List ℕ) (rows : List RemoteRow) → remotes_of bytes ≡ Some rows →
         AreRows rows }
@@ -47,7 +47,8 @@ pub fn read_old_files_are_good()
         ArePatterns pins }
 {}
 
-/// With one more pin the settings can be written, and have this pin besides those that they had.
+/// States that with one more pin the settings stay valid, if it is a new pattern and there are
+/// fewer than 1,024 pins, and that they then have exactly this pin and the previous ones.
 pub fn added_pin()
     ensures good { (s : Settings) (p : List ℕ) → IsSettings s → is_pin p ≡ true →
         (Contains s.pins p → ⊥) → length s.pins < MOST_PINS
@@ -56,7 +57,7 @@ pub fn added_pin()
         ((q ≡ p) ⊎ Contains pins q) }
 {}
 
-/// Without a pin the settings can be written, and have all pins but this.
+/// States that without a pin the settings stay valid, and have exactly the other pins.
 pub fn dropped_pin()
     ensures good { (s : Settings) (p : List ℕ) → IsSettings s → IsSettings
         (record s { pins = removed (λ q. q) s.pins p }) }
@@ -64,36 +65,37 @@ pub fn dropped_pin()
         (Contains pins q × (q ≢ p)) }
 {}
 
-/// With one more remote the settings can be written.
+/// States that with one more remote the settings stay valid, if it is valid, its name is new, and
+/// there are fewer than 256 remotes.
 pub fn added_remote()
     ensures { (s : Settings) (row : RemoteRow) → IsSettings s → is_row row ≡ true → has_name
         name_of s.remotes row.name ≡ false → length s.remotes < MOST_REMOTES
         → IsSettings (record s { remotes = inserted name_of s.remotes row }) }
 {}
 
-/// With another remote of the same name the settings can be written.
+/// States that the settings stay valid if a remote is replaced by another valid one of its name.
 pub fn modified_remote()
     ensures { (s : Settings) (row : RemoteRow) → IsSettings s → is_row row ≡ true → has_name
         name_of s.remotes row.name ≡ true
         → IsSettings (record s { remotes = replaced name_of s.remotes row }) }
 {}
 
-/// Without a remote the settings can be written.
+/// States that without a remote the settings stay valid.
 pub fn dropped_remote()
     ensures { (s : Settings) (name : List ℕ) → IsSettings s → IsSettings
         (record s { remotes = removed name_of s.remotes name }) }
 {}
 
-/// A list that is put in order by names keeps its elements, each as often as it was there. Where no
-/// name comes twice, the names ascend.
+/// States that sorting by names keeps each element as often as it occurs, and that the names then
+/// ascend strictly if they are distinct.
 pub fn sorted_lists<T>()
     ensures keeps { (name : T → List ℕ) (xs : List T) → IsPermutation xs (sorted_by name xs) }
     ensures ascends { (name : T → List ℕ) (xs : List T) → are_distinct (map name xs) ≡ true →
         is_ascending (map name (sorted_by name xs)) ≡ true }
 {}
 
-/// With one more remote the rows are those of before and this one; without the remotes of a name
-/// they are all others, in order.
+/// States that after a remote is inserted, the rows are the previous ones and it, and that after
+/// the remotes of a name are removed, the rows are all others, in order.
 pub fn rows_of_remotes()
     ensures added { (rows : List RemoteRow) (row : RemoteRow) → IsPermutation (row ∷ rows)
         (inserted name_of rows row) }
@@ -101,9 +103,10 @@ pub fn rows_of_remotes()
         (λ row. not (bytes_eq row.name name)) rows }
 {}
 
-/// What is done until the next sync leaves unsynced what was: after a folder is made no file is
-/// new, and after a file is created that one alone. What is unsynced and settled in the end was
-/// settled before: so nothing that syncs leaves unsynced what a stop could bring back or tear.
+/// States that making a directory syncs nothing and creates no file, and that creating a file syncs
+/// nothing and creates at most one. If steps that sync nothing lead to a settled view, the view
+/// before them was settled too. So a function that syncs can't have the clause `Unsynced`, unless
+/// nothing waited for a sync.
 pub fn unsynced_views()
     ensures folder { (v : View) (p : Elements) → MakesNoFile v (done (makes_dir p) v) }
     ensures file { (v : View) (p : Elements) (id mode : ℕ) → v.files id ≡ None
@@ -111,8 +114,8 @@ pub fn unsynced_views()
     ensures settled { (u w : View) → IsTree u → Unsynced u w → IsSettled w → IsSettled u }
 {}
 
-/// A file that is created, written and synced is the one file that was made, and its name may be
-/// given to it.
+/// States that a file that is created, written and synced is the one file that was made, and is
+/// ready to be moved to its final name.
 pub fn made_files()
     ensures made { (v : View) (p : Elements) (bytes : List ℕ) (id : ℕ) → CanCreate p FILE_MODE v
         → v.files id ≡ None
@@ -123,9 +126,10 @@ pub fn made_files()
         → IsReady p bytes (done syncs (done (appends p bytes) (done (creates p FILE_MODE id) v))) }
 {}
 
-/// Where no file is made, or none gets bytes, each file that is new and has bytes came to a name of
-/// any kind. After two steps it did if it did in each, where the second gives bytes to no file that
-/// was there. The one file that is made came to its name.
+/// States when each new file that isn't empty was put at the name `p` (`Shares`): if no file was
+/// created, if no new file was given bytes, or if only one was created, at `p`. If this holds for
+/// each of two steps, it holds for both together, provided that the second step keeps the files
+/// that were there. If it holds for the name `p`, it holds for `p` and `q`.
 pub fn shared_files()
     ensures same { (p : Elements) (v w : View) → SameFiles v w → Shares (Only p) v w }
     ensures empty { (p : Elements) (v w : View) →
@@ -138,8 +142,8 @@ pub fn shared_files()
         → Shares (Only p) u w }
 {}
 
-/// A file that is created, written and renamed came to its new name. One that is not renamed did so
-/// only if it is empty.
+/// States that a file that is created, written, synced and renamed was put at its new name
+/// (`Shares`), and that for a file that isn't renamed this holds only if the file is empty.
 pub fn shared_file()
     ensures renamed { (v : View) (p q : Elements) (bytes : List ℕ) (id : ℕ)
         → CanCreate p FILE_MODE v
@@ -151,9 +155,9 @@ pub fn shared_file()
         → bytes ≡ [] }
 {}
 
-/// Where nothing stands but the root, folders may be made, a file may be written anew in the root,
-/// and each path may be cleared. No folder may be emptied that has a path below it with one element
-/// too many.
+/// States that in a view with nothing but the root, directories can be made, a file can be written
+/// in the root, and each path can be cleared. A directory can't be emptied if a path below it has
+/// one element too many.
 pub fn bare_views()
     ensures folders { (v : View) (paths : List Elements) → IsBare v → AreFree paths v }
     ensures file { (v : View) (name : List ℕ) → IsBare v → name ≢ codes "repo"
@@ -163,7 +167,8 @@ pub fn bare_views()
         → length q ≡ MOST_ELEMENTS + 1 → CanEmpty p v → ⊥ }
 {}
 
-/// The limits of an installation as numbers. Files are made with the bits `0o644`.
+/// States the limits of an installation as numbers. Files are created with the permission bits
+/// 0o644.
 pub fn limits_as_numbers()
     ensures mode { FILE_MODE ≡ 420 }
     ensures path { MOST_ELEMENTS ≡ 128 }

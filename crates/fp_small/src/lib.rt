@@ -1,4 +1,4 @@
-//! The small files of an installation, and what it holds apart from its objects.
+//! The small files of an installation, and its state apart from its objects.
 #![tactic(auto)]
 
 mod above;

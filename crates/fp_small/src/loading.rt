@@ -1,4 +1,4 @@
-//! A small file that is read.
+//! Reading of a small file.
 ghost use Rattle.std.specs.Prelude.{◌≡◌, ◌≤◌, ℕ, List, IfOk, IsErrOf};
 ghost use Rattle.fp_host.specs.OverHost.{AtReturn, ChangesNothing, FailsAlone, FailsOnly};
 ghost use Rattle.fp_small.specs.Load.{Loads, IsWhole};
@@ -8,20 +8,20 @@ use fp_base::Blob;
 use fp_host::{Host, HostEnd, Path, Stat};
 use std::alloc::Global;
 
-/// What was read of a small file.
+/// The result of reading a small file.
 #[derive(Debug, Drop)]
 pub enum Loaded {
-    /// The whole file.
+    /// The bytes of the whole file.
     Bytes(Blob),
-    /// Nothing stands at the path.
+    /// The path is absent.
     Absent,
-    /// The file has this number of bytes, more than were allowed.
+    /// The file has this number of bytes, which is more than the maximum.
     TooLong(u64),
-    /// A folder or a symlink stands at the path.
+    /// The path is a directory or a symlink.
     NotFile,
 }
 
-/// Reads the file of at most `max` bytes.
+/// Reads the whole file at the path, unless it has more than `max` bytes. Changes nothing.
 pub fn load<H: Host>(alloc: Global, host: &mut H, path: &Path, max: u64) -> Result<Loaded, HostEnd>
     ensures unchanged { ChangesNothing H.Host host.old host.new }
     ensures tells { IfOk result (λ loaded. AtReturn H.Host host.old host.new
@@ -36,7 +36,7 @@ pub fn load<H: Host>(alloc: Global, host: &mut H, path: &Path, max: u64) -> Resu
     }
 }
 
-/// The bytes of a file of this size.
+/// Reads a file of this size in bytes.
 fn read_whole<H: Host>(alloc: Global, host: &mut H, path: &Path, size: u64) -> Result<Blob, HostEnd>
     ensures unchanged { ChangesNothing H.Host host.old host.new }
     ensures tells { IfOk result (λ bytes. AtReturn H.Host host.old host.new

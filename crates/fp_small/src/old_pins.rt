@@ -1,4 +1,4 @@
-//! The file `pins` of layout 1, as it is read.
+//! Parsing of the file `pins` of layout 1.
 ghost use Rattle.std.specs.Prelude.{◌≡◌, true, false, Some, None, IfOk, OnOk, IsErrOf};
 ghost use Rattle.std.specs.List.{list_all};
 ghost use Rattle.std.specs.Ordering.{is_lt, nat_cmp};
@@ -16,14 +16,14 @@ use fp_keyfile::first_line;
 use fp_name::PinPattern;
 use std::alloc::Global;
 
-/// Whether the last byte ends a line.
+/// Returns whether the last byte is a newline; true if there are no bytes.
 fn is_ended(bytes: &[u8]) -> bool
     ensures { result ≡ spec.is_ended bytes.now }
 {
     bytes.is_empty() || bytes[bytes.len() - 1] == b'\n'
 }
 
-/// The pattern of each line.
+/// Parses the lines, one pattern each. Errs with `Bad` if a line isn't a pattern.
 fn patterns_of(alloc: Global, bytes: &[u8]) -> Result<Vec<PinPattern>, ConfigError>
     ensures ok { IfOk result (λ pins. pins.items ≡ lines_of bytes.now) }
     ensures good { OnOk result (list_all names.is_pin (lines_of bytes.now) ≡ true) }
@@ -40,13 +40,14 @@ fn patterns_of(alloc: Global, bytes: &[u8]) -> Result<Vec<PinPattern>, ConfigErr
     Ok(pins)
 }
 
+/// Returns whether a pattern is less than another by its bytes.
 fn comes_before(a: &PinPattern, b: &PinPattern) -> bool
     ensures { result ≡ is_lt (slice_cmp nat_cmp a.now b.now) }
 {
     a.as_str() < b.as_str()
 }
 
-/// Whether each pattern comes before the next.
+/// Returns whether the patterns ascend strictly.
 fn are_ascending(pins: &[PinPattern]) -> bool
     ensures { result ≡ is_ascending pins.now }
 {
@@ -58,8 +59,8 @@ fn are_ascending(pins: &[PinPattern]) -> bool
     true
 }
 
-/// Reads a `pins`: one pattern a line, strictly ascending by bytes, at most 1,024, and each line
-/// with its newline. The bytes are Bad where they are anything else.
+/// Parses a file `pins` of layout 1: at most 1,024 lines with one pattern each, strictly ascending
+/// by their bytes, and each with its newline. Errs with `Bad` for any other bytes.
 pub fn read_pins(alloc: Global, bytes: &[u8]) -> Result<Items<PinPattern>, ConfigError>
     ensures ok { IfOk result (λ pins. pins_of bytes.now ≡ Some pins) }
     ensures good { IfOk result (λ pins. ArePatterns pins) }

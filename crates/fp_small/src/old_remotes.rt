@@ -1,4 +1,4 @@
-//! The file `remotes.conf` of layout 1, as it is read.
+//! Parsing of the file `remotes.conf` of layout 1.
 ghost use Rattle.std.specs.Prelude.{◌≡◌, Some, None, IfOk, IsErrOf};
 ghost use Rattle.std.specs.List.{list_all};
 ghost use Rattle.std.specs.Option.{is_some};
@@ -14,21 +14,22 @@ use fp_base::Items;
 use fp_keyfile::{Group, KeyFile};
 use std::alloc::Global;
 
-/// Whether each group says a remote.
+/// Returns whether each group defines a remote.
 fn all_say_remotes(groups: &[Group]) -> bool
     ensures { result ≡ list_all (λ g. is_some (remote_of g)) groups.now }
 {
     groups.iter().all(|group| is_remote(group))
 }
 
-/// Whether the groups are those of a `remotes.conf`.
+/// Returns whether the groups are a valid `remotes.conf`.
 fn are_remotes(groups: &[Group]) -> bool
     ensures { result ≡ spec.are_remotes groups.now }
 {
     all_say_remotes(groups) && count_remotes(groups) <= MOST_REMOTES
 }
 
-/// The remotes that the groups say, ascending.
+/// Returns the remotes that the groups define, ascending by name. Errs with `Bad` if the groups
+/// aren't a valid `remotes.conf`.
 fn rows_of(alloc: Global, groups: &[Group]) -> Result<Items<RemoteRow>, ConfigError>
     ensures ok { IfOk result (λ rows. remotes_seen groups.now ≡ Some rows) }
     ensures bad { IsErrOf result ConfigError.Bad → remotes_seen groups.now ≡ None }
@@ -39,8 +40,9 @@ fn rows_of(alloc: Global, groups: &[Group]) -> Result<Items<RemoteRow>, ConfigEr
     Ok(Items::from_vec(remote_rows(alloc, groups)?))
 }
 
-/// Reads a `remotes.conf`: a key file whose groups are `remote "NAME"` with the one key `url`, at
-/// most 256 and in any order. The bytes are Bad where they are anything else.
+/// Parses a file `remotes.conf` of layout 1: a key file with at most 256 groups `remote "NAME"`, in
+/// any order, each with exactly the key `url`. Returns the remotes ascending by name. Errs with
+/// `Bad` for any other bytes.
 pub fn read_remotes(alloc: Global, bytes: &[u8]) -> Result<Items<RemoteRow>, ConfigError>
     ensures ok { IfOk result (λ rows. remotes_of bytes.now ≡ Some rows) }
     ensures good { IfOk result (λ rows. AreRows rows) }

@@ -3,43 +3,43 @@ use crate::state::{OverrideRow, RemoteRow};
 use fp_base::Text;
 use fp_name::{Digest, PinPattern, RefName, RemoteName};
 
-/// One operation on an installation: the step that is done wholly or not at all, and that one line
-/// acknowledges.
+/// One operation on an installation: a step that is done wholly or not at all, and that one printed
+/// line acknowledges.
 #[derive(Drop)]
 pub enum Op {
-    /// A ref that isn't there comes at this commit, from this remote.
+    /// The deployment of a ref, which isn't deployed yet, at this commit of this remote.
     Install {
         name: RefName,
         remote: RemoteName,
         commit: Digest,
     },
-    /// A ref that is there moves to this commit.
+    /// The move of a deployed ref to this commit of this remote.
     Update {
         name: RefName,
         remote: RemoteName,
         commit: Digest,
     },
-    /// A ref that is there goes away.
+    /// The removal of a deployed ref.
     Uninstall {
         name: RefName,
     },
-    /// A pin that is not there comes.
+    /// A new pin, which doesn't exist yet.
     AddPin(PinPattern),
-    /// A pin that is there goes away.
+    /// The removal of an existing pin.
     DropPin(PinPattern),
-    /// A remote that is not there comes.
+    /// A new remote, whose name isn't used yet.
     AddRemote(RemoteRow),
-    /// A remote that is there gets this url.
+    /// A new URL of an existing remote.
     ModifyRemote(RemoteRow),
-    /// A remote that is there goes away.
+    /// The removal of an existing remote.
     DropRemote(RemoteName),
-    /// The override of this name is this one from now on.
+    /// The new content of the override with this name, which replaces one that exists.
     SetOverride(OverrideRow),
-    /// The override of this name, `global` or an application's ID.
+    /// The removal of the override with this name, which is `global` or an application's ID.
     DropOverride(Text),
-    /// From the two files of layout 1 to `config`.
+    /// The migration from the two files of layout 1 to the file `config` of layout 2.
     Migrate,
-    /// Back to the previous commit, which is this one.
+    /// The move of a deployed ref back to its previous commit, which is this one.
     Rollback {
         name: RefName,
         commit: Digest,

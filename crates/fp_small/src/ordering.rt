@@ -8,7 +8,7 @@ use crate::state::RemoteRow;
 use fp_name::{PinPattern, RemoteName};
 use std::alloc::AllocError;
 
-/// What lists are ordered by.
+/// A list's element, which has a name to be ordered by.
 pub(crate) trait Named {
     ghost use Rattle.std.specs.Prelude.{List, ℕ, ◌≡◌};
 
@@ -34,7 +34,8 @@ impl Named for RemoteRow {
     }
 }
 
-/// Where a name belongs: before the first that doesn't come before it.
+/// Returns the index at which a name is inserted: that of the first element whose name isn't less,
+/// or the length of the list.
 fn place_of<T: Named>(items: &[T], name: &str) -> usize
     ensures within { result ≤ length items.now }
     ensures before { (item : T) → T.name_of item ≡ name.now → inserted T.name_of items.now item ≡
@@ -48,7 +49,7 @@ fn place_of<T: Named>(items: &[T], name: &str) -> usize
     items.len()
 }
 
-/// Puts an item where its name belongs. Running out of memory changes nothing.
+/// Inserts an item where its name belongs. If memory runs out, nothing changes.
 pub(crate) fn insert_by_name<T: Named + Drop>(items: &mut Vec<T>, item: T) -> Result<(), AllocError>
     ensures ok { OnOk result (items.new.items ≡ inserted T.name_of items.old.items item) }
     ensures err { OnErr result (items.new.items ≡ items.old.items) }
@@ -58,7 +59,7 @@ pub(crate) fn insert_by_name<T: Named + Drop>(items: &mut Vec<T>, item: T) -> Re
     Ok(())
 }
 
-/// Puts a pin among others where it belongs by its bytes. Running out of memory changes nothing.
+/// Inserts a pin where it belongs by its bytes. If memory runs out, nothing changes.
 pub fn insert_pin(pins: &mut Vec<PinPattern>, pin: PinPattern) -> Result<(), AllocError>
     ensures ok { OnOk result (pins.new.items ≡ inserted (λ p. p) pins.old.items pin) }
     ensures err { OnErr result (pins.new.items ≡ pins.old.items) }
@@ -66,14 +67,14 @@ pub fn insert_pin(pins: &mut Vec<PinPattern>, pin: PinPattern) -> Result<(), All
     insert_by_name(pins, pin)
 }
 
-/// Takes a pin away, which takes no memory. Where it isn't there, nothing changes.
+/// Removes a pin. Does nothing if it's missing. Allocates nothing.
 pub fn remove_pin(pins: &mut Vec<PinPattern>, pin: &PinPattern)
     ensures { pins.new.items ≡ removed (λ p. p) pins.old.items pin.now }
 {
     pins.retain(|other| other.as_str() != pin.as_str());
 }
 
-/// Whether a pin is there.
+/// Returns whether a pin is in the list.
 pub fn has_pin(pins: &[PinPattern], pin: &PinPattern) -> bool
     ensures { IsTrue result ↔ Contains pins.now pin.now }
 {
@@ -85,8 +86,7 @@ pub fn has_pin(pins: &[PinPattern], pin: &PinPattern) -> bool
     false
 }
 
-/// Puts a remote among others where it belongs by the bytes of its name. Running out of memory
-/// changes nothing.
+/// Inserts a remote where it belongs by the bytes of its name. If memory runs out, nothing changes.
 pub fn insert_remote(remotes: &mut Vec<RemoteRow>, row: RemoteRow) -> Result<(), AllocError>
     ensures ok { OnOk result (remotes.new.items ≡ inserted name_of remotes.old.items row) }
     ensures err { OnErr result (remotes.new.items ≡ remotes.old.items) }
@@ -94,14 +94,14 @@ pub fn insert_remote(remotes: &mut Vec<RemoteRow>, row: RemoteRow) -> Result<(),
     insert_by_name(remotes, row)
 }
 
-/// Takes the remote of a name away, which takes no memory. Where there is none, nothing changes.
+/// Removes the remote with this name. Does nothing if there is none. Allocates nothing.
 pub fn remove_remote(remotes: &mut Vec<RemoteRow>, name: &RemoteName)
     ensures { remotes.new.items ≡ removed name_of remotes.old.items name.now }
 {
     remotes.retain(|row| row.name.as_str() != name.as_str());
 }
 
-/// Whether there is a remote of this name.
+/// Returns whether there is a remote with this name.
 pub fn has_remote(remotes: &[RemoteRow], name: &RemoteName) -> bool
     ensures { result ≡ has_name name_of remotes.now name.now }
 {

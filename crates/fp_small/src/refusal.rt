@@ -1,32 +1,32 @@
-//! Why a command is refused.
+//! The reasons why commands are refused.
 
 use fp_base::{FrameRule, MetadataRule, ObjKind, Rule, Side, Text, What};
 use fp_host::Path;
 use fp_name::{Digest, PinPattern, RefName, RemoteName};
 
-/// Why a command is refused.
+/// The reason why a command is refused.
 #[derive(Drop)]
 pub enum Refusal {
-    /// The words are no command. The index is that of the first word with which they can't go on to
-    /// be one.
+    /// The words aren't a command. The index, counted from 0, is that of the first word that
+    /// doesn't continue any command, or the number of words if more are needed.
     BadWords {
         index: u64,
     },
-    /// There is no remote of this name.
+    /// There is no remote with this name.
     NoSuchRemote {
         remote: RemoteName,
     },
-    /// There is a remote of this name already.
+    /// There already is a remote with this name.
     RemoteExists {
         remote: RemoteName,
     },
-    /// A deployed ref comes from the remote. It is the first of them.
+    /// The remote can't be removed: deployed refs come from it, of which `name` is the first.
     RemoteInUse {
         remote: RemoteName,
         name: RefName,
     },
-    /// The remote is no repository of the mode `bare-user-only`. Where it doesn't say its mode, the
-    /// mode is `-`.
+    /// The remote's repository isn't of version 1 and of OSTree's mode `bare-user-only`. `mode` is
+    /// the mode in its `config`, or `-` if there is none that can be shown.
     WrongMode {
         remote: RemoteName,
         mode: Text,
@@ -44,58 +44,60 @@ pub enum Refusal {
     NotInstalled {
         name: RefName,
     },
-    /// The runtime is neither deployed nor offered by a remote.
+    /// The required runtime is neither deployed nor offered by a remote.
     RuntimeMissing {
         name: RefName,
     },
-    /// An application needs the runtime. It is the first of them.
+    /// The runtime can't be removed: deployed applications need it, of which `app` is the first.
     RuntimeInUse {
         runtime: RefName,
         app: RefName,
     },
-    /// The object isn't there.
+    /// The object is missing.
     MissingObject {
         digest: Digest,
         kind: ObjKind,
     },
-    /// What stands at the object's name has another digest.
+    /// The object's content has another digest, `got`.
     CorruptObject {
         digest: Digest,
         kind: ObjKind,
         got: Digest,
     },
-    /// The bytes with this digest aren't an object of this kind, by this rule.
+    /// The bytes with this digest aren't a valid object of this kind: they break this rule.
     MalformedObject {
         digest: Digest,
         kind: ObjKind,
         rule: Rule,
     },
-    /// The bytes with this digest aren't a value of the type in normal form.
+    /// The bytes with this digest aren't a value of the GVariant type in normal form.
     MalformedValue {
         digest: Digest,
     },
-    /// The object has permission bits that aren't taken.
+    /// The object has permission bits that fpk refuses.
     ModeRefused {
         digest: Digest,
         kind: ObjKind,
         mode: u32,
     },
-    /// The root of the commit has an entry that bears the name of fpk's own record.
+    /// The root directory of the commit has an entry `deploy`, the name of fpk's record of a
+    /// deployment.
     ReservedName {
         commit: Digest,
     },
-    /// The metadata of the ref doesn't read. The line counts from 1, and is 0 where the rule
-    /// belongs to none.
+    /// The ref's file `metadata` isn't valid. The line is counted from 1; it is 0 if the rule
+    /// concerns no single line.
     BadMetadata {
         name: RefName,
         line: u64,
         rule: MetadataRule,
     },
-    /// The commit isn't bound to the ref.
+    /// The commit's `ostree.ref-binding` doesn't include the ref.
     RefBinding {
         name: RefName,
     },
-    /// What is offered is older than what is deployed. Both times are in seconds since 1970.
+    /// The offered commit is older than the deployed one. Both times are in seconds since
+    /// 1970-01-01 00:00 UTC.
     Older {
         name: RefName,
         have: u64,
@@ -109,22 +111,23 @@ pub enum Refusal {
     NoSuchPin {
         pin: PinPattern,
     },
-    /// There would be this number of something, beyond its limit.
+    /// A limit is exceeded: `what` is, or would become, `number`.
     Limit {
         what: What,
         number: u64,
     },
-    /// This line of the input, counted from 1, isn't one that may stand there.
+    /// This line of the input, counted from 1, isn't valid at its place.
     BadRecord {
         line: u64,
     },
-    /// This side's message breaks the rule. The index counts its whole messages before.
+    /// A message of this side breaks the rule. The index is the number of this side's whole
+    /// messages before it.
     BadMessage {
         side: Side,
         index: u64,
         rule: FrameRule,
     },
-    /// The installation doesn't read at this path.
+    /// The installation is damaged: what is at this path isn't valid.
     Damaged {
         path: Path,
     },

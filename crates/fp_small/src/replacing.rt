@@ -1,4 +1,4 @@
-//! A small file that is written anew.
+//! Atomic replacement of a small file.
 ghost use Rattle.std.specs.Prelude.{◌≡◌, ◌↔◌, ◌≢◌, ℕ, List, ◌∷◌, [], OnOk, IfOk, IsTrue, IsErrOf, Contains, string_bytes};
 ghost use Rattle.fp_host.specs.OverHost.{AtEachMoment, AtReturn, ChangesNothing, FailsAlone, FailsOnly};
 ghost use Rattle.fp_host.specs.Paths.{Elements, absent, dir, is_element};
@@ -21,7 +21,7 @@ use fp_base::Text;
 use fp_host::{Host, HostEnd, Path, Stat};
 use std::alloc::{AllocError, Global};
 
-/// Makes the folder where it is absent.
+/// Makes the directory if the path is absent. Does nothing if anything is there.
 fn make_folder<H: Host>(host: &mut H, path: &Path) -> Result<(), HostEnd>
     ensures frame { Frame (FolderAt path.now) (DirAt path.now) NoPath
         (H.moments host.old) (H.moments host.new) }
@@ -41,7 +41,7 @@ fn make_folder<H: Host>(host: &mut H, path: &Path) -> Result<(), HostEnd>
     }
 }
 
-/// Makes the folders where they are absent, in this order.
+/// Makes the missing directories, in this order. Does nothing for paths at which anything is.
 pub(crate) fn make_folders<H: Host>(host: &mut H, paths: &[Path]) -> Result<(), HostEnd>
     ensures frame { Frame (FoldersAt paths.now) (DirsAt paths.now) NoPath
         (H.moments host.old) (H.moments host.new) }
@@ -58,7 +58,7 @@ pub(crate) fn make_folders<H: Host>(host: &mut H, paths: &[Path]) -> Result<(), 
     Ok(())
 }
 
-/// Writes a new file with the permission bits 0644, and syncs.
+/// Creates a file with these bytes and the permission bits 0644, and syncs.
 fn stage<H: Host>(host: &mut H, path: &Path, bytes: &[u8]) -> Result<(), HostEnd>
     ensures frame { Frame (AnyAt path.now) (AnyHeld path.now) (Only path.now)
         (H.moments host.old) (H.moments host.new) }
@@ -75,7 +75,7 @@ fn stage<H: Host>(host: &mut H, path: &Path, bytes: &[u8]) -> Result<(), HostEnd
     Ok(host.sync()?)
 }
 
-/// Gives a file that is on the disk its name, and syncs.
+/// Renames a synced file to its final path, and syncs.
 fn move_onto<H: Host>(host: &mut H, from: &Path, to: &Path) -> Result<(), HostEnd>
     ensures any_moment { AtEachMoment H.Host host.old host.new (Moves from.now to.now) }
     ensures on_success { OnOk result (AtReturn H.Host host.old host.new
@@ -90,6 +90,7 @@ fn move_onto<H: Host>(host: &mut H, from: &Path, to: &Path) -> Result<(), HostEn
     Ok(())
 }
 
+/// Returns whether the name is in the list.
 fn has_name(names: &[Text], name: &str) -> bool
     ensures { IsTrue result ↔ Contains names.now name.now }
 {
@@ -101,7 +102,7 @@ fn has_name(names: &[Text], name: &str) -> bool
     false
 }
 
-/// The first of the names new0, new1 and so on that isn't among these.
+/// Returns the first of the names `new0`, `new1` and so on that isn't in the list.
 fn free_name(alloc: Global, names: &[Text]) -> Result<String, AllocError>
     ensures first { IfOk result (λ name. IsFirstFree names.now (string_bytes name)) }
     ensures element { IfOk result (λ name. IsTrue (is_element (string_bytes name))) }
@@ -120,8 +121,8 @@ fn free_name(alloc: Global, names: &[Text]) -> Result<String, AllocError>
     }
 }
 
-/// Where new work is staged: the first of the names `repo/tmp/new0`, `repo/tmp/new1` and so on at
-/// which nothing stands.
+/// Returns the path at which a new file is staged: the first of `repo/tmp/new0`, `repo/tmp/new1`
+/// and so on that is absent. Changes nothing.
 pub fn staging_place<H: Host>(alloc: Global, host: &mut H) -> Result<Path, HostEnd>
     ensures unchanged { ChangesNothing H.Host host.old host.new }
     ensures tells { IfOk result (λ place. AtReturn H.Host host.old host.new
@@ -135,7 +136,7 @@ pub fn staging_place<H: Host>(alloc: Global, host: &mut H) -> Result<Path, HostE
     Ok(folder.child(&name)?)
 }
 
-/// The folders above a path, the outermost first, without the root.
+/// Returns the ancestors of a path without the root, the outermost first.
 pub(crate) fn ancestors(alloc: Global, path: &Path) -> Result<Vec<Path>, AllocError>
     ensures { IfOk result (λ folders. folders.items ≡ ancestors path.now) }
 {
@@ -148,7 +149,8 @@ pub(crate) fn ancestors(alloc: Global, path: &Path) -> Result<Vec<Path>, AllocEr
     Ok(folders)
 }
 
-/// The folders that are made where they are absent.
+/// Returns the directories that a replacement needs: the ancestors of the path, `repo` and
+/// `repo/tmp`.
 fn folders_of(alloc: Global, path: &Path) -> Result<Vec<Path>, AllocError>
     ensures { IfOk result (λ folders. folders.items ≡ folders_of path.now) }
 {
@@ -158,23 +160,24 @@ fn folders_of(alloc: Global, path: &Path) -> Result<Vec<Path>, AllocError>
     Ok(folders)
 }
 
-/// Writes the file anew, with the permission bits 0644: the folders above it, `repo` and `repo/tmp`
-/// are made where they are absent, the new file is written at the first free name `repo/tmp/new0`,
-/// `repo/tmp/new1` and so on, synced, renamed onto the path, and synced again. All memory is taken
-/// before the first change.
+/// Replaces the file at the path, or creates it, with these bytes and the permission bits 0644.
+/// Makes the missing directories among its ancestors, `repo` and `repo/tmp`; writes the new file at
+/// the first free path of `repo/tmp/new0`, `repo/tmp/new1` and so on; syncs; renames it onto the
+/// path; and syncs again. Allocates only before the first change. If it errs, the new file may be
+/// left in `repo/tmp`.
 pub fn replace<H: Host>(
     alloc: Global,
     host: &mut H,
     path: &Path,
     bytes: &[u8],
 ) -> Result<(), HostEnd>
-    // A stop at any moment leaves at the path what some stop before would have left, or the whole
-    // new file.
+    // A crash at any moment leaves at the path what a crash before the call could have left, or the
+    // whole new file.
     ensures any_moment { AtEachMoment H.Host host.old host.new (Replaces path.now bytes.now) }
-    // After it every stop leaves the new file, and no other file was made.
+    // After success every crash leaves the new file, and no other file was created.
     ensures on_success { OnOk result (AtReturn H.Host host.old host.new
         (WasReplaced path.now bytes.now)) }
-    // Nor were two files made where it fails.
+    // At most one file was created, also if the call fails.
     ensures one { AtReturn H.Host host.old host.new MakesOneAtMost }
     ensures fault_has_cause { FailsOnly H.Host host.old host.new
         (CanReplace path.now) (IsErrOf result HostEnd.Fault) }

@@ -1,4 +1,4 @@
-//! What an installation holds, apart from its objects.
+//! The state of an installation, apart from its objects.
 ghost use Rattle.std.specs.Prelude.{◌≡◌, IfOk};
 
 use fp_base::{Items, Text};
@@ -6,21 +6,21 @@ use fp_keyfile::KeyFile;
 use fp_name::{Digest, PinPattern, RefName, RemoteName, RemoteUrl};
 use std::alloc::AllocError;
 
-/// How an installation keeps its settings.
+/// The layout of an installation: the files that contain its settings.
 #[derive(Clone, Copy, Debug, PartialEq, Eq)]
 pub enum Layout {
-    /// The remotes in `remotes.conf`, the pins in `pins`.
+    /// The remotes are in `remotes.conf`, the pins in `pins`.
     One,
-    /// Both in `config`.
+    /// The remotes and the pins are in `config`.
     Two,
 }
 
-/// A commit that a ref was at before.
+/// The previous commit of a deployed ref.
 #[derive(Clone, Copy, Debug)]
 pub struct Previous {
     /// The digest of the commit.
     pub commit: Digest,
-    /// In seconds since 1970.
+    /// The commit's time, in seconds since 1970-01-01 00:00 UTC.
     pub timestamp: u64,
 }
 
@@ -31,25 +31,25 @@ pub struct RefRow {
     pub name: RefName,
     /// The remote that it comes from.
     pub origin: RemoteName,
-    /// The commit that is deployed.
+    /// The deployed commit.
     pub commit: Digest,
-    /// In seconds since 1970.
+    /// The commit's time, in seconds since 1970-01-01 00:00 UTC.
     pub timestamp: u64,
-    /// The commit that it was at before, if there was one.
+    /// The previously deployed commit, if there was one.
     pub previous: Option<Previous>,
 }
 
-/// A remote by its name.
+/// A configured remote.
 #[derive(Debug, Drop)]
 pub struct RemoteRow {
-    /// What the installation calls it.
+    /// The remote's name in this installation.
     pub name: RemoteName,
-    /// Where it is.
+    /// The URL of the remote's repository.
     pub url: RemoteUrl,
 }
 
 impl RemoteRow {
-    /// The same remote again.
+    /// Returns a copy. Errs if memory runs out.
     pub fn copy(&self) -> Result<RemoteRow, AllocError>
         ensures { IfOk result (λ row. row ≡ self.now) }
     {
@@ -60,20 +60,19 @@ impl RemoteRow {
     }
 }
 
-/// The override of an application, or the global one.
+/// The override of an application, or the global one (flatpak-override(1)).
 #[derive(Drop)]
 pub struct OverrideRow {
-    /// `global`, or an application's ID.
+    /// The override's name: `global`, or an application's ID.
     pub name: Text,
-    /// What it says.
+    /// The override's content.
     pub file: KeyFile,
 }
 
-/// The state of an installation. Each list ascends by the bytes of its rows' names and has no name
-/// twice.
+/// The state of an installation. Each list is strictly ascending by the bytes of its rows' names.
 #[derive(Drop)]
 pub struct State {
-    /// How the settings are kept.
+    /// The layout of the settings.
     pub layout: Layout,
     /// The deployed refs.
     pub refs: Items<RefRow>,

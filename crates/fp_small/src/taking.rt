@@ -1,4 +1,4 @@
-//! A name that is taken away.
+//! Removal of a file or symlink.
 ghost use Rattle.std.specs.Prelude.{◌≡◌, OnOk, IsErrOf};
 ghost use Rattle.fp_host.specs.OverHost.{AtReturn, FailsOnly};
 ghost use Rattle.fp_host.specs.Paths.{absent};
@@ -8,7 +8,8 @@ ghost use Rattle.fp_small.specs.Clear.{GoneAt, AbsentAt};
 
 use fp_host::{Host, HostEnd, Path, Stat};
 
-/// Takes the name away where something stands there. It is for a path that is no folder.
+/// Removes the file or symlink at the path. Does nothing if the path is absent. Errs if it is a
+/// directory.
 pub fn take_away<H: Host>(host: &mut H, path: &Path) -> Result<(), HostEnd>
     ensures frame { Frame (GoneAt path.now) (AbsentAt path.now) NoPath
         (H.moments host.old) (H.moments host.new) }

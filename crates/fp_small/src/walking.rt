@@ -1,4 +1,4 @@
-//! The names in folders, and lists of what they lead to.
+//! The names in directories, and lists of their paths.
 ghost use Rattle.std.specs.Prelude.{◌≡◌, ◌++◌, ◌∷◌, [], true, map, IfOk, OnOk, IsErrOf};
 ghost use Rattle.std.specs.List.{list_all};
 ghost use Rattle.std.specs.String.{string_cmp};
@@ -12,7 +12,8 @@ use fp_host::{Host, HostEnd, Path, Stat};
 use std::alloc::{AllocError, Global};
 use std::collections::BTreeMap;
 
-/// The names directly in the folder; none where it is no folder.
+/// Returns the names directly in the directory; none if it is absent, a file or a symlink. Changes
+/// nothing.
 pub fn names_in<H: Host>(alloc: Global, host: &mut H, folder: &Path) -> Result<Items<Text>, HostEnd>
     ensures unchanged { ChangesNothing H.Host host.old host.new }
     ensures tells { IfOk result (λ names. AtReturn H.Host host.old host.new
@@ -26,7 +27,7 @@ pub fn names_in<H: Host>(alloc: Global, host: &mut H, folder: &Path) -> Result<I
     }
 }
 
-/// Adds the paths of these names in the folder to the others.
+/// Appends the paths of these names in the directory to a list.
 pub fn add_names(folder: &Path, names: &[Text], paths: &mut Vec<Path>) -> Result<(), AllocError>
     requires { list_all is_element names.now ≡ true }
     ensures { OnOk result (paths.new.items ≡ paths.old.items ++ map (λ x. x ∷ folder.now)
@@ -38,7 +39,7 @@ pub fn add_names(folder: &Path, names: &[Text], paths: &mut Vec<Path>) -> Result
     Ok(())
 }
 
-/// A list of this item alone.
+/// Creates a list with only this item.
 pub fn list_of_one<T: Drop>(alloc: Global, item: T) -> Result<Vec<T>, AllocError>
     ensures { IfOk result (λ items. items.items ≡ item ∷ []) }
 {
@@ -47,7 +48,7 @@ pub fn list_of_one<T: Drop>(alloc: Global, item: T) -> Result<Vec<T>, AllocError
     Ok(items)
 }
 
-/// What stands in the map, ascending by the bytes of the keys.
+/// Returns the values of the map, ascending by the bytes of their keys.
 pub fn values_in_order<T: Drop>(
     alloc: Global,
     mut keyed: BTreeMap<String, T>,

@@ -1,18 +1,20 @@
--- The permission bits that a file has on the disk, and those that it stands for.
+-- The permission bits that a file has on the disk, and the bits that a caller asked for.
 use Rattle.std.specs.Prelude.{ℕ, Bool, ◌+◌, ◌-◌, ◌/◌, ◌%◌, ◌==◌, if◌then◌else◌}
 
--- whether its owner may read it, by the bit 0400
+-- Tests whether the owner may read the file: the bit 0o400 is set
 abbrev pub is_readable : ℕ → Bool
 is_readable bits = (bits / 256) % 2 == 1
 
--- whether the sticky bit is set, 01000, which means nothing on a file
+-- Tests whether the sticky bit, 0o1000, is set; Linux ignores it on a regular file
 abbrev pub is_sticky : ℕ → Bool
 is_sticky bits = (bits / 512) % 2 == 1
 
--- what stands on the disk where these were asked for: 01400 more where the owner was to read nothing
+-- The bits that a file gets on the disk, from those that a caller asked for: without the owner's
+-- read bit, 0o1400 is added
 abbrev pub kept : ℕ → ℕ
 kept bits = if is_readable bits then bits else bits + 768
 
--- what was asked for where these stand on the disk: without 01000 and 0400 where the first is set
+-- The bits that a caller asked for, from those on the disk: if the sticky bit is set, 0o1000 and
+-- 0o400 are dropped
 abbrev pub asked : ℕ → ℕ
 asked bits = if is_sticky bits then (if is_readable bits then bits - 768 else bits - 512) else bits

@@ -1,15 +1,15 @@
-//! The permission bits that a file has on the disk, and those that it stands for.
+//! The permission bits that a file has on the disk, and the bits that a caller asked for.
 ghost use Rattle.std.specs.Prelude.{ℕ, ◌≡◌, ◌≤◌, false};
 ghost use Rattle.fp_host.specs.declared.limits.TheConstants.{PERMISSION_BITS};
 ghost use Rattle.fp_system.specs.Bits.{asked, is_readable, is_sticky, kept};
 
-/// The bit with which its owner may read a file.
+/// The owner's read bit.
 const READABLE: u32 = 0o400;
 
-/// The sticky bit, which means nothing on a regular file of Linux.
+/// The sticky bit, which Linux ignores on a regular file.
 const STICKY: u32 = 0o1000;
 
-/// Whether the sticky bit is among these.
+/// Returns whether the sticky bit is set.
 pub fn is_sticky(bits: u32) -> bool
     ensures { result ≡ is_sticky bits }
 {
@@ -22,8 +22,8 @@ fn is_readable(bits: u32) -> bool
     bits / READABLE % 2 == 1
 }
 
-/// The bits that a file is kept with for which these were asked. Its owner may always read it; where
-/// that was not asked for, the sticky bit says so.
+/// Returns the bits that a file gets on the disk, from those that a caller asked for. The owner may
+/// always read the file; if that wasn't asked for, the sticky bit marks it.
 pub fn kept_bits(bits: u32) -> u32
     requires { bits ≤ PERMISSION_BITS }
     ensures { result ≡ kept bits }
@@ -35,7 +35,7 @@ pub fn kept_bits(bits: u32) -> u32
     }
 }
 
-/// The bits that were asked for of a file that has these.
+/// Returns the bits that a caller asked for, from those on the disk.
 pub fn asked_bits(bits: u32) -> u32
     ensures asked { result ≡ asked bits }
     ensures bound { result ≤ bits }
@@ -50,8 +50,8 @@ pub fn asked_bits(bits: u32) -> u32
     }
 }
 
-/// A file is told with the bits that were asked for, where the sticky bit was not. So a file that
-/// nobody may read, 0, stands on the disk with 01400.
+/// States that `asked_bits` undoes `kept_bits` for bits without the sticky bit. A file with the
+/// bits 0, which nobody may read, has 0o1400 on the disk.
 pub fn bits_come_back()
     ensures all { (bits : ℕ) → is_sticky bits ≡ false → asked (kept bits) ≡ bits }
     ensures unread { kept 0 ≡ 768 }

@@ -1,60 +1,61 @@
-//! Why a call was refused, in a word.
+//! The reasons why a call was refused.
 ghost use Rattle.std.specs.Prelude.{◌≡◌, IfOk};
 
 use std::alloc::AllocError;
 use std::io::ErrorKind;
 use std::{fmt, io};
 
-/// The system's number of the error that nothing stands there: ENOENT of Linux.
+/// The errno `ENOENT` of Linux: nothing is at the path.
 pub const NO_ENTRY: i32 = 2;
 
-/// The system's number of the error that a process has as many open files as it may have: EMFILE of
-/// Linux.
+/// The errno `EMFILE` of Linux: the process has too many open files.
 const TOO_MANY_OPEN: i32 = 24;
 
-/// Why the system refused a call, or what breaks the call's condition.
+/// The reason why a call was refused: an error of the system, or a condition of the call that
+/// doesn't hold.
 #[derive(Clone, Copy, Debug)]
 pub enum Cause {
-    /// The system's error of this number, as `errno` has it.
+    /// An error of the system, by its `errno`.
     Number(i32),
-    /// An error that has no number.
+    /// An error of the system without an `errno`.
     Kind(ErrorKind),
-    /// There was no memory.
+    /// Memory ran out.
     NoMemory,
-    /// More than the permission bits were asked for.
+    /// Permission bits above 0o7777, or with the sticky bit.
     BadBits,
-    /// Bytes were to be added to a file that is older than the last sync.
+    /// Bytes to append to a file that was not created since the last sync.
     NotNew,
-    /// A name that no path may have.
+    /// A name that can't be an element of a host's path.
     BadName,
-    /// No path of a remote's url.
+    /// A remote's URL that isn't `file://` followed by an absolute path.
     BadUrl,
-    /// The root, where that may not be.
+    /// The root as the directory to remove.
     IsRoot,
-    /// What is neither a file, a folder nor a symlink.
+    /// Something that is neither a regular file, a directory nor a symlink.
     IsOther,
-    /// A symlink in the place of a folder.
+    /// A symlink where a directory is expected.
     IsSymlink,
-    /// It is no regular file.
+    /// Something other than a regular file.
     NoFile,
-    /// What stands in the place of the lock file is no regular file.
+    /// Something other than a regular file at the path of the lock file.
     NoLock,
-    /// It is neither a regular file nor a symlink.
+    /// A directory where a file or a symlink is expected.
     NoLeaf,
-    /// Both paths are names of one file.
+    /// Two paths that are names of the same file.
     OneFile,
-    /// A folder stands where a file or symlink is to go.
+    /// A directory at the target path of a move.
     InTheWay,
-    /// A change of what was opened to be looked at.
+    /// A change on a host that is open only for reading.
     OnlyLooks,
-    /// An earlier sync failed, or a change could not be noted.
+    /// An earlier sync that failed, or a change that could not be noted: data may be lost.
     MayBeLost,
-    /// No file of fpk's is in the folder, and what stands there would be taken away.
+    /// A directory that no file marks as an installation of fpk's, with something in it that fpk
+    /// would remove.
     NotOurs,
 }
 
 impl Cause {
-    /// The cause that an error of the system gives.
+    /// Converts an error of the system.
     pub fn of(error: &io::Error) -> Self {
         if error.kind() == ErrorKind::OutOfMemory {
             return Cause::NoMemory;
@@ -74,23 +75,24 @@ impl Cause {
         }
     }
 
-    /// Whether it is an error of this kind.
+    /// Returns whether it is an error of this kind.
     pub fn is(self, kind: ErrorKind) -> bool {
         self.kind() == kind
     }
 
-    /// Whether nothing stands at the path: the name is missing, or stands below a file.
+    /// Returns whether it is the error for an absent path: the name is missing, or something above
+    /// it is no directory.
     pub fn is_absence(self) -> bool {
         matches!(self.kind(), ErrorKind::NotFound | ErrorKind::NotADirectory)
     }
 
-    /// Whether the process has as many open files as it may have.
+    /// Returns whether it is `EMFILE`: the process has too many open files.
     pub fn is_too_many_open(self) -> bool {
         matches!(self, Cause::Number(TOO_MANY_OPEN))
     }
 
-    /// Whether a file system takes no sync of this file or folder: what has nothing to sync answers
-    /// EINVAL, and what is never written EROFS.
+    /// Returns whether it is `EINVAL` or `EROFS`, with which fsync(2) fails if the file system
+    /// doesn't support a sync of the file or directory.
     pub fn is_no_sync(self) -> bool {
         matches!(
             self.kind(),
@@ -98,7 +100,7 @@ impl Cause {
         )
     }
 
-    /// The words for what no system refused.
+    /// Returns the message for a cause that has no error of the system.
     fn words(self) -> &'static str {
         match self {
             Cause::Number(_) | Cause::Kind(_) => "",
@@ -138,7 +140,7 @@ impl fmt::Display for Cause {
     }
 }
 
-/// The same with the cause in a word.
+/// Converts the error of a result to a `Cause`.
 pub fn known<T>(done: io::Result<T>) -> Result<T, Cause>
     ensures { IfOk result (λ t. done ≡ Ok t) }
 {

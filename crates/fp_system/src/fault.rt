@@ -1,4 +1,4 @@
-//! What the system refused, and how often.
+//! Failed system calls and their number.
 ghost use Rattle.std.specs.Prelude.{◌≡◌, ◌↔◌, ◌≤◌, None};
 ghost use Rattle.fp_system.specs.Counts.{one_more};
 
@@ -10,24 +10,24 @@ use std::fmt;
 use std::io::ErrorKind;
 use std::marker::Model;
 
-/// What an adapter asked of the system.
+/// The operation that an adapter asked of the system.
 #[derive(Clone, Copy, Debug, PartialEq, Eq)]
 pub enum Call {
-    /// Looking at what stands at a path.
+    /// Looking up a path.
     Stat,
-    /// Listing a folder.
+    /// Listing a directory.
     List,
     /// Reading a file.
     Read,
     /// Reading the text of a symlink.
     ReadLink,
-    /// Making a folder.
+    /// Making a directory.
     MakeDir,
-    /// Making a file.
+    /// Creating a file.
     Create,
-    /// Adding bytes to a file.
+    /// Appending bytes to a file.
     Append,
-    /// Setting the time of a file's last change.
+    /// Setting a file's modification time.
     Date,
     /// Making a hard link.
     Link,
@@ -35,23 +35,23 @@ pub enum Call {
     Symlink,
     /// Moving a file or a symlink.
     Rename,
-    /// Taking a file or a symlink away.
+    /// Removing a file or a symlink.
     Unlink,
-    /// Taking an empty folder away.
+    /// Removing an empty directory.
     RemoveDir,
-    /// Finding or making the root folder.
+    /// Finding or making the root directory.
     Enter,
-    /// Making a folder an installation that holds what isn't fpk's.
+    /// Using an existing directory, which contains files that aren't fpk's, as an installation.
     TakeOver,
-    /// Opening a file or folder that is to be synced.
+    /// Opening a file or directory to sync it.
     Open,
-    /// Making what was done last.
+    /// Syncing a file or directory.
     Sync,
     /// Printing.
     Say,
-    /// Finding the folder that the url of a remote names.
+    /// Finding the directory that the URL of a remote names.
     Locate,
-    /// Reading the standard input.
+    /// Reading standard input.
     Take,
 }
 
@@ -87,20 +87,20 @@ impl fmt::Display for Call {
     }
 }
 
-/// What the system refused, as in `cannot sync installation/config: No space left on device (os
-/// error 28)`.
+/// A system call that failed. It is printed as in `cannot sync installation/config: No space left
+/// on device (os error 28)`.
 #[derive(Debug, Drop)]
 pub struct SystemError {
-    /// What was asked.
+    /// The operation.
     pub call: Call,
-    /// The path, where the call has one and there was memory to keep it.
+    /// The path, if the operation has one and there was memory to keep it.
     pub path: Option<Text>,
-    /// Why it was refused.
+    /// The reason.
     pub cause: Cause,
 }
 
 impl SystemError {
-    /// On a path, which is kept where there is memory.
+    /// Creates an error with a copy of the path. If memory runs out, the path is left out.
     pub fn on(alloc: Global, call: Call, at: &str, cause: Cause) -> Self {
         SystemError {
             call,
@@ -109,7 +109,7 @@ impl SystemError {
         }
     }
 
-    /// On a path.
+    /// Creates an error with this path.
     pub fn with_path(call: Call, at: String, cause: Cause) -> Self {
         SystemError {
             call,
@@ -118,7 +118,7 @@ impl SystemError {
         }
     }
 
-    /// Of a call that has no path.
+    /// Creates an error without a path.
     pub fn without_path(call: Call, cause: Cause) -> Self {
         SystemError {
             call,
@@ -127,7 +127,7 @@ impl SystemError {
         }
     }
 
-    /// Whether something was printed for a reader that is gone.
+    /// Returns whether printing failed with `EPIPE`: the reader of a pipe is gone.
     pub fn is_closed_pipe(&self) -> bool {
         self.call == Call::Say && self.cause.is(ErrorKind::BrokenPipe)
     }
@@ -149,7 +149,7 @@ impl fmt::Display for SystemError {
 
 impl Error for SystemError {}
 
-/// How often the system refused, and the last refusal. Contracts see the number.
+/// The number of failed calls, and the last failure. Contracts see the number.
 #[derive(Drop)]
 pub struct Faults {
     count: u64,
@@ -166,7 +166,7 @@ impl Model for Faults {
 }
 
 impl Faults {
-    /// None so far.
+    /// Creates a count of 0.
     pub fn none() -> Self
         ensures { result ≡ 0 }
     {
@@ -176,21 +176,21 @@ impl Faults {
         }
     }
 
-    /// How often it refused; the count stands still at 2^64 - 1.
+    /// Returns the number of failures; it stays at 2^64 - 1 once it gets there.
     pub fn count(&self) -> u64
         ensures { result ≡ self.now }
     {
         self.count
     }
 
-    /// The last refusal.
+    /// Returns the last failure, or `None` if the count is 0.
     pub fn last(&self) -> Option<&SystemError>
         ensures { (result ≡ None) ↔ (self.now ≡ 0) }
     {
         self.last.as_ref()
     }
 
-    /// Counts a refusal and keeps it.
+    /// Counts a failure and keeps it as the last one.
     pub fn note(&mut self, error: SystemError)
         ensures more { self.new ≡ one_more self.old }
         ensures later { self.old ≤ self.new }

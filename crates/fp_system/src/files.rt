@@ -1,4 +1,4 @@
-//! Files of ours that are opened, also where their own permission bits are in the way.
+//! Opening fpk's own files, even if their permission bits forbid it.
 use crate::{Cause, Found, Kind, NO_ENTRY, known, look};
 use std::fs;
 use std::fs::{OpenOptions, Permissions};
@@ -6,7 +6,8 @@ use std::io::ErrorKind;
 use std::os::unix::fs::PermissionsExt;
 use std::rt::Files;
 
-/// The file at the path. What is none is an error.
+/// Returns the status of the regular file at the path, without following a symlink. Errs with
+/// `NO_ENTRY` if nothing is there and with `NoFile` if something else is.
 pub fn find_file<R: Files>(rt: &R, at: &str) -> Result<Found, Cause> {
     match look(rt, at) {
         Ok(found) if found.kind == Kind::File => Ok(found),
@@ -22,8 +23,8 @@ fn no_file(kind: Kind) -> Cause {
     }
 }
 
-/// Opens a file of ours, also where its own permission bits are in the way: they are widened while
-/// it is opened.
+/// Opens one of fpk's own files. If its permission bits forbid it, they get the bits 0o600 added
+/// while it is opened.
 pub fn open_own<R: Files>(rt: &R, how: &OpenOptions, at: &str) -> Result<R::File, Cause> {
     match known(how.open(rt, at)) {
         Err(e) if e.is(ErrorKind::PermissionDenied) => open_denied(rt, how, at, e),
@@ -31,7 +32,7 @@ pub fn open_own<R: Files>(rt: &R, how: &OpenOptions, at: &str) -> Result<R::File
     }
 }
 
-/// What is no regular file stays denied.
+/// Retries with wider permission bits. Anything but a regular file stays denied.
 fn open_denied<R: Files>(
     rt: &R,
     how: &OpenOptions,
@@ -72,12 +73,12 @@ fn open_narrowed<R: Files>(
     }
 }
 
-/// Gives the file or folder these permission bits.
+/// Sets the permission bits of the file or directory.
 pub fn set_bits<R: Files>(rt: &R, at: &str, bits: u32) -> Result<(), Cause> {
     known(fs::set_permissions(rt, at, Permissions::from_mode(bits)))
 }
 
-/// Opens a file or folder of ours.
+/// Opens one of fpk's own files or directories to read.
 pub fn open_to_read<R: Files>(rt: &R, at: &str) -> Result<R::File, Cause> {
     open_own(rt, OpenOptions::new().read(true), at)
 }

@@ -1,4 +1,4 @@
-//! The folders above a path, none of which may be a symlink.
+//! The directories above a path, none of which may be a symlink.
 use crate::cause::Cause;
 use crate::found::{Kind, kind_at};
 use crate::path_map::PathMap;
@@ -6,41 +6,42 @@ use crate::paths::folder_of;
 use std::alloc::Global;
 use std::rt::Files;
 
-/// The folders that were looked at, by their paths. Each is looked at once, and remembered until it
-/// is removed: what another program puts in its place meanwhile is followed. Above one that is
-/// remembered no symlink stands. That nothing stands at a path is remembered too, until it is
-/// forgotten or a folder is made there.
+/// A cache of directories that were looked up, by path. Each directory is looked up once and
+/// remembered until it is removed; a symlink that another program puts in its place meanwhile is
+/// followed. No symlink is above a remembered directory. An absent path is remembered too, until it
+/// is forgotten or a directory is made there.
 #[derive(Drop)]
 pub struct Folders {
-    // Whether a folder is there, or nothing.
+    // `true` for a directory, `false` for an absent path.
     known: PathMap<bool>,
 }
 
 impl Folders {
-    /// None was looked at.
+    /// Creates an empty cache.
     pub fn none(alloc: Global) -> Self {
         Folders {
             known: PathMap::new(alloc),
         }
     }
 
-    /// Whether the folder is remembered.
+    /// Returns whether the path is remembered as a directory.
     pub fn has(&self, at: &str) -> bool {
         self.known.get(at) == Some(&true)
     }
 
-    /// Remembers a folder above which no symlink stands, where there is memory.
+    /// Remembers a directory above which there is no symlink, if there is memory to do so.
     pub fn add(&mut self, at: &str) {
         let _noted = self.known.put(at, true);
     }
 
-    /// A folder was removed, or something else came: what stands at the path is not known any more.
+    /// Forgets what is at the path: a directory was removed there, or something else was put there.
     pub fn forget(&mut self, at: &str) {
         self.known.remove(at);
     }
 
-    /// Looks at each folder above the path, from a place in its text on, up to one that isn't
-    /// there. Answers whether all of them are. A symlink is an error.
+    /// Looks up each directory above the path, beginning at the byte offset `from` of its text, and
+    /// stops at the first path that is no directory. Returns whether all of them are directories.
+    /// Errs with `IsSymlink` at a symlink.
     pub fn look_above<R: Files>(&mut self, rt: &R, at: &str, from: usize) -> Result<bool, Cause> {
         if self.has(folder_of(at)) {
             return Ok(true);
@@ -54,7 +55,7 @@ impl Folders {
         Ok(true)
     }
 
-    /// Whether a folder is there. A symlink is an error.
+    /// Returns whether a directory is at the path. Errs with `IsSymlink` if a symlink is there.
     pub fn is_folder<R: Files>(&mut self, rt: &R, at: &str) -> Result<bool, Cause> {
         if let Some(is_there) = self.known.get(at) {
             return Ok(*is_there);
@@ -65,7 +66,7 @@ impl Folders {
         }
     }
 
-    /// Remembers what stands at the path, and answers whether it is a folder.
+    /// Remembers a directory or an absent path, and returns whether it is a directory.
     fn remember(&mut self, at: &str, kind: Kind) -> Result<bool, Cause> {
         match kind {
             Kind::Dir => self.add(at),
@@ -79,7 +80,7 @@ impl Folders {
     }
 }
 
-/// The part of the path up to this place of its text, where a slash stands there.
+/// Returns the part of the path before this byte offset, if a slash is there.
 fn above_at(at: &str, end: usize) -> Option<&str> {
     match at.split_at_checked(end) {
         Some((above, rest)) if rest.starts_with('/') => Some(above),

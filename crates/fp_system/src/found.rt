@@ -1,4 +1,4 @@
-//! What stands at a path of the system.
+//! The status of a path in the file system.
 ghost use Rattle.std.specs.Prelude.{◌≤◌, IfOk};
 ghost use Rattle.fp_host.specs.Reads.{HasBits};
 
@@ -10,14 +10,14 @@ use std::io::ErrorKind;
 use std::os::unix::fs::MetadataExt;
 use std::rt::Files;
 
-/// What kind of thing stands at a path.
+/// The type of what is at a path.
 #[derive(Clone, Copy, PartialEq, Eq)]
 pub enum Kind {
-    /// Nothing: the name is missing, or stands below a file.
+    /// Nothing: the name is missing, or something above it is no directory.
     Absent,
-    /// A folder.
+    /// A directory.
     Dir,
-    /// A file.
+    /// A regular file.
     File,
     /// A symlink.
     Link,
@@ -25,13 +25,13 @@ pub enum Kind {
     Other,
 }
 
-/// What stands at a path. Where nothing does, all numbers are 0.
+/// The status of a path. If nothing is there, all its numbers are 0.
 #[derive(Clone, Copy)]
 pub struct Found {
-    /// What kind of thing it is.
+    /// The type of what is there.
     pub kind: Kind,
     mode: u32,
-    /// The number of bytes of a file.
+    /// The length in bytes.
     pub size: u64,
     // The numbers of the inode and of its device.
     id: u64,
@@ -59,24 +59,25 @@ impl Found {
         }
     }
 
-    /// Whether it is a file or symlink.
+    /// Returns whether it is a regular file or a symlink.
     pub fn is_leaf(&self) -> bool {
         matches!(self.kind, Kind::File | Kind::Link)
     }
 
-    /// Whether both are one file.
+    /// Returns whether both are the same inode of the same device.
     pub fn is_one_with(&self, other: &Found) -> bool {
         self.id == other.id && self.device == other.device
     }
 
-    /// Its permission bits, without those of its type.
+    /// Returns the permission bits, at most 0o7777, without the file type.
     pub fn permission_bits(&self) -> u32
         ensures { result ≤ PERMISSION_BITS }
     {
         self.mode & PERMISSION_BITS
     }
 
-    /// The same as a host says it. Its id is the number of the inode.
+    /// Converts it to a host's `Stat`, whose id is the inode number. Errs with `IsOther` for a
+    /// socket, pipe or device.
     pub fn stat(&self) -> Result<Stat, Cause>
         ensures { IfOk result HasBits }
     {
@@ -106,7 +107,7 @@ fn kind_of(found: &Metadata) -> Kind {
     }
 }
 
-/// What stands at the path. A symlink is not followed.
+/// Returns the status of the path, without following a symlink. An absent path is no error.
 pub fn look<R: Files>(rt: &R, at: &str) -> Result<Found, Cause> {
     match known(fs::symlink_metadata(rt, at)) {
         Ok(found) => Ok(Found::of(&found)),
@@ -115,7 +116,7 @@ pub fn look<R: Files>(rt: &R, at: &str) -> Result<Found, Cause> {
     }
 }
 
-/// Of what kind it is.
+/// Returns the type of what is at the path, without following a symlink.
 pub fn kind_at<R: Files>(rt: &R, at: &str) -> Result<Kind, Cause> {
     match look(rt, at) {
         Ok(found) => Ok(found.kind),
@@ -123,7 +124,8 @@ pub fn kind_at<R: Files>(rt: &R, at: &str) -> Result<Kind, Cause> {
     }
 }
 
-/// Whether a folder is there, or a symlink to one. What is no folder is an error.
+/// Returns whether a directory is at the path, following symlinks. Errs with `NotADirectory` if
+/// something else is there.
 pub fn has_folder<R: Files>(rt: &R, at: &str) -> Result<bool, Cause> {
     match known(fs::metadata(rt, at)) {
         Ok(found) => must_be_dir(&found),

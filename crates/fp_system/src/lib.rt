@@ -1,5 +1,6 @@
-//! What the adapters share: what the system refused, what stands at a path, files that stay open,
-//! and how files and folders of ours are opened, listed, and made to last by several threads.
+//! Code shared by the adapters of the real system: errors of system calls, the status of paths,
+//! open files, and how fpk's own files and directories are opened, listed, created and synced by
+//! several threads.
 #![tactic(auto)]
 
 mod bits;

@@ -1,4 +1,4 @@
-//! The permission bits of what is made in the system.
+//! The permission bits of new directories.
 
-/// The permission bits of a folder.
+/// The permission bits of a directory that fpk makes.
 pub const FOLDER_BITS: u32 = 0o755;

@@ -1,21 +1,21 @@
-//! Threads that make new files.
+//! Threads that create new files.
 use crate::new_files::{NewFile, Share};
 use std::alloc::Global;
 use std::rt::Files;
 use std::thread::{JoinHandle, Threads, spawn};
 
-/// A batch of files that is being made.
+/// A batch of files that is being created, in shares.
 #[derive(Drop)]
 pub struct Work {
     running: Vec<JoinHandle<Share>>,
-    // What was made at once.
+    // The shares that were done without a thread.
     done: Vec<Share>,
-    // Whether there was no memory to keep what became of some of them.
+    // Whether memory ran out for the result of a share.
     is_lost: bool,
 }
 
 impl Work {
-    /// Nothing is being made.
+    /// Creates an empty batch.
     pub fn nothing(alloc: Global) -> Self {
         Work {
             running: Vec::new(alloc),
@@ -24,7 +24,7 @@ impl Work {
         }
     }
 
-    /// Work that is done at once, without threads.
+    /// Creates and syncs all files on the calling thread.
     pub fn at_once<R: Files>(rt: &R, alloc: Global, files: Vec<NewFile>) -> Self {
         let mut work = Work::nothing(alloc);
         work.make(rt, files);
@@ -52,7 +52,8 @@ impl Work {
         }
     }
 
-    /// Waits for a thread that is at work, and answers what it did; or else what was done at once.
+    /// Waits for a thread and returns its share. Once no thread is left, returns the shares that
+    /// were done without one, and then `None`.
     pub fn next<T: Threads>(&mut self, threads: &T) -> Option<Share> {
         match self.running.pop() {
             Some(running) => Some(running.join(threads)),
@@ -60,7 +61,7 @@ impl Work {
         }
     }
 
-    /// Whether it isn't known of some files what became of them.
+    /// Returns whether the results for some files are lost, since memory ran out.
     pub fn is_lost(&self) -> bool {
         self.is_lost
     }
@@ -72,11 +73,11 @@ fn made<R: Files>(rt: &R, files: Vec<NewFile>) -> Share {
     share
 }
 
-/// What starts threads that make files. The real system does: what a thread gets isn't seen to be
-/// safe for a system of any type.
+/// A system whose threads can create files. Only the real system implements it, since it isn't
+/// proved of a type parameter that its values may be sent to a thread.
 pub trait Maker {
-    /// Starts a thread that makes these files, one after another. Where the system gives none, they
-    /// are made at once.
+    /// Starts a thread that creates these files in order. If no thread can be started, creates them
+    /// at once and returns the share as `Err`.
     fn start<T: Threads>(
         &self,
         threads: &T,
@@ -98,16 +99,16 @@ impl Maker for HostRuntime {
     }
 }
 
-/// Makes files for a thread, which has the system for its own.
+/// Creates files on a thread, which gets a copy of the system.
 pub fn made_by<R: Files + Copy>(rt: R, files: Vec<NewFile>) -> Share {
     made(&rt, files)
 }
 
-/// As few at least are made by several threads.
+/// The least number of files for which threads are started.
 const LEAST: usize = 4;
 
-/// Starts threads that make the files, each of them some. At most this many are started, and none
-/// for a few files.
+/// Creates the files by at most `most` threads, each of which gets a share. Fewer than 4 files are
+/// created on the calling thread.
 pub fn make_by_threads<M: Files + Maker, T: Threads>(
     maker: &M,
     threads: &T,
@@ -140,7 +141,8 @@ fn start_all<M: Maker, T: Threads>(
     work
 }
 
-/// As many files from the end, where more are there, and memory for a list of them.
+/// Splits `size` files off the end. Returns `None` if no more than that are left, or if memory runs
+/// out.
 fn cut(files: &mut Vec<NewFile>, size: usize) -> Option<Vec<NewFile>> {
     if files.len() <= size {
         return None;

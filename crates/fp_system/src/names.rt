@@ -1,4 +1,4 @@
-//! The names in a folder.
+//! Listing the names in a directory.
 ghost use Rattle.std.specs.Prelude.{◌≡◌, ◌↔◌, IfOk, IsTrue};
 ghost use Rattle.std.specs.List.{list_all};
 ghost use Rattle.std.specs.Ordering.{is_lt, nat_cmp};
@@ -14,8 +14,9 @@ use std::fs::{self, DirEntry};
 use std::io::{self, ErrorKind};
 use std::rt::Files;
 
-/// The names in the folder but the hidden one, ascending by their bytes. Those that aren't UTF-8 are
-/// left out: no path of a host has one.
+/// Lists the names in the directory except the hidden one, ascending by their bytes. Names that
+/// aren't UTF-8 are left out: no path of a host has one. Errs with `BadName` if another name can't
+/// be an element of a path.
 pub fn list_names<R: Files + AllocGlobal>(
     rt: &R,
     alloc: Global,
@@ -30,8 +31,8 @@ pub fn list_names<R: Files + AllocGlobal>(
     }
 }
 
-/// The names but the hidden one, ascending by their bytes. A name that no path may have is an
-/// error.
+/// Sorts the names ascending by their bytes, without the hidden one. Errs with `BadName` if a name
+/// can't be an element of a path.
 pub fn sorted_names(mut names: Vec<Text>, hidden: &str) -> Result<Items<Text>, Cause>
     ensures { IfOk result AreNames }
 {
@@ -44,16 +45,17 @@ pub fn sorted_names(mut names: Vec<Text>, hidden: &str) -> Result<Items<Text>, C
     }
 }
 
-/// What becomes of names that aren't UTF-8. No path of a host has one.
+/// The treatment of names that aren't UTF-8. No path of a host has one.
 #[derive(Clone, Copy, PartialEq, Eq)]
 pub enum OddNames {
-    /// They are an error.
+    /// Such a name is an error.
     Refused,
-    /// They are left out: they aren't ours.
+    /// Such names are left out: they aren't fpk's.
     LeftOut,
 }
 
-/// The names in the folder, in no order.
+/// Lists the names in the directory, in no particular order. `odd` is the treatment of names that
+/// aren't UTF-8.
 pub fn read_names<R: Files + AllocGlobal>(
     rt: &R,
     alloc: Global,
@@ -98,7 +100,7 @@ fn push_name(alloc: Global, name: &str, names: &mut Vec<Text>) -> Result<(), All
     Ok(())
 }
 
-/// Whether each may be an element of a path, and each comes before the next.
+/// Returns whether each name may be an element of a path, and the names ascend strictly.
 fn are_names(names: &[Text]) -> bool
     ensures { IsTrue result → AreNames names.now }
 {

@@ -1,4 +1,4 @@
-//! New files that are made as they are to be, and made to last.
+//! New files that are written and synced in one go.
 use crate::syncing::Unsynced;
 use crate::{Call, Cause, known};
 use std::fs::{FileTimes, OpenFile, OpenOptions, Permissions};
@@ -7,33 +7,34 @@ use std::os::unix::fs::{OpenOptionsExt, PermissionsExt};
 use std::rt::Files;
 use std::time::UNIX_EPOCH;
 
-/// A file that is to be made.
+/// A file to create, with its content.
 #[derive(Drop)]
 pub struct NewFile {
-    /// Its path.
+    /// The file's path.
     pub at: String,
-    /// Its permission bits on the disk.
+    /// The permission bits on the disk.
     pub mode: u32,
-    /// Whether the umask is known to take none of them.
+    /// Whether the umask is known to leave all these bits set, so that no `chmod` is needed.
     pub is_granted: bool,
-    /// Whether its last change is dated to the beginning of 1970.
+    /// Whether the modification time is set to 0, the start of 1970.
     pub is_dated: bool,
-    /// Its bytes.
+    /// The file's content.
     pub bytes: Vec<u8>,
 }
 
-/// Some files of a batch, of which the first ones are made and last.
+/// A part of a batch of new files. The files are created in order, so the created and synced ones
+/// come first.
 #[derive(Drop)]
 pub struct Share {
     files: Vec<NewFile>,
-    // How many are made.
+    // The number of files that are created and synced.
     made: usize,
-    // Why the next one is not.
+    // The reason why the next file could not be created or synced.
     met: Option<Unsynced>,
 }
 
 impl Share {
-    /// None of these files is made.
+    /// Creates a share with none of these files created yet.
     pub fn unmade(files: Vec<NewFile>) -> Self {
         Share {
             files,
@@ -42,7 +43,7 @@ impl Share {
         }
     }
 
-    /// The files that are made and last.
+    /// Returns the files that are created and synced.
     pub fn made(&self) -> &[NewFile] {
         match self.files.get(..self.made) {
             Some(files) => files,
@@ -50,7 +51,8 @@ impl Share {
         }
     }
 
-    /// The path of the first file that could not be made, and why.
+    /// Returns the path of the file that could not be created or synced, and the reason, or `None`
+    /// if there was no failure.
     pub fn met(&self) -> Option<(&str, Unsynced)> {
         match (self.files.get(self.made), self.met) {
             (Some(file), Some(unsynced)) => Some((file.at.as_str(), unsynced)),
@@ -59,7 +61,7 @@ impl Share {
         }
     }
 
-    /// Whether a file could not be made since the process has as many open files as it may have.
+    /// Returns whether creating a file failed with `EMFILE`: the process has too many open files.
     pub fn is_crowded(&self) -> bool {
         match self.met {
             Some(unsynced) => { unsynced.call == Call::Create && unsynced.cause.is_too_many_open() }
@@ -67,7 +69,7 @@ impl Share {
         }
     }
 
-    /// Makes those that are not made yet, one after another up to one that cannot be made.
+    /// Creates and syncs the remaining files in order, and stops at the first failure.
     pub fn make<R: Files>(&mut self, rt: &R) {
         self.met = None;
         for i in self.made..self.files.len() {
@@ -117,7 +119,8 @@ fn unsynced(call: Call, cause: Cause) -> Result<(), Unsynced> {
     Err(Unsynced { call, cause })
 }
 
-/// Makes a new file that is written at its end. The umask may take some of its permission bits.
+/// Creates a new file, opened to append. Errs if something exists at the path. The umask may clear
+/// some of its permission bits.
 pub fn create_new<R: Files>(rt: &R, at: &str, mode: u32) -> Result<R::File, Cause> {
     let created = OpenOptions::new()
         .append(true)
@@ -127,12 +130,13 @@ pub fn create_new<R: Files>(rt: &R, at: &str, mode: u32) -> Result<R::File, Caus
     known(created)
 }
 
-/// Gives an open file exactly these permission bits: the umask may have taken some of them.
+/// Sets exactly these permission bits on an open file, whatever the umask.
 pub fn give_bits<F: OpenFile>(file: &F, mode: u32) -> Result<(), Cause> {
     known(file.set_permissions(Permissions::from_mode(mode)))
 }
 
-/// Dates the last change of an open file to the beginning of 1970, as OSTree dates what it stores.
+/// Sets the modification time of an open file to 0, the start of 1970, as OSTree does for stored
+/// objects.
 pub fn date<F: OpenFile>(file: &F) -> Result<(), Cause> {
     known(file.set_times(FileTimes::new().set_modified(UNIX_EPOCH)))
 }

@@ -1,22 +1,22 @@
-//! Maps from paths.
+//! Maps keyed by paths.
 use crate::syncing::{Unsynced, sync_at};
 use std::alloc::{AllocError, Global};
 use std::collections::BTreeMap;
 use std::hash::{FoldHasher, Hasher};
 use std::rt::Files;
 
-/// A map from paths. A path is looked for by a number that is made of its bytes: paths of one
-/// folder begin with the same bytes, so their texts are told apart late. A path whose number another
-/// one has is looked for by its text.
+/// A map keyed by paths. A path is looked up by a hash of its bytes, since paths of one directory
+/// share a long prefix and compare slowly. If two paths have the same hash, the second one is
+/// looked up by its text.
 #[derive(Drop)]
 pub struct PathMap<V> {
     alloc: Global,
     numbered: BTreeMap<u64, Entry<V>>,
-    // Those whose number another path had when they came.
+    // The paths whose hash another path had when they were added.
     others: BTreeMap<String, V>,
 }
 
-/// A path, and what it is mapped to.
+/// A path and its value.
 #[derive(Drop)]
 struct Entry<V> {
     at: String,
@@ -24,7 +24,7 @@ struct Entry<V> {
 }
 
 impl<V> PathMap<V> {
-    /// An empty map.
+    /// Creates an empty map.
     pub fn new(alloc: Global) -> Self {
         PathMap {
             alloc,
@@ -33,12 +33,12 @@ impl<V> PathMap<V> {
         }
     }
 
-    /// Whether it has no path.
+    /// Returns whether the map is empty.
     pub fn is_empty(&self) -> bool {
         self.numbered.is_empty() && self.others.is_empty()
     }
 
-    /// What the path is mapped to.
+    /// Returns the value of the path.
     pub fn get(&self, at: &str) -> Option<&V> {
         match self.numbered.get(&number_of(at)) {
             Some(entry) if entry.at.as_str() == at => Some(&entry.value),
@@ -46,12 +46,12 @@ impl<V> PathMap<V> {
         }
     }
 
-    /// Whether it has the path.
+    /// Returns whether the map contains the path.
     pub fn has(&self, at: &str) -> bool {
         self.get(at).is_some()
     }
 
-    /// What the path is mapped to, to be changed.
+    /// Returns a mutable reference to the value of the path.
     pub fn get_mut(&mut self, at: &str) -> Option<&mut V> {
         self.find_mut(number_of(at), at)
     }
@@ -63,7 +63,7 @@ impl<V> PathMap<V> {
         }
     }
 
-    /// The paths, ascending by their bytes.
+    /// Returns the paths, ascending by their bytes.
     pub fn paths(&self, alloc: Global) -> Result<Vec<&str>, AllocError> {
         let mut paths = Vec::new(alloc);
         add_numbered(&self.numbered, &mut paths)?;
@@ -74,7 +74,7 @@ impl<V> PathMap<V> {
 }
 
 impl<V: Drop> PathMap<V> {
-    /// Maps the path to this. It errs where there is no memory; then the map is as before.
+    /// Sets the value of the path. Errs if memory runs out; then the map is unchanged.
     pub fn put(&mut self, at: &str, value: V) -> Result<(), AllocError> {
         let number = number_of(at);
         match self.find_mut(number, at) {
@@ -86,7 +86,7 @@ impl<V: Drop> PathMap<V> {
         }
     }
 
-    /// Adds a path that it doesn't have.
+    /// Adds a path that isn't in the map.
     fn add(&mut self, number: u64, at: &str, value: V) -> Result<(), AllocError> {
         let at = at.to_string(self.alloc)?;
         if self.numbered.contains_key(&number) {
@@ -97,7 +97,7 @@ impl<V: Drop> PathMap<V> {
         Ok(())
     }
 
-    /// Takes the path out, and answers what it was mapped to.
+    /// Removes the path and returns its value.
     pub fn remove(&mut self, at: &str) -> Option<V> {
         let number = number_of(at);
         match self.numbered.get(&number) {
@@ -113,14 +113,14 @@ impl<V: Drop> PathMap<V> {
         }
     }
 
-    /// Takes all paths out.
+    /// Removes all paths.
     pub fn clear(&mut self) {
         self.numbered.clear();
         self.others.clear();
     }
 }
 
-/// The number by which the path is looked for.
+/// Returns the hash by which the path is looked up.
 fn number_of(at: &str) -> u64 {
     let mut hasher = FoldHasher::default();
     hasher.write(at.as_bytes());
@@ -147,8 +147,8 @@ fn add_others<'a, V>(
     Ok(())
 }
 
-/// Makes what stands at the paths last, one after another in no order, up to one that fails, which
-/// it answers. It needs no memory.
+/// Syncs the files and directories at all paths, in no particular order. Returns the first failure
+/// and its path, where it stops. It allocates no memory.
 pub fn sync_each<'a, V, R: Files>(
     rt: &R,
     map: &'a PathMap<V>,

@@ -1,8 +1,9 @@
-//! Paths of the system, as texts.
+//! Paths of the file system, as texts.
 use crate::cause::Cause;
 use std::alloc::AllocError;
 
-/// Writes the folder, a slash and what is below.
+/// Replaces the content of `into` with the directory, a slash and the path below it. Errs with
+/// `NoMemory`.
 pub fn join(folder: &str, below: &str, into: &mut String) -> Result<(), Cause> {
     into.clear();
     match push(folder, below, into) {
@@ -17,7 +18,7 @@ fn push(folder: &str, below: &str, into: &mut String) -> Result<(), AllocError> 
     into.push_str(below)
 }
 
-/// The folder that a path stands in, and its name there.
+/// Splits a path into its parent directory, `.` if it has no slash, and its name.
 pub fn split_name(at: &str) -> (&str, &str) {
     match at.rsplit_once('/') {
         None => (".", at),
@@ -26,7 +27,7 @@ pub fn split_name(at: &str) -> (&str, &str) {
     }
 }
 
-/// The folder that a path stands in.
+/// Returns the parent directory of a path, `.` if it has no slash.
 pub fn folder_of(at: &str) -> &str {
     let (folder, _) = split_name(at);
     folder

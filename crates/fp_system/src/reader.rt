@@ -1,4 +1,4 @@
-//! A file that stays open from one read to the next.
+//! A file that stays open between reads.
 ghost use Rattle.std.specs.Prelude.{◌≤◌, length, IfOk};
 
 use crate::cause::{Cause, known};
@@ -8,10 +8,10 @@ use std::fs;
 use std::io::{Read, Seek, SeekFrom};
 use std::rt::Files;
 
-/// The most bytes that a file of the system can have.
+/// The largest offset that a file can have, in bytes.
 const LONGEST: u64 = i64::MAX as u64;
 
-/// At most one open file, with its path and the place that it is read from next.
+/// At most one open file, with its path and the offset of the next read.
 pub struct Reader<F> {
     at: String,
     file: Option<F>,
@@ -29,7 +29,7 @@ impl<F: Drop> Drop for Reader<F> {
 }
 
 impl<F: Drop> Reader<F> {
-    /// No file.
+    /// Creates a reader without an open file.
     pub fn nothing(alloc: Global) -> Self {
         Reader {
             at: String::new(alloc),
@@ -38,20 +38,21 @@ impl<F: Drop> Reader<F> {
         }
     }
 
-    /// The path has no file any more, or another one.
+    /// Closes the file at the path if it is the open one. Called when it was removed, moved or
+    /// replaced.
     pub fn close_at(&mut self, at: &str) {
         if self.at.as_str() == at {
             self.file = None;
         }
     }
 
-    /// Whether a read at the place opens the file: one from the beginning, and one of another file
-    /// than the one before.
+    /// Returns whether a read has to open the file first: it begins at the offset 0, or this file
+    /// isn't the open one.
     pub fn begins(&self, at: &str, from: u64) -> bool {
         from == 0 || self.file.is_none() || self.at.as_str() != at
     }
 
-    /// Keeps the file in the place of the one before.
+    /// Keeps the file open, and closes the previous one.
     fn keep(&mut self, at: &str, file: F) -> Result<(), Cause> {
         self.at.clear();
         self.place = 0;
@@ -69,8 +70,9 @@ impl<F: Drop> Reader<F> {
 }
 
 impl<F: Read + Seek + Drop> Reader<F> {
-    /// Reads the file at the path from a place on, until the buffer is full or the file ends. It
-    /// has to be opened before a read that begins it.
+    /// Reads the open file from the byte offset `from` on, until the buffer is full or the file
+    /// ends. Returns the number of bytes read, 0 if no file is open. Call `open` first if `begins`
+    /// returns true.
     pub fn read(&mut self, from: u64, into: &mut [u8]) -> Result<usize, Cause>
         ensures { IfOk result (λ n. n ≤ length into.old) }
     {
@@ -80,7 +82,7 @@ impl<F: Read + Seek + Drop> Reader<F> {
         }
     }
 
-    /// Opens the file at the path, and keeps it in the place of the one before.
+    /// Opens the file at the path, and closes the previous one.
     pub fn open<R: Files<File = F>>(&mut self, rt: &R, at: &str) -> Result<(), Cause> {
         match known(fs::open(rt, at)) {
             Ok(file) => self.keep(at, file),
@@ -89,7 +91,7 @@ impl<F: Read + Seek + Drop> Reader<F> {
     }
 }
 
-/// Reads from a place on, and notes where the next read begins.
+/// Reads from the byte offset `from` on, and stores the offset of the next read in `place`.
 fn read_from<F: Read + Seek>(
     file: &mut F,
     place: &mut u64,

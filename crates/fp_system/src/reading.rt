@@ -1,4 +1,4 @@
-//! How bytes and links are read.
+//! Reading bytes of files and texts of symlinks.
 ghost use Rattle.std.specs.Prelude.{◌≤◌, length, IfOk};
 
 use crate::cause::{Cause, known};
@@ -7,7 +7,7 @@ use std::alloc::Global;
 use std::io::{ErrorKind, Read};
 use std::rt::Files;
 
-/// Reads until the buffer is full or the file ends.
+/// Reads until the buffer is full or the file ends. Returns the number of bytes read.
 pub fn fill<F: Read>(file: &mut F, into: &mut [u8]) -> Result<usize, Cause>
     ensures { IfOk result (λ n. n ≤ length into.old) }
 {
@@ -22,7 +22,8 @@ pub fn fill<F: Read>(file: &mut F, into: &mut [u8]) -> Result<usize, Cause>
     Ok(filled)
 }
 
-/// Reads once, and again where a signal interrupted it.
+/// Reads once, and retries if a signal interrupts the call. Returns the number of bytes read, 0 at
+/// the end of the file.
 pub fn read_some<F: Read>(file: &mut F, into: &mut [u8]) -> Result<usize, Cause>
     ensures { IfOk result (λ n. n ≤ length into.old) }
 {
@@ -35,7 +36,7 @@ pub fn read_some<F: Read>(file: &mut F, into: &mut [u8]) -> Result<usize, Cause>
     Err(Cause::Kind(ErrorKind::Interrupted))
 }
 
-/// The text of the symlink at the path.
+/// Returns the target text of the symlink at the path.
 pub fn read_link<R: Files>(rt: &R, alloc: Global, at: &str) -> Result<Text, Cause> {
     match known(rt.read_link(alloc, at)) {
         Ok(text) => Ok(Text::from_string(text.into_string())),

@@ -1,4 +1,4 @@
-//! Files and folders that are made to last.
+//! Syncing files and directories.
 ghost use Rattle.std.specs.Prelude.{◌≡◌, ◌↔◌, IsTrue, IsNone, IfSome, IsSomeAnd, Some};
 ghost use Rattle.std.specs.Thread.{IsSync};
 
@@ -10,33 +10,34 @@ use std::io::ErrorKind;
 use std::rt::Files;
 use std::thread::{Threads, join};
 
-/// What could not be made to last, and why.
+/// A file or directory that could not be synced.
 #[derive(Clone, Copy)]
 pub struct Unsynced {
-    /// What was asked of the system.
+    /// The operation that failed.
     pub call: Call,
-    /// Why the system refused it.
+    /// The reason.
     pub cause: Cause,
 }
 
-/// The same with the place of its path in a list.
+/// A failed sync, with the index of the item in a list.
 #[derive(Clone, Copy)]
 pub struct Failure {
-    /// The place of the path, from 0.
+    /// The index, from 0.
     pub place: usize,
-    /// What could not be done, and why.
+    /// The failure.
     pub unsynced: Unsynced,
 }
 
-/// How many threads sync at one time. A disk takes many syncs together in about the time of one.
+/// The most threads that sync at one time. A disk handles many concurrent syncs in about the time
+/// of one.
 const THREADS: usize = 8;
 
-/// As many at least are cut in halves.
+/// The least number of items for which a list is split.
 const LEAST: usize = 32;
 
-/// What makes something last, and answers why it could not. What is gone is left out.
+/// A system that can sync items of a type.
 pub trait Syncer<I> {
-    /// Makes it last. Answers why it could not, and nothing where it lasts or is gone.
+    /// Syncs the item. Returns the failure, or `None` if the item is synced or no longer exists.
     fn sync_one(&self, item: &I) -> Option<Unsynced>;
 }
 
@@ -52,9 +53,9 @@ impl<'a> Syncer<&'a File> for HostRuntime {
     }
 }
 
-/// Syncs by several threads where there are many paths or files. It answers the first failure; but
-/// a sync that failed comes before what could not be opened. Where the process may have no more
-/// open files, the rest is synced one after another, once the threads have closed theirs.
+/// Syncs the items, by several threads if there are many. Returns the first failure in the list's
+/// order; but a failed sync precedes an item that could not be opened. If the process runs out of
+/// open files, the rest is synced one after another once the threads have closed theirs.
 pub fn sync_by_threads<T: Threads + Sync, I: Sync, S: Syncer<I> + Sync>(
     threads: &T,
     syncer: &S,
@@ -68,7 +69,7 @@ pub fn sync_by_threads<T: Threads + Sync, I: Sync, S: Syncer<I> + Sync>(
     }
 }
 
-/// Syncs what stands from this place on, one after another.
+/// Syncs the items from this index on, one after another.
 fn sync_from<I, S: Syncer<I>>(syncer: &S, items: &[I], place: usize) -> Option<Failure> {
     match items.split_at_checked(place) {
         Some((_, rest)) => sync_part(syncer, place, rest),
@@ -76,8 +77,8 @@ fn sync_from<I, S: Syncer<I>>(syncer: &S, items: &[I], place: usize) -> Option<F
     }
 }
 
-/// Cuts them in halves, down to this length, and each half is synced by a thread of its own. The
-/// first one has this place in the list.
+/// Splits the list into halves, until a part has at most `most` items or fewer than 32, and syncs
+/// each half on a thread of its own. `start` is the index of the first item in the whole list.
 fn sync_parts<T: Threads + Sync, I: Sync, S: Syncer<I> + Sync>(
     threads: &T,
     syncer: &S,
@@ -103,7 +104,7 @@ fn sync_parts<T: Threads + Sync, I: Sync, S: Syncer<I> + Sync>(
     gravest(first, second)
 }
 
-/// The first failure, but a sync that failed before all others: the system tells that once.
+/// Returns the first failure, but a failed sync before all others: the system reports it only once.
 fn gravest(first: Option<Failure>, second: Option<Failure>) -> Option<Failure>
     ensures is_told { IfSome first (λ early. early.unsynced.call ≡ Call.Sync →
         IsSomeAnd result (λ met. met.unsynced.call ≡ Call.Sync)) }
@@ -137,7 +138,7 @@ fn is_told_once(failure: Failure) -> bool
     failure.unsynced.call == Call::Sync
 }
 
-/// Syncs one after another. The first one has this place in the list.
+/// Syncs the items one after another. `start` is the index of the first one in the whole list.
 fn sync_part<I, S: Syncer<I>>(syncer: &S, start: usize, items: &[I]) -> Option<Failure> {
     for (i, item) in items.iter().enumerate() {
         if let Some(unsynced) = syncer.sync_one(item) {
@@ -147,7 +148,7 @@ fn sync_part<I, S: Syncer<I>>(syncer: &S, start: usize, items: &[I]) -> Option<F
     None
 }
 
-/// Syncs open files one after another, and answers the first that failed.
+/// Syncs open files one after another. Returns the first failure.
 pub fn sync_open_in_turn<F: OpenFile>(files: &[&F]) -> Option<Failure> {
     for (i, file) in files.iter().enumerate() {
         if let Some(unsynced) = sync_opened(*file) {
@@ -157,8 +158,8 @@ pub fn sync_open_in_turn<F: OpenFile>(files: &[&F]) -> Option<Failure> {
     None
 }
 
-/// Syncs files and folders one after another, as they may be opened, and answers the first that
-/// failed.
+/// Syncs files and directories one after another, without changing permission bits to open them.
+/// Returns the first failure. Absent paths are left out.
 pub fn sync_in_turn<R: Files>(rt: &R, paths: &[&str]) -> Option<Failure> {
     for (i, at) in paths.iter().enumerate() {
         if let Some(unsynced) = sync_plain(rt, at) {
@@ -168,8 +169,10 @@ pub fn sync_in_turn<R: Files>(rt: &R, paths: &[&str]) -> Option<Failure> {
     None
 }
 
-/// The same of what is ours, whose permission bits are widened where they are in the way. What may
-/// not be opened is spared where others may own it. The first path has this place in a list.
+/// Syncs fpk's own files and directories one after another; a file whose permission bits forbid it
+/// gets wider ones while it is opened. Returns the first failure, whose index counts from `start`.
+/// Absent paths are left out. `spares` also leaves out paths that can't be opened for lack of
+/// permission, since others may own them.
 pub fn sync_own<R: Files>(rt: &R, start: usize, paths: &[&str], spares: bool) -> Option<Failure> {
     for (i, at) in paths.iter().enumerate() {
         if let Some(unsynced) = sync_at(rt, at, spares) {
@@ -193,8 +196,9 @@ fn sync_plain<R: Files>(rt: &R, at: &str) -> Option<Unsynced> {
     }
 }
 
-/// Syncs a file or folder of ours, or of an earlier run. What is gone is left out, and so is what
-/// may not be opened where others may own it.
+/// Syncs a file or directory that this or an earlier command made. An absent path is left out.
+/// `spares` also leaves out a path that can't be opened for lack of permission, since others may
+/// own it.
 pub fn sync_at<R: Files>(rt: &R, at: &str, spares: bool) -> Option<Unsynced> {
     match open_to_read(rt, at) {
         Ok(opened) => sync_opened(&opened),
@@ -202,8 +206,9 @@ pub fn sync_at<R: Files>(rt: &R, at: &str, spares: bool) -> Option<Unsynced> {
     }
 }
 
-/// Syncs a folder that isn't ours, but may have a name of ours. What is gone, may not be opened or is
-/// of a file system that takes no sync is left out.
+/// Syncs a directory that isn't fpk's but in which it may have made a name. It is left out if it is
+/// absent, can't be opened for lack of permission, or is of a file system that doesn't support the
+/// sync.
 pub fn sync_above<R: Files>(rt: &R, at: &str) -> Option<Unsynced> {
     match sync_at(rt, at, true) {
         Some(unsynced) if unsynced.call == Call::Sync && unsynced.cause.is_no_sync() => None,
@@ -221,7 +226,8 @@ fn sync_opened<F: OpenFile>(opened: &F) -> Option<Unsynced> {
     }
 }
 
-/// What is gone was taken away since.
+/// Returns the failure for a path that could not be opened, or `None` if it is left out: it is
+/// absent, or, with `spares`, permission is lacking.
 fn not_opened(cause: Cause, spares: bool) -> Option<Unsynced> {
     if cause.is_absence() || spares && cause.is(ErrorKind::PermissionDenied) {
         return None;
@@ -232,7 +238,7 @@ fn not_opened(cause: Cause, spares: bool) -> Option<Unsynced> {
     })
 }
 
-/// Whether the path may not be opened as it is.
+/// Returns whether the path could not be opened for lack of permission.
 pub fn is_denied(failure: Failure) -> bool {
     let Unsynced { call, cause } = failure.unsynced;
     call == Call::Open && cause.is(ErrorKind::PermissionDenied)

@@ -1,9 +1,9 @@
-//! The leave to start threads.
+//! The permission to start threads.
 use std::marker::PhantomData;
 use std::thread::Threads;
 
-/// The leave to start threads that a handle gives. It takes no bytes, so threads may share it,
-/// whatever the handle is.
+/// The permission to start threads, without the handle that grants it. It holds no data, so threads
+/// can share it even if they can't share the handle.
 pub struct Team<T> {
     handle: PhantomData<T>,
 }
@@ -16,11 +16,11 @@ impl<T> Drop for Team<T> {
 
 impl<T: Threads> Threads for Team<T> {}
 
-// This is proved: there is nothing to share.
+// `Sync` is proved for this type: it has no data that could be shared.
 unsafe impl<T> Sync for Team<T> {}
 
 impl<T: Threads> Team<T> {
-    /// The leave of this handle to start threads.
+    /// Creates the permission that this handle grants.
     pub fn of(_handle: &T) -> Self {
         Team {
             handle: PhantomData,

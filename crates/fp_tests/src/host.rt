@@ -1,4 +1,5 @@
-//! Paths, their elements, and the texts and bytes that a host is given.
+//! Paths and their elements, texts of symlinks, copies of texts and bytes, and remotes that are
+//! empty.
 
 use crate::many;
 use crate::parsed::path;
@@ -9,7 +10,7 @@ use std::alloc::Global;
 use std::panic::Expect;
 use std::process::Abort;
 
-/// Texts, and whether each is an element of a path, and the text of a link.
+/// Texts, whether each is an element of a path, and whether it is a symlink's text.
 const TEXTS: [(&str, bool, bool); 16] = [
     ("config", true, true),
     ("...", true, true),
@@ -29,7 +30,8 @@ const TEXTS: [(&str, bool, bool); 16] = [
     ("\0", false, false),
 ];
 
-/// Numbers of letters, and whether that many are an element, and the text of a link.
+/// Numbers of letters, whether a text of that length is an element, and whether it is a symlink's
+/// text.
 const LENGTHS: [(usize, bool, bool); 4] = [
     (255, true, true),
     (256, false, true),
@@ -37,7 +39,7 @@ const LENGTHS: [(usize, bool, bool); 4] = [
     (4_096, false, false),
 ];
 
-/// Whether the text is an element, and the text of a link.
+/// Returns whether the text is an element and a symlink's text, as given.
 fn are(text: &str, element: bool, link: bool) -> bool {
     is_element(text) == element && is_link_text(text) == link
 }
@@ -56,7 +58,7 @@ fn elements_and_link_texts(rt: HostRuntime) {
 /// Texts that are no paths.
 const NO_PATHS: [&str; 9] = ["", "/", "/a", "a/", "a//b", "./a", "a/..", "a/./b", "a\0/b"];
 
-/// Paths, and whether the first is above the second.
+/// Paths, and whether the first is a proper ancestor of the second.
 const ABOVE: [(&str, &str, bool); 4] = [
     ("rep", "repo/objects/ab", false),
     ("repo/objects/ab", "repo/objects/ab", false),
@@ -64,7 +66,7 @@ const ABOVE: [(&str, &str, bool); 4] = [
     ("repo/objects/ab", "repo", false),
 ];
 
-/// Whether the path of the first text is above that of the second.
+/// Returns whether the first path is a proper ancestor of the second.
 fn is_above(rt: &impl Abort, alloc: Global, upper: &str, lower: &str) -> bool {
     path(rt, alloc, upper).is_above(&path(rt, alloc, lower))
 }
@@ -81,7 +83,7 @@ fn paths(rt: HostRuntime) {
     }
 }
 
-/// Whether a text of this many letters, and this many bytes, are copied.
+/// Returns whether a text of this many letters and this many bytes can be copied.
 fn are_copied(rt: &impl Abort, alloc: Global, count: usize) -> bool {
     let text = Text::from_string("a".repeat(alloc, count).expect(rt, "memory"));
     let copied = text.copy().expect(rt, "memory");
@@ -92,13 +94,13 @@ fn are_copied(rt: &impl Abort, alloc: Global, count: usize) -> bool {
         && bytes.as_slice() == blob.as_slice()
 }
 
-/// Whether a path is cut in the middle as a short one is.
+/// Returns whether the ancestor 551 levels above a path of 1,101 elements has 550 elements.
 fn has_middle(rt: &impl Abort, below: &Path) -> bool {
     below.len() == 1_101 && below.folder(551).expect(rt, "memory").len() == 550
 }
 
-/// Whether a path of 1,100 elements is below the root, and is copied, joined and cut as a short one
-/// is.
+/// Returns whether the path, of 1,100 elements, is below the root, and can be copied, extended and
+/// cut.
 fn goes_deep(rt: &impl Abort, alloc: Global, path: &Path) -> bool {
     let copy = path.copy().expect(rt, "memory");
     let below = copy.join("x").expect(rt, "an element");
@@ -110,7 +112,7 @@ fn goes_deep(rt: &impl Abort, alloc: Global, path: &Path) -> bool {
         && path.join("..").err() == Some(PathError::Bad)
 }
 
-/// A text and bytes of a mebibyte, and a path of 1,100 elements, each of 250 letters.
+/// A text and bytes of 1 MiB, and a path of 1,100 elements of 250 letters each.
 #[test]
 fn long_texts_and_paths(rt: HostRuntime) {
     let alloc = rt.alloc();
@@ -122,7 +124,7 @@ fn long_texts_and_paths(rt: HostRuntime) {
     assert!(rt; goes_deep(&rt, alloc, &path(&rt, alloc, &text)));
 }
 
-/// There is nothing at a path where there is no remote, and nothing is read there.
+/// `NoRemotes` reports that nothing is at a path, and a read there returns no bytes.
 #[test]
 fn no_remotes(rt: HostRuntime) {
     let config = path(&rt, rt.alloc(), "config");

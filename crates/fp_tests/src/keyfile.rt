@@ -1,4 +1,4 @@
-//! Key files with what they read as, worked out from the rules by hand.
+//! Key files, and the texts that are written for them, worked out by hand from the rules.
 
 use crate::many;
 use crate::rows::agree;
@@ -10,7 +10,7 @@ use std::alloc::Global;
 use std::panic::Expect;
 use std::process::Abort;
 
-/// Bytes that are a key file, and the text that is written for it.
+/// Key files, and the text that is written for each.
 const FILES: [(&str, &str); 44] = [
     // no groups
     ("", ""),
@@ -35,14 +35,14 @@ const FILES: [(&str, &str); 44] = [
     ("[g] \r\na=\r\r\n", "[g]\na=\n"),
     ("[g]\na=x\ry\n", "[g]\na=x\ry\n"),
     ("[g]\na=x\r \n", "[g]\na=x\r \n"),
-    // blanks round the first `=`
+    // spaces and tabs around the first `=`
     ("[g]\na = 1\n", "[g]\na=1\n"),
     ("[g]\na \t = \t 1 \t\n", "[g]\na=1 \t\n"),
     ("[g]\na=\n", "[g]\na=\n"),
     ("[g]\na= \t\n", "[g]\na=\n"),
     ("[g]\né =1\n", "[g]\né=1\n"),
     ("[g]\na=\u{a0}x\n", "[g]\na=\u{a0}x\n"),
-    // marks inside keys and values
+    // special characters in keys and values
     ("[g]\na=b=c\n", "[g]\na=b=c\n"),
     ("[g]\na==\n", "[g]\na==\n"),
     ("[g]\na=[x]\n", "[g]\na=[x]\n"),
@@ -53,7 +53,7 @@ const FILES: [(&str, &str); 44] = [
     // other bytes
     ("[ä]\nö=ü€𝄞\n", "[ä]\nö=ü€𝄞\n"),
     ("[g]\na=\u{1}\u{7f}b\tc\n", "[g]\na=\u{1}\u{7f}b\tc\n"),
-    // what comes again
+    // repeated groups and keys
     ("[g]\na = 1\na=2", "[g]\na=2\n"),
     ("[a]\nx=1\ny=2\nx=3\n", "[a]\nx=3\ny=2\n"),
     (
@@ -62,7 +62,7 @@ const FILES: [(&str, &str); 44] = [
     ),
     ("[a]\nx=1\n[b]\nx=2\n[a]\nx=3\n", "[a]\nx=3\n[b]\nx=2\n"),
     ("[a]\nx=1\n[A]\nX=2\n", "[a]\nx=1\n[A]\nX=2\n"),
-    // lines that say nothing, between others
+    // blank lines and comments between others
     ("# x\n\n[g]\n# y\na=1\n\n# z", "[g]\na=1\n"),
     ("[g]\n\n \t\na=1\n\n\n", "[g]\na=1\n"),
     // the order of pairs
@@ -70,20 +70,20 @@ const FILES: [(&str, &str); 44] = [
     ("[b]\n[a]\nk=\n", "[b]\n[a]\nk=\n"),
 ];
 
-/// Whether a copy of the file is written so.
+/// Returns whether a copy of the file is written as this text.
 fn is_now(rt: &impl Abort, file: &KeyFile, text: &str) -> bool {
     let copy = file.copy().expect(rt, "memory");
     copy.write().expect(rt, "memory").as_str() == text
 }
 
-/// Whether the file of the text is written so.
+/// Returns whether the key file with the first text is written as the second.
 fn is_written(rt: &impl Abort, alloc: Global, text: &str, want: &str) -> bool {
     let file = KeyFile::parse(alloc, text.as_bytes()).expect(rt, "a key file");
     is_now(rt, &file, want)
 }
 
-/// What is written for a file is written again as it is. So are a value of a mebibyte, and a file of
-/// a mebibyte in 1,100 groups.
+/// The text that is written for a key file is read and written again without a change. That holds
+/// for a value of 1 MiB, and for 1,100 groups of more than 1 MiB in all.
 #[test]
 fn reads_and_writes(rt: HostRuntime) {
     let alloc = rt.alloc();
@@ -101,7 +101,7 @@ fn reads_and_writes(rt: HostRuntime) {
     }
 }
 
-/// Bytes that are no key file, and the first bad line with its rule.
+/// Bytes that are no key file, the number of the first bad line, and the rule that it breaks.
 const FAULTS: [(&[u8], u64, KeyRule); 42] = [
     (b"a=1", 1, KeyRule::NoGroup),
     (b"\n\n# c\na=1\n[g]", 4, KeyRule::NoGroup),
@@ -130,7 +130,7 @@ const FAULTS: [(&[u8], u64, KeyRule); 42] = [
     (b"[g]\na\tb=1", 2, KeyRule::Key),
     (b"[g]\na\x01=1", 2, KeyRule::Key),
     (b"[g]\na\x7f=1", 2, KeyRule::Key),
-    // the first rule of several, and the first line of several
+    // several broken rules in a line, and several bad lines
     (b"=1", 1, KeyRule::Key),
     (b" #c=1", 1, KeyRule::Key),
     (b"x\n[", 1, KeyRule::Line),
@@ -140,17 +140,17 @@ const FAULTS: [(&[u8], u64, KeyRule); 42] = [
     (b"#\x00", 1, KeyRule::Text),
     (b"[g]\na=\x00", 2, KeyRule::Text),
     (b"\x00\n[", 1, KeyRule::Text),
-    // `[g]`, and then a value with a byte that begins no character
+    // a value with a byte that begins no character
     (b"\x5b\x67\x5d\x0a\x61\x3d\xff", 2, KeyRule::Text),
     // a comment that ends within a character
     (b"\x23\x20\x20\x20\x20\x20\xc3", 1, KeyRule::Text),
-    // a character with a newline in its midst
+    // a newline within a character
     (b"\x23\xc3\x0a\xa4\x0a\x0a\x0a", 1, KeyRule::Text),
-    // an overlong zero
+    // an overlong encoding of zero
     (b"\x0a\x0a\x23\xc0\x80\x0a\x0a", 3, KeyRule::Text),
     // a surrogate
     (b"\x0a\x23\xed\xa0\x80\x0a\x0a", 2, KeyRule::Text),
-    // a number past the last character
+    // a code point above U+10FFFF
     (b"\x23\xf4\x90\x80\x80\x0a\x0a", 1, KeyRule::Text),
 ];
 
@@ -164,7 +164,8 @@ fn names_the_first_fault(rt: HostRuntime) {
     }
 }
 
-/// A pair that is set, or taken away where there is no value, and the text of the file after it.
+/// A group, a key, its new value (none removes the pair), and the text of the file after that
+/// change. Each row changes the file of the previous one.
 const CHANGES: [(&str, &str, Option<&str>, &str); 12] = [
     ("g", "a", Some("1"), "[g]\na=1\n"),
     ("g", "b c", Some("2 = [x]"), "[g]\na=1\nb c=2 = [x]\n"),
@@ -180,7 +181,7 @@ const CHANGES: [(&str, &str, Option<&str>, &str); 12] = [
     ("h", "a", None, "[g]\na=5\n"),
 ];
 
-/// Sets a pair that can be written, or takes it away.
+/// Sets a pair if its parts are valid. Without a value, removes it.
 fn change(rt: &impl Abort, file: &mut KeyFile, group: &str, key: &str, value: Option<&str>) {
     match value {
         None => {
@@ -204,7 +205,7 @@ fn changes(rt: HostRuntime) {
     }
 }
 
-/// A file in which 1,100 pairs of one group, and 1,100 groups, were set.
+/// 1,100 pairs are set in one group, and 1,100 groups are added.
 #[test]
 fn many_pairs_are_set(rt: HostRuntime) {
     let alloc = rt.alloc();
@@ -222,7 +223,7 @@ fn many_pairs_are_set(rt: HostRuntime) {
     assert!(rt; is_now(&rt, &file, &text));
 }
 
-/// Texts, and whether each is a group's name, a key and a value.
+/// Texts, whether each is a group's name, whether it is a key, and whether it is a value.
 const PARTS: [(&str, bool, bool, bool); 17] = [
     ("a b", true, true, true),
     ("", false, false, true),
@@ -243,7 +244,7 @@ const PARTS: [(&str, bool, bool, bool); 17] = [
     ("\u{e9}", true, true, true),
 ];
 
-/// Whether a text is a group's name, a key and a value.
+/// Returns whether the text is a group's name, a key and a value, as given.
 fn are_parts(text: &str, name: bool, key: bool, value: bool) -> bool {
     is_group_name(text) == name && is_pair_key(text) == key && is_pair_value(text) == value
 }

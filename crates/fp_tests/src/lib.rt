@@ -1,5 +1,5 @@
-//! Tests of the lowest crates: the host, its fakes in memory, names, key files and an
-//! installation's small files.
+//! Tests of the lowest crates: paths, the host, remotes and source in memory, names, key files and
+//! an installation's small files.
 #![tactic(auto)]
 
 #[cfg(test)]

@@ -1,4 +1,4 @@
-//! What long tests are made of.
+//! Long texts, many bytes and many files for tests.
 
 use fp_host::{Host, Path};
 use fp_memhost::MemHost;
@@ -6,12 +6,12 @@ use std::alloc::Global;
 use std::panic::Expect;
 use std::process::Abort;
 
-/// This many bytes.
+/// Returns this many bytes, each of them 7.
 pub fn bytes(rt: &impl Abort, alloc: Global, count: usize) -> Vec<u8> {
     vec![in alloc; 7u8; count].expect(rt, "memory")
 }
 
-/// A text again for each number from 0 on, with its four digits in the place of each `#`.
+/// Repeats a text for each number from 0 to `count` - 1, with its four digits in place of each `#`.
 pub fn numbered(rt: &impl Abort, alloc: Global, text: &str, count: usize) -> String {
     let mut all = String::new(alloc);
     for number in 0..count {
@@ -22,13 +22,13 @@ pub fn numbered(rt: &impl Abort, alloc: Global, text: &str, count: usize) -> Str
     all
 }
 
-/// Where the file of this number is in the folder.
+/// Returns the path of the file with this number in the directory.
 pub fn path(rt: &impl Abort, alloc: Global, folder: &Path, number: usize) -> Path {
     let name = format!(in alloc; "n{number:04}").expect(rt, "memory");
     folder.join(&name).expect(rt, "an element")
 }
 
-/// A path of this many elements, each of which is a folder then.
+/// Makes this many nested directories, and returns the path of the innermost.
 pub fn make_folders(rt: &impl Abort, alloc: Global, host: &mut MemHost, count: usize) -> Path {
     let mut path = Path::root(alloc);
     for _ in 0..count {
@@ -38,7 +38,7 @@ pub fn make_folders(rt: &impl Abort, alloc: Global, host: &mut MemHost, count: u
     path
 }
 
-/// Makes 1,100 empty files in the folder.
+/// Creates 1,100 empty files in the directory.
 pub fn fill(rt: &impl Abort, alloc: Global, host: &mut MemHost, folder: &Path) {
     for number in 0..1_100 {
         let at = path(rt, alloc, folder, number);
@@ -46,7 +46,7 @@ pub fn fill(rt: &impl Abort, alloc: Global, host: &mut MemHost, folder: &Path) {
     }
 }
 
-/// How many names the folder has.
+/// Returns the number of names in the directory.
 pub fn count(rt: &impl Abort, alloc: Global, host: &mut MemHost, folder: &Path) -> usize {
     host.list(alloc, folder).expect(rt, "names").len()
 }

@@ -1,4 +1,4 @@
-//! The host, remotes and source in memory, with much in them and many calls that fail.
+//! The host, remotes and source in memory, with much content and many calls that fail.
 
 use crate::many;
 use fp_base::{Blob, Items};
@@ -8,7 +8,7 @@ use std::alloc::Global;
 use std::panic::Expect;
 use std::process::Abort;
 
-/// Whether a stop now leaves the file with a mebibyte, where nothing is chosen.
+/// Returns whether the file has 1 MiB after a crash now that brings nothing back.
 fn is_left(rt: &impl Abort, alloc: Global, host: &MemHost, at: &Path) -> bool {
     let choice = Choice {
         names: Items::new(alloc),
@@ -23,8 +23,9 @@ fn is_left(rt: &impl Abort, alloc: Global, host: &MemHost, at: &Path) -> bool {
     matches!(again.stat(at), Ok(Stat::File { size, .. }) if size == 1 << 20)
 }
 
-/// Whether a stop leaves a host as it is that has 1,100 files, the last of a mebibyte, and said a
-/// mebibyte.
+/// Creates 1,100 files, the last of 1 MiB, prints 1 MiB, and syncs. Returns whether all files are
+/// there, a crash could bring something back at each name before the sync, the output is kept, and
+/// the last file is whole after a crash.
 fn is_kept(rt: &impl Abort, alloc: Global, host: &mut MemHost, bytes: &[u8]) -> bool {
     let root = Path::root(alloc);
     many::fill(rt, alloc, host, &root);
@@ -45,7 +46,8 @@ fn much_is_kept(rt: HostRuntime) {
     drop(host);
 }
 
-/// A path of 100 elements is made before the calls from 100 to 1,199, which fail.
+/// The first 100 calls make 100 nested directories. The calls with the numbers from 100 to 1,199
+/// fail.
 #[test]
 fn many_calls_fail(rt: HostRuntime) {
     let alloc = rt.alloc();
@@ -60,7 +62,7 @@ fn many_calls_fail(rt: HostRuntime) {
     drop(host);
 }
 
-/// Whether a file of these bytes is put there.
+/// Puts a file with these bytes at the path of a remote. Returns whether that was done.
 fn is_put(remotes: &mut MemRemotes, at: &Path, bytes: Vec<u8>) -> bool {
     let node = MemNode::File {
         mode: 0o644,
@@ -69,7 +71,7 @@ fn is_put(remotes: &mut MemRemotes, at: &Path, bytes: Vec<u8>) -> bool {
     remotes.can_put("lab", at, &node) && remotes.put("lab", at, node).is_ok()
 }
 
-/// 1,100 files are put, the last of a mebibyte, which is read.
+/// 1,100 files are put into a remote. The last, of 1 MiB, is read back.
 #[test]
 fn remotes_hold_much(rt: HostRuntime) {
     let alloc = rt.alloc();
@@ -86,7 +88,7 @@ fn remotes_hold_much(rt: HostRuntime) {
     drop(remotes);
 }
 
-/// A source of a mebibyte gives it at once.
+/// A source of 1 MiB returns all bytes at once.
 #[test]
 fn a_source_gives_much(rt: HostRuntime) {
     let bytes = Blob::from_vec(many::bytes(&rt, rt.alloc(), 1 << 20));

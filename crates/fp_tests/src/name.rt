@@ -1,4 +1,4 @@
-//! Names of applications, runtimes and remotes, and digests.
+//! Names of applications, runtimes and remotes, refs, patterns and digests.
 
 use crate::parsed::pattern_of;
 use crate::rows::agree;
@@ -10,8 +10,9 @@ use std::alloc::Global;
 use std::panic::Expect;
 use std::process::Abort;
 
-/// Whether the text is of the kind of this letter: an ID, an ARCH, a BRANCH, the name or the url of
-/// a remote, a ref, a pattern or a digest.
+/// Returns whether the text is what the letter stands for: `i` an ID, `a` an architecture, `b` a
+/// branch, `n` a remote's name, `u` a remote's URL, `r` a ref, `p` a pattern, any other letter a
+/// digest.
 fn is_of(kind: u8, text: &str) -> bool {
     match kind {
         b'i' => is_id(text),
@@ -25,7 +26,7 @@ fn is_of(kind: u8, text: &str) -> bool {
     }
 }
 
-/// Texts, and whether each is an ID.
+/// Texts, and whether each is an ID of an application or runtime.
 const IDS: [(&str, bool); 34] = [
     ("org.gnome.Maps", true),
     ("a.b.c", true),
@@ -82,7 +83,7 @@ const REMOTES: [(&str, bool); 15] = [
     ("a\"b", false),
 ];
 
-/// Texts, and whether each is the url of a remote.
+/// Texts, and whether each is the URL of a remote.
 const URLS: [(&str, bool); 18] = [
     ("file:///", true),
     ("file:///srv/repo", true),
@@ -151,7 +152,7 @@ const DIGESTS: [(&str, bool); 13] = [
     ),
 ];
 
-/// Texts, whether each is an ARCH, and whether it is a BRANCH.
+/// Texts, whether each is an architecture, and whether it is a branch.
 const ARCHS_AND_BRANCHES: [(&str, bool, bool); 27] = [
     ("x86_64", true, true),
     ("aarch64", true, true),
@@ -182,7 +183,7 @@ const ARCHS_AND_BRANCHES: [(&str, bool, bool); 27] = [
     ("a,b", false, false),
 ];
 
-/// Texts, whether each is a ref, and whether it is a pattern.
+/// Texts, whether each is a ref, and whether it is a pattern of refs.
 const REFS_AND_PATTERNS: [(&str, bool, bool); 34] = [
     ("app/org.x.App/x86_64/stable", true, true),
     ("runtime/org.x.Y-z/x86_64/22.08", true, true),
@@ -220,14 +221,14 @@ const REFS_AND_PATTERNS: [(&str, bool, bool); 34] = [
     ("app/*/*/*/*", false, false),
 ];
 
-/// Ends the test at a text that is otherwise than its row says of a kind.
+/// Ends the test at the first row that is wrong for this kind of text.
 fn agree_on(rt: &impl Abort, kind: u8, rows: &[(&str, bool)]) {
     for (text, good) in rows {
         agree(rt, text, is_of(kind, text) == *good);
     }
 }
 
-/// The same of two kinds.
+/// Ends the test at the first row that is wrong for one of these two kinds of text.
 fn agree_on_two(rt: &impl Abort, first: u8, second: u8, rows: &[(&str, bool, bool)]) {
     for (text, one, other) in rows {
         let is_so = is_of(first, text) == *one && is_of(second, text) == *other;
@@ -235,14 +236,15 @@ fn agree_on_two(rt: &impl Abort, first: u8, second: u8, rows: &[(&str, bool, boo
     }
 }
 
-/// A text of `length` bytes or more: the front, and letters after it.
+/// Returns the front, filled up to `length` bytes with the letter `a`. A longer front stays as it
+/// is.
 fn filled_text(rt: &impl Abort, alloc: Global, front: &str, length: usize) -> String {
     let count = length.saturating_sub(front.len());
     let letters = "a".repeat(alloc, count).expect(rt, "memory");
     [front, &letters].concat(alloc).expect(rt, "memory")
 }
 
-/// Texts that begin so and have this many bytes, and whether each is of the kind.
+/// A kind of text, the front and the length in bytes of one, and whether it is of this kind.
 const LENGTHS: [(u8, &str, usize, bool); 12] = [
     (b'i', "org.x.", 255, true),
     (b'i', "org.x.", 256, false),
@@ -285,13 +287,13 @@ fn bytes_that_are_no_text(rt: HostRuntime) {
     );
 }
 
-/// The ref of the text.
+/// Parses a ref.
 fn ref_of(rt: &impl Abort, alloc: Global, text: &str) -> RefName {
     RefName::parse(alloc, text.as_bytes()).expect(rt, "a ref")
 }
 
-/// By the bytes of the texts the left ref comes first. The first two have the other order by their
-/// parts, since `-` and `.` come before `/`.
+/// Refs, of which the left one comes first by the bytes of their texts. By their parts, the refs of
+/// the first two rows would have the opposite order, since `-` and `.` come before `/`.
 const ORDERED: [(&str, &str); 10] = [
     ("app/org.x.A-b/x86_64/1", "app/org.x.A/x86_64/1"),
     ("app/org.x.A.b/x86_64/1", "app/org.x.A/x86_64/1"),
@@ -305,7 +307,7 @@ const ORDERED: [(&str, &str); 10] = [
     ("app/org.x.A/x86_64/10", "app/org.x.A/x86_64/9"),
 ];
 
-/// Whether the ref of the left text comes before that of the right one.
+/// Returns whether the left ref comes before the right one.
 fn ascend(rt: &impl Abort, alloc: Global, left: &str, right: &str) -> bool {
     ref_of(rt, alloc, left) < ref_of(rt, alloc, right)
 }
@@ -346,10 +348,10 @@ fn refs_and_patterns(rt: HostRuntime) {
     assert!(rt; name.arch() == "x86_64" && name.branch() == "22.08");
 }
 
-/// SHA-256 of no bytes.
+/// The SHA-256 digest of no bytes, in hexadecimal.
 const EMPTY: &str = "e3b0c44298fc1c149afbf4c8996fb92427ae41e4649b934ca495991b7852b855";
 
-/// The same digest as bytes.
+/// The SHA-256 digest of no bytes.
 const EMPTY_BYTES: [u8; 32] = [
     0xe3, 0xb0, 0xc4, 0x42, 0x98, 0xfc, 0x1c, 0x14, 0x9a, 0xfb, 0xf4, 0xc8, 0x99, 0x6f, 0xb9, 0x24,
     0x27, 0xae, 0x41, 0xe4, 0x64, 0x9b, 0x93, 0x4c, 0xa4, 0x95, 0x99, 0x1b, 0x78, 0x52, 0xb8, 0x55,
@@ -365,7 +367,7 @@ fn digest(rt: HostRuntime) {
     );
 }
 
-/// Whether the longest names of their kinds are written and copied.
+/// Returns whether the longest ID, remote's name and URL can be written and copied.
 fn keeps_names(rt: &impl Abort, alloc: Global) -> bool {
     let id = filled_text(rt, alloc, "org.x.", 255);
     let id = AppId::parse(alloc, id.as_bytes()).expect(rt, "an ID");
@@ -381,7 +383,7 @@ fn keeps_names(rt: &impl Abort, alloc: Global) -> bool {
         && url.copy().is_ok()
 }
 
-/// Whether the text is a ref, which is written, copied and made again.
+/// Returns whether the text is a ref that can be written, copied and made from its parts.
 fn keeps_ref(rt: &impl Abort, alloc: Global, text: &str) -> bool {
     let name = ref_of(rt, alloc, text);
     let (_, rest) = text.split_once('/').unwrap_or((text, ""));
@@ -393,13 +395,14 @@ fn keeps_ref(rt: &impl Abort, alloc: Global, text: &str) -> bool {
         && RefName::of_kind(alloc, name.kind(), rest).is_ok()
 }
 
-/// Whether the text is a pattern, which is written and copied, and matches the ref of the text.
+/// Returns whether the text is a pattern that can be written and copied, and matches the ref with
+/// this text.
 fn keeps_pattern(rt: &impl Abort, alloc: Global, text: &str) -> bool {
     let pattern = pattern_of(rt, alloc, text);
     pattern.write().is_ok() && pattern.copy().is_ok() && pattern.matches(&ref_of(rt, alloc, text))
 }
 
-/// The longest names, and the longest ref: an ID, an ARCH and a BRANCH of 255 bytes each.
+/// The longest names, and the longest ref: its ID, architecture and branch have 255 bytes each.
 #[test]
 fn longest_names(rt: HostRuntime) {
     let alloc = rt.alloc();

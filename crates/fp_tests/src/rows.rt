@@ -1,8 +1,8 @@
-//! How a test ends at a row of a table that is otherwise than it should be.
+//! The end of a test at a wrong row of a table.
 
 use std::process::Abort;
 
-/// Ends the test where this isn't so, and prints the row.
+/// Ends the test if `is_so` is false, and prints the row.
 pub fn agree(rt: &impl Abort, row: &str, is_so: bool) {
     assert!(rt; is_so, "{row}");
 }

@@ -1,4 +1,4 @@
-//! The small files of an installation: `config`, and `remotes.conf` and `pins` of the layout before.
+//! The small files of an installation: `config`, and `remotes.conf` and `pins` of the old layout.
 
 use crate::many;
 use crate::parsed::{path, pattern_of};
@@ -14,7 +14,7 @@ use std::alloc::Global;
 use std::panic::Expect;
 use std::process::Abort;
 
-/// A `remotes.conf`, and what it says.
+/// The text of a `remotes.conf`, and its remotes, each followed by a space.
 const OLD_REMOTES: [(&str, &str); 4] = [
     ("", ""),
     ("# none\n\n", ""),
@@ -25,7 +25,7 @@ const OLD_REMOTES: [(&str, &str); 4] = [
     ),
 ];
 
-/// A `pins`, and what it says.
+/// The text of a `pins`, and its patterns, each followed by a space.
 const OLD_PINS: [(&str, &str); 3] = [
     ("", ""),
     ("app/*/*/*\n", "app/*/*/* "),
@@ -35,7 +35,7 @@ const OLD_PINS: [(&str, &str); 3] = [
     ),
 ];
 
-/// Whether a `remotes.conf` says this.
+/// Returns whether a `remotes.conf` contains these remotes.
 fn remotes_say(rt: &impl Abort, alloc: Global, text: &str, want: &str) -> bool {
     let remotes = read_remotes(alloc, text.as_bytes()).expect(rt, "a remotes.conf");
     let mut said = String::new(alloc);
@@ -47,7 +47,7 @@ fn remotes_say(rt: &impl Abort, alloc: Global, text: &str, want: &str) -> bool {
     said.as_str() == want
 }
 
-/// Whether a `pins` says this.
+/// Returns whether a `pins` contains these patterns.
 fn pins_say(rt: &impl Abort, alloc: Global, text: &str, want: &str) -> bool {
     let pins = read_pins(alloc, text.as_bytes()).expect(rt, "a pins");
     let mut said = String::new(alloc);
@@ -68,7 +68,7 @@ fn said_by_old_files(rt: HostRuntime) {
     }
 }
 
-/// Small files, and texts that are no such file.
+/// The name of a small file, and a text that is refused for it.
 const BAD: [(&str, &str); 31] = [
     ("config", ""),
     ("config", "[pins]\n"),
@@ -127,7 +127,7 @@ const BAD: [(&str, &str); 31] = [
     ("pins", "app/*/*\n"),
 ];
 
-/// Whether a text is no such file.
+/// Returns whether the text is refused for the file with this name.
 fn is_bad(alloc: Global, file: &str, text: &str) -> bool {
     let bytes = text.as_bytes();
     let fault = match file {
@@ -138,7 +138,7 @@ fn is_bad(alloc: Global, file: &str, text: &str) -> bool {
     fault == Some(ConfigError::Bad)
 }
 
-/// A `config`, and how its settings are written.
+/// The text of a `config`, and the text that is written for its settings.
 const WRITTEN: [(&str, &str); 6] = [
     ("[installation]\nlayout=2\n", "[installation]\nlayout=2\n"),
     (
@@ -163,7 +163,7 @@ const WRITTEN: [(&str, &str); 6] = [
     ),
 ];
 
-/// Whether what a `config` says is written so.
+/// Returns whether the settings in the first text are written as the second.
 fn is_written(rt: &impl Abort, alloc: Global, text: &str, want: &str) -> bool {
     let settings = read_config(alloc, text.as_bytes()).expect(rt, "a config");
     let written = write_config(alloc, settings.remotes.as_slice(), settings.pins.as_slice());
@@ -181,13 +181,13 @@ fn good_and_bad_files(rt: HostRuntime) {
     }
 }
 
-/// A remote of a number, and a pin.
+/// A remote, with a number in place of `#`.
 const REMOTE: &str = "[remote \"r#\"]\nurl=file:///r\n";
 
 const PIN: &str = "app/org.x.A#/*/*\n";
 
-/// A `remotes.conf` has at most 256 remotes, and a `pins` at most 1,024 patterns. The longest
-/// `config` is read, and written as it was.
+/// A `remotes.conf` has at most 256 remotes, and a `pins` at most 1,024 patterns. A `config` with
+/// that many of both is written as it was read.
 #[test]
 fn longest_files(rt: HostRuntime) {
     let alloc = rt.alloc();
@@ -205,7 +205,7 @@ fn longest_files(rt: HostRuntime) {
     assert!(rt; is_written(&rt, alloc, &text, &text));
 }
 
-/// Whether 256 remotes are put in, and one of them goes.
+/// Returns whether 256 remotes can be inserted, and one of them removed.
 fn remotes_come_and_go(rt: &impl Abort, alloc: Global) -> bool {
     let text = many::numbered(rt, alloc, REMOTE, 256);
     let rows = read_remotes(alloc, text.as_bytes()).expect(rt, "a remotes.conf");
@@ -222,7 +222,7 @@ fn remotes_come_and_go(rt: &impl Abort, alloc: Global) -> bool {
     was_there && !has_remote(&remotes, &row.name) && remotes.len() == 255
 }
 
-/// Whether 1,024 pins are put in, and one of them goes.
+/// Returns whether 1,024 pins can be inserted, and one of them removed.
 fn pins_come_and_go(rt: &impl Abort, alloc: Global) -> bool {
     let text = many::numbered(rt, alloc, PIN, 1_024);
     let rows = read_pins(alloc, text.as_bytes()).expect(rt, "a pins");
@@ -242,7 +242,7 @@ fn many_remotes_and_pins_come_and_go(rt: HostRuntime) {
     assert!(rt; remotes_come_and_go(&rt, rt.alloc()) && pins_come_and_go(&rt, rt.alloc()));
 }
 
-/// Whether these bytes take the place of a file.
+/// Returns whether a file is replaced by one with these bytes.
 fn are_put(rt: &impl Abort, alloc: Global, bytes: &[u8]) -> bool {
     let mut host = MemHost::new(alloc).expect(rt, "memory");
     let path = path(rt, alloc, "etc/config");
@@ -254,13 +254,14 @@ fn are_put(rt: &impl Abort, alloc: Global, bytes: &[u8]) -> bool {
     }
 }
 
-/// A mebibyte takes the place of a file.
+/// A file is replaced by one of 1 MiB.
 #[test]
 fn much_is_replaced(rt: HostRuntime) {
     assert!(rt; are_put(&rt, rt.alloc(), &many::bytes(&rt, rt.alloc(), 1 << 20)));
 }
 
-/// Whether 1,100 files lose one, and are cleared.
+/// Creates 1,100 files, removes one, and removes the others. Returns whether each step leaves the
+/// right number.
 fn are_cleared(rt: &impl Abort, alloc: Global, host: &mut MemHost, folder: &Path) -> bool {
     many::fill(rt, alloc, host, folder);
     take_away(host, &many::path(rt, alloc, folder, 0)).expect(rt, "taken");
@@ -269,8 +270,8 @@ fn are_cleared(rt: &impl Abort, alloc: Global, host: &mut MemHost, folder: &Path
     left == 1_099 && many::count(rt, alloc, host, folder) == 0
 }
 
-/// A folder below 125 others is filled with 1,100 files, loses one, and is emptied. It is filled
-/// again, and the folders above are taken away with all that they hold.
+/// A directory below 125 others is filled with 1,100 files, loses one, and is emptied. It is filled
+/// again, and the outermost directory is removed with everything below it.
 #[test]
 fn many_files_are_cleared(rt: HostRuntime) {
     let alloc = rt.alloc();

@@ -1,4 +1,4 @@
-//! fpk: the words of the command line, run on the installation's folder.
+//! The command `fpk`: runs the words of the command line on the directory of an installation.
 #![tactic(auto)]
 
 ghost use Rattle.std.specs.Prelude.{◌≡◌, ◌↔◌, Some, true, IfOk, map, option_map, string_bytes};
@@ -37,10 +37,10 @@ fn main(rt: HostRuntime) -> ExitCode {
     ExitCode::from(status)
 }
 
-/// Opens the folder `/`. Open three times, it has the places of standard input, output and error
-/// that were closed when fpk began, so no file that is opened later gets one of them. It takes no
-/// bytes and gives none: what is printed there fails, and goes into no file. Where it may not be
-/// opened, `/dev/null` is.
+/// Opens the directory `/`. Called three times, this occupies those of the file descriptors 0, 1
+/// and 2 that were closed when fpk started, so that no file opened later becomes standard input,
+/// output or error. It can be neither read nor written, so printing to it fails and changes no
+/// file. If `/` can't be opened, opens `/dev/null`.
 fn hold_place<R: Files>(rt: &R) -> io::Result<R::File> {
     match fs::open(rt, "/") {
         Ok(folder) => Ok(folder),
@@ -48,7 +48,7 @@ fn hold_place<R: Files>(rt: &R) -> io::Result<R::File> {
     }
 }
 
-/// The words after the program's name are run, but for `--help` and `--version`.
+/// Handles `--help` and `--version`, and runs all other words. Returns the exit status.
 fn start(rt: &(impl System + Env + Print + Input + Clock + Threads + Sync), alloc: Global) -> u8 {
     let words = match words_of(rt, alloc) {
         Ok(words) => words,
@@ -76,7 +76,7 @@ fn start(rt: &(impl System + Env + Print + Input + Clock + Threads + Sync), allo
     }
 }
 
-/// Prints every command.
+/// Prints all commands. Returns the exit status.
 fn print_help(rt: &(impl Print + Eprint), alloc: Global) -> u8 {
     match help(alloc) {
         Ok(text) => print(rt, text.as_str(), 0),
@@ -84,7 +84,7 @@ fn print_help(rt: &(impl Print + Eprint), alloc: Global) -> u8 {
     }
 }
 
-/// A word that is no UTF-8 begins no command.
+/// Refuses words of which one isn't UTF-8. Returns the exit status.
 fn no_text(rt: &(impl Print + Eprint)) -> u8 {
     let status = print(rt, "error: words 0\n", 2);
     if status == 2 {
@@ -93,7 +93,7 @@ fn no_text(rt: &(impl Print + Eprint)) -> u8 {
     status
 }
 
-/// The words after the program's name.
+/// Returns the words after the program's name.
 fn words_of(rt: &(impl Env + AllocGlobal), alloc: Global) -> io::Result<Vec<String>> {
     let mut words = Vec::new(alloc);
     let mut args = env::args(rt)?;
@@ -104,7 +104,7 @@ fn words_of(rt: &(impl Env + AllocGlobal), alloc: Global) -> io::Result<Vec<Stri
     Ok(words)
 }
 
-/// Runs the words in this folder.
+/// Runs the words on the installation in this directory. Returns the exit status.
 fn run_in(
     rt: &(impl System + Print + Input + Clock + Threads + Sync),
     alloc: Global,
@@ -122,7 +122,7 @@ fn run_in(
     run_on(rt, alloc, asked)
 }
 
-/// Runs words over the folder.
+/// Opens the installation and runs the words. Returns the exit status.
 fn run_on(
     rt: &(impl System + Print + Input + Clock + Threads + Sync),
     alloc: Global,
@@ -146,8 +146,9 @@ fn run_on(
     }
 }
 
-/// Runs the words on this host, and says why the status is not 0, what an option doesn't do, or that
-/// a look found no folder. The status is that of the run of exactly these words.
+/// Runs the words on this host and returns their exit status. Prints on standard error why the
+/// status is not 0, which options do less than they seem to, which installed ref needs a missing or
+/// damaged object, or that a command that only reads found no installation.
 fn run_over<R: System + Print + Input + Clock + Threads + Sync>(
     rt: &R,
     alloc: Global,
@@ -189,8 +190,8 @@ fn run_over<R: System + Print + Input + Clock + Threads + Sync>(
     status
 }
 
-/// What the words open the installation for: what may change it has it alone. Words that are no
-/// command change nothing.
+/// Returns `Change` if the words are a command that may change the installation, else `Look`. Errs
+/// if memory runs out.
 fn access_of(alloc: Global, words: &[String]) -> Result<Access, AllocError>
     ensures { IfOk result (λ access. (access ≡ Access.Change)
         ↔ (option_map may_change (command_of (map string_bytes words.now)) ≡ Some true)) }
@@ -211,7 +212,7 @@ fn access_for(command: &Command) -> Access
     }
 }
 
-/// What the words are for, as a line says that shows how far they are.
+/// Returns the purpose of the command, for the progress line.
 fn task_of(words: &[String]) -> Task {
     match words {
         [first, ..] => match first.as_str() {
@@ -225,7 +226,7 @@ fn task_of(words: &[String]) -> Task {
     }
 }
 
-/// The standard input, which is kept where a line of it may have to be explained.
+/// Returns the standard input. It keeps what is read if a message may have to quote a line of it.
 fn input_of<'a, R: Input>(rt: &'a R, alloc: Global, words: &[String]) -> StdinSource<'a, R> {
     match words {
         [word, ..] if matches!(word.as_str(), "batch" | "export" | "filter") => {
@@ -235,7 +236,7 @@ fn input_of<'a, R: Input>(rt: &'a R, alloc: Global, words: &[String]) -> StdinSo
     }
 }
 
-/// Prints what was asked for, and answers a status.
+/// Prints a text on standard output. Returns this exit status, or 3 if printing fails.
 fn print(rt: &(impl Print + Eprint), text: &str, status: u8) -> u8 {
     match print!(rt; "{text}") {
         Ok(()) => status,
@@ -246,7 +247,7 @@ fn print(rt: &(impl Print + Eprint), text: &str, status: u8) -> u8 {
     }
 }
 
-/// Says on standard error why the status is this one.
+/// Prints a message on standard error and returns this exit status.
 fn complain(rt: &impl Eprint, text: &str, status: u8) -> u8
     ensures { result ≡ status }
 {

@@ -1,30 +1,30 @@
-//! Remotes in memory whose calls are counted, and of which one may answer otherwise.
+//! Remotes in memory whose calls are counted, and one of whose reads may return a changed byte.
 ghost use Rattle.std.specs.Prelude.{None};
 
 use fp_host::{Node, Path, RemoteError, Remotes};
 use fp_memhost::MemRemotes;
 use std::alloc::Global;
 
-/// How many calls of remotes were made.
+/// The number of calls of remotes.
 #[derive(Clone, Copy)]
 pub struct RemoteCalls {
-    /// All of them.
+    /// All calls.
     pub all: u64,
-    /// The reads that gave any bytes.
+    /// The reads that returned bytes.
     pub reads: u64,
 }
 
-/// Remotes in memory. Each call is theirs, and is counted.
+/// Remotes in memory whose calls are counted.
 #[derive(Drop)]
 pub struct CountedRemotes {
     remotes: MemRemotes,
     calls: RemoteCalls,
-    /// The read that gives another first byte, counted from 0.
+    /// The read whose first byte is changed, counted from 0. Only reads that return bytes count.
     turned: Option<u64>,
 }
 
 impl CountedRemotes {
-    /// No call was made yet.
+    /// Creates remotes of which no call was made yet.
     pub fn new(remotes: MemRemotes, turned: Option<u64>) -> Self {
         let calls = RemoteCalls { all: 0, reads: 0 };
         CountedRemotes {
@@ -34,7 +34,7 @@ impl CountedRemotes {
         }
     }
 
-    /// How many calls were made.
+    /// Returns the number of calls so far.
     pub fn calls(&self) -> RemoteCalls {
         self.calls
     }

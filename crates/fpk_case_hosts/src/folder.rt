@@ -1,4 +1,4 @@
-//! A real folder that a case is played on.
+//! A real directory that a case is played on.
 use crate::memory::input_of;
 use crate::program::Program;
 use crate::stage::{Ending, PathState, find, give, give_file, make_folders, unless_fault};
@@ -13,17 +13,17 @@ use std::rt::Files;
 use std::thread::Threads;
 use std::{env, fs, io};
 
-/// The folder that each run is below, which is there for one case.
+/// The directory that contains everything of a case, while the case is played.
 const FOLDER: &str = "cases.tmp";
 
-/// The installation there.
+/// The directory of the installation.
 const INSTALLATION: &str = "cases.tmp/installation";
 
-/// The input that is too long to come a second time.
+/// The length in bytes from which on an input isn't played a second time, over a directory.
 const LONG_INPUT: usize = 1_048_576;
 
-/// Whether a case is played over a folder: nothing stops it, no call of the host is made to fail,
-/// and no input is long.
+/// Returns whether a case is also played over a real directory: it has no `stops`, no failing call
+/// of the host and no input of 1 MiB or more.
 pub fn is_for_folder(case: &Case) -> bool {
     case.stops.is_none()
         && case
@@ -39,7 +39,7 @@ fn is_step_for_folder(action: &Action) -> bool {
     }
 }
 
-/// Takes the folder away where it is there.
+/// Removes the directory `cases.tmp` and everything below it, if it exists.
 pub fn clear_folder<R: System>(rt: &R, alloc: Global) -> io::Result<()> {
     match fs::exists(rt, FOLDER)? {
         true => rt.remove_dir_all(alloc, FOLDER),
@@ -47,18 +47,18 @@ pub fn clear_folder<R: System>(rt: &R, alloc: Global) -> io::Result<()> {
     }
 }
 
-/// The absolute path of the folder.
+/// Returns the absolute path of the directory.
 fn own_folder<R: System>(rt: &R, alloc: Global) -> io::Result<String> {
     let here = env::current_dir(rt)?.into_string();
     Ok(format!(in alloc; "{here}/{FOLDER}")?)
 }
 
-/// The folder that a case is played on.
+/// The real directory that a case is played on, with an installation and its remotes.
 pub struct FolderStage<'a, 'b, R: Files> {
     alloc: Global,
     capture: &'b Capture<'a, R>,
     host: HostDir<'b, Capture<'a, R>, R, Capture<'a, R>>,
-    /// The folder in which the remotes are.
+    /// The host over the directory in which the remotes are.
     around: HostDir<'b, Capture<'a, R>, R, Capture<'a, R>>,
     remotes: OwnRemotes<'a, R>,
 }
@@ -76,7 +76,8 @@ impl<R: Files> Drop for FolderStage<'_, '_, R> {
 }
 
 impl<'a, 'b, R: System> FolderStage<'a, 'b, R> {
-    /// A new installation in the folder. What is printed is kept, and nothing waits for the disk.
+    /// Creates a stage with a new installation. Its output is captured, and nothing is synced to
+    /// the disk.
     pub fn new(rt: &'a R, alloc: Global, capture: &'b Capture<'a, R>) -> io::Result<Self> {
         let folder = own_folder(rt, alloc)?;
         let remotes = OwnRemotes::new(rt, alloc, folder);
@@ -91,14 +92,16 @@ impl<'a, 'b, R: System> FolderStage<'a, 'b, R> {
         })
     }
 
-    /// Puts something there, with the folders above it. Answers whether that was done.
+    /// Puts a file, directory or link into the installation, with the directories above it. Returns
+    /// false if the host failed.
     pub fn give(&mut self, given: &Fixture, bytes: &[u8]) -> Result<bool, AllocError> {
         let answer = give(self.alloc, &mut self.host, given, bytes);
         Ok(unless_fault(answer)?.is_some())
     }
 
-    /// Runs a command over these remotes, which are laid out beside the installation first. Its
-    /// input fails at the call with this number, counted from 0. It errs only without memory.
+    /// Runs a command over these remotes, whose files are first written beside the installation.
+    /// `input_fails_at` is the call of the input that fails, counted from 0. Errs only if memory
+    /// runs out.
     pub fn run<P: Program, T: Threads + Sync>(
         &mut self,
         program: &P,
@@ -125,14 +128,14 @@ impl<'a, 'b, R: System> FolderStage<'a, 'b, R> {
         })
     }
 
-    /// Looks at what stands at a path. It errs only without memory.
+    /// Returns what is at a path. Errs only if memory runs out.
     pub fn find(&mut self, path: &str) -> Result<PathState, AllocError> {
         let answer = find(self.alloc, &mut self.host, path);
         Ok(unless_fault(answer)?.unwrap_or(PathState::Other))
     }
 }
 
-/// A host over the folder of this name, which is changed, and where it prints.
+/// Creates a host that changes the directory at this path and prints to `out`.
 fn host_in<'a, 'b, R: System>(
     rt: &R,
     alloc: Global,
@@ -143,7 +146,7 @@ fn host_in<'a, 'b, R: System>(
     HostDir::new(capture, rt, out, alloc, root, Access::Change)
 }
 
-/// Lays the remotes out below a folder.
+/// Writes the files of the remotes below a directory.
 fn lay<H: Host>(alloc: Global, host: &mut H, wares: &Wares) -> Result<(), HostEnd> {
     for row in wares.paths() {
         lay_path(alloc, host, row)?;
@@ -154,8 +157,8 @@ fn lay<H: Host>(alloc: Global, host: &mut H, wares: &Wares) -> Result<(), HostEn
     Ok(())
 }
 
-/// Lays out what stands at a path of a remote whose url begins with `file:///`, in the place of
-/// what is there.
+/// Writes what is at a path of a remote with a `file:///` URL, and leaves other remotes out. A file
+/// or symlink there is replaced, a directory stays.
 fn lay_path<H: Host>(alloc: Global, host: &mut H, row: &RemotePath) -> Result<(), HostEnd> {
     let Some(folder) = row.url.strip_prefix("file:///") else {
         return Ok(());

@@ -1,4 +1,4 @@
-//! What a stop may leave of a host in memory.
+//! The images that a crash may leave of a host in memory.
 ghost use Rattle.std.specs.Prelude.{IfOk, IfSome};
 ghost use Rattle.fp_memhost.specs.Images.{IsImage};
 
@@ -7,8 +7,9 @@ use fp_host::{Entry, Path};
 use fp_memhost::{Choice, FileRow, Image, MemHost};
 use std::alloc::{AllocError, Global};
 
-/// What a stop after this number of calls leaves: these names at these entries, these files with
-/// these bytes, all else as it is.
+/// Returns the image that a crash after this number of calls leaves, with these names at these
+/// earlier entries, these files with these bytes, and the rest as it was; none if there is no such
+/// entry, or such a file isn't new since the last sync.
 fn image_left(
     host: &MemHost,
     calls: u64,
@@ -24,14 +25,14 @@ fn image_left(
     host.image_after(calls, &choice)
 }
 
-/// What a stop leaves where all is as it is.
+/// Returns the image that a crash after this number of calls leaves if it brings nothing back.
 pub fn present_image(alloc: Global, host: &MemHost, calls: u64) -> Result<Option<Image>, AllocError>
     ensures { IfOk result (λ image. IfSome image IsImage) }
 {
     image_left(host, calls, Vec::new(alloc), Vec::new(alloc))
 }
 
-/// Every name at its oldest entry.
+/// Returns the image with every name at its oldest entry.
 pub fn oldest_image(
     alloc: Global,
     host: &MemHost,
@@ -41,7 +42,8 @@ pub fn oldest_image(
     layer_image(alloc, host, calls, choices.as_slice(), 1)
 }
 
-/// Every name of the choices at the entry with this number, or at its last one where it has fewer.
+/// Returns the image with every listed name at its earlier entry with this number, counted from 1
+/// at the oldest; at its last one if it has fewer.
 pub fn layer_image(
     alloc: Global,
     host: &MemHost,
@@ -58,7 +60,7 @@ pub fn layer_image(
     image_left(host, calls, names, Vec::new(alloc))
 }
 
-/// One name at another entry.
+/// Returns the image with one name at an earlier entry.
 fn with_name(
     alloc: Global,
     host: &MemHost,
@@ -71,7 +73,7 @@ fn with_name(
     image_left(host, calls, names, Vec::new(alloc))
 }
 
-/// One file with other bytes. There is none where the file was synced.
+/// Returns the image with other bytes in one file; none if the file was synced.
 fn with_file(
     alloc: Global,
     host: &MemHost,
@@ -84,9 +86,9 @@ fn with_file(
     image_left(host, calls, Vec::new(alloc), files)
 }
 
-/// What a stop after this number of calls may leave: all as it is, every name at its oldest entry,
-/// each name alone at each other entry, and each new file without bytes and with all its bytes
-/// turned to ff.
+/// Returns the images that are tried of a crash after this number of calls: nothing brought back,
+/// every name at its oldest entry, each name alone at each earlier entry, and each new file without
+/// bytes and with all its bytes set to 0xff.
 pub fn outcomes(alloc: Global, host: &MemHost, calls: u64) -> Result<Vec<Image>, AllocError> {
     let mut images = Vec::new(alloc);
     let Some(present) = present_image(alloc, host, calls)? else {
@@ -123,7 +125,7 @@ fn add_names(
     Ok(())
 }
 
-/// Adds what a stop may make of the new files: each of their names is one of the choices.
+/// Adds the images with other bytes in a new file, one of whose names is among the choices.
 fn add_files(
     alloc: Global,
     host: &MemHost,
@@ -140,7 +142,7 @@ fn add_files(
     Ok(())
 }
 
-/// Whether the file with this id stands at one of the choices.
+/// Returns whether a name of the file with this id is among the choices.
 fn has_choice(choices: &[(Path, u64)], present: &Image, id: u64) -> bool {
     present.names.as_slice().iter().any(|(path, entry)| {
         matches!(entry, Entry::File(other) if *other == id)
@@ -148,7 +150,8 @@ fn has_choice(choices: &[(Path, u64)], present: &Image, id: u64) -> bool {
     })
 }
 
-/// Adds the file without bytes and with all its bytes turned to ff, where it is new.
+/// Adds the images with the file without bytes and with all its bytes set to 0xff, if the file is
+/// new.
 fn add_file(
     alloc: Global,
     host: &MemHost,
@@ -164,7 +167,8 @@ fn add_file(
     Ok(())
 }
 
-/// The last moment at which a stop may bring back something.
+/// Returns the greatest number of calls after which a crash may bring something back; 0 if there is
+/// none.
 pub fn last_open(host: &MemHost) -> Result<u64, AllocError> {
     let mut last = 0;
     for calls in 0..=host.calls() {
@@ -175,8 +179,8 @@ pub fn last_open(host: &MemHost) -> Result<u64, AllocError> {
     Ok(last)
 }
 
-/// The names at which a stop after this number of calls may bring back something, each on a line
-/// with how many entries.
+/// Returns the names at which a crash after this number of calls may bring something back, each on
+/// a line with the number of its earlier entries.
 pub fn open_names(alloc: Global, host: &MemHost, calls: u64) -> Result<String, AllocError> {
     let mut text = String::new(alloc);
     for (path, entries) in host.choices(calls)?.as_slice() {

@@ -1,4 +1,5 @@
-//! What a case is played on: a host in memory, with what a stop may leave of it, and a real folder.
+//! What a case is played on: a host in memory, with the images that a crash may leave, and a real
+//! directory.
 #![tactic(auto)]
 
 mod counted_remotes;

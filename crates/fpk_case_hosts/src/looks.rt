@@ -1,20 +1,20 @@
-//! How moments and images look, as numbers. What looks otherwise has the same number only by a rare
-//! chance.
+//! Hashes of images, and of the moments of a host. Two that differ have the same hash only by a
+//! rare chance.
 use crate::images::{layer_image, present_image};
 use fp_host::{Entry, Path};
 use fp_memhost::{FileRow, Image, MemHost};
 use std::alloc::{AllocError, Global};
 
-/// With what a sum begins, as in FNV-1a.
+/// The hash of no bytes in FNV-1a.
 const FIRST: u64 = 0xcbf2_9ce4_8422_2325;
 
-/// By what it is multiplied at each byte, as in FNV-1a.
+/// The factor of FNV-1a for each byte.
 const FACTOR: u64 = 0x0000_0100_0000_01b3;
 
-/// What comes after each text, which UTF-8 has nowhere.
+/// The byte that is added after each text. It doesn't occur in UTF-8.
 const END: u8 = 0xff;
 
-/// A sum with these bytes more.
+/// Returns the hash with these bytes added.
 fn with_bytes(sum: u64, bytes: &[u8]) -> u64 {
     let mut sum = sum;
     for byte in bytes {
@@ -31,12 +31,12 @@ fn with_text(sum: u64, text: &str) -> u64 {
     with_byte(with_bytes(sum, text.as_bytes()), END)
 }
 
-/// A sum with a number more.
+/// Returns the hash with a number added.
 pub fn with_number(sum: u64, number: u64) -> u64 {
     with_bytes(sum, &number.to_le_bytes())
 }
 
-/// A sum with an image more: its names, and its files with their bytes.
+/// Returns the hash with an image added: its names, and its files with their bytes.
 fn with_image(sum: u64, image: &Image) -> u64 {
     let mut sum = sum;
     for (path, entry) in image.names.as_slice() {
@@ -65,13 +65,13 @@ fn with_files(sum: u64, rows: &[FileRow]) -> u64 {
     sum
 }
 
-/// How an image looks.
+/// Returns the hash of an image.
 pub fn image_look(image: &Image) -> u64 {
     with_image(FIRST, image)
 }
 
-/// How a moment looks: its names with each entry that a stop may bring back, and its files with
-/// their bytes. A call that only reads changes nothing of it.
+/// Returns the hash of the moment after this number of calls: of its names with all entries that a
+/// crash may bring back, and its files with their bytes. A call that only reads doesn't change it.
 pub fn moment_look(alloc: Global, host: &MemHost, calls: u64) -> Result<u64, AllocError> {
     let choices = host.choices(calls)?;
     let choices = choices.as_slice();
@@ -87,7 +87,7 @@ pub fn moment_look(alloc: Global, host: &MemHost, calls: u64) -> Result<u64, All
     Ok(sum)
 }
 
-/// A sum with names more, and how many entries each has.
+/// Returns the hash with names added, and with the number of earlier entries of each.
 fn with_choices(sum: u64, choices: &[(Path, u64)]) -> u64 {
     let mut sum = sum;
     for (path, entries) in choices {
@@ -96,7 +96,7 @@ fn with_choices(sum: u64, choices: &[(Path, u64)]) -> u64 {
     sum
 }
 
-/// How many entries a name has at most.
+/// Returns the greatest number of earlier entries of a name.
 fn most_entries(choices: &[(Path, u64)]) -> u64 {
     let mut most = 0;
     for (_path, entries) in choices {

@@ -1,4 +1,4 @@
-//! A case over the host in memory.
+//! A host in memory that a case is played on.
 use crate::counted_remotes::{CountedRemotes, RemoteCalls};
 use crate::folder::is_for_folder;
 use crate::noted_host::NotedHost;
@@ -12,16 +12,17 @@ use fpk_case_text::{Action, Case, Command, Failing, Failure, Fixture};
 use std::alloc::{AllocError, Global};
 use std::thread::Threads;
 
-/// The most steps of a case that is played in memory too. There each call looks through all earlier
-/// ones.
+/// The most steps of a case that is played in memory although it can be played over a directory. In
+/// memory, each call looks through all earlier ones.
 const MOST_STEPS: u64 = 1000;
 
-/// Whether a case is played in memory: it hasn't too many steps, or can't be played over a folder.
+/// Returns whether a case is played in memory: it has at most 1,000 steps, or can't be played over
+/// a directory.
 pub fn is_for_memory(case: &Case) -> bool {
     steps_of(case) <= MOST_STEPS || !is_for_folder(case)
 }
 
-/// How many steps a case has; what is given at many paths counts as often.
+/// Returns the number of steps. A step with a line `times` counts that many times.
 fn steps_of(case: &Case) -> u64 {
     let mut count = 0u64;
     for step in &case.steps {
@@ -34,7 +35,8 @@ fn steps_of(case: &Case) -> u64 {
     count
 }
 
-/// The input of a command. What is short comes in small pieces, so that something is cut.
+/// Returns the input of a command. Unless the case says otherwise, an input of less than 64 KiB
+/// comes in pieces of 7 bytes, so that something is split, and a longer one in pieces of 64 KiB.
 pub fn input_of(
     alloc: Global,
     command: &Command,
@@ -49,7 +51,7 @@ pub fn input_of(
     Ok(MemSource::new(bytes, size.max(1), fails_at))
 }
 
-/// The remotes in memory.
+/// Returns the remotes in memory.
 fn remotes_of(alloc: Global, wares: &Wares) -> Result<MemRemotes, AllocError> {
     let mut remotes = MemRemotes::new(alloc)?;
     for row in wares.paths() {
@@ -58,7 +60,7 @@ fn remotes_of(alloc: Global, wares: &Wares) -> Result<MemRemotes, AllocError> {
     Ok(remotes)
 }
 
-/// Puts something at the path of a remote. A folder has a file in it.
+/// Puts something at the path of a remote. A directory gets a file, by which it exists.
 fn put_ware(
     alloc: Global,
     remotes: &mut MemRemotes,
@@ -91,7 +93,7 @@ fn put_ware(
     }
 }
 
-/// Puts a node at the path of a remote, where it may stand there.
+/// Puts a node at the path of a remote, if it may be there. Else it does nothing.
 fn put_node(
     alloc: Global,
     remotes: &mut MemRemotes,
@@ -108,16 +110,17 @@ fn put_node(
     remotes.put(url, &path, node)
 }
 
-/// How a command ended.
+/// The result of a command over a host and remotes in memory.
 #[derive(Clone, Copy)]
 pub struct Ran {
     /// The exit status.
     pub status: u8,
-    /// How many calls of the remotes it made.
+    /// The number of calls of the remotes.
     pub remote_calls: RemoteCalls,
 }
 
-/// Runs a command over a host and remotes in memory.
+/// Runs a command over a host and remotes in memory. Errs if memory runs out for the input or the
+/// remotes.
 pub fn run_in_memory<P: Program, T: Threads + Sync, H: Host>(
     program: &P,
     rt: &T,
@@ -148,7 +151,7 @@ pub struct MemStage {
     host: NotedHost,
 }
 
-/// Lets a call fail, counted from the present one, or none.
+/// Lets one call fail, counted from 0 at the next one, or none.
 fn let_fail(host: &mut MemHost, failure: Option<Failure>) -> Result<(), AllocError> {
     match failure {
         Some(Failure { call, is_done }) => {
@@ -160,20 +163,21 @@ fn let_fail(host: &mut MemHost, failure: Option<Failure>) -> Result<(), AllocErr
 }
 
 impl MemStage {
-    /// A new host.
+    /// Creates a stage with a new host.
     pub fn new(alloc: Global) -> Result<Self, AllocError> {
         let host = NotedHost::new(alloc, MemHost::new(alloc)?);
         Ok(MemStage { alloc, host })
     }
 
-    /// Puts something there, with the folders above it. Answers whether that was done.
+    /// Puts a file, directory or link into the installation, with the directories above it. Returns
+    /// false if the host failed.
     pub fn give(&mut self, given: &Fixture, bytes: &[u8]) -> Result<bool, AllocError> {
         let answer = give(self.alloc, &mut self.host, given, bytes);
         Ok(unless_fault(answer)?.is_some())
     }
 
-    /// Runs a command over these remotes, with the failure that it names. Its input fails at the
-    /// call with this number, counted from 0. It errs only without memory.
+    /// Runs a command over these remotes, with the failing call that it names. `input_fails_at` is
+    /// the call of the input that fails, counted from 0. Errs only if memory runs out.
     pub fn run<P: Program, T: Threads + Sync>(
         &mut self,
         program: &P,
@@ -194,15 +198,15 @@ impl MemStage {
         ran_since(self.alloc, &self.host, ran.status, start, calls)
     }
 
-    /// Looks at what stands at a path. It errs only without memory.
+    /// Returns what is at a path. Errs only if memory runs out.
     pub fn find(&mut self, path: &str) -> Result<PathState, AllocError> {
         let answer = find(self.alloc, &mut self.host, path);
         Ok(unless_fault(answer)?.unwrap_or(PathState::Other))
     }
 }
 
-/// How a command ended, by what was printed and how many calls were made since it began. The files
-/// that it made are judged where it did what it was to do.
+/// Returns how a command ended, from the bytes that were printed and the calls that were made
+/// before it. The files that it created are checked if its status is 0.
 fn ran_since(
     alloc: Global,
     noted: &NotedHost,

@@ -1,4 +1,4 @@
-//! A host in memory whose calls are noted.
+//! A host in memory that notes the files that its calls create.
 ghost use Rattle.std.specs.Prelude.{◌≤◌, length, IfOk};
 ghost use Rattle.fp_host.specs.Calls.{Step, Creates, makes_dir, appends, links, makes_link, renames, unlinks, removes_dir, syncs, says};
 ghost use Rattle.fp_host.specs.Moments.{Makes, HasCause, NeedsNoMemory};
@@ -11,20 +11,20 @@ use fp_host::{Host, HostError, Path, Stat};
 use fp_memhost::MemHost;
 use std::alloc::{AllocError, Global};
 
-/// A host in memory, and notes of the files that its calls make. Each call is that of the host.
+/// A host in memory that notes the files that its calls create and the bytes that they append.
 #[derive(Drop)]
 pub struct NotedHost {
-    /// The host. What is asked of it alone isn't noted.
+    /// The host. Calls that are made directly on it aren't noted.
     pub host: MemHost,
     notes: Notes,
-    /// How many bytes were appended.
+    /// The number of bytes that were appended.
     bytes: u64,
-    /// Whether there was no memory for a note.
+    /// Whether memory ran out for a note.
     lacks_memory: bool,
 }
 
 impl NotedHost {
-    /// Nothing was made yet.
+    /// Creates a host that has noted nothing yet.
     pub fn new(alloc: Global, host: MemHost) -> Self {
         let notes = Notes::new(alloc);
         NotedHost {
@@ -35,25 +35,25 @@ impl NotedHost {
         }
     }
 
-    /// Forgets what was made so far.
+    /// Forgets all notes.
     pub fn begin(&mut self, alloc: Global) {
         self.notes = Notes::new(alloc);
         self.bytes = 0;
         self.lacks_memory = false;
     }
 
-    /// How many files were made since the notes began.
+    /// Returns the number of files that were created since the notes began.
     pub fn files(&self) -> u64 {
         self.notes.files()
     }
 
-    /// How many bytes were appended to files since the notes began.
+    /// Returns the number of bytes that were appended to files since the notes began.
     pub fn bytes(&self) -> u64 {
         self.bytes
     }
 
-    /// What is wrong with the files that were made since the notes began, where a command did what
-    /// it was to do.
+    /// Returns what is wrong with the files that a successful command created since the notes
+    /// began. Errs if memory ran out, also for an earlier note.
     pub fn flaw(&self, alloc: Global) -> Result<Option<String>, AllocError> {
         match self.lacks_memory {
             true => Err(AllocError),

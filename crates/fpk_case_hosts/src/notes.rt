@@ -1,40 +1,41 @@
-//! What is noted of the files that a command makes.
+//! Notes of the files that a command creates.
 use crate::places::{is_deploy_file, is_deployed, is_in_store, is_lasting};
 use fp_base::Text;
 use fp_host::Path;
 use std::alloc::{AllocError, Global};
 
-/// A file that was made since the notes began.
+/// A file that was created since the notes began.
 #[derive(Drop)]
 struct MadeFile {
-    /// Where it was made.
+    /// The path at which it was created.
     path: Text,
     has_bytes: bool,
-    /// Whether it has stood at a lasting place.
+    /// Whether it was at a lasting path at some time.
     has_lasted: bool,
-    /// Whether it has stood in the store.
+    /// Whether it was at a path of the store's objects at some time.
     was_stored: bool,
 }
 
-/// A name of a file that was made.
+/// A name of a file that was created.
 #[derive(Drop)]
 struct Name {
     path: Text,
-    /// The place of the file among those that were made.
+    /// The index of the file among those that were created.
     file: usize,
 }
 
-/// The files that were made since the notes began, and their names.
+/// The files that were created since the notes began, and their names.
 #[derive(Drop)]
 pub struct Notes {
     files: Vec<MadeFile>,
     names: Vec<Name>,
-    /// The first name in a commit directory of a file that hadn't stood in the store.
+    /// The first name in a commit directory of a file that wasn't in the store before, except
+    /// `deploy`.
     copied: Option<Text>,
 }
 
 impl Notes {
-    /// Nothing was made yet.
+    /// Creates notes without files.
     pub fn new(alloc: Global) -> Self {
         Notes {
             files: Vec::new(alloc),
@@ -43,12 +44,12 @@ impl Notes {
         }
     }
 
-    /// How many files were made.
+    /// Returns the number of files that were created.
     pub fn files(&self) -> u64 {
         self.files.len() as u64
     }
 
-    /// A file was made.
+    /// Notes that a file was created.
     pub fn create(&mut self, path: &Path) -> Result<(), AllocError> {
         let file = self.files.len();
         self.files.push(MadeFile {
@@ -60,7 +61,7 @@ impl Notes {
         self.add_name(path, file)
     }
 
-    /// The file at the path got bytes.
+    /// Notes that the file at the path got bytes.
     pub fn append(&mut self, path: &Path) {
         let Some(file) = self.file_at(path) else {
             return;
@@ -70,7 +71,7 @@ impl Notes {
         }
     }
 
-    /// The file at the path has another name too.
+    /// Notes that the file at the first path has the second name too.
     pub fn link(&mut self, from: &Path, to: &Path) -> Result<(), AllocError> {
         match self.file_at(from) {
             Some(file) => self.add_name(to, file),
@@ -78,7 +79,7 @@ impl Notes {
         }
     }
 
-    /// What stands at the path has another name, in the place of what stood there.
+    /// Notes that the file at the first path was moved to the second, and replaced what was there.
     pub fn rename(&mut self, from: &Path, to: &Path) -> Result<(), AllocError> {
         self.remove(to);
         self.link(from, to)?;
@@ -86,14 +87,14 @@ impl Notes {
         Ok(())
     }
 
-    /// The name is gone.
+    /// Notes that the name was removed.
     pub fn remove(&mut self, path: &Path) {
         let path = path.text();
         self.names.retain(|name| name.path.as_str() != path);
     }
 
-    /// What is wrong where a command did what it was to do: a file that got bytes for nothing, or
-    /// that was copied out of the store.
+    /// Returns what is wrong if the command succeeded: a file in a commit directory that isn't a
+    /// hard link of the store, or one that got bytes but was never at a lasting path.
     pub fn flaw(&self, alloc: Global) -> Result<Option<String>, AllocError> {
         if let Some(path) = &self.copied {
             let path = path.as_str();
@@ -112,14 +113,14 @@ impl Notes {
         }
     }
 
-    /// The file that was made and stands at the path, by its place.
+    /// Returns the index of the created file at the path.
     fn file_at(&self, path: &Path) -> Option<usize> {
         let path = path.text();
         let mut names = self.names.iter();
         Some(names.find(|name| name.path.as_str() == path)?.file)
     }
 
-    /// Notes that a file stands at a path.
+    /// Notes that a created file is at a path.
     fn add_name(&mut self, path: &Path, file: usize) -> Result<(), AllocError> {
         let text = path.text();
         let alloc = *self.names.allocator();

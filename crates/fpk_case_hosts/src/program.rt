@@ -7,7 +7,7 @@ use std::thread::Threads;
 
 /// The program whose cases are played.
 pub trait Program {
-    /// Runs a command of these words, and answers its status.
+    /// Runs a command with these words, and returns its exit status.
     fn run<T: Threads + Sync, H: Host, R: Remotes, I: Source>(
         &self,
         rt: &T,

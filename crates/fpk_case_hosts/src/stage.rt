@@ -1,4 +1,4 @@
-//! Where a case is played, and what is asked of any host.
+//! The stage of a case, and functions over any host.
 use crate::folder::FolderStage;
 use crate::memory::MemStage;
 use crate::program::Program;
@@ -10,50 +10,50 @@ use std::alloc::{AllocError, Global};
 use std::rt::Files;
 use std::thread::Threads;
 
-/// How much a command did to a host.
+/// The numbers of calls, files and bytes that a command asked of a host.
 #[derive(Clone, Copy)]
 pub struct Counts {
-    /// How many calls it made.
+    /// The number of calls that it made.
     pub calls: u64,
-    /// How many files it made.
+    /// The number of files that it created.
     pub files: u64,
-    /// How many bytes it appended to files.
+    /// The number of bytes that it appended to files.
     pub bytes: u64,
 }
 
-/// How a command ended.
+/// The result of a command.
 #[derive(Drop)]
 pub struct Ending {
     /// The exit status.
     pub status: u8,
-    /// What it printed.
+    /// The printed bytes.
     pub printed: Vec<u8>,
-    /// How much it did to the host, where that is counted.
+    /// The counts of what it asked of the host, if these are counted.
     pub counts: Option<Counts>,
-    /// What is wrong with the files that it made, where that is noted.
+    /// The first flaw of the files that it created, if these are noted.
     pub flaw: Option<String>,
 }
 
-/// What stands at a path.
+/// The state of a path.
 #[derive(Drop)]
 pub enum PathState {
-    /// Hard links of one file have one id.
+    /// A file. Hard links of one file have the same id.
     File { id: u64, mode: u32, bytes: Vec<u8> },
-    /// A folder, whatever is in it.
+    /// A directory, with any content.
     Folder,
     /// A symlink with this text.
     Link { text: String },
-    /// Not even a symlink.
+    /// Nothing, not even a symlink.
     Nothing,
-    /// What can't be looked at.
+    /// Something that can't be looked up.
     Other,
 }
 
-/// Where a case is played.
+/// The stage that a case is played on.
 pub enum Stage<'a, 'b, R: Files> {
-    /// Over the host in memory.
+    /// A host in memory.
     Memory(MemStage),
-    /// Over a real folder.
+    /// A real directory.
     Folder(FolderStage<'a, 'b, R>),
 }
 
@@ -67,7 +67,8 @@ impl<R: Files> Drop for Stage<'_, '_, R> {
 }
 
 impl<R: System> Stage<'_, '_, R> {
-    /// Puts something there, with the folders above it. Answers whether that was done.
+    /// Puts a file, directory or link into the installation, with the directories above it. Returns
+    /// false if the host failed.
     pub fn give(&mut self, fixture: &Fixture, bytes: &[u8]) -> Result<bool, AllocError> {
         match self {
             Stage::Memory(stage) => stage.give(fixture, bytes),
@@ -75,8 +76,8 @@ impl<R: System> Stage<'_, '_, R> {
         }
     }
 
-    /// Runs a command over these remotes. Its input fails at the call with this number, counted
-    /// from 0.
+    /// Runs a command over these remotes. `input_fails_at` is the call of the input that fails,
+    /// counted from 0.
     pub fn run<P: Program, T: Threads + Sync>(
         &mut self,
         program: &P,
@@ -91,7 +92,7 @@ impl<R: System> Stage<'_, '_, R> {
         }
     }
 
-    /// Looks at what stands at a path.
+    /// Returns what is at a path.
     pub fn find(&mut self, path: &str) -> Result<PathState, AllocError> {
         match self {
             Stage::Memory(stage) => stage.find(path),
@@ -100,7 +101,7 @@ impl<R: System> Stage<'_, '_, R> {
     }
 }
 
-/// An answer, or nothing where the host failed.
+/// Returns the value; none if the host failed. Errs if memory ran out.
 pub fn unless_fault<T>(answer: Result<T, HostEnd>) -> Result<Option<T>, AllocError> {
     match answer {
         Ok(value) => Ok(Some(value)),
@@ -109,8 +110,8 @@ pub fn unless_fault<T>(answer: Result<T, HostEnd>) -> Result<Option<T>, AllocErr
     }
 }
 
-/// Puts something into a host as often as is said, synced, with the folders above it, in the place
-/// of a file or a link that is there.
+/// Puts a file, directory or link into a host, as many times as its fixture says, with the
+/// directories above it, and syncs. It replaces a file or symlink.
 pub fn give<H: Host>(
     alloc: Global,
     host: &mut H,
@@ -127,7 +128,7 @@ pub fn give<H: Host>(
     Ok(())
 }
 
-/// The path with the number in the place of `{number}`.
+/// Returns the path with the number in place of `{number}`.
 fn numbered_path(alloc: Global, path: &str, number: u64) -> Result<String, AllocError> {
     match path.split_once("{number}") {
         Some((front, back)) => format!(in alloc; "{front}{number}{back}"),
@@ -135,7 +136,7 @@ fn numbered_path(alloc: Global, path: &str, number: u64) -> Result<String, Alloc
     }
 }
 
-/// Takes a file or a link away where one is there.
+/// Removes a file or symlink, if one is there.
 fn take_away<H: Host>(host: &mut H, path: &Path) -> Result<(), HostEnd> {
     match host.stat(path)? {
         Stat::File { .. } | Stat::Link => host.unlink(path)?,
@@ -161,7 +162,7 @@ fn give_at<H: Host>(
     Ok(())
 }
 
-/// Makes a file of these bytes at a path where nothing stands, unsynced. It errs as the host does.
+/// Creates a file with these bytes where nothing is, without a sync. Errs as the host does.
 pub fn give_file<H: Host>(
     host: &mut H,
     path: &Path,
@@ -173,7 +174,7 @@ pub fn give_file<H: Host>(
     Ok(())
 }
 
-/// Makes the folders above a path.
+/// Makes the directories above a path, if they are absent.
 pub fn make_folders<H: Host>(alloc: Global, host: &mut H, path: &str) -> Result<(), HostEnd> {
     for (at, byte) in path.as_bytes().iter().enumerate() {
         if *byte == b'/' {
@@ -183,7 +184,7 @@ pub fn make_folders<H: Host>(alloc: Global, host: &mut H, path: &str) -> Result<
     Ok(())
 }
 
-/// Makes a folder that is absent.
+/// Makes a directory, if nothing is there.
 fn make_folder<H: Host>(alloc: Global, host: &mut H, path: &str) -> Result<(), HostEnd> {
     let path = Path::parse(alloc, path)?;
     match host.stat(&path)? {
@@ -193,7 +194,7 @@ fn make_folder<H: Host>(alloc: Global, host: &mut H, path: &str) -> Result<(), H
     Ok(())
 }
 
-/// Looks at what stands at a path of a host.
+/// Returns what is at a path of a host.
 pub fn find<H: Host>(alloc: Global, host: &mut H, path: &str) -> Result<PathState, HostEnd> {
     let path = Path::parse(alloc, path)?;
     match host.stat(&path)? {

@@ -1,4 +1,4 @@
-//! A command whose input ends too early.
+//! Commands whose input is truncated.
 use fpk_case_hosts::{Program, Stage};
 use fpk_case_remotes::Wares;
 use fpk_case_system::System;
@@ -6,9 +6,9 @@ use fpk_case_text::{Command, bytes_text};
 use std::alloc::{AllocError, Global};
 use std::thread::Threads;
 
-/// Runs a command with its input cut after each byte, where that is asked for. Answers the first
-/// that isn't told as a cut input, or prints other lines before than the command does of the whole
-/// input.
+/// Runs a command with its input truncated after each byte, if the case asks for it. Returns what
+/// is wrong with the first run that doesn't report the truncation, or whose other lines aren't the
+/// first ones of those expected for the whole input.
 pub fn play_cuts<P: Program, T: Threads + Sync, R: System>(
     program: &P,
     rt: &T,
@@ -36,8 +36,9 @@ pub fn play_cuts<P: Program, T: Threads + Sync, R: System>(
     Ok(None)
 }
 
-/// Whether this status and these lines tell of a cut input: 0 and the first lines of the whole
-/// input, or 1 and the line of a fault after such lines.
+/// Returns whether the status and the output are right for a truncated input: status 0 and first
+/// lines of those expected, if the input ends with a newline; or status 1 and such lines, followed
+/// by the line of an error.
 fn is_told(
     alloc: Global,
     input: &[u8],
@@ -58,7 +59,7 @@ fn is_told(
     }
 }
 
-/// Whether the first lines, so many, are those of what is expected.
+/// Returns whether the first lines of the output, this many, are the expected ones.
 fn are_first_lines(printed: &str, count: usize, expected: &[u8]) -> bool {
     let expected = str::from_utf8(expected).unwrap_or("");
     count <= expected.lines().count()
@@ -69,12 +70,13 @@ fn are_first_lines(printed: &str, count: usize, expected: &[u8]) -> bool {
             .all(|(came, wanted)| came == wanted)
 }
 
-/// Whether an input ends where a line does.
+/// Returns whether an input is empty or ends with a newline.
 fn is_whole(input: &[u8]) -> bool {
     input.is_empty() || input.ends_with(b"\n")
 }
 
-/// Whether this line tells of the record that was cut, or else of a message.
+/// Returns whether this line reports the record that is truncated. If the input ends with a
+/// newline, it has to report a truncated message.
 fn is_fault(alloc: Global, input: &[u8], line: &str) -> Result<bool, AllocError> {
     if is_whole(input) {
         return Ok(line.starts_with("error: message ") && line.ends_with(" cut"));

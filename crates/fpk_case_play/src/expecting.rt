@@ -1,11 +1,11 @@
-//! What is to stand at a path.
+//! Checks of what is at a path.
 use fpk_case_hosts::{PathState, Stage};
 use fpk_case_remotes::{Wares, text_with_digits, with_digits};
 use fpk_case_system::System;
 use fpk_case_text::{Expected, What, difference, message};
 use std::alloc::{AllocError, Global};
 
-/// Looks at a path, and answers what isn't as it is to be.
+/// Returns what is wrong at a path; none if the expected thing is there.
 pub fn expect<R: System>(
     alloc: Global,
     stage: &mut Stage<'_, '_, R>,
@@ -70,7 +70,7 @@ fn judge_link(
     }
 }
 
-/// Whether both are one file.
+/// Returns what is wrong if the two aren't the same file.
 fn judge_hard_link(
     alloc: Global,
     found: &PathState,

@@ -1,4 +1,4 @@
-//! Whether what a stop may leave is as it has to be.
+//! Checks of what a crash may leave.
 use crate::likeness::{is_like, other_text};
 use crate::next::Next;
 use crate::showing::{State, open, state_of};
@@ -10,17 +10,17 @@ use std::alloc::{AllocError, Global};
 use std::collections::{BTreeMap, BTreeSet};
 use std::thread::Threads;
 
-/// After how many lines a moment is, or may be.
+/// The numbers of printed lines whose states a crash may leave.
 #[derive(Clone, Copy, PartialEq)]
 pub struct Lines {
-    /// The least number.
+    /// The least number of lines.
     pub first: usize,
-    /// The greatest number.
+    /// The greatest number of lines.
     pub last: usize,
 }
 
 impl Lines {
-    /// After this number.
+    /// Returns this number alone.
     pub fn exactly(count: usize) -> Self {
         Lines {
             first: count,
@@ -28,7 +28,8 @@ impl Lines {
         }
     }
 
-    /// After this number, or one more: the next line's change may be on the disk already.
+    /// Returns this number and the next one: the change of the next line may be on the disk
+    /// already.
     pub fn or_next(count: usize) -> Self {
         Lines {
             first: count,
@@ -36,31 +37,30 @@ impl Lines {
         }
     }
 
-    /// A number for them and the look of a moment.
+    /// Returns a hash of these numbers and a moment's hash.
     fn look(self, moment: u64) -> u64 {
         let first = with_number(moment, self.first as u64);
         with_number(first, self.last as u64)
     }
 }
 
-/// Judges moments one after another. One that looks as an earlier one isn't judged again, nor is an
-/// outcome.
+/// Judges what a crash may leave, moment after moment. A moment or an image with the same hash as
+/// an earlier one isn't judged again.
 #[derive(Drop)]
 pub struct Judge<'a> {
     alloc: Global,
-    /// What is run on each outcome, and the remotes.
+    /// The command that is run on each image, and the remotes.
     next: &'a Next<'a>,
-    /// What the installation shows after each number of lines.
+    /// The state of the installation after each number of lines, from 0 on.
     states: &'a [State],
-    /// How the moments looked that were judged, with their lines.
+    /// The hashes of the moments that were judged, with their numbers of lines.
     moments: BTreeSet<u64>,
-    /// How the outcomes looked, each with a number of lines after which the installation shows the
-    /// same.
+    /// The hashes of the images that were judged, each with a number of lines whose state it shows.
     outcomes: BTreeMap<u64, usize>,
 }
 
 impl<'a> Judge<'a> {
-    /// No moment was judged yet.
+    /// Creates a judge that has judged nothing yet.
     pub fn new(alloc: Global, next: &'a Next<'a>, states: &'a [State]) -> Self {
         Judge {
             alloc,
@@ -71,8 +71,8 @@ impl<'a> Judge<'a> {
         }
     }
 
-    /// Says what isn't as it has to be where a call failed: the status that came is the one that
-    /// was wanted, and a stop shows the state after one of these numbers of lines.
+    /// Returns what is wrong after a failed call. The first of the two statuses has to be the
+    /// second, and a crash has to show the state after one of these numbers of lines.
     pub fn refused<P: Program, R: Threads + Sync>(
         &mut self,
         program: &P,
@@ -88,8 +88,8 @@ impl<'a> Judge<'a> {
         self.moment(program, rt, host, host.calls(), lines)
     }
 
-    /// Says which outcome after this number of calls isn't whole, or shows another state than those
-    /// after these numbers of lines.
+    /// Returns what is wrong with the first bad image that a crash after this number of calls may
+    /// leave. Each has to be complete, and to show the state after one of these numbers of lines.
     pub fn moment<P: Program, R: Threads + Sync>(
         &mut self,
         program: &P,
@@ -111,7 +111,7 @@ impl<'a> Judge<'a> {
         Ok(None)
     }
 
-    /// Says what isn't as it has to be in an outcome.
+    /// Returns what is wrong with an image.
     fn outcome<P: Program, R: Threads + Sync>(
         &mut self,
         program: &P,
@@ -141,7 +141,8 @@ impl<'a> Judge<'a> {
         Ok(Some(other_text(self.alloc, lines.first, &state, self.states)?))
     }
 
-    /// Whether what shows the state after this number of lines shows one of those after these.
+    /// Returns whether the state after `count` lines is like that after one of these numbers of
+    /// lines.
     fn is_expected(&self, count: Option<&usize>, lines: Lines) -> bool {
         let Some(count) = count else {
             return false;

@@ -1,4 +1,4 @@
-//! Cases played: in memory, on a real folder, and with a stop or a failure at each call.
+//! Plays cases: in memory, on a real directory, and with a crash and a failure at each call.
 #![tactic(auto)]
 
 mod cutting;

@@ -1,10 +1,11 @@
-//! Whether two states are alike, and where they differ.
+//! Comparison of two states of an installation.
 use crate::showing::{Shown, State};
 use fpk_case_text::{bytes_text, difference};
 use std::alloc::{AllocError, Global};
 
-/// Whether a state is the one that is expected. A made remote may have more parts than it offers,
-/// of those that one of the states has.
+/// Returns whether a state counts as the expected one: both show the same, also after the next
+/// command, and the made remotes have all expected parts. They may have more parts, but only such
+/// as one of the states has.
 pub fn is_like(state: Option<&State>, expected: Option<&State>, states: &[State]) -> bool {
     match (state, expected) {
         (Some(state), Some(expected)) => {
@@ -17,12 +18,12 @@ pub fn is_like(state: Option<&State>, expected: Option<&State>, states: &[State]
     }
 }
 
-/// Whether a state has all these parts of made remotes.
+/// Returns whether a state has all these parts of made remotes.
 fn has_parts(state: &State, parts: &[Vec<u8>]) -> bool {
     parts.iter().all(|part| has_part(state, part))
 }
 
-/// Whether each of the parts is one of a state.
+/// Returns whether each of the parts is one of a state.
 fn has_only_parts(parts: &[Vec<u8>], states: &[State]) -> bool {
     parts
         .iter()
@@ -33,7 +34,8 @@ fn has_part(state: &State, part: &[u8]) -> bool {
     state.parts.iter().any(|other| other.as_slice() == part)
 }
 
-/// What is shown where the state after this number of lines, or after the next one, is expected.
+/// Returns the message for a state that is neither that after this number of lines nor that after
+/// the next one.
 pub fn other_text(
     alloc: Global,
     lines: usize,
@@ -55,7 +57,8 @@ pub fn other_text(
     format!(in alloc; "after {lines} lines a made remote lacks a part, or has one of no state")
 }
 
-/// Of the two expected states the one whose lists are shown, the later one first.
+/// Returns the expected state that has the same lists: that after the next line or else that after
+/// this number of lines.
 fn expected_of<'a>(lines: usize, state: &State, states: &'a [State]) -> Option<&'a State> {
     let next = lines.saturating_add(1);
     match (states.get(next), states.get(lines)) {
@@ -69,7 +72,7 @@ fn has_lists_of(one: &State, other: &State) -> bool {
     one.shown.lists.as_slice() == other.shown.lists.as_slice()
 }
 
-/// Where two differ that aren't the same.
+/// Returns the message for the first difference of two that differ.
 fn shown_difference(alloc: Global, expected: &Shown, shown: &Shown) -> Result<String, AllocError> {
     if shown.lists != expected.lists {
         return difference(alloc, "lists", &expected.lists, &shown.lists);

@@ -1,4 +1,4 @@
-//! The command that has to work on whatever a stop left.
+//! The command that has to work on whatever a crash left.
 use fp_memhost::MemHost;
 use fpk_case_hosts::{Program, run_in_memory};
 use fpk_case_remotes::Wares;
@@ -6,19 +6,19 @@ use fpk_case_text::{Command, Failing, Stops};
 use std::alloc::{AllocError, Global};
 use std::thread::Threads;
 
-/// Its words, where a case says no others.
+/// The words of the command, if the case gives no others.
 const WORDS: [&str; 2] = ["pin", "app/org.x.Next/*/*"];
 
-/// The command that has to work on whatever a stop left.
+/// The command that has to work on whatever a crash left.
 #[derive(Drop)]
 pub struct Next<'a> {
     command: Command,
-    /// The remotes, with every commit of the case, as they are after all its steps.
+    /// The remotes with all their commits, as they are after the last step of the section.
     pub wares: &'a Wares,
 }
 
 impl<'a> Next<'a> {
-    /// The command that a case says.
+    /// Creates the command that the case gives, or the default one.
     pub fn new(alloc: Global, stops: &Stops, wares: &'a Wares) -> Result<Self, AllocError> {
         let mut command = command_of(alloc, &WORDS)?;
         if let Some(words) = &stops.next {
@@ -27,7 +27,7 @@ impl<'a> Next<'a> {
         Ok(Next { command, wares })
     }
 
-    /// Whether it is done.
+    /// Runs the command on the host, and returns whether its status is 0.
     pub fn is_done<P: Program, R: Threads + Sync>(
         &self,
         program: &P,
@@ -41,7 +41,7 @@ impl<'a> Next<'a> {
     }
 }
 
-/// A command of these words, without input.
+/// Creates a command with these words, without input.
 pub fn command_of(alloc: Global, words: &[&str]) -> Result<Command, AllocError> {
     let mut owned = Vec::new(alloc);
     for word in words {

@@ -1,4 +1,4 @@
-//! A case in memory, and on a real folder.
+//! Playing a case in memory, and on a real directory.
 use crate::playing::play;
 use fpk_case_hosts::{FolderStage, MemStage, Program, Stage, clear_folder, is_for_memory};
 use fpk_case_system::{Capture, System};
@@ -6,7 +6,7 @@ use fpk_case_text::{Case, Wrong};
 use std::alloc::{AllocError, Global};
 use std::io;
 
-/// Plays a case in memory, where it is for that.
+/// Plays a case in memory, if it is one for that. Returns the first line that doesn't hold.
 pub fn play_in_memory<P: Program, R: System>(
     program: &P,
     rt: &R,
@@ -20,7 +20,8 @@ pub fn play_in_memory<P: Program, R: System>(
     play(program, rt, alloc, &mut stage, case)
 }
 
-/// Plays a case over a new folder, which is taken away again.
+/// Plays a case over a new directory, which is removed afterwards. Returns the first line that
+/// doesn't hold.
 pub fn play_in_folder<P: Program, R: System>(
     program: &P,
     rt: &R,

@@ -1,4 +1,4 @@
-//! The steps of a case, one after another.
+//! Playing the steps of a case in order.
 use crate::cutting::play_cuts;
 use crate::expecting::expect;
 use fpk_case_hosts::{Counts, Ending, Program, Stage};
@@ -8,7 +8,7 @@ use fpk_case_text::{Action, Case, Command, Fixture, Step, Wrong, difference, mes
 use std::alloc::{AllocError, Global};
 use std::thread::Threads;
 
-/// Plays the steps of a case, and answers the first that isn't as it says.
+/// Plays the steps of a case. Returns the first line that doesn't hold.
 pub fn play<P: Program, T: Threads + Sync, R: System>(
     program: &P,
     rt: &T,
@@ -30,7 +30,7 @@ pub fn play<P: Program, T: Threads + Sync, R: System>(
     Ok(None)
 }
 
-/// Plays a step, and answers what isn't as it says.
+/// Plays a step. Returns what is wrong, if anything is.
 fn play_step<P: Program, T: Threads + Sync, R: System>(
     program: &P,
     rt: &T,
@@ -70,8 +70,9 @@ fn play_give<R: System>(
     }
 }
 
-/// Runs a command, first with its input cut after each byte, and with each call of its input failing,
-/// where that is asked for.
+/// Runs a command. If the case asks for it, the command runs first with its input truncated after
+/// each byte, and with each call of its input failing, which has to end with status 5 and no
+/// output.
 fn play_command<P: Program, T: Threads + Sync, R: System>(
     program: &P,
     rt: &T,
@@ -101,7 +102,7 @@ fn failed_text(alloc: Global, call: u64, status: u8) -> Result<String, AllocErro
     )
 }
 
-/// Says what isn't as expected of a command.
+/// Returns what is wrong with the output, the status, the files or the counts of a command.
 fn judge(
     alloc: Global,
     command: &Command,
@@ -124,7 +125,8 @@ fn judge(
     }
 }
 
-/// Says where the host was asked for another number of calls, files or bytes than is expected.
+/// Returns what is wrong if the number of calls of the host, of created files or of appended bytes
+/// isn't the expected one.
 fn judge_counts(
     alloc: Global,
     command: &Command,

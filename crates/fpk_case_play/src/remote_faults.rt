@@ -1,4 +1,4 @@
-//! A case with a failure, and with another answer, at each call of the remotes.
+//! Playing a case with a failure, and with a changed byte, at each call of the remotes.
 use crate::judge::{Judge, Lines};
 use crate::replay::{Replay, Start, Trouble};
 use fpk_case_hosts::Program;
@@ -6,9 +6,9 @@ use fpk_case_text::message;
 use std::alloc::{AllocError, Global};
 use std::thread::Threads;
 
-/// Lets each call of the remotes fail that the commands make where nothing does, and lets each read
-/// of an install give another first byte. Answers the first that isn't told, or after which a stop
-/// shows another state than that after the last line that was printed.
+/// Lets each call of the remotes fail that the commands make if nothing fails, and lets each read
+/// of an install return a changed first byte. Returns what is wrong with the first run that doesn't
+/// report it, or after which a crash shows an unexpected state.
 pub fn fail_remotes<P: Program, R: Threads + Sync>(
     program: &P,
     rt: &R,
@@ -32,7 +32,7 @@ pub fn fail_remotes<P: Program, R: Threads + Sync>(
     Ok(None)
 }
 
-/// Lets each of this number of calls of the remotes fail that the command with this number makes.
+/// Lets each of these calls of the remotes fail in turn, in the command with this number.
 fn fail_command<P: Program, R: Threads + Sync>(
     program: &P,
     rt: &R,
@@ -53,7 +53,8 @@ fn fail_command<P: Program, R: Threads + Sync>(
     Ok(None)
 }
 
-/// Says what isn't as it has to be where a call of the remotes failed.
+/// Returns what is wrong after a failed call of the remotes: the status has to be 4, and a crash
+/// has to show the state after the last printed line.
 fn judge_failed<P: Program, R: Threads + Sync>(
     program: &P,
     rt: &R,
@@ -68,8 +69,8 @@ fn judge_failed<P: Program, R: Threads + Sync>(
     judge.refused(program, rt, &failed.host, (status, 4), lines)
 }
 
-/// Lets each of this number of reads of the remotes give another first byte that the command with
-/// this number makes.
+/// Lets each of these reads of the remotes return a changed first byte in turn, in the command with
+/// this number.
 fn turn_command<P: Program, R: Threads + Sync>(
     program: &P,
     rt: &R,
@@ -90,8 +91,9 @@ fn turn_command<P: Program, R: Threads + Sync>(
     Ok(None)
 }
 
-/// Says what isn't as it has to be where a read of the remotes gave another first byte: the command
-/// is done as the case says, or its last line tells what is wrong, and the status is 1.
+/// Returns what is wrong after a read of the remotes returned a changed first byte. Either the
+/// commands end as the case says, or the status is 1, the last line is the error, and a crash shows
+/// the state after the line before.
 fn judge_turned<P: Program, R: Threads + Sync>(
     program: &P,
     rt: &R,

@@ -1,4 +1,4 @@
-//! The commands of a case over a host in memory, with a call that fails.
+//! Running the commands of a case over a host in memory, with a call that fails.
 use fp_memhost::MemHost;
 use fpk_case_hosts::{Program, RemoteCalls, give, present_image, run_in_memory, unless_fault};
 use fpk_case_remotes::Wares;
@@ -7,29 +7,31 @@ use std::alloc::{AllocError, Global};
 use std::ops::Range;
 use std::thread::Threads;
 
-/// What goes wrong while the commands of a case run.
+/// The failure, if there is one, while the commands of a case run.
 #[derive(Clone, Copy)]
 pub enum Trouble {
     Nothing,
-    /// A call of the host fails, counted from 0 where the stops begin.
+    /// A call of the host fails. It is counted from 0 at the start of the section.
     Host(Failure),
-    /// A call of the remotes fails, counted from 0 at the command with this number, which is counted
-    /// from 0 at the first one of the case.
+    /// A call of the remotes fails. It is counted from 0 at its command, and the command from 0 at
+    /// the first one of the case.
     Remotes { command: usize, call: u64 },
-    /// A read of the remotes gives another first byte, counted so too, of those that give any.
+    /// A read of the remotes returns a changed first byte. It is counted from 0 at its command,
+    /// among the reads that return bytes; the command is counted from 0 at the first one of the
+    /// case.
     Turned { command: usize, read: u64 },
 }
 
-/// The steps of a case from a line `from here` to the next one, or to its end.
+/// A section: the steps of a case from a line `from here` to the next one, or to the end.
 #[derive(Clone, Copy)]
 pub struct Section {
-    /// The place of the first step.
+    /// The index of the first step.
     from: usize,
-    /// The place after the last one.
+    /// The index after that of the last step.
     pub to: usize,
 }
 
-/// The sections of a case. All of it is one where it has no line `from here`.
+/// Returns the sections of a case. Without a line `from here`, the whole case is one section.
 pub fn sections_of(alloc: Global, case: &Case) -> Result<Vec<Section>, AllocError> {
     let mut sections = Vec::new(alloc);
     let mut begun = None;
@@ -47,29 +49,29 @@ pub fn sections_of(alloc: Global, case: &Case) -> Result<Vec<Section>, AllocErro
     Ok(sections)
 }
 
-/// Where the stops of a section of a case begin.
+/// The start of a section, before its first command.
 #[derive(Drop)]
 pub struct Start<'a> {
-    /// The case itself.
+    /// The case.
     pub case: &'a Case,
     section: Section,
-    /// What was given and done before.
+    /// A host with everything that the case gives and what the commands before the section did.
     host: MemHost,
 }
 
-/// The commands of a section, up to the first whose status is another than the case says.
+/// The outcome of the commands of a section, up to the first that ends with an unexpected status.
 #[derive(Drop)]
 pub struct Replay {
-    /// Its calls are counted from 0 at the start.
+    /// The host. Its calls are counted from 0 at the start of the section.
     pub host: MemHost,
-    /// The status that is another.
+    /// The unexpected status; none if all are as expected.
     pub other_status: Option<u8>,
-    /// How many calls of the remotes each command made, from the start on.
+    /// The number of calls of the remotes that each command of the section made.
     pub remote_calls: Vec<RemoteCalls>,
 }
 
 impl Replay {
-    /// How many lines were printed.
+    /// Returns the number of lines that were printed.
     pub fn lines(&self) -> usize {
         self.host
             .printed()
@@ -79,7 +81,7 @@ impl Replay {
     }
 }
 
-/// Does what a case does before a section.
+/// Puts everything there that the case gives, and runs the commands before a section.
 pub fn start_of<'a, P: Program, R: Threads + Sync>(
     program: &P,
     rt: &R,
@@ -110,18 +112,18 @@ pub fn start_of<'a, P: Program, R: Threads + Sync>(
 }
 
 impl Start<'_> {
-    /// The numbers of the commands of the section, counted from 0 at the first one of the case.
+    /// Returns the numbers of the section's commands, counted from 0 at the first one of the case.
     pub fn commands(&self) -> Range<usize> {
         self.commands_before(self.section.from)..self.commands_before(self.section.to)
     }
 
-    /// How many commands come before a step.
+    /// Returns the number of commands before the step at this index.
     fn commands_before(&self, at: usize) -> usize {
         let before = self.case.steps.iter().take(at);
         before.filter(|step| is_command(&step.action)).count()
     }
 
-    /// Whether the command with this number is an install.
+    /// Returns whether the command with this number is an install.
     pub fn is_install(&self, number: usize) -> bool {
         let steps = self.case.steps.iter();
         let mut commands = steps.filter(|step| is_command(&step.action));
@@ -131,7 +133,7 @@ impl Start<'_> {
         }
     }
 
-    /// Plays the commands of the section.
+    /// Runs the commands of the section on a new host.
     pub fn replay<P: Program, R: Threads + Sync>(
         &self,
         program: &P,
@@ -156,7 +158,7 @@ impl Start<'_> {
         })
     }
 
-    /// A host on which all was done that comes before.
+    /// Creates a host on which everything before the section is durable.
     fn new_host(&self, alloc: Global) -> Result<MemHost, AllocError> {
         match present_image(alloc, &self.host, self.host.calls())? {
             Some(image) => MemHost::from_image(alloc, image),
@@ -179,7 +181,7 @@ fn is_install(action: &Action) -> bool {
     }
 }
 
-/// Puts there what is given.
+/// Puts everything there that the case gives to the installation.
 fn give_all(alloc: Global, host: &mut MemHost, case: &Case) -> Result<(), AllocError> {
     for step in &case.steps {
         if let Action::Give(given) = &step.action {
@@ -191,16 +193,16 @@ fn give_all(alloc: Global, host: &mut MemHost, case: &Case) -> Result<(), AllocE
     Ok(())
 }
 
-/// How the commands of a section ran, up to the first whose status is another than the case says.
+/// The outcome of the commands of a section, up to the first that ends with an unexpected status.
 #[derive(Drop)]
 struct StepsRun {
-    /// That status.
+    /// The unexpected status; none if all are as expected.
     other_status: Option<u8>,
-    /// How many calls of the remotes each command made.
+    /// The number of calls of the remotes that each command made.
     remote_calls: Vec<RemoteCalls>,
 }
 
-/// Runs the commands of a section.
+/// Runs the commands of a section. Steps before it only change the remotes.
 fn run_steps<P: Program, R: Threads + Sync>(
     program: &P,
     rt: &R,
@@ -238,7 +240,7 @@ fn run_steps<P: Program, R: Threads + Sync>(
     })
 }
 
-/// What goes wrong at the command with this number.
+/// Returns what fails in the command with this number.
 fn failing_at(trouble: Trouble, number: usize) -> Failing {
     let mut failing = Failing::none();
     match trouble {
@@ -249,7 +251,7 @@ fn failing_at(trouble: Trouble, number: usize) -> Failing {
     failing
 }
 
-/// The remotes of a case before the step at this place.
+/// Returns the remotes of a case before the step at this index.
 pub fn wares_of<R: Threads + Sync>(
     rt: &R,
     alloc: Global,

@@ -1,4 +1,4 @@
-//! The files of cases that a program's arguments name.
+//! Playing the files of cases that a program's arguments name.
 use crate::places::{play_in_folder, play_in_memory};
 use crate::stops::play_stops;
 use fpk_case_hosts::{Program, is_for_folder};
@@ -7,14 +7,15 @@ use fpk_case_text::{Case, CaseError, Parser, Wrong};
 use std::alloc::Global;
 use std::{env, fs, io};
 
-/// Plays the cases of the files that the arguments name, prints what isn't as they say, and answers
-/// the status: 0 where all is so.
+/// Plays the cases in the files that the arguments name, and prints each line that doesn't hold.
+/// Returns the exit status: 0 if all hold, 1 if not, 2 without arguments.
 pub fn run_files<P: Program, R: System>(program: &P, rt: &R, alloc: Global) -> io::Result<u8> {
     let names = names_of(rt, alloc)?;
     try_files(program, rt, alloc, &names)
 }
 
-/// Tries the files of these names, and answers the status: 0 where all is as the cases say.
+/// Plays the cases in these files. Returns the exit status: 0 if all hold, 1 if not, 2 if there are
+/// no files.
 fn try_files<P: Program, R: System>(
     program: &P,
     rt: &R,
@@ -32,7 +33,7 @@ fn try_files<P: Program, R: System>(
     say_end(rt, wrong)
 }
 
-/// Says whether something was wrong, and answers the status.
+/// Prints whether all cases hold, and returns the exit status.
 fn say_end<R: System>(rt: &R, wrong: u64) -> io::Result<u8> {
     if wrong > 0 {
         println!(rt; "{wrong} wrong")?;
@@ -42,7 +43,7 @@ fn say_end<R: System>(rt: &R, wrong: u64) -> io::Result<u8> {
     Ok(0)
 }
 
-/// The arguments.
+/// Returns the arguments.
 fn names_of<R: System>(rt: &R, alloc: Global) -> io::Result<Vec<String>> {
     let mut names = Vec::new(alloc);
     let mut args = env::args(rt)?;
@@ -53,7 +54,7 @@ fn names_of<R: System>(rt: &R, alloc: Global) -> io::Result<Vec<String>> {
     Ok(names)
 }
 
-/// Says which files of cases in the current folder aren't named, and answers how many.
+/// Prints which files of cases in the current directory aren't named. Returns their number.
 fn say_others<R: System>(rt: &R, names: &[String]) -> io::Result<u64> {
     let mut count = 0u64;
     for entry in fs::read_dir(rt, ".")? {
@@ -63,7 +64,7 @@ fn say_others<R: System>(rt: &R, names: &[String]) -> io::Result<u64> {
     Ok(count)
 }
 
-/// Says where a file of cases isn't named, and answers 1 there.
+/// Prints the name of a file of cases that isn't named, and returns 1; else returns 0.
 fn judge_name<R: System>(rt: &R, names: &[String], name: &str) -> io::Result<u64> {
     if !name.ends_with(".case") || names.iter().any(|named| named.as_str() == name) {
         return Ok(0);
@@ -72,7 +73,8 @@ fn judge_name<R: System>(rt: &R, names: &[String], name: &str) -> io::Result<u64
     Ok(1)
 }
 
-/// Tries the cases of a file, prints what isn't as they say, and answers how much that is.
+/// Plays the cases of a file, and prints each line that doesn't hold. Returns the number of printed
+/// lines.
 fn try_file<P: Program, R: System>(
     program: &P,
     rt: &R,
@@ -88,7 +90,8 @@ fn try_file<P: Program, R: System>(
     }
 }
 
-/// Tries the cases of a text.
+/// Plays the cases of a text, and prints each line that doesn't hold. Returns the number of printed
+/// lines.
 fn try_text<P: Program, R: System>(
     program: &P,
     rt: &R,
@@ -103,7 +106,7 @@ fn try_text<P: Program, R: System>(
     }
 }
 
-/// Says which line can't be read.
+/// Prints which line can't be read, and returns 1.
 fn say_fault<R: System>(rt: &R, name: &str, line: u64, fault: CaseError) -> io::Result<u64> {
     let text = fault.text();
     println!(rt; "{name}:{line}: {text}")?;
@@ -124,7 +127,8 @@ fn try_cases<P: Program, R: System>(
     Ok(count)
 }
 
-/// Tries a case each way, prints what isn't as it says, and answers how much that is.
+/// Plays a case in memory, over a directory and with crashes, and prints the first line that
+/// doesn't hold. Returns the number of printed lines.
 fn try_case<P: Program, R: System>(
     program: &P,
     rt: &R,
@@ -144,7 +148,7 @@ fn try_case<P: Program, R: System>(
     Ok(0)
 }
 
-/// Plays a case over a folder where it can be.
+/// Plays a case over a directory, if it can be played there.
 fn in_folder<P: Program, R: System>(
     program: &P,
     rt: &R,
@@ -157,7 +161,7 @@ fn in_folder<P: Program, R: System>(
     }
 }
 
-/// Plays a case with a stop at each call where it asks for it.
+/// Plays a case with a crash and a failure at each call, if it asks for that.
 fn with_stops<P: Program, R: System>(
     program: &P,
     rt: &R,
@@ -170,7 +174,7 @@ fn with_stops<P: Program, R: System>(
     }
 }
 
-/// Prints what isn't as a case says.
+/// Prints the line of a case that doesn't hold, and returns 1.
 fn say<R: System>(rt: &R, name: &str, case: &Case, place: &str, wrong: &Wrong) -> io::Result<u64> {
     let line = wrong.line;
     let title = case.name.as_str();

@@ -7,42 +7,42 @@ use fpk_case_text::Failing;
 use std::alloc::{AllocError, Global};
 use std::thread::Threads;
 
-/// The commands whose lines say what an installation has beside its refs.
+/// The commands that list what an installation has besides its refs.
 const LISTS: [&[&str]; 2] = [&["list", "--pins"], &["list", "--remotes"]];
 
-/// What an installation shows.
+/// The content of an installation, as its commands and the files of its made remotes show it.
 #[derive(PartialEq, Drop)]
 pub struct Shown {
-    /// What the lists print, one after another.
+    /// The output of `list`, `list --pins` and `list --remotes`, one after another.
     pub lists: Vec<u8>,
-    /// What `info` prints of each ref, and `override --show` of each name that has an override.
+    /// The output of `info` for each ref, and of `override --show` for each name with an override.
     pub details: Vec<u8>,
     /// The files of the refs of made remotes, each with its path.
     pub offers: Vec<u8>,
-    /// Whether there is a file `config`, which the old layout hasn't.
+    /// Whether there is a file `config`, which the old layout lacks.
     pub has_config: bool,
 }
 
-/// What an installation has: what it shows, and where that leads.
+/// The state of an installation.
 #[derive(Drop)]
 pub struct State {
-    /// What it shows.
+    /// The content that it shows.
     pub shown: Shown,
-    /// What it shows after the next command.
+    /// The content that it shows after the next command.
     pub next: Shown,
     /// The other files and symlinks of made remotes, each with its path.
     pub parts: Vec<Vec<u8>>,
 }
 
-/// What was opened again, and the names and files that count in it.
+/// A host that was opened on an image.
 #[derive(Drop)]
 pub struct Opened {
     host: MemHost,
-    /// The names that have each folder above them, and the files.
+    /// The names that have every directory above them, and the files.
     pub image: Image,
 }
 
-/// Opens what a stop left; nothing where no host can begin with it.
+/// Opens a host on what a crash left; none if no host can start from it.
 pub fn open(alloc: Global, image: Image) -> Result<Option<Opened>, AllocError> {
     if !image.is_good() {
         return Ok(None);
@@ -54,7 +54,7 @@ pub fn open(alloc: Global, image: Image) -> Result<Option<Opened>, AllocError> {
     }
 }
 
-/// What is shown of what was opened again; nothing where a command isn't done on it.
+/// Returns the state of what was opened; none if a command on it fails.
 pub fn state_of<P: Program, R: Threads + Sync>(
     program: &P,
     rt: &R,
@@ -79,7 +79,7 @@ pub fn state_of<P: Program, R: Threads + Sync>(
     }
 }
 
-/// Opens what a stop left, and answers what it shows; nothing where a command isn't done on it.
+/// Opens a host on what a crash left, and returns its state; none if that or a command on it fails.
 pub fn reopen<P: Program, R: Threads + Sync>(
     program: &P,
     rt: &R,
@@ -93,8 +93,7 @@ pub fn reopen<P: Program, R: Threads + Sync>(
     }
 }
 
-/// What a host shows on which this image stands; nothing where a command that looks at it isn't
-/// done.
+/// Returns what a host with this image shows; none if a command that reads it fails.
 fn shown_of<P: Program, R: Threads + Sync>(
     program: &P,
     rt: &R,
@@ -125,7 +124,7 @@ fn shown_of<P: Program, R: Threads + Sync>(
     }))
 }
 
-/// What a command of these words prints; nothing where it isn't done.
+/// Returns the output of a command with these words; none if its status isn't 0.
 fn said_of<P: Program, R: Threads + Sync>(
     program: &P,
     rt: &R,
@@ -143,8 +142,8 @@ fn said_of<P: Program, R: Threads + Sync>(
     }
 }
 
-/// What `info` prints of the refs of these rows, and `override --show` of each name; nothing where
-/// one isn't done.
+/// Returns the output of `info` for the refs in these rows, and of `override --show` for each name;
+/// none if one of them fails.
 fn details_of<P: Program, R: Threads + Sync>(
     program: &P,
     rt: &R,
@@ -162,7 +161,7 @@ fn details_of<P: Program, R: Threads + Sync>(
     }
 }
 
-/// Adds what `info` prints of the refs of these rows. Answers whether each was told.
+/// Appends the output of `info` for the refs in these rows. Returns whether all succeeded.
 fn add_refs<P: Program, R: Threads + Sync>(
     program: &P,
     rt: &R,
@@ -181,7 +180,7 @@ fn add_refs<P: Program, R: Threads + Sync>(
     Ok(true)
 }
 
-/// Adds what `override --show` prints of each name. Answers whether each was told.
+/// Appends the output of `override --show` for each name. Returns whether all succeeded.
 fn add_overrides<P: Program, R: Threads + Sync>(
     program: &P,
     rt: &R,
@@ -201,7 +200,7 @@ fn add_overrides<P: Program, R: Threads + Sync>(
     Ok(true)
 }
 
-/// What is printed of the override with this name.
+/// Returns the output of `override --show` for the override with this name.
 fn said_of_override<P: Program, R: Threads + Sync>(
     program: &P,
     rt: &R,
@@ -215,7 +214,7 @@ fn said_of_override<P: Program, R: Threads + Sync>(
     }
 }
 
-/// Adds an override with its name, where it has something.
+/// Appends an override with its name, if it isn't empty.
 fn push_override(details: &mut Vec<u8>, name: &str, said: &[u8]) -> Result<(), AllocError> {
     if !said.is_empty() {
         details.extend_from_slice(b"override ")?;

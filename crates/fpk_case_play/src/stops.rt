@@ -1,4 +1,4 @@
-//! A case with a stop, and with a failure, at each call of the host.
+//! Playing a case with a crash, and with a failure, at each call of the host.
 use crate::judge::{Judge, Lines};
 use crate::likeness::is_like;
 use crate::next::Next;
@@ -12,26 +12,26 @@ use fpk_case_text::{Case, Failure, ShownText, Stops, Wrong, difference, message}
 use std::alloc::{AllocError, Global};
 use std::thread::Threads;
 
-/// How a section goes where nothing stops it.
+/// The course of a section without a crash or a failure.
 #[derive(Drop)]
 struct Course {
     plain: Replay,
-    /// For each line that is printed, the first call before which it was.
+    /// For each printed line, the first call before which it was printed.
     printed_at: Vec<u64>,
-    /// What the installation shows after each number of lines.
+    /// The state of the installation after each number of lines, from 0 on.
     states: Vec<State>,
 }
 
 impl Course {
-    /// How many lines were printed before this call.
+    /// Returns the number of lines that were printed before this call.
     fn lines_at(&self, call: u64) -> usize {
         self.printed_at.iter().filter(|at| **at <= call).count()
     }
 }
 
-/// Plays each section of a case with a stop and with a failure at each call of the host. Answers the
-/// first that shows another state than those after the last line that was printed, or after the next
-/// one.
+/// Plays each section of a case with a crash before each call of the host and at its end, and with
+/// a failure of each call. Returns the first line that doesn't hold. What the installation shows
+/// has to be the state after the last printed line, or after the next one.
 pub fn play_stops<P: Program, R: Threads + Sync>(
     program: &P,
     rt: &R,
@@ -62,7 +62,7 @@ pub fn play_stops<P: Program, R: Threads + Sync>(
     }
 }
 
-/// Judges how a section goes where something stops it.
+/// Returns what is wrong with a section that crashes or of which a call fails.
 fn judge_course<P: Program, R: Threads + Sync>(
     program: &P,
     rt: &R,
@@ -90,7 +90,7 @@ fn wrong_at(line: u64, text: String) -> Wrong {
     Wrong { line, text }
 }
 
-/// Looks at a section after each line.
+/// Plays a section without a crash or a failure, and records the state after each line.
 fn course_of<P: Program, R: Threads + Sync>(
     program: &P,
     rt: &R,
@@ -116,8 +116,8 @@ fn course_of<P: Program, R: Threads + Sync>(
     })
 }
 
-/// The first call before which this number of lines were printed, by halves: a line that was
-/// printed stays.
+/// Returns the first call before which this number of lines was printed. It is found by bisection,
+/// since a printed line stays printed.
 fn call_after<P: Program, R: Threads + Sync>(
     program: &P,
     rt: &R,
@@ -141,7 +141,8 @@ fn call_after<P: Program, R: Threads + Sync>(
     Ok(high)
 }
 
-/// How many lines were printed before this call: those that are printed where it fails.
+/// Returns the number of lines that were printed before this call: those that are printed if it
+/// fails.
 fn lines_before<P: Program, R: Threads + Sync>(
     program: &P,
     rt: &R,
@@ -160,7 +161,8 @@ fn lines_before<P: Program, R: Threads + Sync>(
     )
 }
 
-/// Adds what is shown now. A list has several lines in one call, and changes nothing.
+/// Adds the state of an image. A list prints several lines in one call and changes nothing, so the
+/// states after them are the same.
 fn add_state<P: Program, R: Threads + Sync>(
     program: &P,
     rt: &R,
@@ -177,7 +179,8 @@ fn add_state<P: Program, R: Threads + Sync>(
     Ok(())
 }
 
-/// Compares what is shown after each line with the first of what the case says, where it says so.
+/// Compares the lists of each state with the next blocks `shown` of the case, if it has any.
+/// Returns the line of the first that differs or is missing.
 fn judge_shown(
     alloc: Global,
     wares: &Wares,
@@ -202,9 +205,9 @@ fn judge_shown(
     }
 }
 
-/// Compares what a stop may bring back, at the last moment where it may bring back anything, with
-/// what the case says, where it says so. All names at their oldest entries show the state before
-/// the last line, and the present ones that after it.
+/// Compares the names at which a crash may bring something back, at the last moment where it may
+/// bring back anything, with those that the case gives, if it does. Then the oldest entries of all
+/// names have to show the state before the last line, and the present ones that after it.
 fn judge_open<P: Program, R: Threads + Sync>(
     program: &P,
     rt: &R,
@@ -226,8 +229,8 @@ fn judge_open<P: Program, R: Threads + Sync>(
     judge_last(program, rt, alloc, course, calls, next)
 }
 
-/// Says where all names at their oldest entries don't show the state before the last line, or the
-/// present ones that after it.
+/// Returns what is wrong if the oldest entries of all names don't show the state before the last
+/// line, or the present entries don't show that after it.
 fn judge_last<P: Program, R: Threads + Sync>(
     program: &P,
     rt: &R,
@@ -263,7 +266,7 @@ fn judge_last<P: Program, R: Threads + Sync>(
     Ok(None)
 }
 
-/// Whether an image shows the state after this number of lines.
+/// Returns whether an image shows the state after this number of lines.
 fn shows<P: Program, R: Threads + Sync>(
     program: &P,
     rt: &R,
@@ -280,7 +283,8 @@ fn shows<P: Program, R: Threads + Sync>(
     Ok(is_like(state.as_ref(), course.states.get(lines), &course.states))
 }
 
-/// Stops a section before each call and at its end.
+/// Judges a crash before each call of a section and at its end. Returns what is wrong with the
+/// first bad one.
 fn stop_everywhere<P: Program, R: Threads + Sync>(
     program: &P,
     rt: &R,
@@ -299,7 +303,8 @@ fn stop_everywhere<P: Program, R: Threads + Sync>(
     Ok(None)
 }
 
-/// Lets each call fail, not done and done.
+/// Lets each call of a section fail, once without and once with being done. Returns what is wrong
+/// with the first bad run.
 fn fail_everywhere<P: Program, R: Threads + Sync>(
     program: &P,
     rt: &R,
@@ -320,7 +325,8 @@ fn fail_everywhere<P: Program, R: Threads + Sync>(
     Ok(None)
 }
 
-/// Lets a call fail, and says what isn't as it has to be.
+/// Lets a call fail. Returns what is wrong: the status has to be 3, and a crash has to show the
+/// state after the last printed line or after the next one.
 fn fail_call<P: Program, R: Threads + Sync>(
     program: &P,
     rt: &R,

@@ -1,4 +1,4 @@
-//! Objects that are broken.
+//! Damaged objects.
 use crate::wares::{Ware, object_ware};
 use fp_name::Digest;
 use fpk_case_text::Harm;
@@ -6,8 +6,8 @@ use ost_content::{file_digest, is_permission, meta_digest};
 use ost_model::Object;
 use std::alloc::{AllocError, Global};
 
-/// What stands at a remote in the place of an object that is broken so. A link can be absent, or a
-/// folder.
+/// Returns what is at a remote in the place of an object that is damaged like this; none if it
+/// can't be. A symlink can only be absent or replaced by a directory.
 pub fn harmed(alloc: Global, object: &Object, harm: Harm) -> Result<Option<Ware>, AllocError> {
     match harm {
         Harm::Absent => Ok(Some(Ware::Nothing)),
@@ -30,7 +30,7 @@ fn mode_after(harm: Harm, mode: u32) -> u32 {
     }
 }
 
-/// Breaks the bytes of an object.
+/// Damages the bytes of an object.
 fn change(bytes: &mut Vec<u8>, harm: Harm) -> Result<(), AllocError> {
     match harm {
         Harm::Cut => {
@@ -47,7 +47,8 @@ fn change(bytes: &mut Vec<u8>, harm: Harm) -> Result<(), AllocError> {
     Ok(())
 }
 
-/// The digest of what stands there then, where it is a file that may be one of a repository.
+/// Returns the digest of what is in the place of a damaged object; none if it is no file that a
+/// repository may have.
 pub fn harmed_digest(
     alloc: Global,
     object: &Object,

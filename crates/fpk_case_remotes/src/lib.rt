@@ -1,5 +1,5 @@
-//! The remotes of a case, with the commits that it gives and the objects that it breaks; and what
-//! commits and made remotes have in an installation.
+//! The remotes of a case, with their commits and damaged objects; and what an installation has of
+//! these commits and of the remotes that it made.
 #![tactic(auto)]
 
 mod harm;

@@ -1,9 +1,10 @@
-//! The remotes that were made in an installation, read from its names and files alone.
+//! The remotes that an installation made, read from the names and files of an image alone.
 use fp_host::Entry;
 use fp_memhost::Image;
 use std::alloc::{AllocError, Global};
 
-/// The files of the refs of made remotes, each with its path: what they offer.
+/// Returns what the made remotes offer: the files of their refs, each with its path, permission
+/// bits and bytes.
 pub fn offers_of(alloc: Global, image: &Image) -> Result<Vec<u8>, AllocError> {
     let mut offers = Vec::new(alloc);
     for (path, entry) in image.names.as_slice() {
@@ -14,7 +15,7 @@ pub fn offers_of(alloc: Global, image: &Image) -> Result<Vec<u8>, AllocError> {
     Ok(offers)
 }
 
-/// The other files and symlinks of made remotes, each with its path.
+/// Returns the other files and symlinks of the made remotes, each with its path and content.
 pub fn parts_of(alloc: Global, image: &Image) -> Result<Vec<Vec<u8>>, AllocError> {
     let mut parts = Vec::new(alloc);
     for (path, entry) in image.names.as_slice() {
@@ -28,7 +29,7 @@ pub fn parts_of(alloc: Global, image: &Image) -> Result<Vec<Vec<u8>>, AllocError
     Ok(parts)
 }
 
-/// Whether it is the path of a ref of a made remote, or of a folder above such a one.
+/// Returns whether the path is below `refs/heads` of a made remote.
 fn is_offer(path: &str) -> bool {
     match path.strip_prefix("made/") {
         Some(rest) => is_ref(rest),
@@ -36,7 +37,7 @@ fn is_offer(path: &str) -> bool {
     }
 }
 
-/// Whether `refs/heads/` comes after the name of the remote.
+/// Returns whether `refs/heads/` comes after the first element, the name of the remote.
 fn is_ref(path: &str) -> bool {
     match path.split_once('/') {
         Some((_name, rest)) => rest.starts_with("refs/heads/"),
@@ -44,7 +45,7 @@ fn is_ref(path: &str) -> bool {
     }
 }
 
-/// Adds the path of a file or a symlink, and what it has. A folder has nothing.
+/// Appends the path of a file or symlink and its content. Nothing is appended for a directory.
 fn push_row(row: &mut Vec<u8>, image: &Image, path: &str, entry: &Entry) -> Result<(), AllocError> {
     match entry {
         Entry::Dir => Ok(()),

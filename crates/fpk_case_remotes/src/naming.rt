@@ -1,8 +1,9 @@
-//! Texts with names in the place of digests.
+//! Texts with names of objects in place of digests.
 use crate::wares::Wares;
 use std::alloc::{AllocError, Global};
 
-/// The text with digits in the place of each name in braces. What names nothing stays as it is.
+/// Returns the text with each name in braces replaced by the digest or path that it stands for.
+/// Braces that name nothing stay, and so do bytes that aren't UTF-8.
 pub fn with_digits(alloc: Global, wares: &Wares, bytes: &[u8]) -> Result<Vec<u8>, AllocError> {
     let Ok(text) = str::from_utf8(bytes) else {
         return Vec::from_slice(alloc, bytes);
@@ -18,13 +19,14 @@ pub fn with_digits(alloc: Global, wares: &Wares, bytes: &[u8]) -> Result<Vec<u8>
     Ok(made)
 }
 
-/// The same of a text.
+/// Returns the text with each name in braces replaced by the digest or path that it stands for.
+/// Braces that name nothing stay.
 pub fn text_with_digits(alloc: Global, wares: &Wares, text: &str) -> Result<String, AllocError> {
     let made = with_digits(alloc, wares, text.as_bytes())?;
     String::from_str(alloc, str::from_utf8(&made).unwrap_or(text))
 }
 
-/// Adds what stood after a brace.
+/// Appends the text after an opening brace, with its name replaced.
 fn push_piece(made: &mut Vec<u8>, wares: &Wares, piece: &str) -> Result<(), AllocError> {
     if let Some((name, rest)) = piece.split_once('}') {
         if push_name(made, wares, name)? {
@@ -37,8 +39,8 @@ fn push_piece(made: &mut Vec<u8>, wares: &Wares, piece: &str) -> Result<(), Allo
     Ok(())
 }
 
-/// Adds what a name stands for: `at` and an object is its path in the installation, another one its
-/// digits. Answers whether there is such an object.
+/// Appends what a name stands for: with `at` before it, the object's path in the installation, else
+/// the hexadecimal digest. Returns whether there is such an object.
 fn push_name(made: &mut Vec<u8>, wares: &Wares, name: &str) -> Result<bool, AllocError> {
     if let Some(object) = name.strip_prefix("at ") {
         return match wares.place(object)? {

@@ -1,5 +1,5 @@
-//! Whether what a stop left is whole, read from its names and files alone: nothing of the program
-//! under test looks at it.
+//! Checks of what a crash left. They read its names and files alone, without the program under
+//! test.
 use crate::wares::MadeCommit;
 use fp_base::ObjKind;
 use fp_host::Entry;
@@ -7,9 +7,11 @@ use fp_memhost::Image;
 use ost_commit::{BuiltObject, TreeRow};
 use ost_model::Object;
 
-/// Says what isn't whole, where a case has commits: what stands below `repo/objects` is an object
-/// of one of them; and for each `active`, the commit that it names and the one before it have all
-/// their objects, and folders with just their paths, each file a hard link of its object.
+/// Returns what isn't complete; none if all is, or the case has no commits. Each file and symlink
+/// below `repo/objects` has to be an undamaged object of the commits. For each ref with an
+/// `active`, the file `deploy` has to name that commit, and each commit that it names has to have
+/// all its objects, and a directory with exactly its paths, in which each file is a hard link of
+/// its object.
 pub fn fault_in(image: &Image, commits: &[MadeCommit]) -> Option<&'static str> {
     if commits.is_empty() {
         return None;
@@ -28,7 +30,8 @@ pub fn fault_in(image: &Image, commits: &[MadeCommit]) -> Option<&'static str> {
     None
 }
 
-/// The folder of the ref whose `active` this path is. Work below `repo` is none.
+/// Returns the directory of the ref whose `active` is at this path; none for another path and for
+/// one below `repo`.
 fn home_of(path: &str) -> Option<&str> {
     match path.strip_suffix("/active") {
         Some(home) if !home.starts_with("repo/") => Some(home),
@@ -36,13 +39,13 @@ fn home_of(path: &str) -> Option<&str> {
     }
 }
 
-/// The permission bits and bytes of a file. The first counts.
+/// Returns the permission bits and bytes of the file with this id.
 fn content_of(image: &Image, id: u64) -> Option<(u32, &[u8])> {
     let row = image.files.as_slice().iter().find(|row| row.id == id)?;
     Some((row.mode, row.bytes.as_slice()))
 }
 
-/// Whether an entry is this object, whole.
+/// Returns whether the entry is this object, undamaged.
 fn is_object(image: &Image, entry: &Entry, object: &Object) -> bool {
     match (entry, object) {
         (Entry::Link(text), Object::Link(wanted)) => text.as_str() == wanted.as_str(),
@@ -54,7 +57,7 @@ fn is_object(image: &Image, entry: &Entry, object: &Object) -> bool {
     }
 }
 
-/// Whether a file has these bytes, and these permission bits where they matter.
+/// Returns whether the file has these bytes, and these permission bits if any are given.
 fn has_content(image: &Image, id: u64, mode: Option<u32>, bytes: &[u8]) -> bool {
     match content_of(image, id) {
         Some((came, held)) => held == bytes && mode.unwrap_or(came) == came,
@@ -62,7 +65,8 @@ fn has_content(image: &Image, id: u64, mode: Option<u32>, bytes: &[u8]) -> bool 
     }
 }
 
-/// Whether all that stands below `repo/objects` is a whole object of the commits.
+/// Returns whether everything below `repo/objects`, except directories, is an undamaged object of
+/// the commits.
 fn are_objects(image: &Image, commits: &[MadeCommit]) -> bool {
     image.names.as_slice().iter().all(|name| {
         let path = name.0.text();
@@ -74,14 +78,15 @@ fn are_objects(image: &Image, commits: &[MadeCommit]) -> bool {
     })
 }
 
-/// Whether the commit has an object that belongs at this path, and the entry is it.
+/// Returns whether the commit has an object that belongs at this path, and the entry is this
+/// object.
 fn has_object_at(image: &Image, made: &MadeCommit, path: &str, entry: &Entry) -> bool {
     let objects = made.built.objects.as_slice();
     objects.iter().any(|object| is_place(path, object) && is_object(image, entry, &object.object))
 }
 
-/// Whether an object belongs at this path: `repo/objects`, two digits, the other ones, and its
-/// kind.
+/// Returns whether the object belongs at this path: `repo/objects/`, two digits of its digest, a
+/// slash, the other 62 digits, a dot, and its kind.
 fn is_place(path: &str, object: &BuiltObject) -> bool {
     let digits = object.digest.digits();
     match cut_place(path) {
@@ -96,21 +101,21 @@ fn is_place(path: &str, object: &BuiltObject) -> bool {
     }
 }
 
-/// The parts of the path of an object.
+/// Splits the path of an object into the first digits, the other ones and the kind.
 fn cut_place(path: &str) -> Option<(&str, &str, &str)> {
     let (first, name) = path.strip_prefix("repo/objects/")?.split_once('/')?;
     let (rest, kind) = name.split_once('.')?;
     Some((first, rest, kind))
 }
 
-/// What stands where an object belongs.
+/// Returns the directory entry at the path of the object.
 fn entry_of<'a>(image: &'a Image, object: &BuiltObject) -> Option<&'a Entry> {
     let names = image.names.as_slice();
     let (_, entry) = names.iter().find(|name| is_place(name.0.text(), object))?;
     Some(entry)
 }
 
-/// What isn't whole of the ref with this folder, whose `active` has this text.
+/// Returns what isn't complete of the ref with this directory, whose `active` has this text.
 fn fault_of_ref(
     image: &Image,
     commits: &[MadeCommit],
@@ -140,7 +145,7 @@ fn fault_of_ref(
     None
 }
 
-/// Whether the commit has these digits.
+/// Returns whether these are the digits of the commit.
 fn is_called(made: &MadeCommit, digits: &str) -> bool {
     made.built.commit.digits().as_slice() == digits.as_bytes()
 }
@@ -149,13 +154,13 @@ fn has_bytes(bytes: &[u8], part: &[u8]) -> bool {
     (0..bytes.len()).any(|at| bytes.get(at..).unwrap_or(&[]).starts_with(part))
 }
 
-/// What stands after the path `HOME/DIGITS/`.
+/// Returns the part of the path below `HOME/DIGITS/`.
 fn inner<'a>(path: &'a str, home: &str, digits: &str) -> Option<&'a str> {
     let rest = path.strip_prefix(home)?.strip_prefix('/')?;
     rest.strip_prefix(digits)?.strip_prefix('/')
 }
 
-/// What stands at a path below the folder of a commit.
+/// Returns the directory entry at a path below the directory of a commit.
 fn entry_within<'a>(image: &'a Image, home: &str, digits: &str, path: &str) -> Option<&'a Entry> {
     let names = image.names.as_slice();
     let (_, entry) = names
@@ -164,7 +169,7 @@ fn entry_within<'a>(image: &'a Image, home: &str, digits: &str, path: &str) -> O
     Some(entry)
 }
 
-/// What isn't whole of a commit in the folder of a ref.
+/// Returns what isn't complete of a commit in the directory of a ref.
 fn fault_of_commit(image: &Image, made: &MadeCommit, home: &str) -> Option<&'static str> {
     let digits = made.built.commit.digits();
     let digits = str::from_utf8(&digits).unwrap_or("");
@@ -184,7 +189,7 @@ fn fault_of_commit(image: &Image, made: &MadeCommit, home: &str) -> Option<&'sta
     None
 }
 
-/// Whether all objects of the commit stand there.
+/// Returns whether all objects of the commit are present and undamaged.
 fn has_objects(image: &Image, made: &MadeCommit) -> bool {
     let objects = made.built.objects.as_slice();
     objects.iter().all(|object| match entry_of(image, object) {
@@ -193,7 +198,7 @@ fn has_objects(image: &Image, made: &MadeCommit) -> bool {
     })
 }
 
-/// Whether a row of the commit stands below its folder: a file is the one that stands as its
+/// Returns whether a row of the commit is below its directory. A file has to be a hard link of its
 /// object.
 fn has_row(image: &Image, made: &MadeCommit, home: &str, digits: &str, row: &TreeRow) -> bool {
     let path = row.path().text();
@@ -208,7 +213,7 @@ fn has_row(image: &Image, made: &MadeCommit, home: &str, digits: &str, row: &Tre
     }
 }
 
-/// The id of the file that stands as the object of the commit's file at this path.
+/// Returns the id of the file that is the object of the commit's file at this path.
 fn file_id(image: &Image, made: &MadeCommit, path: &str) -> Option<u64> {
     let digest = made.file_digest(path)?;
     let objects = made.built.objects.as_slice();
@@ -220,7 +225,8 @@ fn file_id(image: &Image, made: &MadeCommit, path: &str) -> Option<u64> {
     }
 }
 
-/// Whether the folder of the commit has just its paths, the folders above them, and `deploy`.
+/// Returns whether the directory of the commit has only the commit's paths, the directories above
+/// them, and `deploy`.
 fn has_only_rows(image: &Image, made: &MadeCommit, home: &str, digits: &str) -> bool {
     image.names.as_slice().iter().all(|name| {
         match (inner(name.0.text(), home, digits), &name.1) {
@@ -231,7 +237,7 @@ fn has_only_rows(image: &Image, made: &MadeCommit, home: &str, digits: &str) -> 
     })
 }
 
-/// Whether the folder at the path is that of the row or above it.
+/// Returns whether the directory is at the row's path or above it.
 fn is_at_or_above(folder: &str, row: &TreeRow) -> bool {
     match row.path().text().strip_prefix(folder) {
         Some(rest) => rest.is_empty() || rest.starts_with('/'),

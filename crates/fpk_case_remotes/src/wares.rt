@@ -1,4 +1,4 @@
-//! The remotes of a case: commits that are made of what it gives, and objects that are broken.
+//! The remotes of a case: their commits, made of what the case gives, and their damaged objects.
 use crate::harm::{harmed, harmed_digest};
 use fp_base::{Blob, ObjKind, Text};
 use fp_host::{Path, is_link_text};
@@ -15,43 +15,43 @@ use ost_store::path_of;
 use std::alloc::{AllocError, Global};
 use std::thread::Threads;
 
-/// What stands at a path of a remote.
+/// The file, symlink or directory at a path of a remote.
 #[derive(Drop)]
 pub enum Ware {
-    /// A file with these permission bits.
+    /// A file with these permission bits and bytes.
     File { mode: u32, bytes: Vec<u8> },
     /// A symlink with this text.
     Link { text: String },
-    /// A folder.
+    /// A directory.
     Folder,
-    /// Not even a symlink.
+    /// Nothing, not even a symlink.
     Nothing,
 }
 
-/// A path of a remote, with what stands there.
+/// A path of a remote, with the file, symlink or directory there.
 #[derive(Drop)]
 pub struct RemotePath {
-    /// Where the remote is.
+    /// The URL of the remote.
     pub url: String,
-    /// The path below that url.
+    /// The path below the URL.
     pub path: String,
-    /// What stands at the path.
+    /// The file, symlink or directory at the path.
     pub ware: Ware,
 }
 
-/// A commit, with what it is called and the digests of its files and links.
+/// A commit, with its label in the case and the digests of its files and symlinks.
 #[derive(Drop)]
 pub struct MadeCommit {
     label: String,
     /// The commit and all its objects.
     pub built: Built,
     files: Vec<(String, Digest)>,
-    /// What it was made of.
+    /// The files, directories and symlinks that it was made of.
     pub rows: Vec<TreeRow>,
 }
 
 impl MadeCommit {
-    /// The digest of the object of the file or link at this path.
+    /// Returns the digest of the file or symlink at this path of the commit.
     pub fn file_digest(&self, path: &str) -> Option<Digest> {
         let (_path, digest) = self.files.iter().find(|file| file.0.as_str() == path)?;
         Some(*digest)
@@ -62,14 +62,14 @@ impl MadeCommit {
 #[derive(Drop)]
 pub struct Wares {
     alloc: Global,
-    /// Where the remote is of which lines speak.
+    /// The URL of the current remote, which the next lines are about.
     url: String,
     paths: Vec<RemotePath>,
     commits: Vec<MadeCommit>,
 }
 
 impl Wares {
-    /// No remotes.
+    /// Creates a set without remotes.
     pub fn new(alloc: Global) -> Self {
         Wares {
             alloc,
@@ -79,13 +79,13 @@ impl Wares {
         }
     }
 
-    /// What stands at their paths.
+    /// Returns the paths of all remotes, with what is there.
     pub fn paths(&self) -> &[RemotePath] {
         &self.paths
     }
 
-    /// Does what a step says of remotes, with the steps after it, and answers the first that can't
-    /// be done.
+    /// Does what a step asks of the remotes. For a commit, it reads the steps after it, too.
+    /// Returns the line that can't be done, if there is one.
     pub fn take<T: Threads + Sync>(
         &mut self,
         rt: &T,
@@ -99,7 +99,7 @@ impl Wares {
         Ok(at_line(step.line, text))
     }
 
-    /// Does what the step at this place says of remotes, where it can be done.
+    /// Does what the step at this index asks of the remotes. A step that can't be done is left out.
     pub fn take_next<T: Threads + Sync>(
         &mut self,
         rt: &T,
@@ -113,7 +113,8 @@ impl Wares {
         Ok(())
     }
 
-    /// The same of a step that needs none after it.
+    /// Does what a step asks of the remotes, if it needs none of the steps after it. Returns the
+    /// reason why it can't be done, if there is one.
     fn take_alone(&mut self, step: &Step) -> Result<Option<String>, AllocError> {
         match &step.action {
             Action::BeginRemote { url } => self.begin(url),
@@ -125,7 +126,7 @@ impl Wares {
         }
     }
 
-    /// The next lines are about the remote at this url.
+    /// Makes the remote with this URL the current one. A new one gets the `config` of a repository.
     fn begin(&mut self, url: &str) -> Result<Option<String>, AllocError> {
         self.url = String::from_str(self.alloc, url)?;
         if self.find("config").is_none() {
@@ -135,7 +136,8 @@ impl Wares {
         Ok(None)
     }
 
-    /// Puts what is given to the remote itself there.
+    /// Puts a file, directory or symlink into the current remote, if it is given to the remote
+    /// itself.
     fn give(&mut self, given: &Fixture, bytes: &[u8]) -> Result<Option<String>, AllocError> {
         if !given.owner.is_remote() {
             return Ok(None);
@@ -145,7 +147,7 @@ impl Wares {
         Ok(None)
     }
 
-    /// The place of a path of the present remote.
+    /// Returns the index of a path of the current remote.
     fn find(&self, path: &str) -> Option<usize> {
         let url = self.url.as_str();
         self.paths
@@ -153,7 +155,7 @@ impl Wares {
             .position(|row| row.url.as_str() == url && row.path.as_str() == path)
     }
 
-    /// Puts something at a path of the present remote.
+    /// Puts something at a path of the current remote, and replaces what is there.
     fn put(&mut self, path: &str, ware: Ware) -> Result<(), AllocError> {
         match self.find(path) {
             Some(at) => {
@@ -196,7 +198,7 @@ impl Wares {
         }
     }
 
-    /// Puts the objects of a commit there, and offers it.
+    /// Puts the objects of a commit into the current remote, and offers it.
     fn store(
         &mut self,
         line: &CommitLine,
@@ -217,7 +219,7 @@ impl Wares {
         self.offer(&line.name, &line.label)
     }
 
-    /// Offers a commit under a ref.
+    /// Lets the current remote offer a commit under a ref.
     fn offer(&mut self, name: &str, label: &str) -> Result<Option<String>, AllocError> {
         let alloc = self.alloc;
         let Some(digest) = self.commit_digest(label) else {
@@ -231,12 +233,12 @@ impl Wares {
         Ok(None)
     }
 
-    /// The commits that were made.
+    /// Returns the commits that were made.
     pub fn commits(&self) -> &[MadeCommit] {
         &self.commits
     }
 
-    /// The commit that is called so.
+    /// Returns the commit with this label.
     fn commit_of_label(&self, label: &str) -> Option<&MadeCommit> {
         self.commits
             .iter()
@@ -247,14 +249,14 @@ impl Wares {
         Some(self.commit_of_label(label)?.built.commit)
     }
 
-    /// The object that words name.
+    /// Returns the object that the words name.
     fn object(&self, words: &ObjectWords) -> Option<&BuiltObject> {
         let made = self.commit_of_label(&words.label)?;
         let digest = digest_in(self.alloc, made, words)?;
         object_in(made, &digest, words.kind)
     }
 
-    /// Breaks an object of the present remote.
+    /// Damages an object of the current remote.
     fn harm(&mut self, words: &ObjectWords, harm: Harm) -> Result<Option<String>, AllocError> {
         let alloc = self.alloc;
         let Some(object) = self.object(words) else {
@@ -270,7 +272,7 @@ impl Wares {
         }
     }
 
-    /// Puts another object in the place of an object of the present remote.
+    /// Puts another object in the place of an object of the current remote.
     fn replace(
         &mut self,
         words: &ObjectWords,
@@ -286,7 +288,7 @@ impl Wares {
         Ok(None)
     }
 
-    /// The digits that stand for a name in braces; none where it names nothing.
+    /// Returns the hexadecimal digest that a name in braces stands for; none if it names nothing.
     pub fn digits(&self, name: &str) -> Result<Option<[u8; 64]>, AllocError> {
         match read_name(self.alloc, name)? {
             Some(name) => self.digits_of(&name),
@@ -294,7 +296,7 @@ impl Wares {
         }
     }
 
-    /// The path of an object in the installation; none where the name names nothing.
+    /// Returns the path of an object in the installation; none if the name names no object.
     pub fn place(&self, name: &str) -> Result<Option<Path>, AllocError> {
         let Some(name) = read_name(self.alloc, name)? else {
             return Ok(None);
@@ -306,7 +308,7 @@ impl Wares {
         Ok(Some(path_of(self.alloc, &store, &object.digest, object.kind)?))
     }
 
-    /// The digits of a name.
+    /// Returns the hexadecimal digest of a name; none if it names nothing.
     fn digits_of(&self, name: &Name) -> Result<Option<[u8; 64]>, AllocError> {
         let Some(object) = self.object(&name.object) else {
             return Ok(None);
@@ -319,7 +321,7 @@ impl Wares {
     }
 }
 
-/// Reads a name, where it is one.
+/// Parses a name. Returns none if it isn't one.
 fn read_name(alloc: Global, name: &str) -> Result<Option<Name>, AllocError> {
     match name_of(alloc, name) {
         Ok(name) => Ok(Some(name)),
@@ -328,7 +330,7 @@ fn read_name(alloc: Global, name: &str) -> Result<Option<Name>, AllocError> {
     }
 }
 
-/// What is given, as it stands at a remote.
+/// Returns what is given in the form that a remote has it.
 fn ware_of(alloc: Global, given: &Fixture, bytes: &[u8]) -> Result<Ware, AllocError> {
     match &given.kind {
         FixtureKind::File { mode } => Ok(Ware::File {
@@ -343,7 +345,7 @@ fn ware_of(alloc: Global, given: &Fixture, bytes: &[u8]) -> Result<Ware, AllocEr
     }
 }
 
-/// An object, as it stands at a remote.
+/// Returns an object in the form that a remote has it.
 pub fn object_ware(alloc: Global, object: &Object) -> Result<Ware, AllocError> {
     match object {
         Object::Meta(bytes) => Ok(Ware::File {
@@ -360,14 +362,14 @@ pub fn object_ware(alloc: Global, object: &Object) -> Result<Ware, AllocError> {
     }
 }
 
-/// What isn't as it should be, at the line with this number.
+/// Returns the text as the message of the line with this number.
 fn at_line(line: u64, text: Option<String>) -> Option<Wrong> {
     let text = text?;
     Some(Wrong { line, text })
 }
 
-/// Why no commit can be made of the steps below the line with this number, at the line of the step
-/// that is refused.
+/// Returns the reason why no commit can be made of the steps, at the line of the refused step or
+/// else at this line.
 fn refused(
     alloc: Global,
     error: BuildError,
@@ -387,7 +389,7 @@ fn refused(
     }
 }
 
-/// The first of the steps, which give something to the commit above.
+/// Returns the first steps, up to one that gives nothing to the commit above.
 fn commit_steps(steps: &[Step]) -> &[Step] {
     let end = steps.iter().position(|step| !gives_to_commit(step));
     match end {
@@ -403,7 +405,7 @@ fn gives_to_commit(step: &Step) -> bool {
     }
 }
 
-/// The row that a step gives to a commit; none where its path is none, or it is a hard link.
+/// Returns the row that a step gives to a commit; none if its path is invalid or it is a hard link.
 fn row_of(alloc: Global, step: &Step) -> Result<Option<TreeRow>, AllocError> {
     let Action::Give(given) = &step.action else {
         return Ok(None);
@@ -426,7 +428,7 @@ fn row_of(alloc: Global, step: &Step) -> Result<Option<TreeRow>, AllocError> {
     })
 }
 
-/// The paths of files and links, with the digests of their objects.
+/// Returns the paths of files and symlinks, with the digests of their objects.
 fn files_of(alloc: Global, rows: &[TreeRow]) -> Result<Vec<(String, Digest)>, AllocError> {
     let mut files = Vec::new(alloc);
     for row in rows {
@@ -449,8 +451,8 @@ fn row_digest(alloc: Global, row: &TreeRow) -> Result<Option<Digest>, AllocError
     }
 }
 
-/// The digest of an object of a commit: of a file or a link by its path, of the root's dirtree, of
-/// the dirmeta, or the commit.
+/// Returns the digest of an object of a commit: of the commit itself, a file or symlink by its
+/// path, or the root's dirtree or dirmeta.
 fn digest_in(alloc: Global, made: &MadeCommit, words: &ObjectWords) -> Option<Digest> {
     match words.kind {
         ObjKind::File => made.file_digest(&words.path),
@@ -459,7 +461,7 @@ fn digest_in(alloc: Global, made: &MadeCommit, words: &ObjectWords) -> Option<Di
     }
 }
 
-/// The digest of the root's dirtree or dirmeta.
+/// Returns the digest of the root's dirtree or dirmeta.
 fn root_in(alloc: Global, made: &MadeCommit, kind: ObjKind) -> Option<Digest> {
     let commit = object_in(made, &made.built.commit, ObjKind::Commit)?;
     let Object::Meta(bytes) = &commit.object else {

@@ -1,4 +1,4 @@
-//! A system whose output is kept, and whose files are never made last.
+//! A system whose output is captured, and whose files are never synced.
 ghost use Rattle.std.specs.Thread.{IsSync};
 
 use crate::unsynced::Unsynced;
@@ -12,7 +12,7 @@ use std::path::PathBuf;
 use std::rt::Files;
 use std::thread::Threads;
 
-/// The files of a system, and what is printed in place of its output.
+/// A system that has the files of another one, captures what is printed, and syncs nothing.
 pub struct Capture<'a, R> {
     rt: &'a R,
     alloc: Global,
@@ -30,7 +30,7 @@ impl<R> Drop for Capture<'_, R> {
 }
 
 impl<'a, R> Capture<'a, R> {
-    /// Nothing was printed yet.
+    /// Creates a system that has captured nothing yet.
     pub fn new(rt: &'a R, alloc: Global) -> Self {
         Capture {
             rt,
@@ -39,7 +39,7 @@ impl<'a, R> Capture<'a, R> {
         }
     }
 
-    /// What was printed since it was taken last.
+    /// Returns what was printed since the last time.
     pub fn take(&self) -> Vec<u8> {
         match self.printed.try_replace(Vec::new(self.alloc)) {
             Ok(printed) => printed,
@@ -47,7 +47,7 @@ impl<'a, R> Capture<'a, R> {
         }
     }
 
-    /// Keeps what is printed.
+    /// Keeps bytes that are printed.
     fn keep(&self, bytes: &[u8]) -> io::Result<()> {
         match self.printed.try_borrow_mut() {
             Ok(mut printed) => Ok(printed.extend_from_slice(bytes)?),
@@ -174,7 +174,7 @@ impl<R: fp_realroot::System> fp_realroot::System for Capture<'_, R> {
         self.rt.lock_within(file.inner(), access, seconds)
     }
 
-    /// Nothing is made last.
+    /// Syncs nothing.
     fn sync_paths<T: Threads + Sync>(&self, _threads: &T, _paths: &[&str]) -> Option<Failure> {
         None
     }

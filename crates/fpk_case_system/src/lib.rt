@@ -1,5 +1,5 @@
-//! A system for cases: what is printed is kept, files wait for no disk, and remotes stand below the
-//! folder of a run.
+//! A system for cases: its output is captured, its files are never synced, and remotes are below a
+//! directory of its own.
 #![tactic(auto)]
 
 mod capture;

@@ -1,4 +1,4 @@
-//! Remotes below the folder of a run.
+//! Remotes below a directory.
 ghost use Rattle.std.specs.Prelude.{◌≤◌, IfOk, IsErrOf, length};
 ghost use Rattle.fp_host.specs.Remote.{HasNodeBits};
 ghost use Rattle.fp_system.specs.Counts.{RemoteCounts};
@@ -8,12 +8,12 @@ use fp_realinput::DirRemotes;
 use std::alloc::{AllocError, Global};
 use std::rt::Files;
 
-/// Remotes whose urls are `file://` and a path, which stand below a folder: so a case needs no path
-/// of the machine.
+/// Remotes below a directory. The path of a `file://` URL is relative to it, so that a case needs
+/// no path of the machine.
 pub struct OwnRemotes<'a, R: Files> {
     remotes: DirRemotes<'a, R>,
     alloc: Global,
-    /// The absolute path of the folder.
+    /// The absolute path of the directory.
     folder: String,
 }
 
@@ -28,7 +28,7 @@ impl<R: Files> Drop for OwnRemotes<'_, R> {
 }
 
 impl<'a, R: Files + AllocGlobal> OwnRemotes<'a, R> {
-    /// The remotes below the folder with this absolute path.
+    /// Creates the remotes below the directory with this absolute path.
     pub fn new(rt: &'a R, alloc: Global, folder: String) -> Self {
         OwnRemotes {
             remotes: DirRemotes::new(rt, alloc),
@@ -39,7 +39,8 @@ impl<'a, R: Files + AllocGlobal> OwnRemotes<'a, R> {
 }
 
 impl<R: Files> OwnRemotes<'_, R> {
-    /// The url below the folder. One of another form stays as it is, and so is refused.
+    /// Returns the URL of what is below the directory. A URL of another form is returned unchanged,
+    /// and refused when it is read.
     fn own(&self, url: &str) -> Result<String, AllocError> {
         let folder = self.folder.as_str();
         match url.strip_prefix("file://") {
@@ -77,7 +78,8 @@ impl<R: Files + AllocGlobal> Remotes for OwnRemotes<'_, R> {
         ensures bound { IfOk result (λ n. n ≤ length into.old) }
         ensures needs_no_memory { IsErrOf result RemoteError.NoMemory → ⊥ }
     {
-        // Where there is no memory for it, the empty url is refused, and counted.
+        // If memory runs out for the URL, the empty one is used. It is refused, and counted as a
+        // failure.
         let own = self.own(url).unwrap_or(String::new(self.alloc));
         self.remotes.read_at(&own, path, at, into)
     }

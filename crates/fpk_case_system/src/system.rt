@@ -1,8 +1,9 @@
-//! What cases ask of the system.
+//! The system that cases need.
 use std::env::Env;
 use std::thread::Threads;
 
-/// What cases ask of the system: files with locks, a place for them, memory, threads and printing.
+/// The system that cases need: files with locks, the arguments and the current directory, memory,
+/// threads and printing.
 pub trait System: fp_realroot::System + Env + Print + Threads + Sync + Clone + Drop {}
 
 impl<R: fp_realroot::System + Env + Print + Threads + Sync + Clone + Drop> System for R {}

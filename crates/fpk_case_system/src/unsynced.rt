@@ -1,21 +1,21 @@
-//! Files that are never made last.
+//! Files that are never synced.
 use std::fs::{FileTimes, Metadata, OpenFile, Permissions};
 use std::io::{self, Read, Seek, SeekFrom, Write};
 
-/// A file whose sync is no call of the system: what a case looks at is the same, and hundreds of
-/// cases don't wait for a disk.
+/// A file whose sync does nothing. What a case finds is the same, and hundreds of cases don't wait
+/// for a disk.
 #[derive(Drop)]
 pub struct Unsynced<F> {
     file: F,
 }
 
 impl<F> Unsynced<F> {
-    /// The file, whose syncs do nothing from now on.
+    /// Wraps the file. Its syncs do nothing from now on.
     pub fn new(file: F) -> Self {
         Unsynced { file }
     }
 
-    /// The file itself.
+    /// Returns the wrapped file.
     pub fn inner(&self) -> &F {
         &self.file
     }

@@ -2,16 +2,17 @@
 use crate::sign::Form;
 use fp_base::ObjKind;
 
-/// The lines from one `case` to the next.
+/// A case: the lines from one `case` to the next.
 #[derive(Drop)]
 pub struct Case {
     /// The number of its first line, from 1.
     pub line: u64,
-    /// What the case shows.
+    /// The title of the case: what it shows.
     pub name: String,
-    /// What is given and expected, in turn.
+    /// The steps, in order: what is given, run and expected.
     pub steps: Vec<Step>,
-    /// Whether it is run again with a stop or a failure at each call.
+    /// The expectations after a crash and a failure at each call of the host, if the case is also
+    /// run with these.
     pub stops: Option<Stops>,
 }
 
@@ -20,16 +21,17 @@ pub struct Case {
 pub struct Step {
     /// The number of its line, from 1.
     pub line: u64,
-    /// What the line says.
+    /// The action that the line describes.
     pub action: Action,
-    /// What is indented below it, each line with a newline.
+    /// The content below the line, each indented line with a newline. If it is written in
+    /// hexadecimal, its bytes.
     pub content: Vec<u8>,
-    /// How that is written.
+    /// The form in which the content is written.
     pub form: Form,
 }
 
 impl Step {
-    /// The bytes that are meant by what is indented.
+    /// Returns the bytes of the content, without the last newline if its form is `Open`.
     pub fn bytes(&self) -> &[u8] {
         let bytes = self.content.as_slice();
         match (self.form, bytes) {
@@ -39,104 +41,104 @@ impl Step {
     }
 }
 
-/// What a step does or expects.
+/// An action of a step: something that it does or expects.
 #[derive(Drop)]
 pub enum Action {
-    /// Something is put somewhere.
+    /// Puts a file, directory or link somewhere.
     Give(Fixture),
-    /// What follows is about the remote at this url.
+    /// Begins the lines about the remote with this URL.
     BeginRemote {
         url: String,
     },
-    /// A commit of the remote, which offers it. What it has follows.
+    /// Makes a commit of the remote, which offers it. What it contains follows.
     Commit(CommitLine),
-    /// The remote offers the commit that is called so under the ref.
+    /// Offers the commit with this label under the ref.
     Offer {
         name: String,
         label: String,
     },
-    /// An object of the remote is broken.
+    /// Damages an object of the remote.
     Break {
         object: ObjectWords,
         harm: Harm,
     },
-    /// Another object stands in the place of an object of the remote.
+    /// Puts another object in the place of an object of the remote.
     Replace {
         object: ObjectWords,
         other: ObjectWords,
     },
-    /// A command is run.
+    /// Runs a command.
     Run(Command),
-    /// What was done so far is on the disk: stops and failures are tried from here on.
+    /// Treats everything so far as durable: crashes and failures are tried from here on.
     FromHere,
-    /// Something is to stand at a path now.
+    /// Checks what is at a path now.
     Expect(Expected),
 }
 
-/// What is to stand at a path.
+/// An expectation about a path.
 #[derive(Drop)]
 pub struct Expected {
     /// The path in the installation.
     pub path: String,
-    /// What is to stand there.
+    /// The thing that is expected there.
     pub what: What,
 }
 
-/// What stands there. What a file has is the content of its step.
+/// The thing that is expected at a path. The bytes of a file are the content of the step.
 #[derive(Drop)]
 pub enum What {
     /// A file with these permission bits.
     File { mode: u32 },
-    /// A folder, whatever is in it.
+    /// A directory, with any content.
     Folder,
     /// A symlink with this text.
     Link { text: String },
-    /// The file that stands at this path too.
+    /// A hard link of the file at this other path.
     HardLink { file: String },
-    /// Not even a symlink.
+    /// Nothing, not even a symlink.
     Nothing,
 }
 
 /// A commit of a remote, bound to a ref.
 #[derive(Drop)]
 pub struct CommitLine {
-    /// What it is called in the case.
+    /// The commit's name in the case.
     pub label: String,
-    /// The ref.
+    /// The ref that the commit is bound to.
     pub name: String,
-    /// In seconds since 1970.
+    /// The commit's time, in seconds since 1970.
     pub time: u64,
 }
 
-/// An object of a commit.
+/// The words that name an object of a commit.
 #[derive(Drop)]
 pub struct ObjectWords {
-    /// What the commit is called.
+    /// The commit's name in the case.
     pub label: String,
-    /// The dirtree and the dirmeta are those of the root.
+    /// The kind of the object. A dirtree or a dirmeta is that of the commit's root.
     pub kind: ObjKind,
-    /// The path of a file or a link.
+    /// The path of a file or symlink in the commit; empty for another object.
     pub path: String,
 }
 
-/// How an object is broken.
+/// The damage of an object.
 #[derive(Clone, Copy)]
 pub enum Harm {
-    /// It isn't there.
+    /// It is missing.
     Absent,
-    /// A folder stands there.
+    /// A directory is in its place.
     Folder,
-    /// Its last byte is missing.
+    /// It lacks its last byte.
     Cut,
-    /// A zero byte stands after its last one.
+    /// A zero byte follows its last one.
     Longer,
-    /// The lowest bit of its first byte is another.
+    /// The lowest bit of its first byte is inverted.
     Turned,
     /// It has these permission bits.
     Mode(u32),
 }
 
-/// What something is given to.
+/// The owner of a file, directory or link that a case gives.
 #[derive(Clone, Copy)]
 pub enum Owner {
     /// The installation.
@@ -148,37 +150,37 @@ pub enum Owner {
 }
 
 impl Owner {
-    /// Whether it is the installation.
+    /// Returns whether it is the installation.
     pub fn is_installation(self) -> bool {
         matches!(self, Owner::Installation)
     }
 
-    /// Whether it is the remote itself.
+    /// Returns whether it is the remote itself.
     pub fn is_remote(self) -> bool {
         matches!(self, Owner::Remote)
     }
 }
 
-/// What is put somewhere.
+/// A file, directory or link that is put somewhere.
 #[derive(Drop)]
 pub struct Fixture {
-    /// What it is given to.
+    /// Its owner.
     pub owner: Owner,
-    /// The path in what it is given to.
+    /// The path below the owner.
     pub path: String,
-    /// What it is. The content of a file is that of its step.
+    /// The thing that is put there. The bytes of a file are the content of the step.
     pub kind: FixtureKind,
-    /// How often it is put there, each time with the next number from 0 in the place of `{number}`
-    /// in its path.
+    /// The number of times that it is put there. Each time, the next number from 0 replaces
+    /// `{number}` in the path.
     pub times: u64,
 }
 
-/// What is put there.
+/// A thing that is put at a path.
 #[derive(Drop)]
 pub enum FixtureKind {
     /// A file with these permission bits.
     File { mode: u32 },
-    /// A folder with nothing in it.
+    /// An empty directory.
     Folder,
     /// A symlink with this text.
     Link { text: String },
@@ -186,31 +188,31 @@ pub enum FixtureKind {
     HardLink { file: String },
 }
 
-/// A command. What it is to print is the content of its step.
+/// A command. The output that is expected of it is the content of its step.
 #[derive(Drop)]
 pub struct Command {
     /// The words after the name of the program.
     pub words: Vec<String>,
-    /// All bytes of its input.
+    /// The bytes of its input.
     pub input: Vec<u8>,
-    /// How the input comes, where that matters.
+    /// The pieces in which the input comes, if that matters.
     pub pieces: Option<Pieces>,
-    /// The exit status that it is to have.
+    /// The expected exit status.
     pub status: u8,
-    /// The call of the host that fails, counted from 0 at this command.
+    /// The call of the host that fails, if one does.
     pub failure: Option<Failure>,
-    /// How many calls of the host it makes, where that matters.
+    /// The expected number of calls of the host, if that matters.
     pub calls: Option<u64>,
-    /// How many files it makes, where that matters.
+    /// The expected number of files that it creates, if that matters.
     pub makes: Option<u64>,
-    /// How many bytes it appends to files, where that matters.
+    /// The expected number of bytes that it appends to files, if that matters.
     pub appends: Option<u64>,
-    /// Whether it is run with its input cut after each byte first.
+    /// Whether it is first run with its input truncated after each byte.
     pub has_cuts: bool,
 }
 
 impl Command {
-    /// A command of these words with this input, of which nothing else is said.
+    /// Creates a command with these words and this input. It is expected to end with status 0.
     pub fn new(words: Vec<String>, input: Vec<u8>) -> Self {
         Command {
             words,
@@ -226,38 +228,38 @@ impl Command {
     }
 }
 
-/// An input that comes in pieces of one size, by at most this number of calls: each takes some of
-/// it or finds its end.
+/// An input in pieces of one size, with the most calls that the command may make to take it. First,
+/// each of these calls fails in turn.
 #[derive(Clone, Copy)]
 pub struct Pieces {
     /// The most bytes of a piece.
     pub size: usize,
-    /// The most calls that take it and find its end.
+    /// The most calls that take the input, including the one that finds its end.
     pub calls: u64,
 }
 
 /// A call of the host that fails.
 #[derive(Clone, Copy)]
 pub struct Failure {
-    /// Its number, counted from 0 at the command.
+    /// The number of the call, counted from 0 at the command.
     pub call: u64,
-    /// Whether what it asks for is done all the same.
+    /// Whether the call is done in spite of its failure.
     pub is_done: bool,
 }
 
-/// What goes wrong while a command runs, each counted from 0.
+/// The failures while a command runs. Each number counts from 0.
 #[derive(Clone, Copy)]
 pub struct Failing {
     /// The call of its input that fails.
     pub input: Option<u64>,
     /// The call of the remotes that fails.
     pub remotes: Option<u64>,
-    /// The read of the remotes that gives another first byte, of those that give any.
+    /// The read of the remotes whose first byte is changed. Only reads that return bytes count.
     pub turned: Option<u64>,
 }
 
 impl Failing {
-    /// Nothing goes wrong.
+    /// Creates it without any failure.
     pub fn none() -> Self {
         Failing {
             input: None,
@@ -267,26 +269,27 @@ impl Failing {
     }
 }
 
-/// What is expected where a case is stopped.
+/// The expectations of a case that is also run with a crash and with a failure at each call.
 #[derive(Drop)]
 pub struct Stops {
     /// The number of its line, from 1.
     pub line: u64,
-    /// The names at which a stop may bring back something at the last moment where it may, each
-    /// with how many entries. Not tried where it is empty.
+    /// The names at which a crash may bring something back, at the last moment where it may bring
+    /// back anything, each on a line with the number of its earlier entries. Not checked if empty.
     pub open: Vec<u8>,
-    /// The words of the command that has to work on whatever a stop left, where the case says them.
+    /// The words of the command that has to work on whatever a crash left; none for the default
+    /// command.
     pub next: Option<Vec<String>>,
-    /// What the installation shows at first and after each line that is printed. Not tried where
-    /// there is none.
+    /// The lists that the installation shows at first and after each printed line. Not checked if
+    /// empty.
     pub shown: Vec<ShownText>,
 }
 
-/// What the installation shows at one of these moments.
+/// The lists that the installation is expected to show at one moment.
 #[derive(Drop)]
 pub struct ShownText {
     /// The number of its line, from 1.
     pub line: u64,
-    /// What the lists print, with names in braces.
+    /// The output of the list commands, with names in braces in place of digests.
     pub text: Vec<u8>,
 }

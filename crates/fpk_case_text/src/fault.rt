@@ -1,47 +1,47 @@
-//! Why a line of a case can't be read.
+//! The reason why a line of a case can't be read.
 use std::alloc::{AllocError, AllocFailed};
 use std::error::Error;
 use std::fmt;
 
-/// Why a line of a case can't be read.
+/// The reason why a line of a case can't be read.
 #[derive(Clone, Copy, Debug)]
 pub enum CaseError {
-    /// No kind of line begins so.
+    /// No kind of line begins like this.
     NoKind,
-    /// No case has begun, or the text has none.
+    /// A line comes before the first `case`, or there is no case.
     NoCase,
-    /// An indented line has no line above it.
+    /// An indented line has no line above it that it belongs to.
     NoStep,
-    /// A line about a command has none above it.
+    /// A line about a command has no command above it.
     NoCommand,
-    /// A line about what is given has nothing given above it.
+    /// A line `times` or `fill` has no file, directory or link above it.
     NoFixture,
-    /// A line about stops has no line `stops` above it.
+    /// A line `shown` or `next` has no line `stops` above it.
     NoStops,
-    /// A word is no number, or too great.
+    /// A word isn't a number, or the number is too large.
     NoNumber,
-    /// What follows a path is no permission bits.
+    /// The text after a path isn't permission bits in octal.
     NoMode,
-    /// The text is no pairs of hexadecimal digits.
+    /// The text isn't pairs of hexadecimal digits.
     NoHex,
-    /// Two words are wanted.
+    /// There is one word where two are expected.
     OneWord,
     /// The words name no object.
     NoObject,
-    /// The words name no way to break an object.
+    /// The words don't say how to damage an object.
     NoHarm,
-    /// The words name no object in the place of another.
+    /// The words don't name two objects with `by` between them.
     NoReplacement,
-    /// A line about a remote has none above it.
+    /// A line about a remote has no line `remote` above it.
     NoRemote,
-    /// A hard link, or more than one thing, is given to a remote or a commit.
+    /// A hard link or a line `times` is for a remote or a commit.
     NotInstallation,
-    /// There was no memory.
+    /// Memory ran out.
     NoMemory,
 }
 
 impl CaseError {
-    /// What is to be done about it.
+    /// Returns the message, which says what is expected.
     pub fn text(self) -> &'static str {
         match self {
             CaseError::NoKind => "no line begins like this one",

@@ -1,4 +1,5 @@
-//! Cases as text: the lines of a case, and what is said where one can't be read or isn't so.
+//! Cases as text: parsing of their lines, and the messages for lines that can't be read or don't
+//! hold.
 #![tactic(auto)]
 
 mod case;

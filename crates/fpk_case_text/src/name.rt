@@ -1,21 +1,21 @@
-//! Names of objects.
+//! Parsing of the names of objects.
 use crate::case::{Harm, ObjectWords};
 use crate::fault::CaseError;
 use crate::words::cut_words;
 use fp_base::ObjKind;
 use std::alloc::Global;
 
-/// An object of a commit, as it is or as it is broken.
+/// An object of a commit, undamaged or damaged.
 #[derive(Drop)]
 pub struct Name {
-    /// The object as it is.
+    /// The undamaged object.
     pub object: ObjectWords,
-    /// How it is broken, if it is.
+    /// Its damage; none if it is undamaged.
     pub harm: Option<Harm>,
 }
 
-/// Reads `LABEL`, which is the commit, `LABEL KIND` or `LABEL file PATH`, and how it is broken, if
-/// it is.
+/// Parses `LABEL` (the commit itself), `LABEL KIND` or `LABEL file PATH`, and optionally how the
+/// object is damaged. Errs with `NoObject` or `NoHarm`.
 pub fn name_of(alloc: Global, text: &str) -> Result<Name, CaseError> {
     let words = cut_words(alloc, text)?;
     let label = word_at(alloc, &words, 0)?;

@@ -1,4 +1,4 @@
-//! Lines to cases.
+//! Parsing of lines into cases.
 use crate::case::{
     Action, Case, Command, CommitLine, Expected, Failure, Fixture, FixtureKind, Owner, Pieces,
     ShownText, Step, Stops, What,
@@ -11,17 +11,17 @@ use crate::words::{
 };
 use std::alloc::Global;
 
-/// The cases so far.
+/// A parser of cases, with the cases so far.
 #[derive(Drop)]
 pub struct Parser {
     alloc: Global,
     cases: Vec<Case>,
-    /// The number of the present line, from 1.
+    /// The number of the current line, from 1.
     line: u64,
 }
 
 impl Parser {
-    /// No line was taken yet.
+    /// Creates a parser that has taken no line yet.
     pub fn new(alloc: Global) -> Self {
         Parser {
             alloc,
@@ -30,12 +30,12 @@ impl Parser {
         }
     }
 
-    /// The number of the line that was taken last.
+    /// Returns the number of the line that was taken last, from 1.
     pub fn line(&self) -> u64 {
         self.line
     }
 
-    /// The cases so far, in order.
+    /// Returns the cases, in order.
     pub fn into_cases(self) -> Vec<Case> {
         let Parser {
             alloc: _,
@@ -45,7 +45,8 @@ impl Parser {
         cases
     }
 
-    /// Takes the lines of a text, which has a case.
+    /// Takes the lines of a text. Errs at the first one that can't be read, and with `NoCase` if
+    /// there is no case.
     pub fn take_all(&mut self, text: &str) -> Result<(), CaseError> {
         for line in text.lines() {
             self.take(line)?;
@@ -141,7 +142,7 @@ impl Parser {
         Ok(())
     }
 
-    /// The command that is run on whatever a stop left.
+    /// Takes the words of the command that is run on whatever a crash left.
     fn take_next(&mut self, text: &str) -> Result<(), CaseError> {
         let words = cut_words(self.alloc, text)?;
         let Some(case) = self.cases.last_mut() else {
@@ -154,7 +155,7 @@ impl Parser {
         Ok(())
     }
 
-    /// A line of what the line above has.
+    /// Takes an indented line, which is content of a line above.
     fn take_content(&mut self, text: &str) -> Result<(), CaseError> {
         let alloc = self.alloc;
         let Some(case) = self.cases.last_mut() else {
@@ -166,7 +167,7 @@ impl Parser {
         }
     }
 
-    /// A line about the command above.
+    /// Takes a line about the command above.
     fn take_of_command(&mut self, line: Line<'_>) -> Result<(), CaseError> {
         let alloc = self.alloc;
         let Some(case) = self.cases.last_mut() else {
@@ -181,7 +182,7 @@ impl Parser {
         tell(alloc, command, line)
     }
 
-    /// A line about what is given above.
+    /// Takes a line about the file, directory or link above.
     fn take_of_fixture(&mut self, line: Line<'_>) -> Result<(), CaseError> {
         let Some(case) = self.cases.last_mut() else {
             return Err(CaseError::NoCase);
@@ -201,7 +202,7 @@ impl Parser {
     }
 }
 
-/// Whether a line of this kind is about a remote that was named above it.
+/// Returns whether a line of this kind needs a line `remote` above it.
 fn needs_remote(sign: Sign) -> bool {
     matches!(
         sign,
@@ -215,7 +216,7 @@ fn has_remote(steps: &[Step]) -> bool {
         .any(|step| matches!(&step.action, Action::BeginRemote { .. }))
 }
 
-/// What something is given to that comes after this step.
+/// Returns what a file, directory or link belongs to that is given after this step.
 fn owner_after(step: Option<&Step>) -> Owner {
     let Some(step) = step else {
         return Owner::Installation;
@@ -228,7 +229,7 @@ fn owner_after(step: Option<&Step>) -> Owner {
     }
 }
 
-/// How the content of a step is written.
+/// Returns how the content of a step is written.
 fn form_of(sign: Sign) -> Form {
     match sign {
         Sign::Fixture(form) | Sign::File(form) => form,
@@ -253,7 +254,7 @@ fn take_of_steps(alloc: Global, steps: &mut Vec<Step>, text: &str) -> Result<(),
     }
 }
 
-/// Lets the last line of a content go on with a text, as often as is said before it.
+/// Appends a text to the last line of the content, as many times as the number before it says.
 fn fill(content: &mut Vec<u8>, text: &str) -> Result<(), CaseError> {
     let (count, text) = word_and_rest(text)?;
     let count = size(count)?;
@@ -265,7 +266,7 @@ fn fill(content: &mut Vec<u8>, text: &str) -> Result<(), CaseError> {
     Ok(())
 }
 
-/// What a step does or expects.
+/// Parses the line of a step.
 fn action_of(alloc: Global, line: Line<'_>, owner: Owner) -> Result<Action, CaseError> {
     match line.sign {
         Sign::Fixture(_) => give_file_action(alloc, line.text, owner),
@@ -355,7 +356,7 @@ fn replace_action(alloc: Global, text: &str) -> Result<Action, CaseError> {
     Ok(Action::Replace { object, other })
 }
 
-/// A hard link, which neither a remote nor a commit has.
+/// Parses a hard link. Errs with `NotInstallation` if it is for a remote or a commit.
 fn give_hard_link_action(alloc: Global, text: &str, owner: Owner) -> Result<Action, CaseError> {
     if !owner.is_installation() {
         return Err(CaseError::NotInstallation);
@@ -392,7 +393,7 @@ fn run_action(alloc: Global, text: &str) -> Result<Action, CaseError> {
     Ok(Action::Run(Command::new(words, Vec::new(alloc))))
 }
 
-/// Tells of a command what a line says.
+/// Adds to a command what a line about it says.
 fn tell(alloc: Global, command: &mut Command, line: Line<'_>) -> Result<(), CaseError> {
     match line.sign {
         Sign::Input(form) => push_input(alloc, &mut command.input, form, line.text),
@@ -409,7 +410,7 @@ fn push_input(alloc: Global, input: &mut Vec<u8>, form: Form, text: &str) -> Res
     }
 }
 
-/// Tells of a command what a line says of other things than its input.
+/// Adds to a command what a line says about anything but its input.
 fn tell_more(command: &mut Command, line: Line<'_>) -> Result<(), CaseError> {
     match line.sign {
         Sign::Pieces => command.pieces = Some(pieces_of(line.text)?),

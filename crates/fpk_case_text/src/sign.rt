@@ -1,104 +1,105 @@
-//! What a line of a case is, by how it begins.
+//! The kinds of lines in a case, by their first characters.
 
-/// How the bytes of a line are written.
+/// The form in which the bytes of a content or an input are written.
 #[derive(Clone, Copy)]
 pub enum Form {
-    /// The line, and a newline after it.
+    /// As lines, each with a newline.
     Lines,
-    /// The line; after the last one comes no newline.
+    /// As lines, the last one without a newline.
     Open,
-    /// Hexadecimal digits.
+    /// As hexadecimal digits.
     Hex,
 }
 
-/// What a line is.
+/// The kind of a line.
 #[derive(Clone, Copy)]
 pub enum Sign {
-    /// `case NAME`: the lines up to the next case are over a new host.
+    /// `case NAME`: begins a case. The lines up to the next one are played over a new host.
     Case,
-    /// `+ PATH`: a file stands there, with the content that follows.
+    /// `+ PATH`: puts a file there, with the content that follows.
     Fixture(Form),
-    /// `/ PATH`: a folder stands there.
+    /// `/ PATH`: makes a directory there.
     Folder,
-    /// `@ PATH TEXT`: a symlink with this text stands there.
+    /// `@ PATH TEXT`: makes a symlink with this text there.
     Link,
-    /// `& PATH FILE`: the path is a hard link of the file.
+    /// `& PATH FILE`: makes a hard link of the file at the path FILE there.
     HardLink,
-    /// `times NUMBER`: what is given stands at so many paths, with a number in each.
+    /// `times NUMBER`: puts what is given above at this many paths, with a number in each.
     Times,
-    /// `fill NUMBER TEXT`: the last line of the file's content goes on with so many of these texts.
+    /// `fill NUMBER TEXT`: appends this many copies of the text to the last line of the file's
+    /// content.
     Fill,
-    /// `remote URL`: what follows is about the remote at this url.
+    /// `remote URL`: begins the lines about the remote with this URL.
     Remote,
-    /// `commit LABEL REF TIME`: a commit of the remote, with what follows, which it offers under
-    /// the ref.
+    /// `commit LABEL REF TIME`: makes a commit of what follows, which the remote offers under the
+    /// ref.
     Commit,
-    /// `offer REF LABEL`: the remote offers this commit under the ref.
+    /// `offer REF LABEL`: lets the remote offer this commit under the ref.
     Offer,
-    /// `break LABEL KIND HOW`, `break LABEL file PATH HOW`: an object of the remote is broken.
+    /// `break LABEL KIND HOW`, `break LABEL file PATH HOW`: damages an object of the remote.
     Break,
-    /// `replace NAME by OTHER`: another object stands in the place of an object of the remote.
+    /// `replace NAME by OTHER`: puts another object in the place of an object of the remote.
     Replace,
-    /// `$ WORDS`: a command, and the lines that it prints.
+    /// `$ WORDS`: runs a command, which is expected to print the lines that follow.
     Command,
-    /// `< LINE`: a line of its input.
+    /// `< LINE`: adds a line to the input of the command.
     Input(Form),
-    /// `<0 NUMBER`: this number of zero bytes of its input.
+    /// `<0 NUMBER`: adds this many zero bytes to the input.
     Zeros,
-    /// `<! SIZE CALLS`: the input comes in pieces of this size, by at most this number of calls,
-    /// and each of them fails in turn.
+    /// `<! SIZE CALLS`: splits the input into pieces of this size, which at most this many calls
+    /// take. First, each of these calls fails in turn.
     Pieces,
-    /// `? NUMBER`: its status, which is 0 where nothing is said.
+    /// `? NUMBER`: the expected exit status, which is 0 without this line.
     Status,
-    /// `! NUMBER`: that call of the host fails, and isn't done.
+    /// `! NUMBER`: lets this call of the host fail without being done.
     FailureUndone,
-    /// `!+ NUMBER`: that call of the host fails, and is done.
+    /// `!+ NUMBER`: lets this call of the host fail, although it is done.
     FailureDone,
-    /// `calls NUMBER`: this number of calls of the host are made.
+    /// `calls NUMBER`: the expected number of calls of the host.
     Calls,
-    /// `makes NUMBER`: this number of files are made.
+    /// `makes NUMBER`: the expected number of files that are created.
     Makes,
-    /// `appends NUMBER`: this number of bytes are appended to files.
+    /// `appends NUMBER`: the expected number of bytes that are appended to files.
     Appends,
-    /// `cuts`: the command is run with its input cut after each byte first.
+    /// `cuts`: runs the command with its input truncated after each byte first.
     Cuts,
-    /// `= PATH`: a file that stands there now, with just the content that follows.
+    /// `= PATH`: expects a file there now, with exactly the content that follows.
     File(Form),
-    /// `=/ PATH`: a folder that stands there now.
+    /// `=/ PATH`: expects a directory there now.
     FoundFolder,
-    /// `=@ PATH TEXT`: a symlink with this text that stands there now.
+    /// `=@ PATH TEXT`: expects a symlink with this text there now.
     FoundLink,
-    /// `=& PATH FILE`: a file that stands there and at the path FILE now.
+    /// `=& PATH FILE`: expects the same file there and at the path FILE now.
     FoundHardLink,
-    /// `- PATH`: nothing stands there now.
+    /// `- PATH`: expects nothing there now.
     Absent,
-    /// `from here`: what was done so far is on the disk, and stops begin here.
+    /// `from here`: treats everything so far as durable. Crashes are tried from here on.
     FromHere,
-    /// `stops`: the case again from its start, with a stop or a failure at each call of the host.
+    /// `stops`: runs the case again, with a crash and with a failure at each call of the host.
     Stops,
-    /// `next WORDS`: the command that is run on whatever a stop left.
+    /// `next WORDS`: the command that is run on whatever a crash left.
     Next,
-    /// `shown`: what the installation shows before the first line that was printed, or after the
+    /// `shown`: what the installation shows before the first line that is printed, or after the
     /// next one.
     ShownText,
-    /// Two spaces, and a line of what the line above has.
+    /// Two spaces, and a line of content of a line above.
     Content,
-    /// An empty line, or `#` and anything.
+    /// An empty line, or a comment, which begins with `#`.
     Blank,
     /// Anything else.
     Unknown,
 }
 
-/// A line without its sign.
+/// A line, split into its sign and the rest.
 #[derive(Clone, Copy)]
 pub struct Line<'a> {
-    /// What kind of line it is.
+    /// The kind of the line.
     pub sign: Sign,
-    /// What follows the sign.
+    /// The text after the sign.
     pub text: &'a str,
 }
 
-/// The signs that a text follows.
+/// The signs that are followed by a text.
 const BEFORE_TEXT: [(&str, Sign); 36] = [
     ("  ", Sign::Content),
     ("#", Sign::Blank),
@@ -138,7 +139,7 @@ const BEFORE_TEXT: [(&str, Sign); 36] = [
     ("- ", Sign::Absent),
 ];
 
-/// The signs that stand alone.
+/// The signs that are a whole line.
 const ALONE: [(&str, Sign); 7] = [
     ("", Sign::Blank),
     ("$", Sign::Command),
@@ -149,7 +150,7 @@ const ALONE: [(&str, Sign); 7] = [
     ("shown", Sign::ShownText),
 ];
 
-/// Reads how a line begins.
+/// Finds the kind of a line by its first characters.
 pub fn line_of(line: &str) -> Line<'_> {
     for (word, sign) in &ALONE {
         if *word == line {

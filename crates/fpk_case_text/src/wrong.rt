@@ -1,16 +1,16 @@
-//! What isn't as a case says.
+//! Lines of a case that don't hold.
 use std::alloc::{AllocError, Global};
 
-/// What isn't as the line with this number says.
+/// A line of a case that doesn't hold.
 #[derive(Drop)]
 pub struct Wrong {
     /// The number of the line, from 1.
     pub line: u64,
-    /// What isn't so.
+    /// The reason why it doesn't hold.
     pub text: String,
 }
 
-/// The bytes as a text, for a message.
+/// Returns the bytes for a message: in quotes and escaped if they are UTF-8, else in hexadecimal.
 pub fn bytes_text(alloc: Global, bytes: &[u8]) -> Result<String, AllocError> {
     match std::str::from_utf8(bytes) {
         Ok(text) => format!(in alloc; "{text:?}"),
@@ -26,7 +26,7 @@ fn hex_text(alloc: Global, bytes: &[u8]) -> Result<String, AllocError> {
     Ok(text)
 }
 
-/// Says what was expected and what came.
+/// Returns a message with the expected bytes and those that came.
 pub fn difference(
     alloc: Global,
     what: &str,
@@ -38,7 +38,7 @@ pub fn difference(
     format!(in alloc; "{what}: expected {expected}, but {came} came")
 }
 
-/// Says this.
+/// Returns a copy of the text as a message.
 pub fn message(alloc: Global, text: &str) -> Result<Option<String>, AllocError> {
     Ok(Some(String::from_str(alloc, text)?))
 }

@@ -1,5 +1,6 @@
-//! Runs the cases of the files that its arguments name: over the host in memory, over a real
-//! folder, and with a stop at each call. `docs/CASES.md` says how to write one.
+//! Plays the cases of the files that its arguments name: over a host in memory, over a real
+//! directory, and with a crash and a failure at each call. `docs/CASES.md` describes how to write
+//! them.
 #![tactic(auto)]
 
 use fl_top::run;
@@ -11,7 +12,7 @@ use std::io;
 use std::process::ExitCode;
 use std::thread::Threads;
 
-/// fpk, whose cases are played.
+/// fpk, the program whose cases are played.
 #[derive(Clone, Copy)]
 struct Fpk;
 
@@ -29,7 +30,7 @@ impl Program for Fpk {
     }
 }
 
-/// The arguments are names of files of cases.
+/// Plays the cases of the files that the arguments name, and exits with status 0 if all hold.
 fn main(rt: HostRuntime) -> io::Result<ExitCode> {
     let status = run_files(&Fpk, &rt, rt.alloc())?;
     Ok(ExitCode::from(status))

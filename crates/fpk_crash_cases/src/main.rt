@@ -1,5 +1,5 @@
-//! Runs the cases of the files that its arguments name, as fpk_cases does. Its own are long ones
-//! with a stop at each call, which have a program's time to themselves.
+//! Plays the cases of the files that its arguments name, as fpk_cases does. Its own cases are long
+//! ones with a crash at each call. A program's time is limited, so they have one of their own.
 #![tactic(auto)]
 
 use fl_top::run;
@@ -11,7 +11,7 @@ use std::io;
 use std::process::ExitCode;
 use std::thread::Threads;
 
-/// fpk, whose cases are played.
+/// fpk, the program whose cases are played.
 #[derive(Clone, Copy)]
 struct Fpk;
 
@@ -29,7 +29,7 @@ impl Program for Fpk {
     }
 }
 
-/// The arguments are names of files of cases.
+/// Plays the cases of the files that the arguments name, and exits with status 0 if all hold.
 fn main(rt: HostRuntime) -> io::Result<ExitCode> {
     let status = run_files(&Fpk, &rt, rt.alloc())?;
     Ok(ExitCode::from(status))

@@ -1,4 +1,4 @@
-//! What is said of a store that lacks what an installed commit needs.
+//! The message on a store that lacks objects of an installed commit.
 use crate::saying::{say, say_no_memory};
 use dep_open::read_state;
 use fl_lines::refusal_line;
@@ -7,8 +7,8 @@ use fp_small::{RefRow, Refusal, repo_path};
 use ost_walk::{PullEnd, used};
 use std::alloc::{AllocError, Global};
 
-/// Says on standard error which installed ref needs an object of the store that is missing or
-/// damaged, which is the first such object, and what helps. Where there is none nothing is said.
+/// Prints on standard error the first installed ref that needs a missing or damaged object of the
+/// store, the first such object, and what helps. Prints nothing if there is none.
 pub fn tell_damage<H: Host>(rt: &impl Eprint, alloc: Global, host: &mut H) {
     match damage_text(alloc, host) {
         Ok(Some(text)) => say(rt, text.as_str()),
@@ -17,7 +17,8 @@ pub fn tell_damage<H: Host>(rt: &impl Eprint, alloc: Global, host: &mut H) {
     }
 }
 
-/// What is said of the first ref with such an object.
+/// Returns the message on the first ref that needs a missing or damaged object, or `None` if there
+/// is no such ref or the installation's state can't be read.
 fn damage_text<H: Host>(alloc: Global, host: &mut H) -> Result<Option<String>, AllocError> {
     let Ok(state) = read_state(alloc, host) else {
         return Ok(None);
@@ -30,7 +31,8 @@ fn damage_text<H: Host>(alloc: Global, host: &mut H) -> Result<Option<String>, A
     Ok(None)
 }
 
-/// The first fault of the commits that the row keeps, in the store of the installation.
+/// Returns the first missing or damaged object of the ref's commits, the current and the previous
+/// one, in the installation's store.
 fn fault_of<H: Host>(
     alloc: Global,
     host: &mut H,
@@ -51,7 +53,7 @@ fn fault_of<H: Host>(
     }
 }
 
-/// What is said of the ref, whose commits have this fault.
+/// Returns the message on a ref whose commits need this object.
 fn text_of(alloc: Global, row: &RefRow, refusal: &Refusal) -> Result<String, AllocError> {
     let name = row.name.as_str();
     let line = refusal_line(alloc, refusal)?;

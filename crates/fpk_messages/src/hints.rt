@@ -1,12 +1,12 @@
-//! What helps where words are no command: the refs of an ID that stands in the place of one, and
-//! what a command of another installer is called here.
+//! Hints on words that are no command: the refs of an ID that is in the place of a ref, and fpk's
+//! counterparts of the commands of other installers.
 use crate::saying::{say, say_no_memory};
 use crate::showing::{push_list, refs_below, remote_folder};
 use crate::telling::Asked;
 use std::alloc::{AllocError, Global};
 use std::rt::Files;
 
-/// First words of other installers, and what does the like here.
+/// First words of commands of other installers, each with a hint.
 const ELSEWHERE: [(&str, &str); 12] = [
     ("add", "`fpk install NAME REF` installs a ref from a remote"),
     ("delete", "`fpk uninstall REF` takes a ref away"),
@@ -34,7 +34,7 @@ const ELSEWHERE: [(&str, &str); 12] = [
     ("upgrade", "`fpk update` updates all that is installed"),
 ];
 
-/// Tells on standard error what helps, where something is known.
+/// Prints the hints on standard error, if there are any.
 pub fn tell_hints(rt: &(impl Files + Eprint + AllocGlobal), alloc: Global, asked: Asked<'_>) {
     if let [first, ..] = asked.words
         && let Some(help) = elsewhere(first.as_str())
@@ -47,7 +47,7 @@ pub fn tell_hints(rt: &(impl Files + Eprint + AllocGlobal), alloc: Global, asked
     }
 }
 
-/// What does here what this word does elsewhere.
+/// Returns the hint on a word of another installer.
 fn elsewhere(word: &str) -> Option<&'static str> {
     let found = (&ELSEWHERE).iter().find(|entry| entry.0 == word);
     match found {
@@ -56,8 +56,8 @@ fn elsewhere(word: &str) -> Option<&'static str> {
     }
 }
 
-/// The refs of an ID that stands where a ref is due: those that the remote offers, for an install,
-/// and else those that are installed.
+/// Returns a message with the refs of an ID that is in the place of a ref: for `install` those that
+/// the remote offers, else those that are installed.
 fn refs_text(
     rt: &(impl Files + AllocGlobal),
     alloc: Global,
@@ -76,7 +76,7 @@ fn refs_text(
     }
 }
 
-/// Whether a command of this first word takes a ref that is installed.
+/// Returns whether a command with this first word takes an installed ref.
 fn takes_ref(word: &str) -> bool {
     matches!(
         word,
@@ -84,7 +84,8 @@ fn takes_ref(word: &str) -> bool {
     )
 }
 
-/// Whether the word may be an ID. None of its parts between dots is empty, so it leads nowhere else.
+/// Returns whether the word may be an ID. It has no slash and no `..`, so its path stays below the
+/// directory that is listed.
 fn is_id(word: &str) -> bool {
     word.contains('.')
         && !word.contains('/')
@@ -110,7 +111,7 @@ fn offered_text(
     }
 }
 
-/// The refs of an application and of a runtime of this ID below a folder.
+/// Returns a message with the refs of applications and runtimes of this ID below a directory.
 fn found_text(
     rt: &(impl Files + AllocGlobal),
     alloc: Global,

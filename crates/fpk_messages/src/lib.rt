@@ -1,5 +1,5 @@
-//! What fpk says on standard error beside a command: what a refusal means and what helps, what the
-//! system refused, and what a command that was done leaves undone.
+//! The messages that fpk prints on standard error besides a command's output: what a refusal means
+//! and what helps, errors of the system, and what a successful command didn't do.
 #![tactic(auto)]
 
 mod damage;

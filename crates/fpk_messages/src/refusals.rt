@@ -1,12 +1,12 @@
-//! The standard output, which keeps what was refused, and whether a line was printed.
+//! The standard output, with its last refusal.
 use fp_realhost::Screen;
 use std::alloc::Global;
 use std::cell::Cell;
 use std::fmt::Display;
 use std::{io, str};
 
-/// A screen that keeps the line of the last refusal that was printed on it, and whether there was a
-/// line at all.
+/// A screen that keeps the line of the last refusal printed on it, and whether anything was
+/// printed. It notes only what is printed by `write_all`, as by a host.
 pub struct Refusals<'a, R> {
     screen: Screen<'a, R>,
     alloc: Global,
@@ -26,7 +26,7 @@ impl<R> Drop for Refusals<'_, R> {
 }
 
 impl<'a, R> Refusals<'a, R> {
-    /// That of a screen on which nothing was printed yet.
+    /// Wraps a screen on which nothing was printed yet.
     pub fn on(screen: Screen<'a, R>, alloc: Global) -> Self {
         Refusals {
             screen,
@@ -36,13 +36,13 @@ impl<'a, R> Refusals<'a, R> {
         }
     }
 
-    /// The line of the last refusal, with its newline, which is no longer kept then. `None` where
-    /// there was none, or no memory for it.
+    /// Returns the line of the last refusal, with its newline, and forgets it. Returns `None` if
+    /// there was none, or memory ran out for it.
     pub fn take_last(&self) -> Option<String> {
         self.last.replace(None)
     }
 
-    /// Whether a line was printed.
+    /// Returns whether anything was printed.
     pub fn has_printed(&self) -> bool {
         self.has_printed.get()
     }
@@ -66,7 +66,7 @@ impl<R: Print> Print for Refusals<'_, R> {
     }
 }
 
-/// The text that bytes are.
+/// Returns the bytes as a text, or `None` if they aren't UTF-8 or memory runs out.
 fn text_of(alloc: Global, bytes: &[u8]) -> Option<String> {
     match str::from_utf8(bytes) {
         Ok(text) => text.to_string(alloc).ok(),

@@ -1,5 +1,5 @@
-//! What folders show of a refusal: the folder of a remote, the refs of an ID, a line that doesn't
-//! read.
+//! Facts for messages that are read from the disk: a remote's directory, the refs of an ID, and bad
+//! lines of a key file.
 use fl_lines::escape;
 use fp_keyfile::{KeyError, KeyFault, KeyFile};
 use fp_system::{Kind, OddNames, kind_at, read_names};
@@ -7,8 +7,8 @@ use std::alloc::{AllocError, Global};
 use std::fs;
 use std::rt::Files;
 
-/// The folder of a remote, as the settings of an installation have it. `None` where they don't tell
-/// one.
+/// Returns the directory of a remote by the installation's `config`, or `None` if that has no
+/// `file://` URL for it or can't be read. Errs if memory runs out.
 pub fn remote_folder(
     rt: &(impl Files + AllocGlobal),
     alloc: Global,
@@ -26,7 +26,7 @@ pub fn remote_folder(
     }
 }
 
-/// The folder of the URL in a group.
+/// Returns the directory in the `file://` URL of a group.
 fn folder_in(alloc: Global, file: &KeyFile, group: &str) -> Result<Option<String>, AllocError> {
     match file.get(group, "url") {
         Some(url) => match url.strip_prefix("file://") {
@@ -37,13 +37,14 @@ fn folder_in(alloc: Global, file: &KeyFile, group: &str) -> Result<Option<String
     }
 }
 
-/// Whether nothing stands at the path.
+/// Returns whether nothing is at the path.
 pub fn is_absent(rt: &impl Files, at: &str) -> bool {
     matches!(kind_at(rt, at), Ok(Kind::Absent))
 }
 
-/// The refs whose folders or files stand below the folder of a kind and an ID, in no order and with
-/// commas between. With a mark, those alone that have it. What can't be listed has none.
+/// Returns the refs below the directory `above` with this kind and ID, separated by commas, in no
+/// particular order. With a `mark`, as `/active`, only those in which this path exists. A directory
+/// that can't be listed has no refs. Errs if memory runs out.
 pub fn refs_below(
     rt: &(impl Files + AllocGlobal),
     alloc: Global,
@@ -64,7 +65,7 @@ pub fn refs_below(
     Ok(found)
 }
 
-/// Puts the refs of an architecture after others.
+/// Appends the refs of an architecture.
 fn push_branches(
     rt: &(impl Files + AllocGlobal),
     alloc: Global,
@@ -87,7 +88,7 @@ fn push_branches(
     Ok(())
 }
 
-/// Puts the name of a ref after others, behind a comma where there are some.
+/// Appends the name of a ref, after a comma if it isn't the first.
 fn push_name(
     alloc: Global,
     found: &mut String,
@@ -102,8 +103,8 @@ fn push_name(
     write!(found, "{prefix}/{branch}")
 }
 
-/// The first bad line of a key file, and the rule that it breaks. `None` where the file reads, or
-/// can't be read at all.
+/// Returns the first bad line of a key file and the rule that it breaks, or `None` if all lines are
+/// good or the file can't be read.
 pub fn bad_line(rt: &(impl Files + AllocGlobal), alloc: Global, at: &str) -> Option<KeyFault> {
     match fs::read(rt, at) {
         Ok(bytes) => match KeyFile::parse(alloc, bytes.as_slice()) {
@@ -114,7 +115,7 @@ pub fn bad_line(rt: &(impl Files + AllocGlobal), alloc: Global, at: &str) -> Opt
     }
 }
 
-/// Puts after a text what there is of something, where there is some.
+/// Appends a line with a list, unless the list is empty.
 pub fn push_list(text: &mut String, what: &str, found: &str) -> Result<(), AllocError> {
     if found.is_empty() {
         Ok(())
@@ -123,7 +124,8 @@ pub fn push_list(text: &mut String, what: &str, found: &str) -> Result<(), Alloc
     }
 }
 
-/// The mode that the settings of a repository say. `None` where they say none.
+/// Returns the mode in a repository's `config`, or `None` if it has no mode or can't be read. Errs
+/// if memory runs out.
 pub fn mode_at(
     rt: &(impl Files + AllocGlobal),
     alloc: Global,

@@ -1,5 +1,5 @@
-//! What is told on standard error of a command that was done or refused: what the line of a refusal
-//! means and what helps, and what the folders and the input show of it.
+//! Messages on standard error on a command that succeeded or was refused: what a refusal means and
+//! what helps, with facts from the disk and the input.
 use crate::saying::{METADATA_LOST, say, say_batch_reason, say_no_memory, say_notes};
 use crate::showing::{bad_line, is_absent, mode_at, push_list, refs_below, remote_folder};
 use fl_lines::{advice_on, escape, frame_rule, key_rule, meta_rule, object_rule};
@@ -8,21 +8,21 @@ use std::alloc::{AllocError, Global};
 use std::fmt::Display;
 use std::rt::Files;
 
-/// The longest beginning of a line that is shown, in characters.
+/// The most characters of a line that are quoted.
 const MOST_SHOWN: usize = 60;
 
-/// What is told of an exercise that meets another remote than its own.
+/// The message on an `exercise` that meets a remote other than its own.
 const EXERCISE: &str = "fpk: an exercise has remotes of its own in memory, and no others; give it \
                         an installation of its own, as FPK_INSTALLATION=/tmp/trial\n";
 
-/// What was asked for.
+/// A command, as it was called.
 #[derive(Clone, Copy)]
 pub struct Asked<'a> {
-    /// The folder of the installation.
+    /// The directory of the installation.
     pub installation: &'a str,
-    /// The words.
+    /// The words of the command line.
     pub words: &'a [String],
-    /// What they open the installation for.
+    /// The purpose for which the installation is opened.
     pub access: Access,
 }
 
@@ -30,14 +30,14 @@ pub struct Asked<'a> {
 #[derive(Clone, Copy)]
 struct Refused<'a> {
     asked: Asked<'a>,
-    // The line that was printed of it.
+    // The line that it printed.
     line: &'a str,
-    // Its input, where that was kept.
+    // Its input, if that was kept.
     input: Option<&'a [u8]>,
 }
 
 impl Asked<'_> {
-    /// Whether it is the update of all.
+    /// Returns whether the command is `update` without a ref.
     pub fn is_update_of_all(&self) -> bool {
         match self.words {
             [word] => word.as_str() == "update",
@@ -45,7 +45,7 @@ impl Asked<'_> {
         }
     }
 
-    /// Whether the first word is this.
+    /// Returns whether this is the first word.
     fn is_of(&self, word: &str) -> bool {
         match self.words {
             [first, ..] => first.as_str() == word,
@@ -53,7 +53,7 @@ impl Asked<'_> {
         }
     }
 
-    /// The ID of the application whose override it is about: the last word, where that is no
+    /// Returns the ID of the application that `override` is about: the last word, if it is no
     /// option.
     fn overridden(&self) -> Option<&str> {
         match self.words {
@@ -64,7 +64,8 @@ impl Asked<'_> {
         }
     }
 
-    /// The folder of the remote that it adds, or to which it gives another URL.
+    /// Returns the directory of the remote that `remote-add` adds, or whose URL `remote-modify`
+    /// sets.
     fn remote_folder(&self) -> Option<&str> {
         match self.words {
             [first, _, url] if matches!(first.as_str(), "remote-add" | "remote-modify") => {
@@ -75,9 +76,9 @@ impl Asked<'_> {
     }
 }
 
-/// Tells on standard error what a command that was done leaves undone: options that do less than
-/// they seem to, an override of an application that isn't there, and a remote from which nothing
-/// can come as it is.
+/// Prints on standard error what a successful command didn't do: options that do less than they
+/// seem to, an override of an application that isn't installed, and a remote from which nothing can
+/// be pulled as it is.
 pub fn tell_done(rt: &(impl Files + Eprint + AllocGlobal), alloc: Global, asked: Asked<'_>) {
     if let Some(folder) = asked.remote_folder() {
         match unfit_text(rt, alloc, folder) {
@@ -97,8 +98,8 @@ pub fn tell_done(rt: &(impl Files + Eprint + AllocGlobal), alloc: Global, asked:
     }
 }
 
-/// Why nothing can come from a remote of this folder, where that is seen: it has no repository, or
-/// one of another mode.
+/// Returns a message why nothing can be pulled from this directory: it has no OSTree repository, or
+/// one of another mode than `bare-user-only`. Returns an empty text if neither is seen.
 fn unfit_text(
     rt: &(impl Files + AllocGlobal),
     alloc: Global,
@@ -120,8 +121,8 @@ fn unfit_text(
     Ok(text)
 }
 
-/// That no application of this ID is installed, where none is. The word is an ID, so it needs no
-/// escapes.
+/// Returns a message that no application of this ID is installed; an empty text if one is. The word
+/// is an ID, so it needs no escapes.
 fn uninstalled_text(
     rt: &(impl Files + AllocGlobal),
     alloc: Global,
@@ -136,7 +137,7 @@ fn uninstalled_text(
     }
 }
 
-/// Tells on standard error that there is no such folder.
+/// Prints on standard error that the installation doesn't exist.
 pub fn tell_absence(rt: &impl Eprint, alloc: Global, installation: &str) {
     match escape(alloc, installation) {
         Ok(folder) => {
@@ -146,7 +147,8 @@ pub fn tell_absence(rt: &impl Eprint, alloc: Global, installation: &str) {
     }
 }
 
-/// Tells a refusal on standard error, where its line was kept.
+/// Prints on standard error what a refusal means and what helps. `line` is the line that the
+/// command printed; without it nothing is printed. `input` is the command's input, if it was kept.
 pub fn tell_refused(
     rt: &(impl Files + Eprint + AllocGlobal),
     alloc: Global,
@@ -172,12 +174,13 @@ pub fn tell_refused(
 }
 
 impl Refused<'_> {
-    /// Whether a line of a batch asks for no change.
+    /// Returns whether the refusal is that a line of a batch asks for no change.
     fn is_of_a_batch_line(&self) -> bool {
         self.asked.is_of("batch") && self.line.starts_with("error: record ")
     }
 
-    /// Whether the metadata of an installed ref is gone, which no install leaves so.
+    /// Returns whether the refusal is that an installed ref's file `metadata`, which each install
+    /// writes, is missing, no regular file or too long.
     fn is_of_lost_metadata(&self) -> bool {
         let looks = self.asked.is_of("info")
             || self.asked.is_of("launch")
@@ -188,7 +191,7 @@ impl Refused<'_> {
         }
     }
 
-    /// What stands after these words in its line, without the line's end.
+    /// Returns the rest of the line after these words, without the newline.
     fn after(&self, words: &str) -> Option<&str> {
         match self.line.strip_prefix(words) {
             Some(rest) => Some(rest.trim_end()),
@@ -197,7 +200,7 @@ impl Refused<'_> {
     }
 }
 
-/// What is told, in lines.
+/// Returns the message, in lines.
 fn told(
     rt: &(impl Files + AllocGlobal),
     alloc: Global,
@@ -224,7 +227,7 @@ fn told(
     Ok(text)
 }
 
-/// Puts after a text what the line means and what helps.
+/// Appends what the line means and what helps.
 fn push_advice(text: &mut String, line: &str) -> Result<(), AllocError> {
     match advice_on(line) {
         Some(says) => write!(text, "fpk: {says}\n"),
@@ -232,7 +235,7 @@ fn push_advice(text: &mut String, line: &str) -> Result<(), AllocError> {
     }
 }
 
-/// Puts after a text where a remote has no repository.
+/// Appends that a remote has no repository, if that is so.
 fn push_mode(
     rt: &(impl Files + AllocGlobal),
     alloc: Global,
@@ -257,7 +260,7 @@ fn push_mode(
     )
 }
 
-/// Puts after a text what the rule says that the last word of the line stands for.
+/// Appends the text of the rule that the last word of the line stands for.
 fn push_rule(text: &mut String, refused: Refused<'_>) -> Result<(), AllocError> {
     if let Some(rest) = refused.after("error: malformed object ") {
         return push_shown(text, object_rule(last_word(rest)));
@@ -272,7 +275,7 @@ fn push_rule(text: &mut String, refused: Refused<'_>) -> Result<(), AllocError> 
     }
 }
 
-/// Puts a rule after a text, where there is one.
+/// Appends the text of a rule, if there is one.
 fn push_shown<T: Display + Drop>(text: &mut String, rule: Option<T>) -> Result<(), AllocError> {
     match rule {
         Some(rule) => write!(text, "fpk: {rule}\n"),
@@ -280,7 +283,7 @@ fn push_shown<T: Display + Drop>(text: &mut String, rule: Option<T>) -> Result<(
     }
 }
 
-/// What stands after the last space.
+/// Returns the text after the last space.
 fn last_word(text: &str) -> &str {
     match text.rsplit_once(' ') {
         Some((_, last)) => last,
@@ -288,7 +291,8 @@ fn last_word(text: &str) -> &str {
     }
 }
 
-/// Whether the number of a line is 0, which stands before the last word.
+/// Returns whether the last word but one, the number of a line, is 0: the refusal is about the
+/// whole file.
 fn is_of_whole_file(text: &str) -> bool {
     match text.rsplit_once(' ') {
         Some((before, _)) => last_word(before) == "0",
@@ -296,7 +300,7 @@ fn is_of_whole_file(text: &str) -> bool {
     }
 }
 
-/// Puts after a text which refs of the same ID there are, in the remote or in the installation.
+/// Appends the refs of the refused ref's ID that the remote offers or that are installed.
 fn push_refs(
     rt: &(impl Files + AllocGlobal),
     alloc: Global,
@@ -327,7 +331,7 @@ fn push_refs(
     push_list(text, "the remote offers of this ID", offered.as_str())
 }
 
-/// The kind and the ID of a ref.
+/// Returns the kind and the ID of a ref's name, as in `app/ID/ARCH/BRANCH`.
 fn id_of(name: &str) -> &str {
     match name.rsplit_once('/') {
         Some((before, _)) => match before.rsplit_once('/') {
@@ -338,7 +342,7 @@ fn id_of(name: &str) -> &str {
     }
 }
 
-/// Puts after a text which line of a file of settings doesn't read, and why.
+/// Appends the first bad line of `config` or an override, and the rule that it breaks.
 fn push_line(
     rt: &(impl Files + AllocGlobal),
     alloc: Global,
@@ -363,7 +367,7 @@ fn push_line(
     }
 }
 
-/// Puts after a text the line of the input that may not stand there, and what may.
+/// Appends the refused line of the input, and which lines are allowed there.
 fn push_record(alloc: Global, text: &mut String, refused: Refused<'_>) -> Result<(), AllocError> {
     let Some(number) = refused
         .after("error: record ")
@@ -383,7 +387,7 @@ fn push_record(alloc: Global, text: &mut String, refused: Refused<'_>) -> Result
     }
 }
 
-/// Puts after a text the beginning of a line of the input.
+/// Appends the start of a line of the input.
 fn push_input_line(
     alloc: Global,
     text: &mut String,
@@ -403,7 +407,7 @@ fn push_input_line(
     })
 }
 
-/// The line of a number, counted from 1, or an empty one after the last.
+/// Returns the line of this number, counted from 1; an empty one after the last.
 fn line_at(text: &str, number: u64) -> &str {
     match usize::try_from(number.saturating_sub(1)) {
         Ok(before) => text.lines().nth(before).unwrap_or(""),
@@ -411,7 +415,7 @@ fn line_at(text: &str, number: u64) -> &str {
     }
 }
 
-/// What may stand in a line of a description of a tree.
+/// Returns a message on the lines of a description of a tree that are allowed at this number.
 fn tree_lines(number: u64) -> &'static str {
     match number {
         1 => "fpk: the first line is `timestamp SECONDS`, since the beginning of 1970\n",
@@ -423,6 +427,6 @@ fn tree_lines(number: u64) -> &'static str {
     }
 }
 
-/// What may stand in a line of a recording.
+/// The message on the lines that a recording may contain.
 const RECORDING_LINES: &str = "fpk: first come at most one `client UNIQUE` and any number of \
                                `owner NAME UNIQUE`, then lines `c HEX` and `b HEX`\n";

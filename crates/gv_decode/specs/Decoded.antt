@@ -1,4 +1,4 @@
--- What the reading of bytes answered.
+-- The results of reading bytes.
 use Rattle.std.specs.Prelude.{◌≡◌, ℕ, map, ◌-◌, ◌*◌, ◌<◌, ◌≤◌, ⊤, List, [], ◌∷◌, length, take, reverse, Option, Some, None, Result, Ok, Err}
 use denote.Ref.{Bor}
 use Rattle.std.specs.Option.{IsSome}
@@ -12,32 +12,36 @@ use Rattle.gv_decode.specs.declared.error.DecodeError.{DecodeError}
 use Rattle.gv_decode.specs.declared.framing.Frame.{Frame}
 use Rattle.gv_decode.specs.declared.error.DecodeError.TheVariants as errors
 
--- Why bytes that are short enough are not read. Nothing is said of running out of memory.
+-- Holds if reading at most 16 MiB may fail with this error: never with `TooLong`, with `NotNormal`
+-- only if the definitions read nothing, and with `NoMemory` always
 abbrev pub Fails : {Y : Type 0} → DecodeError → Option Y → Type 0
 Fails errors.TooLong read = ⊥
 Fails errors.NotNormal read = read ≡ None
 Fails errors.NoMemory read = ⊤
 
--- what was returned, seen by a view, is what the definitions read
+-- Holds if the result, seen by a view, is what the definitions read. It may be `NotNormal` only if
+-- they read nothing, and `NoMemory` always.
 abbrev pub Gives : {X Y : Type 0} → (X → Y) → Result X DecodeError → Option Y → Type 0
 Gives view (Ok x) read = read ≡ Some (view x)
 Gives view (Err e) read = Fails e read
 
--- what was returned is whether the definitions read anything
+-- Holds if the result is `Ok` only if the definitions read something, and `NotNormal` only if they
+-- read nothing. It may always be `NoMemory`.
 abbrev pub Passes : {X Y : Type 0} → Result X DecodeError → Option Y → Type 0
 Passes (Ok x) read = IsSome read
 Passes (Err e) read = Fails e read
 
--- the bytes that borrowed slices are
+-- The bytes of borrowed slices
 abbrev pub slices : List (Bor (List ℕ)) → List (List ℕ)
 slices children = map (λ child. child.now) children
 
--- each has at most 16 MiB
+-- Holds if each list has at most 16 MiB
 abbrev pub AreShort : List (List ℕ) → Type 0
 AreShort [] = ⊤
 AreShort (bytes ∷ others) = (length bytes ≤ MOST_BYTES) × AreShort others
 
--- the bytes of the elements of an array, of the members of a tuple, or of a key and a value
+-- The bytes of the elements of an array, of the members of a tuple, or of the key and the value of
+-- a dictionary entry
 abbrev pub children_of : Shape → List ℕ → Option (List (List ℕ))
 children_of (Shape.array t) bytes = array_children (align_of t) (size_of t) bytes
 children_of (Shape.tuple ts) bytes = tuple_children (size_of (Shape.tuple ts)) ts bytes
@@ -45,31 +49,33 @@ children_of (Shape.entry k v) bytes =
     tuple_children (size_of (Shape.entry k v)) (two_shapes k v) bytes
 children_of _ bytes = None
 
--- the first offsets of a frame
+-- The first `count` offsets of a frame
 abbrev pub first_offsets : Frame → ℕ → List ℕ
 first_offsets f count = numbers f.width count f.table.now
 
+-- All offsets of a frame
 abbrev pub offsets_of : Frame → List ℕ
 offsets_of f = first_offsets f f.count
 
--- the first offsets of a frame, the last of them first
+-- The first `count` offsets of a frame, in reverse order
 abbrev pub offsets_left : Frame → ℕ → List ℕ
 offsets_left f count = reverse (first_offsets f count)
 
--- the table has all offsets, of one to four bytes
+-- Holds if the table has all offsets, of one to four bytes each
 pub record IsWhole (f : Frame) : Type 0 where
   pub table : length f.table.now ≡ f.count * f.width
   pub pos : 0 < f.width
   pub small : f.width ≤ 4
 
--- the children of a container, which take `before` bytes, and `count` offsets after them
+-- Holds if the frame has the first `before` bytes of the container as its body, and `count` offsets
 pub record IsFrame (f : Frame) (bytes : List ℕ) (before count : ℕ) : Type 0 where
   pub body : f.body.now ≡ take before bytes
   pub before_is : length f.body.now ≡ before
   pub count_is : f.count ≡ count
   pub whole : IsWhole f
 
--- the bytes of a maybe's child, where the child has this size
+-- The bytes of the child of a maybe that isn't empty, by the child's size if it is fixed. A child
+-- without a fixed size is followed by a zero byte.
 abbrev pub child_bytes : Option ℕ → List ℕ → Option (List ℕ)
 child_bytes (Some size) bytes = Some bytes
 child_bytes None bytes = before_zero (length bytes - 1) bytes

@@ -1,4 +1,4 @@
-//! Whether bytes are values of types, without the values.
+//! Checking bytes against a type, without making a value.
 ghost use Rattle.std.specs.Prelude.{◌≡◌, ◌≤◌, length, IsTrue, option_map, option_and_then};
 ghost use Rattle.gv_value.specs.declared.limits.TheConstants.{MOST_BYTES};
 ghost use Rattle.gv_value.specs.Capped.{IsRun};
@@ -18,7 +18,8 @@ use crate::variants::{type_in, variant_parts};
 use gv_value::{Extent, Plan, plan_of};
 use std::alloc::Global;
 
-/// Whether bytes are a value of a type, at most `room` deep.
+/// Checks whether bytes are a value of a type that nests at most `room` deep. `NotNormal` if they
+/// aren't.
 #[cycle(check)]
 pub fn check(alloc: Global, plan: &Plan, bytes: &[u8], room: u32) -> Result<(), DecodeError>
     requires planned { IsTrue (is_plan plan.now) }
@@ -41,7 +42,7 @@ pub fn check(alloc: Global, plan: &Plan, bytes: &[u8], room: u32) -> Result<(), 
     }
 }
 
-/// Whether bytes are a variant.
+/// Checks whether bytes are a variant whose value nests at most `room` deep.
 #[cycle(check)]
 fn check_variant(alloc: Global, bytes: &[u8], room: u32) -> Result<(), DecodeError>
     requires { length bytes.now ≤ MOST_BYTES }
@@ -53,7 +54,8 @@ fn check_variant(alloc: Global, bytes: &[u8], room: u32) -> Result<(), DecodeErr
     check(alloc, &plan, inside, room)
 }
 
-/// Whether bytes are a maybe.
+/// Checks whether bytes are a maybe whose child nests at most `room` deep. No bytes are an empty
+/// maybe.
 #[cycle(check)]
 fn check_maybe(alloc: Global, child: &Plan, bytes: &[u8], room: u32) -> Result<(), DecodeError>
     requires planned { IsTrue (is_plan child.now) }
@@ -68,7 +70,8 @@ fn check_maybe(alloc: Global, child: &Plan, bytes: &[u8], room: u32) -> Result<(
     check(alloc, child, inside, room)
 }
 
-/// Whether bytes are an array. All bytes are an array of bytes.
+/// Checks whether bytes are an array with elements that nest at most `room` deep. Any bytes are an
+/// array of bytes.
 #[cycle(check)]
 fn check_array(alloc: Global, element: &Plan, bytes: &[u8], room: u32) -> Result<(), DecodeError>
     requires planned { IsTrue (is_plan element.now) }
@@ -84,7 +87,8 @@ fn check_array(alloc: Global, element: &Plan, bytes: &[u8], room: u32) -> Result
     check_items(alloc, element, elements, room)
 }
 
-/// Whether each element is a value of this type. They are cut one after another, and none is kept.
+/// Checks whether each element is a value of this type that nests at most `room` deep. Cuts the
+/// elements one after another, and keeps none.
 #[cycle(check)]
 fn check_items(
     alloc: Global,
@@ -105,7 +109,8 @@ fn check_items(
     Ok(())
 }
 
-/// Whether bytes are a tuple of these members.
+/// Checks whether bytes are a tuple or a dictionary entry with members of these types, which nest
+/// at most `room` deep.
 #[cycle(check)]
 fn check_members(
     alloc: Global,
@@ -126,7 +131,8 @@ fn check_members(
     check_each(alloc, plans, &children, room)
 }
 
-/// Whether there are as many children as members, each a value of its member's type.
+/// Checks whether there are as many children as members, and each child is a value of its member's
+/// type that nests at most `room` deep.
 #[cycle(check)]
 fn check_each(
     alloc: Global,

@@ -1,4 +1,4 @@
-//! Values of basic types, from their bytes.
+//! Reading and checking values of basic types.
 ghost use Rattle.std.specs.Prelude.{◌≡◌, ◌≤◌, ◌<◌, ◌^◌, ◌-◌, length, if◌then◌else◌, Some, None, IfOk, option_map};
 ghost use Rattle.std.specs.Str.{is_utf8};
 ghost use Rattle.gv_value.specs.Basics.{string, object_path, signature, form_of};
@@ -13,7 +13,7 @@ use fp_base::Text;
 use gv_value::{Basic, GvValue, has_zero, is_object_path, is_signature};
 use std::alloc::Global;
 
-/// The number in bytes of this size.
+/// Returns the little-endian number in `bytes`. `NotNormal` if they aren't `size` bytes.
 fn number_of(bytes: &[u8], size: usize) -> Result<u64, DecodeError>
     requires some { 0 < size }
     requires few { size ≤ 8 }
@@ -26,7 +26,8 @@ fn number_of(bytes: &[u8], size: usize) -> Result<u64, DecodeError>
     Ok(number(bytes))
 }
 
-/// The bytes before a zero byte, which is the last one.
+/// Returns all bytes but the last one, which must be zero. `NotNormal` if it isn't, or if there are
+/// no bytes.
 pub fn before_zero(bytes: &[u8]) -> Result<&[u8], DecodeError>
     ensures { Gives (λ text. text.now) result (before_zero_byte (length bytes.now - 1) bytes.now) }
 {
@@ -42,7 +43,7 @@ pub fn before_zero(bytes: &[u8]) -> Result<&[u8], DecodeError>
     }
 }
 
-/// The text that bytes in UTF-8 are.
+/// Returns the bytes as a text. `NotNormal` if they aren't UTF-8.
 fn utf8(bytes: &[u8]) -> Result<&str, DecodeError>
     ensures { Gives (λ text. text.now) result (if is_utf8 bytes.now then Some bytes.now else None) }
 {
@@ -52,6 +53,7 @@ fn utf8(bytes: &[u8]) -> Result<&str, DecodeError>
     }
 }
 
+/// Returns the string in `bytes`: UTF-8 without a zero byte, and a zero byte after it.
 fn string_in(bytes: &[u8]) -> Result<&str, DecodeError>
     ensures { Gives (λ text. text_content text.now) result (text_at string bytes.now) }
 {
@@ -62,6 +64,7 @@ fn string_in(bytes: &[u8]) -> Result<&str, DecodeError>
     utf8(text)
 }
 
+/// Returns the D-Bus object path in `bytes`, which a zero byte ends.
 fn object_path_in(bytes: &[u8]) -> Result<&str, DecodeError>
     ensures { Gives (λ text. text_content text.now) result (text_at object_path bytes.now) }
 {
@@ -72,6 +75,7 @@ fn object_path_in(bytes: &[u8]) -> Result<&str, DecodeError>
     utf8(text)
 }
 
+/// Returns the D-Bus signature in `bytes`, which a zero byte ends.
 fn signature_in(bytes: &[u8]) -> Result<&str, DecodeError>
     ensures { Gives (λ text. text_content text.now) result (text_at signature bytes.now) }
 {
@@ -82,6 +86,7 @@ fn signature_in(bytes: &[u8]) -> Result<&str, DecodeError>
     utf8(text)
 }
 
+/// Returns the boolean in `bytes`: one byte, 0 or 1.
 fn truth_of(bytes: &[u8]) -> Result<bool, DecodeError>
     ensures { Gives truth result (truth_at bytes.now) }
 {
@@ -92,7 +97,7 @@ fn truth_of(bytes: &[u8]) -> Result<bool, DecodeError>
     }
 }
 
-/// The eight bytes of a double.
+/// Returns the eight bytes of a double. `NotNormal` if there aren't eight.
 fn double_of(bytes: &[u8]) -> Result<[u8; 8], DecodeError>
     ensures { Gives eight result (eight_at bytes.now) }
 {
@@ -102,7 +107,7 @@ fn double_of(bytes: &[u8]) -> Result<[u8; 8], DecodeError>
     }
 }
 
-/// The value of a basic type that bytes are.
+/// Reads a value of a basic type. `NotNormal` if the bytes aren't one in normal form.
 pub fn read_basic(alloc: Global, of: Basic, bytes: &[u8]) -> Result<GvValue, DecodeError>
     ensures { Gives plain result (option_map (leaf of) (content_at (form_of of) bytes.now)) }
 {
@@ -129,7 +134,7 @@ pub fn read_basic(alloc: Global, of: Basic, bytes: &[u8]) -> Result<GvValue, Dec
     }
 }
 
-/// Whether bytes are a value of a basic type.
+/// Checks whether bytes are a value of a basic type. `NotNormal` if they aren't.
 pub fn check_basic(of: Basic, bytes: &[u8]) -> Result<(), DecodeError>
     ensures { Passes result (content_at (form_of of) bytes.now) }
 {

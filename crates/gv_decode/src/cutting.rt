@@ -1,4 +1,4 @@
-//! The bytes of a container's children, cut from the container's.
+//! Cutting the bytes of a container into those of its children.
 ghost use Rattle.std.specs.Prelude.{◌≡◌, ◌↔◌, ◌≤◌, length, IsTrue};
 ghost use Rattle.gv_value.specs.declared.limits.TheConstants.{MOST_BYTES};
 ghost use Rattle.gv_value.specs.Capped.{IsRun};
@@ -16,7 +16,8 @@ use crate::stepping::{Elements, elements_in, next_element};
 use gv_value::{Basic, Extent, Plan};
 use std::alloc::Global;
 
-/// The elements of an array.
+/// Returns the bytes of each element of an array, in order. `NotNormal` if the array's bytes can't
+/// be cut into elements. The elements' own bytes aren't checked.
 pub fn elements<'a>(
     alloc: Global,
     element: &Plan,
@@ -32,7 +33,7 @@ pub fn elements<'a>(
     gathered(alloc, elements)
 }
 
-/// Elements, gathered one by one.
+/// Returns the bytes of each element that is left, in order.
 fn gathered(alloc: Global, elements: Elements<'_>) -> Result<Vec<&[u8]>, DecodeError>
     requires { IsOpen elements }
     ensures { Gives (λ children. slices children.items) result (elements_left elements.entry) }
@@ -46,7 +47,9 @@ fn gathered(alloc: Global, elements: Elements<'_>) -> Result<Vec<&[u8]>, DecodeE
     Ok(children)
 }
 
-/// The members of a tuple.
+/// Returns the bytes of each member of a tuple or a dictionary entry, in order. `run` is the extent
+/// of the run of members. `NotNormal` if the bytes can't be cut into these members. The members'
+/// own bytes aren't checked.
 pub fn members<'a>(
     alloc: Global,
     run: Extent,
@@ -73,7 +76,8 @@ pub fn members<'a>(
     }
 }
 
-/// The members of a tuple before their offsets, the last of which belongs to the first.
+/// Returns the bytes of each member in a frame, in order. The offsets are in reverse order: the
+/// last one belongs to the first member that has one.
 fn framed_members<'a>(
     alloc: Global,
     plans: &[Plan],
@@ -107,7 +111,8 @@ fn framed_members<'a>(
     }
 }
 
-/// The bytes of a child that is there.
+/// Returns the bytes of the child of a maybe that isn't empty. A child without a fixed size is
+/// followed by a zero byte (GVariant specification, "Maybes").
 pub fn inside<'a>(child: &Plan, bytes: &'a [u8]) -> Result<&'a [u8], DecodeError>
     requires { IsTrue (is_plan child.now) }
     ensures { Gives (λ kept. kept.now) result (child_bytes (size_of (plan_shape child.now))
@@ -119,7 +124,7 @@ pub fn inside<'a>(child: &Plan, bytes: &'a [u8]) -> Result<&'a [u8], DecodeError
     }
 }
 
-/// Whether a plan is that of bytes.
+/// Returns whether a plan is that of the type `y` (a byte).
 pub fn is_byte(plan: &Plan) -> bool
     ensures { IsTrue result ↔ (plan_shape plan.now ≡ basic Basic.Byte) }
 {

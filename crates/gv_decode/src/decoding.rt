@@ -1,4 +1,4 @@
-//! Values of types, their children, and whether bytes are values.
+//! The entry points: reading a value, checking bytes, and cutting a container into its children.
 ghost use Rattle.std.specs.Prelude.{◌≡◌, ◌<◌, ◌≤◌, ◌↔◌, IfOk, IsTrue, Err, length};
 ghost use Rattle.gv_value.specs.declared.limits.TheConstants.{MOST_BYTES};
 ghost use Rattle.gv_value.specs.Plans.{is_plan, plan_shape};
@@ -17,11 +17,12 @@ use crate::stepping::{Elements, elements_in};
 use gv_value::{GvType, GvValue, MOST_BYTES, MOST_DEPTH, Plan, is_type, plan_of};
 use std::alloc::Global;
 
-/// The value of a type that bytes are, in the normal form of the GVariant specification. Time and
-/// memory are at most linear in the bytes, however they were made: children never overlap, and
-/// where an offset runs backwards or a padding byte isn't zero, reading ends. But the value of one
-/// byte can be 64 deep and take 15 KiB, so bytes from elsewhere are better checked by
-/// `check_normal`.
+/// Reads a value of a type from bytes in the normal form of the GVariant specification. `TooLong`
+/// if there are more than 16 MiB; `NotNormal` if the bytes are no such value or the type isn't
+/// valid. Time and memory are at most linear in the number of bytes, whatever they are: children
+/// never overlap, and reading ends at an offset that runs backwards or a padding byte that isn't
+/// zero. But the value of one byte can nest 64 deep and take 15 KiB, so bytes from an untrusted
+/// source are better checked by `check_normal`.
 pub fn decode(alloc: Global, of: &GvType, bytes: &[u8]) -> Result<GvValue, DecodeError>
     ensures too_long { (result ≡ Err DecodeError.TooLong) ↔ (MOST_BYTES < length bytes.now) }
     ensures spelled { IfOk result (λ value. Spelled (shape_of of.now) (plain value) bytes.now) }
@@ -40,9 +41,11 @@ pub fn decode(alloc: Global, of: &GvType, bytes: &[u8]) -> Result<GvValue, Decod
     read(alloc, &plan, bytes, MOST_DEPTH)
 }
 
-/// Whether bytes are some value of a type, in the normal form of the GVariant specification:
-/// `decode` without the value. No element of an array is kept: its memory is what the types take
-/// that stand in each other at a place, and 16 bytes for each member of their tuples.
+/// Checks whether bytes are a value of a type in the normal form of the GVariant specification: as
+/// `decode`, but without making the value. `TooLong` if there are more than 16 MiB; `NotNormal` if
+/// the bytes are no such value or the type isn't valid. Keeps no element of an array: the memory
+/// used is that of the types nested at the current position, and 16 bytes for each member of their
+/// tuples.
 pub fn check_normal(alloc: Global, of: &GvType, bytes: &[u8]) -> Result<(), DecodeError>
     ensures too_long { (result ≡ Err DecodeError.TooLong) ↔ (MOST_BYTES < length bytes.now) }
     ensures normal { IfOk result (λ _. (v : Tree) × Spelled (shape_of of.now) v bytes.now) }
@@ -61,9 +64,10 @@ pub fn check_normal(alloc: Global, of: &GvType, bytes: &[u8]) -> Result<(), Deco
     check(alloc, &plan, bytes, MOST_DEPTH)
 }
 
-/// The bytes of the elements of an array, of the members of a tuple, or of a dictionary entry's key
-/// and value. What stands in them isn't looked at. `NotNormal` comes where they don't stand in
-/// these bytes so, or the type is another.
+/// Returns the bytes of the elements of an array, of the members of a tuple, or of the key and the
+/// value of a dictionary entry, in order. Doesn't check the children's own bytes. `TooLong` if
+/// there are more than 16 MiB; `NotNormal` if the bytes can't be cut into such children or the type
+/// is none of these containers.
 pub fn children<'a>(
     alloc: Global,
     of: &GvType,
@@ -81,7 +85,7 @@ pub fn children<'a>(
     children_by(alloc, &plan, bytes)
 }
 
-/// The same by a plan.
+/// Returns the bytes of the children of a container, by its plan.
 fn children_by<'a>(
     alloc: Global,
     plan: &Plan,
@@ -102,9 +106,10 @@ fn children_by<'a>(
     }
 }
 
-/// The elements of an array, for `next_element` to cut one after another. What stands in them isn't
-/// looked at. `NotNormal` comes where the type is another, or there are no such elements; where the
-/// others don't stand in these bytes so, a later step says it.
+/// Returns the elements of an array, for `next_element` to cut one after another. Doesn't check the
+/// elements' own bytes. `TooLong` if there are more than 16 MiB; `NotNormal` if the type isn't an
+/// array or the offsets aren't in normal form. Other faults of the layout are found by
+/// `next_element`.
 pub fn array_elements<'a>(
     alloc: Global,
     of: &GvType,
@@ -122,7 +127,7 @@ pub fn array_elements<'a>(
     elements_by(&plan, bytes)
 }
 
-/// The same by a plan.
+/// Returns the elements of an array, by its plan.
 fn elements_by<'a>(plan: &Plan, bytes: &'a [u8]) -> Result<Elements<'a>, DecodeError>
     requires planned { IsTrue (is_plan plan.now) }
     requires short { length bytes.now ≤ MOST_BYTES }

@@ -1,4 +1,4 @@
-//! Why bytes are not read.
+//! The error of reading bytes.
 ghost use Rattle.std.specs.Prelude.{◌≡◌};
 ghost use Rattle.gv_decode.specs.declared.error.DecodeError.TheVariants.{NoMemory};
 
@@ -6,12 +6,12 @@ use std::alloc::{AllocError, AllocFailed};
 use std::error::Error;
 use std::fmt;
 
-/// Why bytes could not be read.
+/// The reason why bytes could not be read.
 #[derive(Clone, Copy, Debug, PartialEq, Eq)]
 pub enum DecodeError {
-    /// They are more than 16 MiB.
+    /// There are more than 16 MiB.
     TooLong,
-    /// They are not a value of the type in normal form.
+    /// The bytes are not a value of the type in normal form.
     NotNormal,
     /// Memory ran out.
     NoMemory,

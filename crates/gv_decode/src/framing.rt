@@ -1,4 +1,5 @@
-//! Where the children of a container stand, and its offsets.
+//! The layout of a container: its children, the padding between them, and its framing offsets
+//! (GVariant specification, "Framing Offsets").
 ghost use Rattle.std.specs.Prelude.{◌≡◌, ◌≤◌, ◌<◌, ◌+◌, ◌-◌, ◌*◌, ◌/◌, ◌==◌, ◌&&◌, if◌then◌else◌, IsTrue, length, drop, take, Some, None, IfOk};
 ghost use Rattle.gv_value.specs.declared.limits.TheConstants.{MOST_BYTES};
 ghost use Rattle.gv_value.specs.Bytes.{le_value, all_zero as all_are_zero};
@@ -11,8 +12,9 @@ use crate::error::DecodeError;
 use crate::numbers::{all_zero, number};
 use gv_value::{Extent, Plan, padding, width};
 
-/// The bytes of a child that stands after a position and ends at another, where what is padding
-/// before it is zero.
+/// Returns the bytes of a child that ends at `end`. It starts at the first multiple of `align` that
+/// is not below `at`. `NotNormal` if the padding before it isn't zero, or the child isn't within
+/// the body.
 pub fn child_at(body: &[u8], at: usize, align: u64, end: usize) -> Result<&[u8], DecodeError>
     requires pos { 0 < align }
     requires small { align ≤ 8 }
@@ -30,20 +32,21 @@ pub fn child_at(body: &[u8], at: usize, align: u64, end: usize) -> Result<&[u8],
     Ok(&body[start..end])
 }
 
-/// A container's children, and its offsets.
+/// The bytes of a container, parted into its children and its offsets.
 #[derive(Clone, Copy)]
 pub struct Frame<'a> {
-    /// The children, one after the other, without the offsets.
+    /// The children with their padding, without the offsets.
     pub body: &'a [u8],
     /// The offsets, one after the other.
     pub table: &'a [u8],
-    /// How many bytes each takes.
+    /// The number of bytes of each offset.
     pub width: usize,
-    /// How many there are.
+    /// The number of offsets.
     pub count: usize,
 }
 
-/// How many bytes an offset takes in a container.
+/// Returns the number of bytes of each offset in a container: the smallest of 1, 2 and 4 that fits
+/// the container's size.
 pub fn offset_width(bytes: &[u8]) -> usize
     requires short { length bytes.now ≤ MOST_BYTES }
     ensures value { result ≡ width_in (length bytes.now) }
@@ -53,7 +56,8 @@ pub fn offset_width(bytes: &[u8]) -> usize
     width(bytes.len(), 0)
 }
 
-/// A container's children, which take `before` bytes, and `count` offsets after them.
+/// Parts a container into its children, which take `before` bytes, and `count` offsets after them.
+/// `NotNormal` if there aren't exactly that many offsets, or a smaller width would do for them.
 pub fn take_apart(bytes: &[u8], before: usize, count: usize) -> Result<Frame<'_>, DecodeError>
     requires short { length bytes.now ≤ MOST_BYTES }
     requires few { count ≤ length bytes.now }
@@ -79,7 +83,8 @@ pub fn take_apart(bytes: &[u8], before: usize, count: usize) -> Result<Frame<'_>
     })
 }
 
-/// How many offsets the members of a tuple have.
+/// Returns the number of offsets of a tuple: one for each member without a fixed size, except the
+/// last member.
 pub fn offset_count(plans: &[Plan]) -> usize
     requires { IsTrue (are_plans plans.now) }
     ensures { result ≡ offset_count_of (plan_shapes plans.now) }
@@ -95,7 +100,7 @@ pub fn offset_count(plans: &[Plan]) -> usize
     count
 }
 
-/// The number that an offset is.
+/// Returns the offset with this index in the table.
 pub fn offset_at(frame: Frame<'_>, index: usize) -> usize
     requires whole { IsWhole frame }
     requires inside { index < frame.count }
@@ -106,7 +111,8 @@ pub fn offset_at(frame: Frame<'_>, index: usize) -> usize
     number(&frame.table[start..start + frame.width]) as usize
 }
 
-/// The body of a tuple of fixed size, without the zero bytes after its last member.
+/// Returns the frame of a tuple of the fixed size `size`, whose members end at `whole`. `NotNormal`
+/// if there aren't `size` bytes, or one after the members isn't zero.
 pub fn filled_frame(whole: usize, size: usize, bytes: &[u8]) -> Result<Frame<'_>, DecodeError>
     requires { whole ≤ size }
     ensures body { Gives (λ f. f.body.now) result
@@ -129,7 +135,8 @@ pub fn filled_frame(whole: usize, size: usize, bytes: &[u8]) -> Result<Frame<'_>
     })
 }
 
-/// The body of a tuple of variable size, and its offsets.
+/// Returns the frame of a tuple without a fixed size. `NotNormal` if there aren't as many offsets
+/// as the members need, or a smaller width would do for them.
 pub fn open_frame<'a>(plans: &[Plan], bytes: &'a [u8]) -> Result<Frame<'a>, DecodeError>
     requires planned { IsTrue (are_plans plans.now) }
     requires short { length bytes.now ≤ MOST_BYTES }
@@ -148,8 +155,9 @@ pub fn open_frame<'a>(plans: &[Plan], bytes: &'a [u8]) -> Result<Frame<'a>, Deco
     take_apart(bytes, before, count)
 }
 
-/// Where a member ends that stands after a position: by its size, by its offset, or, for the last
-/// one, with the body. And how many offsets are left.
+/// Returns where a member ends, and the number of offsets that are left. The member's padding
+/// starts at `at`. The end is known from its size, or is the last of the `left` offsets. The last
+/// member ends with the body.
 pub fn member_end(
     extent: Extent,
     last: bool,

@@ -1,5 +1,5 @@
-//! Reads values of GVariant from bytes, in normal form alone, or checks the bytes without their
-//! value.
+//! Reads values of GVariant from bytes in normal form, checks such bytes, and cuts containers into
+//! their children.
 #![tactic(auto)]
 
 mod checking;

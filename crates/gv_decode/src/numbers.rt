@@ -1,10 +1,10 @@
-//! Numbers from their bytes.
+//! Reading numbers from bytes.
 ghost use Rattle.std.specs.Prelude.{◌≡◌, ◌≤◌, ◌<◌, ◌^◌, length};
 ghost use Rattle.gv_value.specs.Bytes.{le_value, all_zero as all_are_zero};
 
 use byteorder::{ByteOrder, LittleEndian};
 
-/// The number of one to eight bytes, the lowest first.
+/// Returns the number in one to eight bytes, in little-endian order.
 pub fn number(bytes: &[u8]) -> u64
     requires some { 0 < length bytes.now }
     requires few { length bytes.now ≤ 8 }
@@ -14,7 +14,7 @@ pub fn number(bytes: &[u8]) -> u64
     LittleEndian::read_uint(bytes, bytes.len())
 }
 
-/// Whether all bytes are zero.
+/// Returns whether all bytes are zero.
 pub fn all_zero(bytes: &[u8]) -> bool
     ensures { result ≡ all_are_zero bytes.now }
 {

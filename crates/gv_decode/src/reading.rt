@@ -1,4 +1,4 @@
-//! Values of types, from their bytes.
+//! Reading values of types from their bytes.
 ghost use Rattle.std.specs.Prelude.{◌≡◌, ◌≤◌, length, vec_len, IsTrue, option_map, option_and_then};
 ghost use Rattle.gv_value.specs.declared.limits.TheConstants.{MOST_BYTES};
 ghost use Rattle.gv_value.specs.Capped.{IsRun};
@@ -19,7 +19,8 @@ use fp_base::Blob;
 use gv_value::{Extent, GvValue, Plan, plan_of};
 use std::alloc::Global;
 
-/// The value of a type that bytes are, at most `room` deep.
+/// Reads a value of a type that nests at most `room` deep. `NotNormal` if the bytes aren't one in
+/// normal form.
 #[cycle(read)]
 pub fn read(alloc: Global, plan: &Plan, bytes: &[u8], room: u32) -> Result<GvValue, DecodeError>
     requires planned { IsTrue (is_plan plan.now) }
@@ -48,7 +49,7 @@ pub fn read(alloc: Global, plan: &Plan, bytes: &[u8], room: u32) -> Result<GvVal
     }
 }
 
-/// The dictionary entry of a key and a value.
+/// Returns the dictionary entry of two members, a key and a value.
 fn as_entry(alloc: Global, mut members: Vec<GvValue>) -> Result<GvValue, DecodeError>
     requires { vec_len members ≡ 2 }
     ensures { Gives plain result (entry_of (plains members.items)) }
@@ -63,7 +64,7 @@ fn as_entry(alloc: Global, mut members: Vec<GvValue>) -> Result<GvValue, DecodeE
     Ok(GvValue::Entry(key, Box::new(alloc, value)?))
 }
 
-/// The variant that bytes are.
+/// Reads a variant whose value nests at most `room` deep.
 #[cycle(read)]
 fn read_variant(alloc: Global, bytes: &[u8], room: u32) -> Result<GvValue, DecodeError>
     requires { length bytes.now ≤ MOST_BYTES }
@@ -77,7 +78,7 @@ fn read_variant(alloc: Global, bytes: &[u8], room: u32) -> Result<GvValue, Decod
     Ok(GvValue::Variant(of, Box::new(alloc, child)?))
 }
 
-/// The maybe that bytes are.
+/// Reads a maybe whose child nests at most `room` deep. No bytes are an empty maybe.
 #[cycle(read)]
 fn read_maybe(alloc: Global, child: &Plan, bytes: &[u8], room: u32) -> Result<GvValue, DecodeError>
     requires planned { IsTrue (is_plan child.now) }
@@ -93,7 +94,7 @@ fn read_maybe(alloc: Global, child: &Plan, bytes: &[u8], room: u32) -> Result<Gv
     Ok(GvValue::Maybe(Some(Box::new(alloc, value)?)))
 }
 
-/// The array that bytes are. Bytes are kept as they are.
+/// Reads an array whose elements nest at most `room` deep. An array of bytes is kept as a blob.
 #[cycle(read)]
 fn read_array(
     alloc: Global,
@@ -117,7 +118,7 @@ fn read_array(
     Ok(GvValue::Array(values))
 }
 
-/// The elements of an array, by their bytes.
+/// Reads each element of an array from its bytes.
 #[cycle(read)]
 fn read_items(
     alloc: Global,
@@ -137,7 +138,8 @@ fn read_items(
     Ok(values)
 }
 
-/// The members of a tuple that bytes are.
+/// Reads the members of a tuple or a dictionary entry, which nest at most `room` deep. `run` is the
+/// extent of the run of members.
 #[cycle(read)]
 fn read_members(
     alloc: Global,
@@ -159,7 +161,7 @@ fn read_members(
     read_each_member(alloc, plans, &children, room)
 }
 
-/// The members of a tuple, by their bytes.
+/// Reads each member from its bytes. `NotNormal` if there aren't as many children as members.
 #[cycle(read)]
 fn read_each_member(
     alloc: Global,

@@ -1,4 +1,4 @@
-//! The elements of an array, one after another, with nothing kept of those that were cut.
+//! Cutting the elements of an array one after another, without keeping those that were cut.
 ghost use Rattle.std.specs.Prelude.{◌≡◌, ◌≤◌, ◌<◌, ◌-◌, ◌∷◌, ◌/◌, length, IsTrue, IfOk};
 ghost use Rattle.gv_value.specs.declared.limits.TheConstants.{MOST_BYTES, TOO_LARGE};
 ghost use Rattle.gv_value.specs.Framing.{array_children, framed_children, cut, steps};
@@ -11,31 +11,36 @@ use crate::framing::{child_at, offset_width, take_apart};
 use crate::numbers::number;
 use gv_value::Plan;
 
-/// Where elements end.
+/// The information where the elements of an array end.
 #[derive(Clone, Copy)]
 pub enum Ends<'a> {
-    /// Each has this size.
+    /// The size in bytes of each element.
     Size(usize),
-    /// Each has an offset of so many bytes, which stand here one after the other.
+    /// The number of bytes of an offset, and the offsets of the elements that are left, one after
+    /// the other.
     Offsets(usize, &'a [u8]),
 }
 
-/// The elements of an array that are left.
+/// The elements of an array that are not cut yet. `array_elements` makes them, and `next_element`
+/// cuts the first one.
 #[derive(Clone, Copy)]
 pub struct Elements<'a> {
-    /// All elements, one after the other, without their offsets.
+    /// The bytes of all elements, without the offsets.
     pub body: &'a [u8],
-    /// Where the next one stands, after its padding.
+    /// The position in `body` where the next element's padding starts. The element starts at the
+    /// first multiple of `align` from there on.
     pub at: usize,
-    /// What its place is a multiple of.
+    /// The alignment of the elements in bytes. It is 1 for elements of a fixed size, which need no
+    /// padding.
     pub align: u64,
-    /// Where those that are left end.
+    /// The ends of the elements that are left.
     pub ends: Ends<'a>,
-    /// How many are left.
+    /// The number of elements that are left.
     pub left: usize,
 }
 
-/// The elements of an array.
+/// Returns the elements of an array whose elements have the plan `element`. `NotNormal` if the
+/// offsets aren't in normal form.
 pub fn elements_in<'a>(element: &Plan, bytes: &'a [u8]) -> Result<Elements<'a>, DecodeError>
     requires planned { IsTrue (is_plan element.now) }
     requires short { length bytes.now ≤ MOST_BYTES }
@@ -50,7 +55,7 @@ pub fn elements_in<'a>(element: &Plan, bytes: &'a [u8]) -> Result<Elements<'a>, 
     }
 }
 
-/// Elements of one size, one after the other.
+/// Returns elements of one size in bytes, one after the other.
 fn of_size(size: usize, bytes: &[u8]) -> Elements<'_>
     requires pos { 0 < size }
     requires small { size ≤ TOO_LARGE }
@@ -68,8 +73,8 @@ fn of_size(size: usize, bytes: &[u8]) -> Elements<'_>
     }
 }
 
-/// Elements of variable size. The last offset, where the last element ends, says where the offsets
-/// begin.
+/// Returns elements without a fixed size. The last offset is the end of the last element, and so
+/// the position where the offsets start.
 fn framed(align: u64, bytes: &[u8]) -> Result<Elements<'_>, DecodeError>
     requires pos { 0 < align }
     requires small { align ≤ 8 }
@@ -93,7 +98,9 @@ fn framed(align: u64, bytes: &[u8]) -> Result<Elements<'_>, DecodeError>
     })
 }
 
-/// The bytes of the next element, and the elements after it; nothing after the last one.
+/// Cuts the next element, and returns its bytes and the elements after it, or `None` after the last
+/// one. `NotNormal` if the element isn't within the array, its padding isn't zero, or bytes remain
+/// after the last element. Doesn't check the element's own bytes.
 pub fn next_element(elements: Elements<'_>) -> Result<Option<(&[u8], Elements<'_>)>, DecodeError>
     requires ready { IsOpen elements }
     ensures found { Steps result (elements_left elements.entry) }
@@ -118,7 +125,7 @@ pub fn next_element(elements: Elements<'_>) -> Result<Option<(&[u8], Elements<'_
     Ok(Some((child, others)))
 }
 
-/// Where the next element ends, and where those after it do.
+/// Returns where the next element ends, and the ends of the elements after it.
 fn next_end(elements: Elements<'_>) -> (usize, Ends<'_>)
     requires ready { IsOpen elements }
     requires some { 0 < elements.left }

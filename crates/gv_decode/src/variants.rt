@@ -1,4 +1,4 @@
-//! What stands in a variant.
+//! Parting the bytes of a variant.
 ghost use Rattle.std.specs.Prelude.{◌≡◌, ◌≤◌, ◌<◌, ◌^◌, length};
 ghost use Rattle.gv_value.specs.Reading.{parted};
 ghost use Rattle.gv_value.specs.TypeText.{type_of};
@@ -9,8 +9,9 @@ use crate::error::DecodeError;
 use gv_value::{GvType, TypeError};
 use std::alloc::Global;
 
-/// The bytes of the value in a variant, and the type string of its type: what stands before the
-/// last zero byte, and after it. Neither is looked at.
+/// Returns the bytes of the value in a variant, and the type string of its type: the bytes before
+/// the last zero byte, and those after it. Checks neither of them. `NotNormal` if there is no zero
+/// byte.
 pub fn variant_parts(bytes: &[u8]) -> Result<(&[u8], &[u8]), DecodeError>
     ensures { Gives (λ p. (p.0.now, p.1.now)) result (parted bytes.now) }
 {
@@ -24,7 +25,7 @@ pub fn variant_parts(bytes: &[u8]) -> Result<(&[u8], &[u8]), DecodeError>
     Err(DecodeError::NotNormal)
 }
 
-/// The type that a type string is.
+/// Reads a type from its type string. `NotNormal` if it isn't one valid type.
 pub fn type_in(alloc: Global, text: &[u8]) -> Result<GvType, DecodeError>
     ensures { Gives shape_of result (type_of text.now) }
 {

@@ -1,4 +1,4 @@
-//! Bytes and numbers that are added.
+//! Appending bytes and numbers, up to the limit of 16 MiB.
 ghost use Rattle.std.specs.Prelude.{◌≡◌, ◌≤◌, ◌+◌, vec_len};
 ghost use Rattle.gv_value.specs.declared.limits.TheConstants.{MOST_BYTES};
 ghost use Rattle.gv_value.specs.Bytes.{le_bytes, zeros};
@@ -8,7 +8,7 @@ use crate::error::EncodeError;
 use byteorder::{ByteOrder, LittleEndian};
 use gv_value::MOST_BYTES;
 
-/// How many bytes may still be added.
+/// Returns the number of bytes that may still be appended.
 pub fn room_left(out: &Vec<u8>) -> usize
     requires { vec_len out.now ≤ MOST_BYTES }
     ensures { result + vec_len out.now ≡ MOST_BYTES }
@@ -16,7 +16,7 @@ pub fn room_left(out: &Vec<u8>) -> usize
     MOST_BYTES as usize - out.len()
 }
 
-/// Adds bytes.
+/// Appends bytes. Errs with `TooLong` if the whole would be above 16 MiB.
 pub fn append(out: &mut Vec<u8>, bytes: &[u8]) -> Result<(), EncodeError>
     requires { vec_len out.old ≤ MOST_BYTES }
     ensures { Adds result out.old.items out.new.items bytes.now }
@@ -28,7 +28,7 @@ pub fn append(out: &mut Vec<u8>, bytes: &[u8]) -> Result<(), EncodeError>
     Ok(())
 }
 
-/// Adds zero bytes.
+/// Appends zero bytes. Errs with `TooLong` if the whole would be above 16 MiB.
 pub fn append_zeros(out: &mut Vec<u8>, count: usize) -> Result<(), EncodeError>
     requires { vec_len out.old ≤ MOST_BYTES }
     ensures { Adds result out.old.items out.new.items (zeros count) }
@@ -41,7 +41,8 @@ pub fn append_zeros(out: &mut Vec<u8>, count: usize) -> Result<(), EncodeError>
     Ok(())
 }
 
-/// Adds the lowest bytes of a number, the lowest first.
+/// Appends the lowest `size` bytes of a number, in little-endian order. Errs with `TooLong` if the
+/// whole would be above 16 MiB.
 pub fn append_number(out: &mut Vec<u8>, number: u64, size: usize) -> Result<(), EncodeError>
     requires room { vec_len out.old ≤ MOST_BYTES }
     requires small { size ≤ 8 }

@@ -1,4 +1,4 @@
-//! Bytes of basic values.
+//! The bytes of basic values.
 ghost use Rattle.std.specs.Prelude.{◌≡◌, ◌≤◌, ◌++◌, ◌∷◌, [], ℕ, vec_len, IsTrue};
 ghost use Rattle.gv_value.specs.declared.limits.TheConstants.{MOST_BYTES};
 ghost use Rattle.gv_value.specs.Basics.{form_of};
@@ -11,7 +11,7 @@ use crate::appending::{append, append_number};
 use crate::error::EncodeError;
 use gv_value::{Basic, Content, Parts};
 
-/// Adds a number without a sign.
+/// Appends a byte or an unsigned integer, in the width of its type.
 fn append_unsigned(out: &mut Vec<u8>, of: Basic, number: u64) -> Result<(), EncodeError>
     requires room { vec_len out.old ≤ MOST_BYTES }
     requires held { IsHeldContent (form_of of) (Content.Number number) }
@@ -26,7 +26,7 @@ fn append_unsigned(out: &mut Vec<u8>, of: Basic, number: u64) -> Result<(), Enco
     }
 }
 
-/// Adds a number with a sign.
+/// Appends a signed integer or a handle, in the width of its type.
 fn append_signed(out: &mut Vec<u8>, of: Basic, number: i64) -> Result<(), EncodeError>
     requires room { vec_len out.old ≤ MOST_BYTES }
     requires held { IsHeldContent (form_of of) (Content.Integer number) }
@@ -40,7 +40,7 @@ fn append_signed(out: &mut Vec<u8>, of: Basic, number: i64) -> Result<(), Encode
     }
 }
 
-/// Adds a text and a zero byte.
+/// Appends a text and a zero byte.
 fn append_text(out: &mut Vec<u8>, text: &str) -> Result<(), EncodeError>
     requires { vec_len out.old ≤ MOST_BYTES }
     ensures { Adds result out.old.items out.new.items (text.now ++ 0 ∷ []) }
@@ -49,7 +49,8 @@ fn append_text(out: &mut Vec<u8>, text: &str) -> Result<(), EncodeError>
     append(out, &[0])
 }
 
-/// Adds a value of a basic type.
+/// Appends the bytes of a value of a basic type. Errs with `TooLong` if the whole would be above 16
+/// MiB.
 pub fn write_basic(out: &mut Vec<u8>, of: Basic, parts: Parts<'_>) -> Result<(), EncodeError>
     requires room { vec_len out.old ≤ MOST_BYTES }
     requires held { IsHeld parts }

@@ -1,4 +1,4 @@
-//! The bytes of a value.
+//! The serialised form of a value.
 ghost use Rattle.std.specs.Prelude.{◌≡◌, ◌<◌, ◌↔◌, ◌⊎◌, IsTrue, IfOk, Err, false, length};
 ghost use Rattle.gv_value.specs.declared.limits.TheConstants.{MOST_BYTES};
 ghost use Rattle.gv_value.specs.Spelled.{Spelled};
@@ -11,8 +11,8 @@ use fp_base::Blob;
 use gv_value::{GvType, GvValue, MOST_DEPTH, fits, plan_of};
 use std::alloc::Global;
 
-/// The bytes of a value of a type, in the normal form of the GVariant specification. A value has at
-/// most 16 MiB.
+/// Serialises a value of a type, in the normal form of the GVariant specification. Errs with
+/// `NotOfType` if the value isn't of the type, and with `TooLong` if its bytes are above 16 MiB.
 pub fn encode(alloc: Global, of: &GvType, value: &GvValue) -> Result<Blob, EncodeError>
     ensures spelled { IfOk result (λ bytes. Spelled (shape_of of.now) (plain value.now) bytes) }
     ensures not_of_type { (result ≡ Err EncodeError.NotOfType)
@@ -21,7 +21,7 @@ pub fn encode(alloc: Global, of: &GvType, value: &GvValue) -> Result<Blob, Encod
         → IsTrue (is_of_type (shape_of of.now) (plain value.now))
         × (MOST_BYTES < length (spelling (plain value.now) (shape_of of.now))) }
 
-    // Before the bytes are seen to be too many, memory may run out.
+    // Memory may run out before the bytes are known to be too many.
     ensures long { IsTrue (is_of_type (shape_of of.now) (plain value.now))
         → MOST_BYTES < length (spelling (plain value.now) (shape_of of.now))
         → (result ≡ Err EncodeError.TooLong) ⊎ (result ≡ Err EncodeError.NoMemory) }

@@ -1,4 +1,4 @@
-//! Why a value is not written.
+//! The error of serialising a value.
 ghost use Rattle.std.specs.Prelude.{◌≡◌};
 ghost use Rattle.gv_encode.specs.declared.error.EncodeError.TheVariants.{NoMemory};
 
@@ -6,12 +6,12 @@ use std::alloc::{AllocError, AllocFailed};
 use std::error::Error;
 use std::fmt;
 
-/// Why a value could not be written.
+/// The reason why a value could not be serialised.
 #[derive(Clone, Copy, Debug, PartialEq, Eq)]
 pub enum EncodeError {
-    /// It is not of the type.
+    /// The value is not of the type.
     NotOfType,
-    /// Its bytes are more than 16 MiB.
+    /// The bytes of the value are more than 16 MiB.
     TooLong,
     /// Memory ran out.
     NoMemory,

@@ -1,4 +1,4 @@
-//! Offsets and fill.
+//! Framing offsets and padding at the end of tuples.
 ghost use Rattle.std.specs.Prelude.{◌≡◌, ◌≤◌, ◌<◌, ◌+◌, ◌-◌, ◌++◌, [], ℕ, Option, length, vec_len, IsTrue, OnOk, reverse};
 ghost use Rattle.gv_value.specs.declared.limits.TheConstants.{MOST_BYTES};
 ghost use Rattle.gv_value.specs.Capped.{capped_size};
@@ -12,7 +12,9 @@ use crate::error::EncodeError;
 use gv_value::{Plan, width};
 use std::alloc::AllocError;
 
-/// Adds offsets after a body that begins at `start`, each in as many bytes as they all need.
+/// Appends the framing offsets of a container that begins at `start`, after its body. Each has the
+/// smallest width that fits the whole container. Errs with `TooLong` if the whole would be above 16
+/// MiB.
 pub fn append_offsets(out: &mut Vec<u8>, start: usize, offsets: &[usize]) -> Result<(), EncodeError>
     requires room { vec_len out.old ≤ MOST_BYTES }
     requires inside { start ≤ vec_len out.old }
@@ -29,8 +31,8 @@ pub fn append_offsets(out: &mut Vec<u8>, start: usize, offsets: &[usize]) -> Res
     Ok(())
 }
 
-/// Notes where a member ends, if an offset says so: the member has no fixed size and is not the
-/// last one.
+/// Adds the end of a tuple's member to the ends that become offsets, if the member needs one: it
+/// has no fixed size and isn't the last.
 pub fn note_end(
     ends: &mut Vec<usize>,
     end: usize,
@@ -47,8 +49,9 @@ pub fn note_end(
     Ok(())
 }
 
-/// Adds what stands after the members of a tuple: zero bytes up to its fixed size, or offsets, the
-/// last one first.
+/// Appends the bytes after the members of a tuple: zero bytes up to the tuple's fixed size, or its
+/// offsets, that of the last member first. `ends` has the offsets in the members' order. Errs with
+/// `TooLong` if the whole would be above 16 MiB.
 pub fn close(
     out: &mut Vec<u8>,
     start: usize,

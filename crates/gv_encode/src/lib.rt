@@ -1,4 +1,4 @@
-//! Writes values of GVariant as bytes, in normal form.
+//! Serialises values of GVariant, in normal form.
 #![tactic(auto)]
 
 mod appending;

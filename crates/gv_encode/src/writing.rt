@@ -1,4 +1,4 @@
-//! Bytes of values.
+//! The bytes of values of every type.
 ghost use Rattle.std.specs.Prelude.{◌≡◌, ◌≤◌, ◌-◌, ◌++◌, [], ℕ, suc, None, vec_len, IsTrue, IfOk};
 ghost use Rattle.std.specs.List.{concat};
 ghost use Rattle.gv_value.specs.declared.limits.TheConstants.{MOST_BYTES};
@@ -21,7 +21,8 @@ use crate::framing::{append_offsets, close, note_end};
 use gv_value::{Extent, GvValue, Parts, Plan, padding, plan_of, push_type};
 use std::alloc::Global;
 
-/// Adds the bytes of a value of a type, which is at most `room` deep.
+/// Appends the bytes of a value of the plan's type, which nests at most `room` deep. Errs with
+/// `TooLong` if the whole would be above 16 MiB.
 #[cycle(write)]
 pub fn write(
     alloc: Global,
@@ -56,7 +57,7 @@ pub fn write(
     }
 }
 
-/// Adds a variant: what stands in it, a zero byte and its type string.
+/// Appends a variant: the bytes of its value, a zero byte and its type string.
 #[cycle(write)]
 fn write_variant(
     alloc: Global,
@@ -79,7 +80,7 @@ fn write_variant(
     append(out, &text)
 }
 
-/// Adds an array.
+/// Appends an array.
 #[cycle(write)]
 fn write_array(
     alloc: Global,
@@ -106,7 +107,7 @@ fn write_array(
     }
 }
 
-/// Adds elements, one after the other.
+/// Appends elements, one after the other.
 #[cycle(write)]
 fn write_row(
     alloc: Global,
@@ -128,7 +129,8 @@ fn write_row(
     Ok(())
 }
 
-/// Adds elements of variable size, and where each ends.
+/// Appends elements without a fixed size, each after its padding, and an offset for the end of
+/// each.
 #[cycle(write)]
 fn write_framed(
     alloc: Global,
@@ -154,7 +156,7 @@ fn write_framed(
     append_offsets(out, start, &ends)
 }
 
-/// Adds a child of a container that begins at `start`: the padding before it, and its bytes.
+/// Appends a child of a container that begins at `start`: the padding before it, and its bytes.
 #[cycle(write)]
 fn write_placed(
     alloc: Global,
@@ -177,7 +179,7 @@ fn write_placed(
     write(alloc, out, plan, item, room)
 }
 
-/// Adds a maybe. After a child of variable size stands a zero byte.
+/// Appends a maybe: nothing if it is empty. A zero byte follows a child without a fixed size.
 #[cycle(write)]
 fn write_maybe(
     alloc: Global,
@@ -206,7 +208,7 @@ fn write_maybe(
     }
 }
 
-/// Adds a tuple.
+/// Appends a tuple.
 #[cycle(write)]
 fn write_tuple(
     alloc: Global,
@@ -233,7 +235,8 @@ fn write_tuple(
     close(out, start, run.filled().size, ends)
 }
 
-/// Adds the members of a tuple, and says which offsets belong after them, the last first.
+/// Appends the members of a tuple, each after its padding. Returns the ends that become offsets, in
+/// the order of the members.
 #[cycle(write)]
 fn write_members(
     alloc: Global,
@@ -270,7 +273,7 @@ fn write_members(
     Ok(ends)
 }
 
-/// Adds a dictionary entry, which is a tuple of two.
+/// Appends a dictionary entry, which is serialised as a tuple of two.
 #[cycle(write)]
 fn write_entry(
     alloc: Global,

@@ -1,4 +1,4 @@
-//! What bytes are read as, in normal form alone.
+//! Decoding of bytes, which must be in normal form.
 
 use crate::rows::agree;
 use crate::value::parsed;
@@ -8,7 +8,7 @@ use std::alloc::Global;
 use std::panic::Expect;
 use std::process::Abort;
 
-/// The value of a type string that bytes are read as.
+/// Decodes bytes as a value of the type with this type string.
 fn value_of(
     rt: &impl Abort,
     alloc: Global,
@@ -21,7 +21,7 @@ fn value_of(
     read
 }
 
-/// Whether these bytes are read as themselves.
+/// Returns whether bytes decode as the array of themselves.
 fn reads_bytes(rt: &impl Abort, alloc: Global, bytes: &[u8]) -> bool {
     match value_of(rt, alloc, "ay", bytes) {
         Ok(GvValue::Bytes(kept)) => kept.as_slice() == bytes,
@@ -29,7 +29,7 @@ fn reads_bytes(rt: &impl Abort, alloc: Global, bytes: &[u8]) -> bool {
     }
 }
 
-/// Whether these bytes are read as a tuple of this text and this number.
+/// Returns whether bytes decode as a tuple of this text and this number.
 fn reads_pair(rt: &impl Abort, alloc: Global, bytes: &[u8], letters: &str, number: i32) -> bool {
     let value = value_of(rt, alloc, "(si)", bytes).expect(rt, "a value");
     let is_so = match &value {
@@ -54,15 +54,15 @@ fn reads_values(rt: HostRuntime) {
     );
 }
 
-/// Type strings, and bytes that are no value of the type in normal form.
+/// Type strings, and bytes that aren't a value of the type in normal form.
 const REFUSED: [(&str, &[u8]); 7] = [
-    // the text lacks its zero byte
+    // The text lacks its zero byte.
     ("(si)", b"foo\0\xff\xff\xff\xff\x03"),
-    // a padding byte isn't zero
+    // A padding byte isn't zero.
     ("(yu)", b"\x01\0\0\x01\x02\0\0\0"),
-    // the second offset runs backwards
+    // The second offset is less than the first.
     ("as", b"a\0b\0\x03\x02\x04"),
-    // an offset more than there are members
+    // There is one more offset than the tuple needs.
     ("(ys)", b"\x01a\0\x03"),
     ("()", b""),
     ("b", b"\x02"),
@@ -72,7 +72,8 @@ const REFUSED: [(&str, &[u8]); 7] = [
 /// The letters of two texts.
 const LETTERS: [u8; 252] = [b'a'; 252];
 
-/// Two texts of 200 and of 52 letters, with these bytes as their offset.
+/// Returns the bytes of a tuple of two texts, of 200 and 52 letters, with these bytes as the
+/// offset.
 fn two_texts(rt: &impl Abort, alloc: Global, offset: &[u8]) -> Vec<u8> {
     let (first, second) = LETTERS.split_at(200);
     [first, b"\0", second, b"\0", offset]
@@ -80,7 +81,7 @@ fn two_texts(rt: &impl Abort, alloc: Global, offset: &[u8]) -> Vec<u8> {
         .expect(rt, "memory")
 }
 
-/// An offset has one byte where that is enough.
+/// Also checks that an offset has one byte if that is enough.
 #[test]
 fn refuses_all_but_the_normal_form(rt: HostRuntime) {
     let alloc = rt.alloc();
@@ -94,7 +95,7 @@ fn refuses_all_but_the_normal_form(rt: HostRuntime) {
     assert!(rt; value_of(&rt, alloc, "(ss)", &wide).err() == Some(DecodeError::NotNormal));
 }
 
-/// 16 MiB are read, and no more.
+/// Checks that 16 MiB are decoded, and not one byte more.
 #[test]
 fn refuses_more_than_16_mib(rt: HostRuntime) {
     let bytes = vec![in rt.alloc(); 0; 0x100_0000].expect(&rt, "memory");

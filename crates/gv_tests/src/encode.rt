@@ -1,4 +1,4 @@
-//! The bytes that values are written as.
+//! Encoding of values.
 
 use crate::value::parsed;
 use fp_base::{Blob, Text};
@@ -8,7 +8,7 @@ use std::alloc::Global;
 use std::panic::Expect;
 use std::process::Abort;
 
-/// The bytes that a value of a type string is written as.
+/// Encodes a value of the type with this type string.
 pub fn written(
     rt: &impl Abort,
     alloc: Global,
@@ -22,18 +22,18 @@ pub fn written(
     bytes
 }
 
-/// Whether a value of a type string is written as these bytes.
+/// Returns whether a value of the type with this type string is encoded as these bytes.
 fn is_written(rt: &impl Abort, alloc: Global, of: &str, value: GvValue, want: &[u8]) -> bool {
     let bytes = written(rt, alloc, of, value).expect(rt, "a value of the type");
     bytes.as_slice() == want
 }
 
-/// The text in a value.
+/// Makes the value of a text.
 fn string(rt: &impl Abort, alloc: Global, letters: &str) -> GvValue {
     GvValue::Str(Text::from_str(alloc, letters).expect(rt, "memory"))
 }
 
-/// These texts.
+/// Makes the values of texts.
 pub fn texts(rt: &impl Abort, alloc: Global, words: &[&str]) -> Vec<GvValue> {
     let mut texts = Vec::new(alloc);
     for word in words {
@@ -42,27 +42,27 @@ pub fn texts(rt: &impl Abort, alloc: Global, words: &[&str]) -> Vec<GvValue> {
     texts
 }
 
-/// The tuple of `foo` and -1.
+/// Makes the tuple of `foo` and -1.
 fn pair(rt: &impl Abort, alloc: Global) -> GvValue {
     let mut members = texts(rt, alloc, &["foo"]);
     members.push(GvValue::Int32(-1)).expect(rt, "memory");
     GvValue::Tuple(members)
 }
 
-/// The number 1 in a variant.
+/// Makes a variant with the number 1.
 fn one(rt: &impl Abort, alloc: Global) -> GvValue {
     let of = Box::new(alloc, GvType::Uint32).expect(rt, "memory");
     let value = Box::new(alloc, GvValue::Uint32(1)).expect(rt, "memory");
     GvValue::Variant(of, value)
 }
 
-/// A maybe with this text in it.
+/// Makes a maybe with this text in it.
 fn just(rt: &impl Abort, alloc: Global, letters: &str) -> GvValue {
     let value = Box::new(alloc, string(rt, alloc, letters)).expect(rt, "memory");
     GvValue::Maybe(Some(value))
 }
 
-/// Whether tuples, maybes, variants and arrays of texts are written as GLib writes them.
+/// Checks that tuples, maybes, variants and arrays of texts are encoded as GLib encodes them.
 #[test]
 fn writes(rt: HostRuntime) {
     let alloc = rt.alloc();
@@ -85,12 +85,12 @@ fn writes(rt: HostRuntime) {
     assert!(rt; is_written(&rt, alloc, "as", words, bytes));
 }
 
-/// The array of this number of bytes.
+/// Makes the array of this number of zero bytes.
 fn bytes(rt: &impl Abort, alloc: Global, count: usize) -> GvValue {
     GvValue::Bytes(Blob::from_vec(vec![in alloc; 0; count].expect(rt, "memory")))
 }
 
-/// 16 MiB are written, and no more.
+/// Checks that 16 MiB are encoded, and not one byte more.
 #[test]
 fn refuses_other_types_and_long_values(rt: HostRuntime) {
     let alloc = rt.alloc();

@@ -1,7 +1,7 @@
 //! Examples of the GVariant specification.
 
-/// The examples of the GVariant specification that it gives whole, in the form of the other
-/// vectors.
+/// The examples of which the GVariant specification gives all bytes, in the form of `VECTORS`: a
+/// line `yes TYPE HEX` for each.
 pub const EXAMPLES: &str = "\
 yes s 68656c6c6f20776f726c6400\n\
 yes ms 68656c6c6f20776f726c640000\n\

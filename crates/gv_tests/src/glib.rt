@@ -1,4 +1,4 @@
-//! Bytes that GLib takes or refuses, and the sizes at which its offsets widen.
+//! Bytes that GLib takes or refuses, and the sizes at which its offsets get wider.
 
 use crate::encode::{texts, written};
 use crate::examples::EXAMPLES;
@@ -12,7 +12,7 @@ use std::alloc::Global;
 use std::panic::Expect;
 use std::process::Abort;
 
-/// Whether bytes are read exactly where they are in normal form, and are written again as they
+/// Returns whether bytes decode exactly if they are in normal form, and are encoded again as they
 /// were.
 fn is_read(rt: &impl Abort, alloc: Global, normal: bool, of: &GvType, bytes: &[u8]) -> bool {
     match decode(alloc, of, bytes) {
@@ -25,7 +25,8 @@ fn is_read(rt: &impl Abort, alloc: Global, normal: bool, of: &GvType, bytes: &[u
     }
 }
 
-/// The same of a type string, and whether they pass exactly where they are in normal form.
+/// Returns whether bytes pass the check for the normal form of a type exactly if they are in it,
+/// decode exactly then, and are encoded again as they were.
 pub fn agrees(rt: &impl Abort, alloc: Global, normal: bool, of: &str, bytes: &[u8]) -> bool {
     let of = parsed(rt, alloc, of);
     let checked = check_normal(alloc, &of, bytes);
@@ -38,7 +39,7 @@ pub fn agrees(rt: &impl Abort, alloc: Global, normal: bool, of: &str, bytes: &[u
     is_so
 }
 
-/// Whether a line of the vectors is right.
+/// Returns whether decoding agrees with GLib on a line of the vectors.
 fn line_agrees(rt: &impl Abort, alloc: Global, line: &str) -> bool {
     let (word, rest) = line.split_once(' ').expect(rt, "a word");
     let (of, digits) = rest.split_once(' ').expect(rt, "a type");
@@ -55,7 +56,7 @@ fn reads_and_writes_as_glib_does(rt: HostRuntime) {
     }
 }
 
-/// Whether a value is written in bytes of this size with this ending, and is read again.
+/// Returns whether a value is encoded in this number of bytes, with this ending, and decodes again.
 fn is_written(
     rt: &impl Abort,
     alloc: Global,
@@ -70,7 +71,8 @@ fn is_written(
         && agrees(rt, alloc, true, of, bytes.as_slice())
 }
 
-/// The letters of two texts, the bytes that they are written in, and how those end.
+/// The numbers of letters of two texts, the number of bytes of their tuple, and the ending of these
+/// bytes.
 const PAIRS: [(usize, usize, usize, &[u8]); 4] = [
     (200, 52, 255, b"a\0\xc9"),
     (200, 53, 257, b"a\0\xc9\0"),
@@ -78,7 +80,8 @@ const PAIRS: [(usize, usize, usize, &[u8]); 4] = [
     (65000, 532, 65538, b"a\0\xe9\xfd\0\0"),
 ];
 
-/// How many texts an array has, the bytes that it is written in, and how those end.
+/// The number of texts in an array, the number of bytes of the array, and the ending of these
+/// bytes.
 const ARRAYS: [(usize, usize, &[u8]); 4] = [
     (255, 1020, b"\xfc\x01\xfe\x01"),
     (256, 1024, b"\xfe\x01\0\x02"),

@@ -1,4 +1,4 @@
-//! Tests of GVariant: types and values, and their bytes as GLib writes them.
+//! Tests of GVariant: types, values, and their bytes as GLib encodes them.
 #![tactic(auto)]
 
 #[cfg(test)]

@@ -1,4 +1,4 @@
-//! Long arrays, tuples and variants, taken apart.
+//! Splitting of long arrays, tuples and variants into their parts.
 
 use crate::encode::{texts, written};
 use crate::glib::agrees;
@@ -10,7 +10,7 @@ use std::alloc::Global;
 use std::panic::Expect;
 use std::process::Abort;
 
-/// Whether bytes have this number of children, each of them these bytes.
+/// Returns whether bytes have this number of children, each of them these bytes.
 fn has_children(
     rt: &impl Abort,
     alloc: Global,
@@ -30,13 +30,14 @@ fn has_children(
     found.len() == count
 }
 
-/// Whether a child's bytes, this number of times, are as many children, and a value in normal form.
+/// Returns whether this number of copies of a child's bytes have as many children, and are a value
+/// in normal form.
 fn is_long(rt: &impl Abort, alloc: Global, of: &str, each: &[u8], count: usize) -> bool {
     let bytes = each.repeat(alloc, count).expect(rt, "memory");
     has_children(rt, alloc, of, &bytes, count, each) && agrees(rt, alloc, true, of, &bytes)
 }
 
-/// The types of arrays, the bytes of one element, and how many there are.
+/// The types of arrays, the bytes of one element, and the number of elements.
 const ARRAYS: [(&str, &[u8], usize); 3] = [
     ("ay", b"\x07", 100 << 10),
     ("ai", b"\x01\0\0\0", 1_100),
@@ -57,7 +58,8 @@ fn many_children(rt: HostRuntime) {
     assert!(rt; has_children(&rt, alloc, "as", bytes.as_slice(), 1_100, b"a\0"));
 }
 
-/// Whether a variant has its value in these bytes, and its type string in those.
+/// Returns whether a variant has its value in the bytes `inside`, and its type string in the bytes
+/// `text`.
 fn has_parts(bytes: &[u8], inside: &[u8], text: &[u8]) -> bool {
     match variant_parts(bytes) {
         Ok((value, of)) => value == inside && of == text,
@@ -65,7 +67,7 @@ fn has_parts(bytes: &[u8], inside: &[u8], text: &[u8]) -> bool {
     }
 }
 
-/// 100 KiB stand before the zero byte, and 100 KiB after it.
+/// The variant has 100 KiB before the zero byte, and 100 KiB after it.
 #[test]
 fn long_variant(rt: HostRuntime) {
     let part = vec![in rt.alloc(); b'a'; 100 << 10].expect(&rt, "memory");

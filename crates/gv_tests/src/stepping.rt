@@ -1,4 +1,4 @@
-//! Arrays whose elements are cut one after another.
+//! Splitting arrays into their elements, one after another.
 ghost use Rattle.gv_decode.specs.Stepped.{IsOpen};
 
 use crate::glib::agrees;
@@ -9,7 +9,7 @@ use std::alloc::Global;
 use std::panic::Expect;
 use std::process::Abort;
 
-/// Whether exactly these elements are left, each of these bytes.
+/// Returns whether exactly these elements are left.
 fn are_left(elements: Elements<'_>, wanted: &[&[u8]]) -> bool
     requires { IsOpen elements }
 {
@@ -23,7 +23,7 @@ fn are_left(elements: Elements<'_>, wanted: &[&[u8]]) -> bool
     matches!(next_element(left), Ok(None))
 }
 
-/// Whether an array of this type has exactly these elements.
+/// Returns whether an array of this type has exactly these elements.
 fn has_elements(rt: &impl Abort, alloc: Global, of: &str, bytes: &[u8], wanted: &[&[u8]]) -> bool {
     let of = parsed(rt, alloc, of);
     let found = array_elements(alloc, &of, bytes);
@@ -34,7 +34,7 @@ fn has_elements(rt: &impl Abort, alloc: Global, of: &str, bytes: &[u8], wanted: 
     }
 }
 
-/// The types of arrays, their bytes as GLib writes them, and the bytes of each element as GLib
+/// The types of arrays, their bytes as GLib encodes them, and the bytes of each element as GLib
 /// finds them.
 const ARRAYS: [(&str, &[u8], &[&[u8]]); 4] = [
     (
@@ -43,7 +43,7 @@ const ARRAYS: [(&str, &[u8], &[&[u8]]); 4] = [
         &[b"a\0\x01\x02\x02", b"foo\0\x04", b"\0\xff\x01"],
     ),
     ("a(say)", b"", &[]),
-    // three bytes of padding before the second element
+    // Three bytes of padding are before the second element.
     (
         "a(su)",
         b"a\0\0\0\x07\0\0\0\x02\0\0\0longer\0\0\x08\0\0\0\x07\t\x19",
@@ -63,13 +63,14 @@ fn elements_come_one_after_another(rt: HostRuntime) {
     }
 }
 
-/// A row of a text and of bytes.
+/// The bytes of an element with a text and two bytes.
 const ROW: &[u8] = b"a\0\x07\x02";
 
-/// How many rows a long array has.
+/// The number of elements of a long array.
 const COUNT: usize = 100_000;
 
-/// An array of so many rows, as GLib writes it: the rows, and then where each ends, in four bytes.
+/// Returns the bytes of an array of `COUNT` elements, as GLib encodes it: the elements, and then
+/// the end of each as a number of four bytes.
 fn long_array(rt: &impl Abort, alloc: Global) -> Vec<u8> {
     let mut bytes = ROW.repeat(alloc, COUNT).expect(rt, "memory");
     let mut end: u32 = 0;
@@ -91,7 +92,8 @@ fn many_elements_come_one_after_another(rt: HostRuntime) {
     assert!(rt; agrees(&rt, alloc, true, "a(say)", &bytes));
 }
 
-/// The bytes of an element, which ends after 10 bytes, and where the next one would end after 5.
+/// The bytes of an element of 10 bytes. In the test, the offset of the next element is 5, which is
+/// before its start.
 const FIRST: &[u8] = b"a\0\x01\x02\x02foo\0\x04";
 
 #[test]
@@ -107,7 +109,7 @@ fn a_later_step_finds_what_is_amiss(rt: HostRuntime) {
     assert!(rt; matches!(next_element(others), Err(DecodeError::NotNormal)));
 }
 
-/// A tuple has no elements, and more than 16 MiB are too long.
+/// Checks that a tuple is refused, and more than 16 MiB as too long.
 #[test]
 fn refuses_what_is_no_array(rt: HostRuntime) {
     let of = parsed(&rt, rt.alloc(), "(ss)");

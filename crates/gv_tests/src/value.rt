@@ -1,4 +1,4 @@
-//! Type strings, the sizes and alignments of types, and which values fit them.
+//! Type strings, the sizes and alignments of types, and the values that fit them.
 
 use crate::rows::agree;
 use fp_base::Text;
@@ -7,12 +7,12 @@ use std::alloc::Global;
 use std::panic::Expect;
 use std::process::Abort;
 
-/// The type of a type string.
+/// Parses a type string.
 pub fn parsed(rt: &impl Abort, alloc: Global, text: &str) -> GvType {
     GvType::parse(alloc, text.as_bytes()).expect(rt, "a type string")
 }
 
-/// Type strings, the size of their values where all have one, and their alignment.
+/// Type strings, the size of their values in bytes if it is fixed, and their alignment.
 const SIZES: [(&str, Option<u64>, u64); 7] = [
     ("(yu)", Some(8), 4),
     ("(uy)", Some(8), 4),
@@ -23,7 +23,7 @@ const SIZES: [(&str, Option<u64>, u64); 7] = [
     ("(ni(yd))", Some(24), 8),
 ];
 
-/// Whether a type has this size and this alignment.
+/// Returns whether a type has this size and this alignment.
 fn is_sized(rt: &impl Abort, alloc: Global, text: &str, size: Option<u64>, align: u64) -> bool {
     let of = parsed(rt, alloc, text);
     let is_so = size_of(&of) == size && align_of(&of) == align;
@@ -47,7 +47,8 @@ const TYPES: [(&str, bool); 12] = [
     ("z", false),
 ];
 
-/// Whether the text is a type string that is written as it was read, or is none.
+/// Returns whether parsing a text succeeds exactly if it is a type string, and the type has this
+/// text again.
 fn is_taken(rt: &impl Abort, alloc: Global, text: &str, good: bool) -> bool {
     match GvType::parse(alloc, text.as_bytes()) {
         Ok(of) => {
@@ -59,7 +60,7 @@ fn is_taken(rt: &impl Abort, alloc: Global, text: &str, good: bool) -> bool {
     }
 }
 
-/// How many arrays stand around a type, its letter, and whether that is a type string.
+/// The number of arrays around a type, the type's letter, and whether the text is a type string.
 const NESTED: [(usize, &str, bool); 4] = [
     (64, "s", true),
     (65, "s", false),
@@ -67,7 +68,7 @@ const NESTED: [(usize, &str, bool); 4] = [
     (64, "v", false),
 ];
 
-/// A type string of this one inside this number of arrays.
+/// Returns a type string with this one inside this number of arrays.
 fn nested(rt: &impl Abort, alloc: Global, count: usize, inside: &str) -> String {
     let mut text = "a".repeat(alloc, count).expect(rt, "memory");
     text.push_str(inside).expect(rt, "memory");
@@ -89,13 +90,14 @@ fn types(rt: HostRuntime) {
     }
 }
 
-/// A type string of a tuple of this number of bytes.
+/// Returns the type string of a tuple with this number of bytes.
 pub fn long_tuple(rt: &impl Abort, alloc: Global, count: usize) -> String {
     let members = "y".repeat(alloc, count).expect(rt, "memory");
     ["(", &members, ")"].concat(alloc).expect(rt, "memory")
 }
 
-/// Whether the type of a tuple of 10,000 bytes is added as its text, measured and planned.
+/// Returns whether the type of a tuple of 10,000 bytes has this text, has the right size, and can
+/// be planned.
 fn is_long(rt: &impl Abort, alloc: Global, text: &str) -> bool {
     let of = parsed(rt, alloc, text);
     let mut bytes = Vec::new(alloc);
@@ -107,14 +109,14 @@ fn is_long(rt: &impl Abort, alloc: Global, text: &str) -> bool {
     is_so
 }
 
-/// It is read, and written as it was read, too.
+/// Checks that a type string of 10,002 letters is parsed, and has its text again.
 #[test]
 fn large_types(rt: HostRuntime) {
     let text = long_tuple(&rt, rt.alloc(), 10_000);
     assert!(rt; is_long(&rt, rt.alloc(), &text) && is_taken(&rt, rt.alloc(), &text, true));
 }
 
-/// Whether a value is one of a type string's type.
+/// Returns whether a value is one of the type with this type string.
 fn is_one(rt: &impl Abort, alloc: Global, of: &str, value: GvValue) -> bool {
     let of = parsed(rt, alloc, of);
     let is_so = fits(&of, &value);

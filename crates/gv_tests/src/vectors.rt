@@ -1,7 +1,7 @@
-//! Bytes that GLib has judged.
+//! Bytes that were tested with GLib.
 
-/// What `scripts/gvariant_vectors.py 200 1` prints, with GLib 2.74: whether bytes are of a type in
-/// normal form.
+/// The output of `scripts/gvariant_vectors.py 200 1` with GLib 2.74. Each line `yes TYPE HEX` or
+/// `no TYPE HEX` says whether the bytes are a value of the type in normal form.
 pub const VECTORS: &str = "\
 no mv 006d7b677d00\n\
 no mb ff\n\

@@ -1,16 +1,17 @@
--- The basic types, and the bytes of their values (GVariant specification, "Serialisation of base
--- types").
+-- The basic types, and the serialised forms of their values (GVariant specification, "Serialisation
+-- of base types").
 use Rattle.std.specs.Int.{Width, w8, w16, w32, w64}
 use Rattle.gv_value.specs.declared.basic.Basic.{Basic}
 use Rattle.gv_value.specs.declared.basic.Basic.TheVariants as basics
 
--- the three kinds of text
+-- The three kinds of text
 pub data TextKind : Type 0 where
   string : TextKind
   object_path : TextKind
   signature : TextKind
 
--- how the values of a basic type are spelled
+-- A form in which the values of a basic type are serialised: a boolean, an integer of a width, a
+-- double or a text
 pub data Form : Type 0 where
   truth : Form
   unsigned : Width → Form
@@ -18,6 +19,7 @@ pub data Form : Type 0 where
   double : Form
   text : TextKind → Form
 
+-- The form in which the values of a basic type are serialised
 abbrev pub form_of : Basic → Form
 form_of basics.Bool = truth
 form_of basics.Byte = unsigned w8

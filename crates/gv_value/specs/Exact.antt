@@ -1,4 +1,4 @@
--- What holds of all types, values and bytes.
+-- The laws of all types, values and bytes.
 use Rattle.std.specs.Prelude.{◌≡◌, ℕ, ◌+◌, ◌≤◌, max, ◌↔◌, IsTrue, List, length, Some}
 use Rattle.gv_value.specs.declared.limits.TheConstants.{MOST_BYTES}
 use Rattle.gv_value.specs.Shape.{Shape, is_type}
@@ -8,32 +8,33 @@ use Rattle.gv_value.specs.Spelled.{SpelledWithin, Spelled}
 use Rattle.gv_value.specs.Spelling.{fits, spelling}
 use Rattle.gv_value.specs.Reading.{value_of}
 
--- a text is the type string of a type exactly where it reads as the type
+-- A text is read as a type if and only if it is the type string of that type, and the type is valid
 abbrev pub ReadsTypes : Type 0
 ReadsTypes = (text : List ℕ) (t : Shape) → (type_of text ≡ Some t)
     ↔ ((text ≡ type_text t) × IsTrue (is_type t))
 
--- bytes are a value of a type exactly where they read as the value
+-- Bytes are read as a value of a type if and only if they are the value's serialised form
 abbrev pub ReadsValues : Type 0
 ReadsValues =
     (t : Shape) (v : Tree) (bytes : List ℕ) → (value_of t bytes ≡ Some v) ↔ Spelled t v bytes
 
--- bytes are a value of a type exactly where the value is of the type and they are its spelling, of
--- at most 16 MiB
+-- Bytes are a value's serialised form if and only if the value is of the type, they are its
+-- spelling, and they have at most 16 MiB
 abbrev pub SpellsValues : Type 0
 SpellsValues = (t : Shape) (v : Tree) (bytes : List ℕ)
     → Spelled t v bytes ↔ (IsTrue (fits t v) × (bytes ≡ spelling v t) × (length bytes ≤ MOST_BYTES))
 
--- a value of a type has one spelling
+-- A value of a type has one serialised form
 abbrev pub HasOneSpelling : Type 0
 HasOneSpelling = (t : Shape) (v : Tree) (a b : List ℕ) → Spelled t v a → Spelled t v b → a ≡ b
 
--- a spelling has one value
+-- Bytes are the serialised form of at most one value of a type
 abbrev pub HasOneValue : Type 0
 HasOneValue =
     (t : Shape) (v w : Tree) (bytes : List ℕ) → Spelled t v bytes → Spelled t w bytes → v ≡ w
 
--- how deep a value is
+-- The depth of a value: 0 for a basic value; otherwise 1 more than the deepest value in it, and at
+-- least 1
 abbrev mutual
   pub depth : Tree → ℕ
   depth (Tree.leaf b content) = 0
@@ -44,11 +45,12 @@ abbrev mutual
   depth (Tree.tuple vs) = greatest_depth vs + 1
   depth (Tree.entry a b) = max (depth a) (depth b) + 1
 
+  -- The depth of the deepest value, or 0 without values
   pub greatest_depth : Trees → ℕ
   greatest_depth no_trees = 0
   greatest_depth (tree v vs) = max (depth v) (greatest_depth vs)
 
--- the bound on depth in the relation bounds the depth, and nothing else
+-- The number in `SpelledWithin` bounds the value's depth, and nothing else
 abbrev pub BoundsDepth : Type 0
 BoundsDepth = (n m : ℕ) (t : Shape) (v : Tree) (bytes : List ℕ) → SpelledWithin n t v bytes
     → (depth v ≤ n) × (depth v ≤ m → SpelledWithin m t v bytes)

@@ -1,9 +1,10 @@
--- The type that a `Kind` stands for.
+-- The type that a `Kind` represents.
 use Rattle.gv_value.specs.declared.kind.Kind.{Kind}
 use Rattle.gv_value.specs.declared.kind.Kind.TheVariants as kinds
 use Rattle.gv_value.specs.Shape.{Shape}
 use Rattle.gv_value.specs.Views.{shape_of, shapes_of}
 
+-- The type that a `Kind` represents
 abbrev pub kind_shape : Kind → Shape
 kind_shape (kinds.Basic b) = Shape.basic b
 kind_shape kinds.Variant = Shape.variant

@@ -5,6 +5,7 @@ use Rattle.gv_value.specs.declared.basic.Basic.TheVariants as basics
 use Rattle.gv_value.specs.declared.sign.Sign.{Sign}
 use Rattle.gv_value.specs.declared.sign.Sign.TheVariants as signs
 
+-- The character of a basic type, in ASCII: one of `bynqiuxthdsog`
 abbrev pub basic_letter : Basic → ℕ
 basic_letter basics.Bool = 98
 basic_letter basics.Byte = 121
@@ -20,7 +21,8 @@ basic_letter basics.Str = 115
 basic_letter basics.ObjectPath = 111
 basic_letter basics.Signature = 103
 
--- `v`, `a`, `m`, `(`, `)`, `{` and `}`
+-- The character with a meaning, in ASCII: that of a basic type, or one of `v`, `a`, `m`, `(`, `)`,
+-- `{` and `}`
 abbrev pub letter_of : Sign → ℕ
 letter_of (signs.Basic b) = basic_letter b
 letter_of signs.Variant = 118
@@ -31,11 +33,12 @@ letter_of signs.TupleClose = 41
 letter_of signs.EntryOpen = 123
 letter_of signs.EntryClose = 125
 
--- the sign of a list that has this letter
+-- The meaning among those of a list whose character this is
 abbrev pub sign_among : ℕ → List Sign → Option Sign
 sign_among letter [] = None
 sign_among letter (s ∷ ss) = if letter == letter_of s then Some s else sign_among letter ss
 
+-- All meanings of characters in type strings
 abbrev pub all_signs : List Sign
 all_signs =
     signs.Basic basics.Bool ∷ signs.Basic basics.Byte ∷ signs.Basic basics.Int16
@@ -46,11 +49,11 @@ all_signs =
     ∷ signs.Variant ∷ signs.Array ∷ signs.Maybe ∷ signs.TupleOpen ∷ signs.TupleClose
     ∷ signs.EntryOpen ∷ signs.EntryClose ∷ []
 
--- the sign that a letter stands for
+-- The meaning of a character in type strings, if it has one
 abbrev pub sign_of : ℕ → Option Sign
 sign_of letter = sign_among letter all_signs
 
--- the sign at the front, and the letters after it
+-- The meaning of the first character, and the characters after it
 abbrev pub sign_at : List ℕ → Option (Sign × List ℕ)
 sign_at [] = None
 sign_at (letter ∷ rest) = option_map (λ s. (s, rest)) (sign_of letter)

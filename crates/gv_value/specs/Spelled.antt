@@ -1,5 +1,5 @@
--- Which bytes are which value of a type (GVariant specification, "Serialisation", normal form
--- alone).
+-- The relation between the values of a type and their serialised forms (GVariant specification,
+-- "Serialisation"), in normal form only.
 use Rattle.std.specs.Prelude.{◌≡◌, ℕ, zero, suc, ◌-◌, ◌*◌, ◌^◌, ◌<◌, ◌≤◌, if◌then◌else◌, IsTrue, ⊤, FitsSigned, List, [], ◌∷◌, ◌++◌, length, Option, Some, None}
 use Rattle.std.specs.Int.{byte_len, cast_unsigned}
 use Rattle.std.specs.List.{concat}
@@ -13,7 +13,7 @@ use Rattle.gv_value.specs.Framing.{laid, ends, IsFramed, same_parts, tuple_body,
 use Rattle.gv_value.specs.Texts.{is_text}
 use Rattle.gv_value.specs.TypeText.{type_text}
 
--- the bytes of a value of a basic type
+-- The bytes are the serialised form of a basic value
 abbrev pub ContentSpelled : Form → Content → List ℕ → Type 0
 ContentSpelled Form.truth (Content.truth b) bytes = bytes ≡ (if b then 1 else 0) ∷ []
 ContentSpelled (Form.unsigned w) (Content.number n) bytes =
@@ -26,52 +26,54 @@ ContentSpelled (Form.text kind) (Content.text text) bytes =
     IsTrue (is_text kind text) × (bytes ≡ text ++ 0 ∷ [])
 ContentSpelled _ _ bytes = ⊥
 
--- Elements of fixed size stand one after the other. Others are padded to their alignment, with an
--- offset for each.
+-- The bytes are an array of these children. Elements of a fixed size follow one another directly.
+-- Others are padded to their alignment, and each has an offset.
 abbrev pub ArraySpelled : ℕ → Option ℕ → List (List ℕ) → List ℕ → Type 0
 ArraySpelled align (Some size) children bytes = bytes ≡ concat children
 ArraySpelled align None children bytes =
     let parts = same_parts align children in IsFramed (laid [] parts) (ends [] parts) bytes
 
--- A value of fixed size stands for itself. After another stands a zero byte.
+-- The bytes are a maybe with this child. A zero byte follows a child without a fixed size.
 abbrev pub JustSpelled : Option ℕ → List ℕ → List ℕ → Type 0
 JustSpelled (Some size) child bytes = bytes ≡ child
 JustSpelled None child bytes = bytes ≡ child ++ 0 ∷ []
 
--- A tuple of fixed size is filled with zero bytes to its size. Another has the offsets of its
--- members of variable size, but for the last member, in reverse order.
+-- The bytes are a tuple of these children. A tuple of a fixed size is filled with zero bytes to its
+-- size. Another tuple ends with the offsets of its members without a fixed size, except the last
+-- member, in reverse order.
 abbrev pub TupleSpelled : Option ℕ → Shapes → List (List ℕ) → List ℕ → Type 0
 TupleSpelled (Some size) ts children bytes =
     bytes ≡ tuple_body ts children ++ zeros (size - length (tuple_body ts children))
 TupleSpelled None ts children bytes =
     IsFramed (tuple_body ts children) (tuple_offsets ts children) bytes
 
--- the child's bytes, a zero byte, and the child's type string
+-- The bytes are a variant: the child's bytes, a zero byte, and the child's type string
 abbrev pub VariantSpelled : Shape → List ℕ → List ℕ → Type 0
 VariantSpelled t child bytes = IsTrue (is_type t) × (bytes ≡ child ++ 0 ∷ type_text t)
 
--- values and their bytes, one by one
+-- The values have these serialised forms, one by one
 abbrev pub AllSpelled : (Tree → List ℕ → Type 0) → Trees → List (List ℕ) → Type 0
 AllSpelled One no_trees [] = ⊤
 AllSpelled One (tree v vs) (child ∷ children) = One v child × AllSpelled One vs children
 AllSpelled One _ _ = ⊥
 
--- the same of values of these types
+-- The values of these types have these serialised forms, one by one
 abbrev pub EachSpelled : (Shape → Tree → List ℕ → Type 0) → Shapes → Trees → List (List ℕ) → Type 0
 EachSpelled One no_shapes no_trees [] = ⊤
 EachSpelled One (shape t ts) (tree v vs) (child ∷ children) =
     One t v child × EachSpelled One ts vs children
 EachSpelled One _ _ _ = ⊥
 
--- a key and a value, as two members
+-- The types of a key and a value, as those of two members
 abbrev pub two_shapes : Shape → Shape → Shapes
 two_shapes k v = shape k (shape v no_shapes)
 
+-- A key and a value, as two members
 abbrev pub two_trees : Tree → Tree → Trees
 two_trees a b = tree a (tree b no_trees)
 
--- The bytes are this value of this type, at most so deep: a basic value has depth 0, each other
--- value is 1 deeper than the deepest that stands in it, or has depth 1.
+-- The bytes are the serialised form of a value of a type that nests at most this deep. A basic
+-- value has depth 0; any other is 1 deeper than the deepest value in it, and has depth 1 at least.
 abbrev pub SpelledWithin : ℕ → Shape → Tree → List ℕ → Type 0
 SpelledWithin n (Shape.basic b) (Tree.leaf c content) bytes =
     (b ≡ c) × ContentSpelled (form_of b) content bytes
@@ -92,7 +94,7 @@ SpelledWithin (suc n) (Shape.entry k v) (Tree.entry a b) bytes =
     × TupleSpelled (size_of (Shape.entry k v)) (two_shapes k v) children bytes
 SpelledWithin _ _ _ bytes = ⊥
 
--- the bytes are this value of this type, and at most 16 MiB
+-- The bytes are the serialised form of this value of this valid type, and have at most 16 MiB
 pub record Spelled (t : Shape) (v : Tree) (bytes : List ℕ) : Type 0 where
   pub type : IsTrue (is_type t)
   pub value : SpelledWithin MOST_DEPTH t v bytes

@@ -1,19 +1,21 @@
--- Values, without where they lie in memory: two values are the same where their trees are.
+-- The values of GVariant, independent of their representation in memory: two values are equal if
+-- their trees are.
 use Rattle.std.specs.Prelude.{ℕ, ℤ, Bool, List, [], ◌∷◌}
 use Rattle.gv_value.specs.declared.basic.Basic.{Basic}
 use Rattle.gv_value.specs.declared.basic.Basic.TheVariants as basics
 use Rattle.gv_value.specs.Shape.{Shape}
 
--- what a value of a basic type holds
+-- The content of a value of a basic type
 pub data Content : Type 0 where
   truth : Bool → Content
   number : ℕ → Content
   integer : ℤ → Content
-  -- a double, as its eight bytes
+  -- A double, by its eight bytes
   eight : List ℕ → Content
   text : List ℕ → Content
 
 mutual
+  -- A value
   pub data Tree : Type 0 where
     leaf : Basic → Content → Tree
     variant : Shape → Tree → Tree
@@ -23,11 +25,12 @@ mutual
     tuple : Trees → Tree
     entry : Tree → Tree → Tree
 
+  -- A list of values
   pub data Trees : Type 0 where
     no_trees : Trees
     tree : Tree → Trees → Trees
 
--- bytes as the elements of an array of bytes
+-- The elements of an array of these bytes
 abbrev pub byte_trees : List ℕ → Trees
 byte_trees [] = no_trees
 byte_trees (b ∷ bytes) = tree (leaf basics.Byte (number b)) (byte_trees bytes)

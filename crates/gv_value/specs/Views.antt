@@ -1,4 +1,4 @@
--- The type and the value of the specification that a `GvType` and a `GvValue` stand for.
+-- The type that a `GvType` represents, and the value that a `GvValue` represents.
 use Rattle.std.specs.Prelude.{ℕ, List, [], ◌∷◌, map, Option, Some, None}
 use Rattle.gv_value.specs.declared.basic.Basic.TheVariants as basics
 use Rattle.gv_value.specs.declared.types.GvType.{GvType, fold-GvType}
@@ -8,11 +8,12 @@ use Rattle.gv_value.specs.declared.value.GvValue.TheOpen.{GvValue-F}
 use Rattle.gv_value.specs.Shape.{Shape, Shapes, no_shapes, shape}
 use Rattle.gv_value.specs.Tree.{Content, Tree, Trees, no_trees, tree, byte_trees}
 
+-- The types of a list
 abbrev pub shapes_from : List Shape → Shapes
 shapes_from [] = no_shapes
 shapes_from (t ∷ ts) = shape t (shapes_from ts)
 
--- one level, with the shape of each type inside in its place
+-- One step of `shape_of`: the type, where each inner `GvType` was replaced by its type
 abbrev pub shape_step : GvType-F Shape → Shape
 shape_step GvType-F.Bool = Shape.basic basics.Bool
 shape_step GvType-F.Byte = Shape.basic basics.Byte
@@ -33,17 +34,20 @@ shape_step (GvType-F.Maybe t) = Shape.maybe t.value
 shape_step (GvType-F.Tuple ts) = Shape.tuple (shapes_from ts.items)
 shape_step (GvType-F.Entry k v) = Shape.entry k.value v.value
 
+-- The type that a `GvType` represents
 abbrev pub shape_of : GvType → Shape
 shape_of = fold-GvType Shape shape_step
 
+-- The types that `GvType`s represent
 abbrev pub shapes_of : List GvType → Shapes
 shapes_of ts = shapes_from (map shape_of ts)
 
+-- The values of a list
 abbrev pub trees_from : List Tree → Trees
 trees_from [] = no_trees
 trees_from (v ∷ vs) = tree v (trees_from vs)
 
--- one level, with the tree of each value inside in its place
+-- One step of `plain`: the value, where each inner `GvValue` was replaced by its value
 abbrev pub plain_step : GvValue-F Tree → Tree
 plain_step (GvValue-F.Bool b) = Tree.leaf basics.Bool (Content.truth b)
 plain_step (GvValue-F.Byte n) = Tree.leaf basics.Byte (Content.number n)
@@ -66,9 +70,10 @@ plain_step (GvValue-F.Tuple vs) = Tree.tuple (trees_from vs.items)
 plain_step (GvValue-F.Entry a b) = Tree.entry a.value b.value
 plain_step (GvValue-F.Bytes bytes) = Tree.array (byte_trees bytes)
 
--- the value's plain tree
+-- The value that a `GvValue` represents
 abbrev pub plain : GvValue → Tree
 plain = fold-GvValue Tree plain_step
 
+-- The values that `GvValue`s represent
 abbrev pub plains : List GvValue → Trees
 plains vs = trees_from (map plain vs)

@@ -1,41 +1,42 @@
-//! The basic types.
+//! The basic types of GVariant.
 ghost use Rattle.std.specs.Prelude.{◌≡◌};
 
-/// A basic type: one that no other type stands in.
+/// A basic type of GVariant: one that contains no other type.
 #[derive(Clone, Copy, PartialEq, Eq)]
 pub enum Basic {
-    /// `b`: a truth value.
+    /// `b`: a boolean.
     Bool,
     /// `y`: a byte.
     Byte,
-    /// `n`: a signed number of 16 bits.
+    /// `n`: a signed 16-bit integer.
     Int16,
-    /// `q`: an unsigned number of 16 bits.
+    /// `q`: an unsigned 16-bit integer.
     Uint16,
-    /// `i`: a signed number of 32 bits.
+    /// `i`: a signed 32-bit integer.
     Int32,
-    /// `u`: an unsigned number of 32 bits.
+    /// `u`: an unsigned 32-bit integer.
     Uint32,
-    /// `x`: a signed number of 64 bits.
+    /// `x`: a signed 64-bit integer.
     Int64,
-    /// `t`: an unsigned number of 64 bits.
+    /// `t`: an unsigned 64-bit integer.
     Uint64,
-    /// `h`: the index of a file descriptor.
+    /// `h`: a signed 32-bit integer that is the index of a file descriptor of the same D-Bus
+    /// message.
     Handle,
-    /// `d`: a floating-point number.
+    /// `d`: an IEEE 754 floating-point number of 64 bits.
     Double,
-    /// `s`: a text.
+    /// `s`: a string, of UTF-8 without a zero byte.
     Str,
-    /// `o`: the path of a D-Bus object.
+    /// `o`: a D-Bus object path.
     ObjectPath,
-    /// `g`: types, as D-Bus writes them.
+    /// `g`: a D-Bus signature.
     Signature,
 }
 
 impl Basic {
     ghost use Rattle.gv_value.specs.Signs.{basic_letter};
 
-    /// The character of a basic type.
+    /// Returns the character of the type in type strings, as ASCII.
     pub fn letter(self) -> u8
         ensures { result ≡ basic_letter self }
     {

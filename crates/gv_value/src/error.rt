@@ -1,4 +1,4 @@
-//! Why a type string is not read.
+//! The error of reading a type string.
 ghost use Rattle.std.specs.Prelude.{◌≡◌};
 ghost use Rattle.gv_value.specs.declared.error.TypeError.TheVariants.{NoMemory};
 
@@ -6,10 +6,10 @@ use std::alloc::{AllocError, AllocFailed};
 use std::error::Error;
 use std::fmt;
 
-/// Why a type string could not be read.
+/// The reason why a type string could not be read.
 #[derive(Clone, Copy, Debug, PartialEq, Eq)]
 pub enum TypeError {
-    /// It is not one type, nested at most 64 deep.
+    /// The text is not one type that nests at most 64 deep.
     Bad,
     /// Memory ran out.
     NoMemory,

@@ -7,12 +7,13 @@ use crate::basic::Basic;
 use crate::limits::TOO_LARGE;
 use crate::paddings::padding;
 
-/// The alignment of a type, and its size where that is fixed.
+/// The alignment of a type, and its size if the type has a fixed size.
 #[derive(Clone, Copy)]
 pub struct Extent {
-    /// What the position of a value is a multiple of, in bytes: 1, 2, 4 or 8.
+    /// The alignment in bytes: each value starts at a multiple of it. It is 1, 2, 4 or 8.
     pub align: u64,
-    /// The size in bytes, at most `TOO_LARGE`, where all values of the type have one size.
+    /// The size in bytes if all values of the type have one size. A size above 16 MiB is
+    /// `TOO_LARGE`.
     pub size: Option<u64>,
     ghost aligned: { (0 < align) × (align ≤ 8) },
     ghost bounded: { ForSome size (λ n. n ≤ TOO_LARGE) },
@@ -24,7 +25,7 @@ impl Extent {
     ghost use Rattle.gv_value.specs.Capped.{capped, run_end, IsExtent};
     ghost use Rattle.std.specs.Prelude.{option_map};
 
-    /// Of a variant, whose size its type does not say.
+    /// Returns the extent of a variant: the alignment 8, and no fixed size.
     pub fn variant() -> Extent
         ensures { IsExtent result variant }
     {
@@ -34,7 +35,7 @@ impl Extent {
         }
     }
 
-    /// Of a basic type.
+    /// Returns the extent of a basic type.
     pub fn of_basic(of: Basic) -> Extent
         ensures { IsExtent result (basic of) }
     {
@@ -56,7 +57,8 @@ impl Extent {
         }
     }
 
-    /// Of a container of which only its child's alignment tells.
+    /// Returns the extent of an array or a maybe whose child has this extent: the child's
+    /// alignment, and no fixed size.
     pub fn open(self) -> Extent
         ensures align { result.align ≡ self.align }
         ensures size { result.size ≡ None }
@@ -67,7 +69,8 @@ impl Extent {
         }
     }
 
-    /// Of no members: the size is where the last one ends.
+    /// Returns the extent of an empty run of members, to be extended by `with_member`. The size of
+    /// a run is where its last member ends.
     pub fn no_members() -> Extent
         ensures align { result.align ≡ 1 }
         ensures end { result.size ≡ Some 0 }
@@ -78,7 +81,8 @@ impl Extent {
         }
     }
 
-    /// Of these members and one more.
+    /// Returns the extent of a run of members with one more member after it: the greater alignment,
+    /// and the end of the new member if all have fixed sizes.
     pub fn with_member(self, member: Extent) -> Extent
         ensures align { result.align ≡ max self.align member.align }
         ensures end { result.size ≡ run_end self.size member.align member.size }
@@ -95,7 +99,8 @@ impl Extent {
         }
     }
 
-    /// Of the tuple of these members.
+    /// Returns the extent of the tuple with this run of members: the size is rounded up to a
+    /// multiple of the alignment, and is 1 for a tuple without members.
     pub fn filled(self) -> Extent
         ensures align { result.align ≡ self.align }
         ensures size { result.size ≡ option_map (λ end. capped (filled self.align end)) self.size }

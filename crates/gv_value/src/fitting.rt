@@ -1,4 +1,4 @@
-//! Whether a value is of a type.
+//! Checks whether a value is of a type.
 ghost use Rattle.std.specs.Prelude.{◌≡◌, ◌↔◌, ℕ, suc, IsTrue};
 ghost use Rattle.gv_value.specs.Basics.{form_of};
 ghost use Rattle.gv_value.specs.Parts.{part_tree, content_of, IsHeld, IsHeldContent};
@@ -16,15 +16,16 @@ use crate::texts::{has_zero, is_object_path};
 use crate::types::GvType;
 use crate::value::GvValue;
 
-/// Whether a value is of a type: it has the type's form, its texts are of their kinds, and it is at
-/// most 64 deep. Nothing is of a `GvType` that is no type.
+/// Returns whether a value is of a type: the type is valid, the value has its form, its object
+/// paths and signatures are valid, its strings have no zero byte, and it nests at most 64 deep.
 pub fn fits(of: &GvType, value: &GvValue) -> bool
     ensures { result ≡ tree_fits (shape_of of.now) (plain value.now) }
 {
     is_type(of) && fits_within(of, value, MOST_DEPTH)
 }
 
-/// Whether a value is of a type, at most `room` deep.
+/// Returns whether a value is of a type, and nests at most `room` deep. The outermost `GvType`
+/// isn't checked by `is_type`.
 #[cycle(fits)]
 fn fits_within(of: &GvType, value: &GvValue, room: u32) -> bool
     ensures { result ≡ tree_fits_within room (shape_of of.now) (plain value.now) }
@@ -47,7 +48,7 @@ fn fits_within(of: &GvType, value: &GvValue, room: u32) -> bool
     }
 }
 
-/// Whether a value is of a basic type.
+/// Returns whether a value is of a basic type.
 fn basic_fits(of: Basic, parts: Parts<'_>) -> bool
     requires { IsHeld parts }
     ensures { (n : ℕ) → result ≡ tree_fits_within n (basic of) (part_tree parts.entry) }
@@ -58,7 +59,7 @@ fn basic_fits(of: Basic, parts: Parts<'_>) -> bool
     }
 }
 
-/// Whether a text is of the kind that its type says. Other contents always are.
+/// Returns whether a text is valid for its basic type. Other contents always are.
 fn content_fits(of: Basic, content: Content<'_>) -> bool
     requires { IsHeldContent (form_of of) content }
     ensures { result ≡ tree_content_fits (form_of of) (content_of content.entry) }
@@ -73,7 +74,8 @@ fn content_fits(of: Basic, content: Content<'_>) -> bool
     }
 }
 
-/// Whether a value is a variant. What stands in it is at most `room` deep, as below.
+/// Returns whether a value is a variant, with a value in it of its type that nests at most `room`
+/// deep.
 #[cycle(fits)]
 fn variant_fits(parts: Parts<'_>, room: u32) -> bool
     ensures { result ≡ tree_fits_within (suc room) variant (part_tree parts.entry) }
@@ -84,7 +86,7 @@ fn variant_fits(parts: Parts<'_>, room: u32) -> bool
     }
 }
 
-/// Whether a value is an array of this element.
+/// Returns whether a value is an array with elements of this type, which nest at most `room` deep.
 #[cycle(fits)]
 fn array_fits(element: &GvType, parts: Parts<'_>, room: u32) -> bool
     requires { IsHeld parts }
@@ -98,7 +100,7 @@ fn array_fits(element: &GvType, parts: Parts<'_>, room: u32) -> bool
     }
 }
 
-/// Whether a type is that of bytes.
+/// Returns whether a type is that of bytes.
 fn is_byte(of: &GvType) -> bool
     ensures { IsTrue result ↔ (shape_of of.now ≡ basic Basic.Byte) }
 {
@@ -108,7 +110,7 @@ fn is_byte(of: &GvType) -> bool
     }
 }
 
-/// Whether each item is of this type.
+/// Returns whether each item is of this type, and nests at most `room` deep.
 #[cycle(fits)]
 fn all_fit(element: &GvType, items: &[GvValue], room: u32) -> bool
     ensures { result ≡ all_trees_fit (tree_fits_within room (shape_of element.now))
@@ -122,7 +124,8 @@ fn all_fit(element: &GvType, items: &[GvValue], room: u32) -> bool
     true
 }
 
-/// Whether a value is nothing, or a child of this type.
+/// Returns whether a value is an empty maybe, or one with a value of this type that nests at most
+/// `room` deep.
 #[cycle(fits)]
 fn maybe_fits(of: &GvType, parts: Parts<'_>, room: u32) -> bool
     ensures { result ≡ tree_fits_within (suc room) (maybe (shape_of of.now))
@@ -135,7 +138,7 @@ fn maybe_fits(of: &GvType, parts: Parts<'_>, room: u32) -> bool
     }
 }
 
-/// Whether a value is a tuple of these members.
+/// Returns whether a value is a tuple with members of these types, which nest at most `room` deep.
 #[cycle(fits)]
 fn tuple_fits(members: &[GvType], parts: Parts<'_>, room: u32) -> bool
     ensures { result ≡ tree_fits_within (suc room) (tuple (shapes_of members.now))
@@ -147,7 +150,8 @@ fn tuple_fits(members: &[GvType], parts: Parts<'_>, room: u32) -> bool
     }
 }
 
-/// Whether there are as many items as members, each of its member's type.
+/// Returns whether there are as many items as types, each item is of its type, and it nests at most
+/// `room` deep.
 #[cycle(fits)]
 fn each_fits(members: &[GvType], items: &[GvValue], room: u32) -> bool
     ensures { result ≡ each_tree_fits (tree_fits_within room) (shapes_of members.now)
@@ -164,7 +168,8 @@ fn each_fits(members: &[GvType], items: &[GvValue], room: u32) -> bool
     true
 }
 
-/// Whether a value is an entry of this key and this value.
+/// Returns whether a value is a dictionary entry with a key and a value of these types, which nest
+/// at most `room` deep.
 #[cycle(fits)]
 fn entry_fits(key: &GvType, value: &GvType, parts: Parts<'_>, room: u32) -> bool
     ensures { result ≡ tree_fits_within (suc room) (entry (shape_of key.now) (shape_of value.now))

@@ -6,25 +6,25 @@ ghost use Rattle.gv_value.specs.Views.{shape_of};
 use crate::basic::Basic;
 use crate::types::GvType;
 
-/// A type by its form, with the types in it.
+/// A type by its form, with references to the types that it contains.
 #[derive(Clone, Copy)]
 pub enum Kind<'a> {
     /// A basic type.
     Basic(Basic),
-    /// `v`.
+    /// `v`: a variant.
     Variant,
-    /// An array of this type.
+    /// An array, with the type of its elements.
     Array(&'a GvType),
-    /// A value of this type, or nothing.
+    /// A maybe, with the type of the value that may be in it.
     Maybe(&'a GvType),
-    /// The types of the members.
+    /// A tuple, with the types of its members.
     Tuple(&'a [GvType]),
-    /// The types of the key and of the value.
+    /// A dictionary entry, with the types of its key and its value.
     Entry(&'a GvType, &'a GvType),
 }
 
 impl GvType {
-    /// The form of a type.
+    /// Returns the form of the type.
     pub fn kind(&self) -> Kind<'_>
         ensures { kind_shape result ≡ shape_of self.now }
     {

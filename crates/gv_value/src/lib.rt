@@ -1,4 +1,5 @@
-//! The types and values of GVariant, GLib's format of typed data.
+//! The types and values of GVariant, GLib's format of typed data: their alignments and sizes, type
+//! strings, and D-Bus signatures.
 #![tactic(auto)]
 
 mod basic;

@@ -1,16 +1,17 @@
-//! What types, values and signatures have at most.
+//! The limits of types, values and signatures.
 
-/// The most bytes that a value has: 16 MiB.
+/// The maximum size of a serialised value, in bytes: 16 MiB.
 pub const MOST_BYTES: u64 = 16 * 1024 * 1024;
 
 /// The size in bytes that stands for every size above `MOST_BYTES`.
 pub const TOO_LARGE: u64 = MOST_BYTES + 1;
 
-/// How deep types nest at most, and values.
+/// The maximum depth to which types nest, and values. A basic type has depth 0, and `v` has depth
+/// 1.
 pub const MOST_DEPTH: u32 = 64;
 
-/// The most bytes that a signature has.
+/// The maximum length of a D-Bus signature, in bytes.
 pub const MOST_SIGNATURE_BYTES: usize = 255;
 
-/// The most arrays that are open at a place of a signature, and the most structs.
+/// The maximum depth of nested arrays in a D-Bus signature, and of nested structs.
 pub const MOST_OPEN: u32 = 32;

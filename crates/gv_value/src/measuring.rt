@@ -1,4 +1,4 @@
-//! Alignments and sizes of types, worked out from the type.
+//! Alignments and sizes, computed from the type.
 ghost use Rattle.std.specs.Prelude.{◌≡◌};
 ghost use Rattle.gv_value.specs.Capped.{IsExtent, IsRun, small_size};
 ghost use Rattle.gv_value.specs.Layout.{align_of as align_of_shape, greatest_align, end_of};
@@ -9,7 +9,8 @@ use crate::kind::Kind;
 use crate::limits::MOST_BYTES;
 use crate::types::GvType;
 
-/// The size in bytes of each value of a type, where it is fixed and at most 16 MiB.
+/// Returns the size in bytes of each value of a type, or `None` if the size isn't fixed or is above
+/// 16 MiB.
 pub fn size_of(of: &GvType) -> Option<u64>
     ensures { result ≡ small_size (shape_of of.now) }
 {
@@ -19,14 +20,14 @@ pub fn size_of(of: &GvType) -> Option<u64>
     }
 }
 
-/// What the position of each value of a type is a multiple of, in bytes.
+/// Returns the alignment of a type, in bytes: 1, 2, 4 or 8.
 pub fn align_of(of: &GvType) -> u64
     ensures { result ≡ align_of_shape (shape_of of.now) }
 {
     extent_of(of).align
 }
 
-/// The extent of a type.
+/// Returns the extent of a type.
 #[cycle(measure)]
 pub fn extent_of(of: &GvType) -> Extent
     ensures { IsExtent result (shape_of of.now) }
@@ -44,7 +45,7 @@ pub fn extent_of(of: &GvType) -> Extent
     }
 }
 
-/// The extent of members, one after the other.
+/// Returns the extent of a run of members: their greatest alignment, and where the last one ends.
 #[cycle(measure)]
 fn extent_of_members(members: &[GvType]) -> Extent
     ensures { IsRun result (greatest_align (shapes_of members.now))

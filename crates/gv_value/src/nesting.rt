@@ -1,4 +1,4 @@
-//! Which values of `GvType` are types.
+//! The limits on how types nest.
 ghost use Rattle.std.specs.Prelude.{◌≡◌};
 ghost use Rattle.gv_value.specs.Shape.{is_type as is_type_shape, nests_within as shape_nests_within, all_shapes, is_basic as is_basic_shape};
 ghost use Rattle.gv_value.specs.Views.{shape_of, shapes_of};
@@ -7,14 +7,15 @@ use crate::kind::Kind;
 use crate::limits::MOST_DEPTH;
 use crate::types::GvType;
 
-/// Whether a `GvType` is a type: nested at most 64 deep, with a basic key in each dictionary entry.
+/// Returns whether a type is valid: it nests at most 64 deep, and the key of each dictionary entry
+/// in it is basic.
 pub fn is_type(of: &GvType) -> bool
     ensures { result ≡ is_type_shape (shape_of of.now) }
 {
     nests_within(of, MOST_DEPTH)
 }
 
-/// Whether it is a type nested at most `room` deep.
+/// Returns whether a type is valid and nests at most `room` deep.
 #[cycle(nests)]
 fn nests_within(of: &GvType, room: u32) -> bool
     ensures { result ≡ shape_nests_within room (shape_of of.now) }
@@ -33,7 +34,7 @@ fn nests_within(of: &GvType, room: u32) -> bool
     }
 }
 
-/// Whether each member is a type nested at most `room` deep.
+/// Returns whether each of the members is a valid type that nests at most `room` deep.
 #[cycle(nests)]
 fn all_nest_within(members: &[GvType], room: u32) -> bool
     ensures { result ≡ all_shapes (shape_nests_within room) (shapes_of members.now) }
@@ -46,7 +47,7 @@ fn all_nest_within(members: &[GvType], room: u32) -> bool
     true
 }
 
-/// Whether a type is basic.
+/// Returns whether a type is basic.
 fn is_basic(of: &GvType) -> bool
     ensures { result ≡ is_basic_shape (shape_of of.now) }
 {

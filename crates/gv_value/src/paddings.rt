@@ -1,8 +1,9 @@
-//! Padding.
+//! Padding to alignments.
 ghost use Rattle.std.specs.Prelude.{◌≡◌, ◌<◌};
 ghost use Rattle.gv_value.specs.Layout.{padding as padding_of};
 
-/// How many bytes a position is from the next multiple of an alignment.
+/// Returns the number of bytes from a position to the next multiple of an alignment; 0 if the
+/// position is one.
 pub fn padding(at: u64, align: u64) -> u64
     requires { 0 < align }
     ensures value { result ≡ padding_of at align }

@@ -1,4 +1,4 @@
-//! Types from type strings.
+//! Parsing of type strings.
 ghost use Rattle.std.specs.Prelude.{◌≡◌, length, Some, None, MatchResult};
 ghost use Rattle.gv_value.specs.Signs.{sign_at};
 ghost use Rattle.gv_value.specs.TypeText.{flat_type, type_from, entry_at, members_at, type_at, type_of};
@@ -12,8 +12,7 @@ use crate::types::GvType;
 use std::alloc::Global;
 
 impl GvType {
-    /// The type that a type string stands for. `Bad` comes exactly where it is not one type, nested
-    /// at most 64 deep.
+    /// Parses a type string. Errs with `Bad` if the text isn't one type that nests at most 64 deep.
     pub fn parse(alloc: Global, text: &[u8]) -> Result<GvType, TypeError>
         ensures { Reads shape_of result (type_of text.now) }
     {
@@ -26,7 +25,7 @@ impl GvType {
     }
 }
 
-/// The sign at the front, and the text after it.
+/// Reads the character at the front. Returns its meaning and the text after it.
 fn read_sign(text: &[u8]) -> Result<(Sign, &[u8]), TypeError>
     ensures { Reads (λ x. (x.0, x.1.now)) result (sign_at text.now) }
 {
@@ -36,7 +35,7 @@ fn read_sign(text: &[u8]) -> Result<(Sign, &[u8]), TypeError>
     }
 }
 
-/// The type at the front, nested at most `room` deep, and the text after it.
+/// Reads the type at the front, which nests at most `room` deep. Returns it and the text after it.
 #[cycle(parse)]
 fn read_type(alloc: Global, text: &[u8], room: u32) -> Result<(GvType, &[u8]), TypeError>
     ensures { Reads (λ x. (shape_of x.0, x.1.now)) result (type_at room text.now) }
@@ -51,7 +50,7 @@ fn read_type(alloc: Global, text: &[u8], room: u32) -> Result<(GvType, &[u8]), T
     }
 }
 
-/// The type that begins with a sign. What stands in it nests at most `room` deep.
+/// Reads the rest of a type that begins with `sign`. The types in it nest at most `room` deep.
 #[cycle(parse)]
 fn read_from(
     alloc: Global,
@@ -82,7 +81,7 @@ fn read_from(
     }
 }
 
-/// The members of a tuple, up to its closing bracket.
+/// Reads the members of a tuple and its closing parenthesis.
 #[cycle(parse)]
 fn read_members(alloc: Global, text: &[u8], room: u32) -> Result<(Vec<GvType>, &[u8]), TypeError>
     ensures { Reads (λ x. (shapes_of x.0.items, x.1.now)) result
@@ -101,7 +100,7 @@ fn read_members(alloc: Global, text: &[u8], room: u32) -> Result<(Vec<GvType>, &
     }
 }
 
-/// The key and the value of a dictionary entry, and its closing brace.
+/// Reads the key, the value and the closing brace of a dictionary entry.
 #[cycle(parse)]
 fn read_entry(alloc: Global, text: &[u8], room: u32) -> Result<(GvType, &[u8]), TypeError>
     ensures { Reads (λ x. (shape_of x.0, x.1.now)) result (entry_at (type_at room) text.now) }

@@ -9,43 +9,44 @@ use crate::basic::Basic;
 use crate::types::GvType;
 use crate::value::GvValue;
 
-/// What a value of a basic type holds.
+/// The content of a value of a basic type.
 #[derive(Clone, Copy)]
 pub enum Content<'a> {
-    /// Of `b`.
+    /// A boolean.
     Truth(bool),
-    /// Of an unsigned number.
+    /// A byte or an unsigned integer.
     Number(u64),
-    /// Of a signed number.
+    /// A signed integer or a handle.
     Integer(i64),
-    /// Of `d`: its eight bytes, in the order of the format.
+    /// A double: its eight bytes, in the order in which they are serialised.
     Eight(&'a [u8]),
-    /// Of `s`, `o` and `g`.
+    /// A string, an object path or a signature.
     Text(&'a str),
 }
 
-/// A value by its form, with the values in it.
+/// A value by its form, with references to the values that it contains.
 #[derive(Clone, Copy)]
 pub enum Parts<'a> {
-    /// A value of this basic type.
+    /// A value of a basic type.
     Basic(Basic, Content<'a>),
-    /// A value with its type.
+    /// A variant, with the type of its value.
     Variant(&'a GvType, &'a GvValue),
-    /// The elements of an array.
+    /// An array, with its elements.
     Array(&'a [GvValue]),
-    /// A maybe that has nothing.
+    /// A maybe without a value.
     Nothing,
-    /// A maybe that has this value.
+    /// A maybe with a value.
     Just(&'a GvValue),
-    /// The members of a tuple.
+    /// A tuple, with its members.
     Tuple(&'a [GvValue]),
-    /// The key and the value of an entry.
+    /// A dictionary entry, with its key and its value.
     Entry(&'a GvValue, &'a GvValue),
     /// An array of bytes.
     Bytes(&'a [u8]),
 }
 
 impl<'a> Parts<'a> {
+    /// Returns the parts of a byte or an unsigned integer.
     fn of_number(of: Basic, number: u64) -> Parts<'a>
         requires { IsHeldContent (form_of of) (Content.Number number) }
         ensures tree { part_tree result ≡ leaf of (number_content number) }
@@ -54,6 +55,7 @@ impl<'a> Parts<'a> {
         Parts::Basic(of, Content::Number(number))
     }
 
+    /// Returns the parts of a signed integer or a handle.
     fn of_integer(of: Basic, number: i64) -> Parts<'a>
         requires { IsHeldContent (form_of of) (Content.Integer number) }
         ensures tree { part_tree result ≡ leaf of (integer_content number) }
@@ -62,6 +64,7 @@ impl<'a> Parts<'a> {
         Parts::Basic(of, Content::Integer(number))
     }
 
+    /// Returns the parts of an array of bytes.
     fn of_bytes(bytes: &'a [u8]) -> Parts<'a>
         ensures tree { part_tree result ≡ array (byte_trees bytes.now) }
         ensures held { IsHeld result }
@@ -69,6 +72,7 @@ impl<'a> Parts<'a> {
         Parts::Bytes(bytes)
     }
 
+    /// Returns the parts of a double.
     fn of_double(eight: &'a [u8; 8]) -> Parts<'a>
         ensures tree { part_tree result ≡ leaf Basic.Double (eight_content eight.now) }
         ensures held { IsHeld result }
@@ -76,6 +80,7 @@ impl<'a> Parts<'a> {
         Parts::of_eight(eight)
     }
 
+    /// Returns the parts of a double, by a slice of its eight bytes.
     fn of_eight(eight: &'a [u8]) -> Parts<'a>
         requires { length eight.now ≡ 8 }
         ensures tree { part_tree result ≡ leaf Basic.Double (eight_content eight.now) }
@@ -86,7 +91,7 @@ impl<'a> Parts<'a> {
 }
 
 impl GvValue {
-    /// The form of a value.
+    /// Returns the form of the value.
     pub fn parts(&self) -> Parts<'_>
         ensures tree { part_tree result ≡ plain self.now }
         ensures held { IsHeld result }

@@ -2,20 +2,21 @@
 use crate::basic::Basic;
 use crate::extent::Extent;
 
-/// A type with the extent of each type in it, worked out once.
-/// So what reads or writes a value asks for an extent as often as it likes, at no cost.
+/// A type with the extents of the types that it contains, computed once. Reading and writing many
+/// values then computes no extent of a nested type again.
 #[derive(Drop)]
 pub enum Plan {
-    /// Of a basic type.
+    /// The plan of a basic type.
     Basic(Basic),
-    /// Of `v`.
+    /// The plan of `v`.
     Variant,
-    /// With the extent of the elements, and of what is in them.
+    /// The plan of an array: the array's own extent, and the plan of its elements.
     Array(Extent, Box<Plan>),
-    /// The same of the value that may be there.
+    /// The plan of a maybe: the maybe's own extent, and the plan of its child.
     Maybe(Extent, Box<Plan>),
-    /// With the extent of the members, one after the other.
+    /// The plan of a tuple: the extent of its members one after the other, without the padding at
+    /// their end, and their plans.
     Tuple(Extent, Vec<Plan>),
-    /// Of a dictionary entry: the key and the value, as two members.
+    /// The plan of a dictionary entry: as that of a tuple with two members, the key and the value.
     Entry(Extent, Vec<Plan>),
 }

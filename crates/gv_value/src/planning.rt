@@ -12,7 +12,7 @@ use crate::types::GvType;
 use std::alloc::{AllocError, Global};
 
 impl Plan {
-    /// The extent of the type.
+    /// Returns the extent of the plan's type.
     pub fn extent(&self) -> Extent
         requires { IsTrue (is_plan self.now) }
         ensures { IsExtent result (plan_shape self.now) }
@@ -28,7 +28,7 @@ impl Plan {
     }
 }
 
-/// The extent of members, one after the other.
+/// Returns the extent of a run of members: their greatest alignment, and where the last one ends.
 fn extent_of_plans(plans: &[Plan]) -> Extent
     requires { IsTrue (are_plans plans.now) }
     ensures { IsRun result (greatest_align (plan_shapes plans.now))
@@ -41,7 +41,7 @@ fn extent_of_plans(plans: &[Plan]) -> Extent
     run
 }
 
-/// The plan of a type.
+/// Computes the plan of a type.
 #[cycle(plan)]
 pub fn plan_of(alloc: Global, of: &GvType) -> Result<Plan, AllocError>
     ensures { IfOk result (λ p. IsPlanOf p (shape_of of.now)) }
@@ -72,7 +72,7 @@ pub fn plan_of(alloc: Global, of: &GvType) -> Result<Plan, AllocError>
     }
 }
 
-/// The plans of members.
+/// Computes the plans of members.
 #[cycle(plan)]
 fn plans_of(alloc: Global, members: &[GvType]) -> Result<Vec<Plan>, AllocError>
     ensures { IfOk result (λ ps. ArePlansOf ps.items (shapes_of members.now)) }

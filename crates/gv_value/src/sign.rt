@@ -4,29 +4,29 @@ ghost use Rattle.gv_value.specs.Signs.{sign_of, sign_at};
 
 use crate::basic::Basic;
 
-/// What a character of a type string says.
+/// The meaning of a character in a type string.
 #[derive(Clone, Copy)]
 pub enum Sign {
     /// A basic type.
     Basic(Basic),
-    /// `v`.
+    /// `v`: a variant.
     Variant,
-    /// `a`: the type of the elements follows.
+    /// `a`: an array, whose element type follows.
     Array,
-    /// `m`: the type of the value follows.
+    /// `m`: a maybe, whose child's type follows.
     Maybe,
-    /// `(`: the types of members follow.
+    /// `(`: the start of a tuple, whose members' types follow.
     TupleOpen,
-    /// `)`.
+    /// `)`: the end of a tuple.
     TupleClose,
-    /// `{`: the types of a key and a value follow.
+    /// `{`: the start of a dictionary entry; the types of its key and value follow.
     EntryOpen,
-    /// `}`.
+    /// `}`: the end of a dictionary entry.
     EntryClose,
 }
 
 impl Sign {
-    /// The sign that a character stands for, if it stands for one.
+    /// Returns the meaning of a character, or `None` if it has none in a type string.
     pub fn of(letter: u8) -> Option<Sign>
         ensures { result ≡ sign_of letter }
     {
@@ -56,7 +56,8 @@ impl Sign {
         Some(Sign::Basic(basic))
     }
 
-    /// The sign at the front of a type string, and what stands after it.
+    /// Returns the meaning of the first character, and the text after it. Returns `None` if the
+    /// text is empty or its first character has no meaning in a type string.
     pub fn at_front(text: &[u8]) -> Option<(Sign, &[u8])>
         ensures { option_map (λ p. (p.0, p.1.now)) result ≡ sign_at text.now }
     {

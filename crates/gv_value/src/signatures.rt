@@ -7,8 +7,9 @@ ghost use Rattle.gv_value.specs.Texts.{is_signature as is_signature_text, after_
 use crate::limits::{MOST_OPEN, MOST_SIGNATURE_BYTES};
 use crate::sign::Sign;
 
-/// Whether a text is a D-Bus signature: at most 255 bytes, which are complete types, one after the
-/// other.
+/// Returns whether the text is a D-Bus signature: at most 255 bytes that are complete types, one
+/// after the other, with at most 32 nested arrays and 32 nested structs (D-Bus specification,
+/// "Valid Signatures").
 pub fn is_signature(text: &[u8]) -> bool
     ensures { result ≡ is_signature_text text.now }
 {
@@ -25,7 +26,8 @@ pub fn is_signature(text: &[u8]) -> bool
     true
 }
 
-/// What follows the type at the front, where this number of arrays and of structs may still open.
+/// Returns the text after the complete type at the front, in which this number of arrays and of
+/// structs may nest. Returns `None` if no such type is at the front.
 #[cycle(signature)]
 fn after_type(text: &[u8], arrays: u32, structs: u32) -> Option<&[u8]>
     ensures { option_copied result ≡ rest_after_type (arrays + structs) arrays structs text.now }
@@ -50,7 +52,7 @@ fn after_type(text: &[u8], arrays: u32, structs: u32) -> Option<&[u8]>
     }
 }
 
-/// What follows the element of an array. It alone may be a dictionary entry.
+/// Returns the text after the element type of an array, which alone may be a dictionary entry.
 #[cycle(signature)]
 fn after_element(text: &[u8], arrays: u32, structs: u32) -> Option<&[u8]>
     ensures { option_copied result
@@ -65,7 +67,7 @@ fn after_element(text: &[u8], arrays: u32, structs: u32) -> Option<&[u8]>
     }
 }
 
-/// What follows a key, a value and a closing brace.
+/// Returns the text after a dictionary entry's key, value and closing brace.
 #[cycle(signature)]
 fn after_entry(text: &[u8], arrays: u32, structs: u32) -> Option<&[u8]>
     ensures { option_copied result
@@ -85,7 +87,7 @@ fn after_entry(text: &[u8], arrays: u32, structs: u32) -> Option<&[u8]>
     }
 }
 
-/// What follows one type or more and a closing bracket.
+/// Returns the text after one or more complete types and a closing parenthesis.
 #[cycle(signature)]
 fn after_members(text: &[u8], arrays: u32, structs: u32) -> Option<&[u8]>
     ensures { option_copied result

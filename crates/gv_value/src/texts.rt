@@ -1,8 +1,8 @@
-//! Texts and D-Bus object paths.
+//! Zero bytes in texts, and D-Bus object paths.
 ghost use Rattle.std.specs.Prelude.{◌≡◌, false};
 ghost use Rattle.gv_value.specs.Texts.{has_zero as has_zero_byte, is_path_char as is_char_of_path, are_elements as are_path_elements, is_object_path as is_path};
 
-/// Whether a zero byte is among the bytes.
+/// Returns whether a zero byte is among the bytes.
 pub fn has_zero(text: &[u8]) -> bool
     ensures { result ≡ has_zero_byte text.now }
 {
@@ -14,7 +14,7 @@ pub fn has_zero(text: &[u8]) -> bool
     false
 }
 
-/// A letter, a digit or `_`.
+/// Returns whether the byte is an ASCII letter, a digit or `_`.
 fn is_path_char(letter: u8) -> bool
     ensures { result ≡ is_char_of_path letter }
 {
@@ -24,7 +24,7 @@ fn is_path_char(letter: u8) -> bool
         || letter == b'_'
 }
 
-/// Whether a text is a D-Bus object path.
+/// Returns whether the text is a D-Bus object path (D-Bus specification, "Valid Object Paths").
 pub fn is_object_path(text: &[u8]) -> bool
     ensures { result ≡ is_path text.now }
 {
@@ -34,7 +34,8 @@ pub fn is_object_path(text: &[u8]) -> bool
     }
 }
 
-/// Elements of an object path, separated by single slashes.
+/// Returns whether the text is elements of an object path, separated by single slashes. There is at
+/// least one, and none is empty.
 fn are_elements(text: &[u8]) -> bool
     ensures { result ≡ are_path_elements false text.now }
 {

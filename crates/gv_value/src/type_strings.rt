@@ -1,4 +1,4 @@
-//! Type strings of types.
+//! The type strings of types.
 ghost use Rattle.std.specs.Prelude.{◌≡◌, ◌++◌, IfOk, OnOk};
 ghost use Rattle.gv_value.specs.TypeText.{type_text, type_texts};
 ghost use Rattle.gv_value.specs.Views.{shape_of, shapes_of};
@@ -9,7 +9,7 @@ use fp_base::Blob;
 use std::alloc::{AllocError, Global};
 
 impl GvType {
-    /// The type string of a type.
+    /// Returns the type string of the type.
     pub fn text(&self, alloc: Global) -> Result<Blob, AllocError>
         ensures { IfOk result (λ text. text ≡ type_text (shape_of self.now)) }
     {
@@ -19,7 +19,7 @@ impl GvType {
     }
 }
 
-/// Adds the type string of a type. What an error leaves is open.
+/// Appends the type string of a type. If memory runs out, the content of `text` is unspecified.
 #[cycle(push)]
 pub fn push_type(text: &mut Vec<u8>, of: &GvType) -> Result<(), AllocError>
     ensures { OnOk result (text.new.items ≡ text.old.items ++ type_text (shape_of of.now)) }
@@ -50,7 +50,8 @@ pub fn push_type(text: &mut Vec<u8>, of: &GvType) -> Result<(), AllocError>
     Ok(())
 }
 
-/// Adds the type strings of members.
+/// Appends the type strings of members, one after the other. If memory runs out, the content of
+/// `text` is unspecified.
 #[cycle(push)]
 fn push_types(text: &mut Vec<u8>, members: &[GvType]) -> Result<(), AllocError>
     ensures { OnOk result (text.new.items ≡ text.old.items ++ type_texts (shapes_of members.now)) }

@@ -1,53 +1,56 @@
-//! Types.
+//! The types of GVariant.
 ghost use Rattle.std.specs.Prelude.{◌≡◌};
 ghost use Rattle.gv_value.specs.Shape.{basic};
 ghost use Rattle.gv_value.specs.Views.{shape_of};
 
 use crate::basic::Basic;
 
-/// A type, as the GVariant specification has them.
+/// A type of the GVariant specification. Not every `GvType` is valid: `is_type` checks the depth,
+/// and that the keys of dictionary entries are basic.
 #[derive(Debug, Drop)]
 pub enum GvType {
-    /// `b`: a truth value.
+    /// `b`: a boolean.
     Bool,
     /// `y`: a byte.
     Byte,
-    /// `n`: a signed number of 16 bits.
+    /// `n`: a signed 16-bit integer.
     Int16,
-    /// `q`: an unsigned number of 16 bits.
+    /// `q`: an unsigned 16-bit integer.
     Uint16,
-    /// `i`: a signed number of 32 bits.
+    /// `i`: a signed 32-bit integer.
     Int32,
-    /// `u`: an unsigned number of 32 bits.
+    /// `u`: an unsigned 32-bit integer.
     Uint32,
-    /// `x`: a signed number of 64 bits.
+    /// `x`: a signed 64-bit integer.
     Int64,
-    /// `t`: an unsigned number of 64 bits.
+    /// `t`: an unsigned 64-bit integer.
     Uint64,
-    /// `h`: the index of a file descriptor.
+    /// `h`: a signed 32-bit integer that is the index of a file descriptor of the same D-Bus
+    /// message.
     Handle,
-    /// `d`: a floating-point number.
+    /// `d`: an IEEE 754 floating-point number of 64 bits.
     Double,
-    /// `s`: a text.
+    /// `s`: a string, of UTF-8 without a zero byte.
     Str,
-    /// `o`: the path of a D-Bus object.
+    /// `o`: a D-Bus object path.
     ObjectPath,
-    /// `g`: types, as D-Bus writes them.
+    /// `g`: a D-Bus signature.
     Signature,
-    /// `v`: a value with its type.
+    /// `v`: a variant, which is a value with its type.
     Variant,
-    /// `a` and a type: any number of its values.
+    /// `a` and a type: an array, with the type of its elements.
     Array(Box<GvType>),
-    /// `m` and a type: a value of it, or nothing.
+    /// `m` and a type: a maybe, which is empty or has a value of that type.
     Maybe(Box<GvType>),
-    /// `(`, types and `)`: a value of each.
+    /// `(`, types and `)`: a tuple, with the types of its members.
     Tuple(Vec<GvType>),
-    /// `{`, a basic type, a type and `}`: a key and its value.
+    /// `{`, a basic type, a type and `}`: a dictionary entry, with the types of its key and its
+    /// value.
     Entry(Box<GvType>, Box<GvType>),
 }
 
 impl GvType {
-    /// The type of a basic kind.
+    /// Returns the `GvType` of a basic type.
     pub fn from_basic(of: Basic) -> GvType
         ensures { shape_of result ≡ basic of }
     {

@@ -1,46 +1,48 @@
-//! Values.
+//! The values of GVariant.
 use crate::types::GvType;
 use fp_base::{Blob, Text};
 
-/// A value of a GVariant type.
+/// A value of a GVariant type. `fits` checks whether it is of a type.
 #[derive(Drop)]
 pub enum GvValue {
-    /// `b`: a truth value.
+    /// `b`: a boolean.
     Bool(bool),
     /// `y`: a byte.
     Byte(u8),
-    /// `n`: a signed number of 16 bits.
+    /// `n`: a signed 16-bit integer.
     Int16(i16),
-    /// `q`: an unsigned number of 16 bits.
+    /// `q`: an unsigned 16-bit integer.
     Uint16(u16),
-    /// `i`: a signed number of 32 bits.
+    /// `i`: a signed 32-bit integer.
     Int32(i32),
-    /// `u`: an unsigned number of 32 bits.
+    /// `u`: an unsigned 32-bit integer.
     Uint32(u32),
-    /// `x`: a signed number of 64 bits.
+    /// `x`: a signed 64-bit integer.
     Int64(i64),
-    /// `t`: an unsigned number of 64 bits.
+    /// `t`: an unsigned 64-bit integer.
     Uint64(u64),
-    /// `h`: the index of a file descriptor.
+    /// `h`: the index of a file descriptor of the same D-Bus message.
     Handle(i32),
-    /// The eight bytes of the number, in the order of the format.
+    /// `d`: the eight bytes of an IEEE 754 floating-point number, in the order in which they are
+    /// serialised.
     Double([u8; 8]),
-    /// `s`: a text.
+    /// `s`: a string.
     Str(Text),
-    /// `o`: the path of a D-Bus object.
+    /// `o`: a D-Bus object path.
     ObjectPath(Text),
-    /// `g`: types, as D-Bus writes them.
+    /// `g`: a D-Bus signature.
     Signature(Text),
-    /// `v`: a value with its type.
+    /// `v`: a variant, with the type of its value.
     Variant(Box<GvType>, Box<GvValue>),
-    /// The elements, all of one type.
+    /// An array, with its elements.
     Array(Vec<GvValue>),
-    /// A value, or nothing.
+    /// A maybe, with its value if it has one.
     Maybe(Option<Box<GvValue>>),
-    /// The members.
+    /// A tuple, with its members.
     Tuple(Vec<GvValue>),
-    /// A key and its value.
+    /// A dictionary entry, with its key and its value.
     Entry(Box<GvValue>, Box<GvValue>),
-    /// An array of bytes, kept as bytes. It is the same value as an `Array` of `Byte`s.
+    /// An array of bytes, in one byte of memory each. It is the same value as an `Array` of
+    /// `Byte`s.
     Bytes(Blob),
 }

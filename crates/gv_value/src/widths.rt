@@ -1,8 +1,10 @@
-//! How many bytes offsets take.
+//! The width of framing offsets.
 ghost use Rattle.std.specs.Prelude.{◌≡◌, ◌+◌, ◌*◌, ◌<◌, ◌^◌};
 ghost use Rattle.gv_value.specs.Framing.{width as width_of};
 
-/// How many bytes an offset takes, with `before` bytes before the offsets and `count` offsets.
+/// Returns the number of bytes that each framing offset of a container has, which is the smallest
+/// of 1, 2, 4 and 8 that fits the whole container: `before` bytes and then `count` offsets
+/// (GVariant specification, "Framing Offsets").
 pub fn width(before: usize, count: usize) -> usize
     requires { before + 8 * count < 2 ^ 64 }
     ensures { result ≡ width_of before count }

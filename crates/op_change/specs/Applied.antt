@@ -1,4 +1,4 @@
--- One operation on an installation.
+-- The effect of one operation on an installation.
 use Rattle.std.specs.Prelude.{◌≡◌, ◌≢◌, ◌≤◌, ◌⊎◌, ⊤, ℕ, List, length, Option, Some, None, Result, Ok, Err, IsErrOf, option_map}
 use Rattle.fp_host.specs.Paths.{Elements, Slot, absent}
 use Rattle.fp_host.specs.View.{View}
@@ -34,19 +34,20 @@ use Rattle.op_change.specs.Bringing.{BringsName, AreTold}
 use Rattle.op_change.specs.declared.ending.ApplyEnd.{ApplyEnd}
 use Rattle.op_change.specs.declared.ending.ApplyEnd.TheVariants as ends
 
--- an operation that brings a commit
+-- The operation brings a commit: it is an install or an update
 abbrev pub Brings : Op → Type 0
 Brings op = BringsCommit (effect_of op)
 
--- an override that is set has a file that is short enough to be read
+-- If the effect sets an override, its file has at most 1 MiB, so that it can be read
 abbrev pub FitsFile : Effect → Type 0
 FitsFile (writes (layers row)) = length (text_of row.file) ≤ small_most
 FitsFile _ = Unit {0}
 
+-- If the operation sets an override, its file has at most 1 MiB
 abbrev pub IsShort : Op → Type 0
 IsShort op = FitsFile (effect_of op)
 
--- an operation on the settings that the state allows, over a state that can be written
+-- The operation is one on the settings that the state allows, and the state can be written
 pub record MaySet (s : State) (op : Op) : Type 0 where
   pub may : May s op
   pub here : IsOnConfig op
@@ -54,44 +55,49 @@ pub record MaySet (s : State) (op : Op) : Type 0 where
 
 -- ---- what an operation brings
 
+-- The URL of a remote
 abbrev pub url_in : RemoteRow → List ℕ
 url_in row = row.url
 
--- the URL of the remote of this name
+-- The URL of the state's remote with this name; nothing if there is none
 abbrev pub url_of : State → List ℕ → Option (List ℕ)
 url_of s origin = option_map url_in (at_name name_of s.remotes origin)
 
--- the URL of the remote that a commit is brought from
+-- The URL of the remote that an effect brings a commit from; nothing if it brings none or the state
+-- lacks the remote
 abbrev pub url_by : State → Effect → Option (List ℕ)
 url_by s (brings name remote commit) = url_of s remote
 url_by s (writes write) = None
 
+-- The URL of the remote that an operation brings a commit from; nothing if it brings none or the
+-- state lacks the remote
 abbrev pub url_for : State → Op → Option (List ℕ)
 url_for s op = url_by s (effect_of op)
 
--- the objects of the store, and beside them those of that remote
+-- The objects of the store, and those of the operation's remote where the store has none
 abbrev pub have_for : State → Op → Holdings → View → Have
 have_for s op held v = supply_at held (url_for s op) v
 
--- the timestamp of the commit that is brought, 0 where none is
+-- The timestamp of the commit that an effect brings; 0 if it brings none
 abbrev pub time_by : Have → Effect → ℕ
 time_by have (brings name remote commit) = commit_time have commit
 time_by have (writes write) = 0
 
--- the operation, with the timestamp of the commit that it brings
+-- The operation, with the timestamp of the commit that it brings
 abbrev pub done_with : Have → Op → Done
 done_with have op = record { op = op; timestamp = time_by have (effect_of op) }
 
--- what an effect is refused for
+-- The refusal of the commit that an effect brings; nothing if there is none
 abbrev pub refusal_by : Have → Effect → Option Refusal
 refusal_by have (brings name remote commit) = brought_refusal have name commit
 refusal_by have (writes write) = None
 
+-- The refusal of the commit that an operation brings; nothing if there is none
 abbrev pub op_refusal : Have → Op → Option Refusal
 op_refusal have op = refusal_by have (effect_of op)
 
--- What was answered is the state after, or what the operation is refused for. Nothing is said of
--- faults and of running out of memory.
+-- The result is the state after the operation if nothing is refused, else the refusal. A fault, or
+-- running out of memory, promises nothing.
 abbrev pub AppliesWith : Have → State → Op → Result State ApplyEnd → Type 0
 AppliesWith have s op (Ok t) = (op_refusal have op ≡ None) × (t ≡ state_after s (done_with have op))
 AppliesWith have s op (Err (ends.Refused refusal)) = op_refusal have op ≡ Some refusal
@@ -99,7 +105,8 @@ AppliesWith have s op (Err ends.Fault) = ⊤
 AppliesWith have s op (Err ends.RemoteFault) = ⊤
 AppliesWith have s op (Err ends.NoMemory) = ⊤
 
--- the state after, and no refusal and no remote's fault, where no commit is brought
+-- The result of an operation that brings no commit: the state after it, but never a refusal or a
+-- fault of a remote
 abbrev pub AppliesPlainly : State → Op → Result State ApplyEnd → Type 0
 AppliesPlainly s op (Ok t) = t ≡ state_after s (plain op)
 AppliesPlainly s op (Err (ends.Refused refusal)) = ⊥
@@ -109,7 +116,7 @@ AppliesPlainly s op (Err ends.NoMemory) = ⊤
 
 -- ---- what changes
 
--- the names that a write may change, and to what
+-- A write may give the name `q` this entry, compared to the view `u` before it
 abbrev pub MayWrite : Write → View → Elements → Slot → Type 0
 MayWrite (moves name commit) u q e = DeploysName name commit q e
 MayWrite (leaves name) u q e = AbsentAt (active name) q e
@@ -118,17 +125,19 @@ MayWrite migrates u q e = ReplacesName config u q e
 MayWrite (layers row) u q e = ReplacesName (override_path row.name) u q e
 MayWrite (bares name) u q e = AbsentAt (override_path name) q e
 
+-- An effect may give the name `q` this entry, compared to the view `u` before it
 abbrev pub ChangesName : State → Effect → View → Elements → Slot → Type 0
 ChangesName s (brings name remote commit) u q e = BringsName s name commit q e
 ChangesName s (writes write) u q e = MayWrite write u q e
 
--- the names that an operation may change, and to what
+-- An operation on the state `s` may give the name `q` this entry, compared to the view `u` before
+-- it
 abbrev pub MayChange : State → Op → View → Elements → Slot → Type 0
 MayChange s op u q e = ChangesName s (effect_of op) u q e
 
--- No name changes but these, a `config` that stands in the store stays, each file that was there
--- keeps its mode and its bytes, one that comes
--- to a commit's folder is a record or was put below the store's objects, and nothing is printed.
+-- An operation changes no names but those of `MayChange`. The store's `config` keeps its entry if
+-- it exists, each file keeps its mode and its bytes, and nothing is printed. A file that is new in
+-- a commit's directory is the record `deploy`, or was put below the store's objects.
 pub record ChangesBy (s : State) (op : Op) (u w : View) : Type 0 where
   pub names : (q : Elements) → (w.names q ≡ u.names q) ⊎ MayChange s op u q (w.names q)
   pub config_stays : u.names store_config ≢ absent
@@ -137,12 +146,13 @@ pub record ChangesBy (s : State) (op : Op) (u w : View) : Type 0 where
   pub links : Links u w
   pub printed : w.printed ≡ u.printed
 
--- an operation that brings a commit knows what the remotes hold
+-- If the operation brings a commit, the remotes report the content `held`
 abbrev pub IsHeldFor : Op → Option Holdings → Holdings → Type 0
 IsHeldFor op holds held = Brings op → holds ≡ Some held
 
--- The state of before or the one after, at every moment; where the operation is refused, only that
--- of before.
+-- An operation at each moment, if every crash left the state `s` before, and if the remotes report
+-- their content in case it brings a commit: every crash leaves `s` or the new state, and only `s`
+-- if the operation is refused. It changes nothing but what `ChangesBy` allows.
 pub record Applies (s : State) (op : Op) (holds : Option Holdings) (u w : View) : Type 0 where
   pub either : (held : Holdings) → IsHeldFor op holds held → Opens s u
       → OpensEither s (state_after s (done_with (have_for s op held u) op)) w
@@ -152,35 +162,43 @@ pub record Applies (s : State) (op : Op) (holds : Option Holdings) (u w : View) 
 
 -- ---- in the end
 
--- after an operation on the settings: `config` has just its text, and nothing is at the new file's
--- name
+-- After an operation on the settings, every crash leaves `config` with exactly the text of the
+-- state's settings, and nothing is left at the staging path
 pub record HasSettings (s : State) (u w : View) : Type 0 where
   pub text : HasNew config (config_text (settings_of s)) w
   pub config : HasConfig w
   pub work : (q : Elements) → IsStaging u q → w.names q ≡ absent
 
+-- An operation on the settings succeeded: the state `s` became `t`, and `config` has its text
 pub record SettingsDone (s t : State) (u w : View) : Type 0 where
   pub done : WasDone s t u w
   pub settings : HasSettings t u w
 
--- the objects of the commit that is brought, beside those that stood; else the same objects
+-- The store has the objects of the commit that an effect brings, and those that it had; if no
+-- commit is brought, it has the same objects as before
 abbrev pub HasObjectsBy : Have → Effect → View → View → Type 0
 HasObjectsBy have (brings name remote commit) u w = HasObjects have commit u w
 HasObjectsBy have (writes write) u w = SameObjects u w
 
+-- The store has the objects of the commit that an operation brings, and those that it had; if no
+-- commit is brought, it has the same objects as before
 abbrev pub HasObjectsFor : Have → Op → View → View → Type 0
 HasObjectsFor have op u w = HasObjectsBy have (effect_of op) u w
 
--- the object is one of the commit that is brought, and the store lacked it
+-- The object is one of the commit that an effect brings, and the store lacked it
 abbrev pub IsLackedBy : Have → Effect → View → List ℕ × ObjKind → Type 0
 IsLackedBy have (brings name remote commit) u o = IsLacked repo have commit u o
 IsLackedBy have (writes write) u o = ⊥
 
+-- The object is one of the commit that an operation brings, and the store lacked it
 abbrev pub IsBroughtFor : Have → Op → View → List ℕ × ObjKind → Type 0
 IsBroughtFor have op u o = IsLackedBy have (effect_of op) u o
 
--- The state after, its objects, and what stands. Each new file that has bytes came to a lasting
--- name, and just the objects were made that were brought and that the store lacked.
+-- The operation succeeded, and every crash leaves exactly the present content. If every crash left
+-- the state `s` before, and if the remotes report their content in case the operation brings a
+-- commit: every crash leaves the new state, the store has the commit's objects, each new file that
+-- has bytes was put at a path where it lasts, and exactly those of the commit's objects were made
+-- that the store lacked. An operation on the settings left `config` with their text.
 pub record WasApplied (s : State) (op : Op) (holds : Option Holdings) (u w : View) : Type 0 where
   pub opens : (held : Holdings) → IsHeldFor op holds held → Opens s u
       → Opens (state_after s (done_with (have_for s op held u) op)) w
@@ -193,11 +211,14 @@ pub record WasApplied (s : State) (op : Op) (holds : Option Holdings) (u w : Vie
   pub settled : IsSettled w
   pub settings : IsOnConfig op → HasSettings (state_after s (plain op)) u w
 
--- where memory ran out: the state of before
+-- Memory ran out. If every crash left the state `s` before, it still does, for an operation that
+-- brings a commit if the remotes report their content. An operation on the settings changed
+-- nothing.
 pub record IsStarved (s : State) (op : Op) (holds : Option Holdings) (u w : View) : Type 0 where
   pub opens : (Brings op → AreTold holds) → Opens s u → Opens s w
   pub settings : IsOnConfig op → w ≡ u
 
--- the host is at fault, and a commit that is brought is known
+-- The result is a fault of the host; if the operation brings a commit, the remotes report their
+-- content
 abbrev pub HostFaulted : {A : Type 0} → Op → Option Holdings → Result A ApplyEnd → Type 0
 HostFaulted op holds result = (Brings op → AreTold holds) × IsErrOf result ends.Fault

@@ -1,4 +1,4 @@
--- A call that does one operation on an installation, as one whole.
+-- The whole contract of a call that does one operation on an installation.
 use Rattle.std.specs.Prelude.{◌≡◌, ◌⊎◌, ℕ, List, Result, IsErrOf, OnOk}
 use Rattle.fp_host.specs.Causes.{IsCaused}
 use Rattle.fp_host.specs.Frame.{AtEnd}
@@ -19,10 +19,13 @@ use Rattle.op_change.specs.Bringing.{WasLeft}
 use Rattle.op_change.specs.declared.ending.ApplyEnd.{ApplyEnd}
 use Rattle.op_change.specs.declared.ending.ApplyEnd.TheVariants as ends
 
--- What is answered, by an operation that brings a commit over a store whose files are those of their
--- names; what a stop at any moment leaves; how it is once it is done, where it is refused, where a
--- remote is at fault and where memory runs out; and whose a fault is. The remotes stay as they are,
--- and where no commit is brought they aren't asked.
+-- One operation, from `u` before the call to `w` after it, on a host that reports its content, and
+-- for an operation that brings a commit with remotes that report theirs. The result is the new
+-- state or the refusal; for an operation that brings a commit, if the store's files match their
+-- names. If every crash left the state `s` at the start, every crash leaves `s` or the new state;
+-- after success the new one; after a refusal, a fault of a remote, or running out of memory, `s`;
+-- and the host's fault comes only if its count of faults rose. The content of the remotes stays the
+-- same, and they are asked only if the operation brings a commit.
 pub record Attempts (s : State) (op : Op) (result : Result State ApplyEnd)
     (u w : Outside) : Type 0 where
   pub same : w.holdings ≡ u.holdings
@@ -40,7 +43,7 @@ pub record Attempts (s : State) (op : Op) (result : Result State ApplyEnd)
   pub remote : IsRemotes (IsErrOf result ends.RemoteFault) u.remote_faults w.remote_faults
   pub unasked : (Brings op → ⊥) → w.remote_faults ≡ u.remote_faults
 
--- the operation brings this commit of the ref from the remote of this name
+-- The operation brings this commit of the ref from the remote with this name
 abbrev pub IsToBring : Op → Ref → List ℕ → List ℕ → Type 0
 IsToBring op name origin commit =
     (op ≡ Install name origin commit) ⊎ (op ≡ Update name origin commit)

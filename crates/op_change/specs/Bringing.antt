@@ -1,4 +1,4 @@
--- A commit that is brought and deployed, wholly or not at all.
+-- Bringing a commit and deploying it, wholly or not at all.
 use Rattle.std.specs.Prelude.{◌≡◌, ◌≢◌, ◌⊎◌, ℕ, List, true, Option, Some, Result, IsErrOf}
 use Rattle.fp_base.specs.declared.object.ObjKind.{ObjKind}
 use Rattle.fp_host.specs.Calls.{IsFile}
@@ -25,7 +25,8 @@ use Rattle.op_change.specs.Readying.{store_config, a_head}
 
 -- ---- the names
 
--- a folder above the commit's own, above an object, above the store's refs, or for work
+-- The path is an ancestor of the commit's directory, of an object or of the store's refs, or it is
+-- `repo/tmp`
 pub data IsFolderFor (name : Ref) (commit : List ℕ) (q : Elements) : Type 0 where
   above_commit : IsAbove q (commit_dir name commit) → IsFolderFor name commit q
   above_object : (d : List ℕ) (kind : ObjKind) → is_digest d ≡ true
@@ -33,8 +34,9 @@ pub data IsFolderFor (name : Ref) (commit : List ℕ) (q : Elements) : Type 0 wh
   above_head : IsAbove q a_head → IsFolderFor name commit q
   for_work : q ≡ tmp → IsFolderFor name commit q
 
--- What names may come to hold: work; the folder of a commit that the state doesn't keep, its
--- record, and the link to it; objects; the store's `config`; and folders above these.
+-- Bringing the commit may give the name `q` this entry: temporary files in `repo/tmp`; the
+-- directory of a commit that the state doesn't keep, its record `deploy`, and the link to it;
+-- objects; the store's `config`; and directories above these
 pub data BringsName (s : State) (name : Ref) (commit : List ℕ) (q : Elements) (e : Slot) : Type 0
   where
     some_work : IsAbove tmp q → BringsName s name commit q e
@@ -48,9 +50,10 @@ pub data BringsName (s : State) (name : Ref) (commit : List ℕ) (q : Elements) 
     a_config : q ≡ store_config → IsFile e → BringsName s name commit q e
     a_folder : IsFolderFor name commit q → e ≡ dir → BringsName s name commit q e
 
--- No other names change, an object's name that held something holds it still, and so does that of
--- the store's `config`; each file that was there keeps its mode and its bytes, one that comes to a commit's folder is a record or was put
--- below the store's objects, and nothing is printed.
+-- Bringing the commit changes no names but those of `BringsName`. The paths of objects, and the
+-- store's `config`, keep their entries if they exist. Each file keeps its mode and its bytes, and
+-- nothing is printed. A file that is new in a commit's directory is the record `deploy`, or was put
+-- below the store's objects.
 pub record ChangesFor (s : State) (name : Ref) (commit : List ℕ) (u w : View) : Type 0 where
   pub names : (q : Elements) → (w.names q ≡ u.names q) ⊎ BringsName s name commit q (w.names q)
   pub objects : (d : List ℕ) (kind : ObjKind) → is_digest d ≡ true
@@ -64,19 +67,21 @@ pub record ChangesFor (s : State) (name : Ref) (commit : List ℕ) (u w : View) 
 
 -- ---- from a state to another
 
--- the remotes tell what they hold
+-- The remotes report their content
 abbrev pub AreTold : Option Holdings → Type 0
 AreTold holds = (held : Holdings) × (holds ≡ Some held)
 
--- the state of before and the same objects, where a remote was at fault or the commit was refused;
--- and all is settled where it was
+-- A remote was at fault, or the commit was refused. If the remotes report their content and every
+-- crash left the state `s` before, it still does, the store has the same objects, and if nothing
+-- was left to tidy before, nothing is.
 pub record WasLeft (s : State) (holds : Option Holdings) (u w : View) : Type 0 where
   pub opens : AreTold holds → Opens s u → Opens s w
   pub objects : AreTold holds → Opens s u → SameObjects u w
   pub settled : AreTold holds → Opens s u → Settled (shows u) → Settled (shows w)
 
--- what is left of the names where it was refused: no work, folders for it, and no folder of a
--- commit that isn't kept
+-- A name that changed may have this entry after the commit was refused or a remote was at fault:
+-- absent below `repo/tmp`; a directory at `repo` and `repo/tmp`; absent at and below the directory
+-- of a commit that the state doesn't keep
 pub data LeftName (s : State) (name : Ref) (commit : List ℕ) (q : Elements) (e : Slot) : Type 0
   where
     work_gone : IsAbove tmp q → e ≡ absent → LeftName s name commit q e
@@ -84,12 +89,13 @@ pub data LeftName (s : State) (name : Ref) (commit : List ℕ) (q : Elements) (e
     unkept_gone : (KeptIn s name commit → ⊥) → IsWithin (commit_dir name commit) q → e ≡ absent
         → LeftName s name commit q e
 
--- no other name has changed
+-- The commit was refused. If the remotes report their content and every crash left the state `s`
+-- before, no names changed but those of `LeftName`.
 pub record LeavesNames (s : State) (name : Ref) (commit : List ℕ) (holds : Option Holdings)
     (u w : View) : Type 0 where
   pub names : AreTold holds → Opens s u → (q : Elements)
       → (w.names q ≡ u.names q) ⊎ LeftName s name commit q (w.names q)
 
--- the host is at fault, where the remotes tell what they hold
+-- The result is a fault of the host, and the remotes report their content
 abbrev pub HostFaulted : {A : Type 0} → Option Holdings → Result A PullEnd → Type 0
 HostFaulted holds result = AreTold holds × IsErrOf result ends.HostFault

@@ -1,4 +1,4 @@
--- What bringing a commit makes of a state and of the objects, and what it is refused for.
+-- Bringing a commit: its refusals, the new state, and the objects.
 use Rattle.std.specs.Prelude.{◌≡◌, ◌≢◌, ℕ, List, true, Option, Some, None, Result, Ok, Err, option_map}
 use Rattle.std.specs.Option.{option_or}
 use Rattle.fp_base.specs.declared.object.ObjKind.{ObjKind}
@@ -23,34 +23,37 @@ use Rattle.dep_switch.specs.Rows.{with_row}
 
 -- ---- what is refused
 
+-- The refusal of a result, if it is one
 abbrev pub refusal_in : {A : Type 0} → Result A Refusal → Option Refusal
 refusal_in (Ok a) = None
 refusal_in (Err refusal) = Some refusal
 
--- What a commit is refused for: its head, which may be of any time, and else the first fault of its
--- order.
+-- The refusal of a commit: for its head, whatever its timestamp, else for the first fault of its
+-- objects in their order
 abbrev pub brought_refusal : Have → Ref → List ℕ → Option Refusal
 brought_refusal have name commit =
     option_or (refusal_in (head_of have name commit None)) (first_refusal have commit)
 
 -- ---- the state
 
+-- The timestamp of a parsed commit; 0 if it isn't parsed
 abbrev pub time_of : Option CommitView → ℕ
 time_of None = 0
 time_of (Some c) = c.timestamp
 
--- the timestamp of a commit, 0 where it doesn't read
+-- The timestamp of a commit; 0 if it is missing or isn't valid
 abbrev pub commit_time : Have → List ℕ → ℕ
 commit_time have commit = time_of (commit_at have commit)
 
+-- The commit of a row, as a previous one
 abbrev pub left_at : RefRow → Previous
 left_at row = record { commit = row.commit; timestamp = row.timestamp }
 
--- the commit at which the ref is
+-- The commit that the ref is at, as a previous one; nothing if the ref isn't deployed
 abbrev pub previous_for : State → Ref → Option Previous
 previous_for s name = option_map left_at (row_at s name)
 
--- the row of the ref at this commit, with the one of before as its previous one
+-- The row of the ref at this commit, with the one that it is at now as its previous commit
 abbrev pub row_brought : State → Ref → List ℕ → List ℕ → ℕ → RefRow
 row_brought s name origin commit timestamp =
     record {
@@ -61,19 +64,19 @@ row_brought s name origin commit timestamp =
       previous = previous_for s name;
     }
 
--- the state with that row, whose timestamp is the commit's
+-- The state with the ref at this commit, whose row has the commit's own timestamp
 abbrev pub state_brought : Have → State → Ref → List ℕ → List ℕ → State
 state_brought have s name origin commit =
     with_row s (row_brought s name origin commit (commit_time have commit))
 
 -- ---- the objects
 
--- those of the installation's store, and else those of the remote
+-- The objects of the installation's store, and those of the remote at the URL where it has none
 abbrev pub supply_at : Holdings → Option (List ℕ) → View → Have
 supply_at held url v = supply (store repo (shows v)) (remote held url)
 
--- The objects of the commit are there as they were supplied, those that stood stand as they did,
--- and no other has come.
+-- The store has the objects of the commit as they were supplied, the objects that it had are the
+-- same, and no others were added
 pub record HasObjects (have : Have) (commit : List ℕ) (u w : View) : Type 0 where
   pub there : Agree have (store repo (shows w)) (order have commit)
   pub stood : (d : List ℕ) (kind : ObjKind) → is_digest d ≡ true

@@ -1,4 +1,4 @@
--- What is known of a commit before it is pulled.
+-- A commit whose head was checked, before it is pulled.
 use Rattle.std.specs.Prelude.{◌≡◌, ◌<◌, ◌^◌, ℕ, List, true, false, None, Result, Ok, Err}
 use Rattle.fp_name.specs.Grammar.{is_remote_name}
 use Rattle.fp_name.specs.Hex.{is_digest}
@@ -15,7 +15,7 @@ use Rattle.op_change.specs.Brought.{row_brought}
 use Rattle.op_change.specs.Places.{ArePlaces}
 use Rattle.op_change.specs.declared.coming.Coming.{Coming}
 
--- it is a row of the ref at this commit that can be written
+-- The row is the ref's at this commit, with any timestamp below 2^64, and its parts are valid
 pub record IsRowFor (s : State) (origin : List ℕ) (name : Ref) (commit : List ℕ)
     (row : RefRow) : Type 0 where
   pub is : row ≡ row_brought s name origin commit row.timestamp
@@ -24,7 +24,8 @@ pub record IsRowFor (s : State) (origin : List ℕ) (name : Ref) (commit : List 
   pub name_is : is_ref name ≡ true
   pub commit_is : is_digest commit ≡ true
 
--- its row, its paths, and whether the ref keeps it as its previous commit
+-- The parts of a `Coming`: the row, the paths, and whether the ref keeps the commit as its previous
+-- one
 pub record IsComing (s : State) (origin : List ℕ) (name : Ref) (commit : List ℕ)
     (coming : Coming) : Type 0 where
   pub row : IsRowFor s origin name commit coming.row
@@ -32,7 +33,7 @@ pub record IsComing (s : State) (origin : List ℕ) (name : Ref) (commit : List 
   pub kept : coming.kept ≡ true → HasRow s name (HasPrevious commit)
   pub unkept : coming.kept ≡ false → HasRow s name (HasPrevious commit) → ⊥
 
--- what is known of the commit, or refused, is what its head says
+-- The result is a row with the timestamp of the commit's head, or the refusal of the head
 abbrev pub HeadsFor : Have → Ref → List ℕ → Result Coming PullEnd → Type 0
 HeadsFor have name commit (Ok coming) = (head : Head)
     × (head_of have name commit None ≡ Ok head) × (head.timestamp ≡ coming.row.timestamp)

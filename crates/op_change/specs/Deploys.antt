@@ -27,21 +27,23 @@ use Rattle.dep_switch.specs.Writing.{new_link, PreparesName}
 
 -- ---- from a state to another
 
--- At every moment the state of before or the one after. No name changes but these, each file that
--- was there keeps its mode and its bytes, and nothing is printed.
+-- An operation from the state `s` to `t` at each moment: if every crash left `s` before, it leaves
+-- `s` or `t`. No names change but those of `W`, each file keeps its mode and its bytes, and nothing
+-- is printed.
 pub record Does (s t : State) (W : View → Elements → Slot → Type 0) (u w : View) : Type 0 where
   pub either : Opens s u → OpensEither s t w
   pub names : (q : Elements) → (w.names q ≡ u.names q) ⊎ W u q (w.names q)
   pub files : KeepsFiles u w
   pub printed : w.printed ≡ u.printed
 
--- the store has the same objects
+-- The store has the same objects before and after
 abbrev pub SameObjects : View → View → Type 0
 SameObjects u w = (d : List ℕ) (kind : ObjKind) → is_digest d ≡ true
     → store repo (shows w) d kind ≡ store repo (shows u) d kind
 
--- In the end the one after, and every stop leaves what stands. Each new file that has bytes came to
--- a lasting name, and no object was made.
+-- The operation succeeded: every crash leaves exactly the present content, and the state `t` if
+-- every crash left the state `s` before. The store has the same objects, each new file that has
+-- bytes was put at a path where it lasts, and no object was made.
 pub record WasDone (s t : State) (u w : View) : Type 0 where
   pub opens : Opens s u → Opens t w
   pub settled : IsSettled w
@@ -51,17 +53,19 @@ pub record WasDone (s t : State) (u w : View) : Type 0 where
 
 -- ---- a row that is deployed
 
--- the names: the new link's, what is made before the switch, and `active`
+-- Deploying the commit may give the name `q` this entry: nothing at and below `repo/tmp/active`,
+-- what is prepared before the switch, and the link at `active`
 pub data DeploysName (name : Ref) (commit : List ℕ) (q : Elements) (e : Slot) : Type 0 where
   work_goes : IsWithin new_link q → e ≡ absent → DeploysName name commit q e
   before_switch : PreparesName (deploy (commit_dir name commit)) (hex commit) q e
       → DeploysName name commit q e
   at_active : q ≡ active name → e ≡ link (hex commit) → DeploysName name commit q e
 
--- At every moment the state of before or the one with the row. No name changes but these, each file
--- that was there keeps its mode and its bytes, a new one that has bytes came to a lasting name, one
--- that comes to a commit's folder is a record or was put below the store's objects, no object is
--- made, and nothing is printed.
+-- Deploying a row at each moment: every crash leaves the state `s` or the one with the row, if the
+-- row could be deployed (`CanStage`). No names change but those of `DeploysName`, each file keeps
+-- its mode and its bytes, and nothing is printed. A new file that has bytes was put at a path where
+-- it lasts, and no object is made. A file that is new in a commit's directory is the record
+-- `deploy`, or was put below the store's objects.
 pub record Deploys (s : State) (row : RefRow) (u w : View) : Type 0 where
   pub either : CanStage s row u → OpensEither s (with_row s row) w
   pub names : (q : Elements) → (w.names q ≡ u.names q)
@@ -72,12 +76,14 @@ pub record Deploys (s : State) (row : RefRow) (u w : View) : Type 0 where
   pub creates : Creates repo NoObject u w
   pub printed : w.printed ≡ u.printed
 
+-- Deploying a row succeeded: every crash leaves exactly the present content, and the state with the
+-- row, if the row could be deployed (`CanStage`)
 pub record WasDeployed (s : State) (row : RefRow) (u w : View) : Type 0 where
   pub opens : CanStage s row u → Opens (with_row s row) w
   pub settled : IsSettled w
 
--- the row of a ref among these after it went back: its commit and the previous one in each other's
--- places
+-- The row that a ref among these rows has after a rollback: its commit and its previous commit are
+-- exchanged
 pub record IsRowBack (rows : List RefRow) (name : Ref) (new : RefRow) : Type 0 where
   pub row : RefRow
   pub previous : Previous
@@ -86,7 +92,7 @@ pub record IsRowBack (rows : List RefRow) (name : Ref) (new : RefRow) : Type 0 w
   pub is : new ≡ exchanged row previous
   pub good : is_ref name ≡ true
 
--- the ref among these has a previous commit
+-- The ref has a row among these, with a previous commit
 pub record HasBack (rows : List RefRow) (name : Ref) : Type 0 where
   pub row : RefRow
   pub previous : Previous

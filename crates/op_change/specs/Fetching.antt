@@ -1,4 +1,4 @@
--- A commit that is fetched: its objects are stored, and it stands in its folder, beside the state.
+-- Fetching a commit: it is pulled and checked out, while the state stays as it is.
 use Rattle.std.specs.Prelude.{◌⊎◌, ◌≡◌, ℕ, List, Bool, false, Option, Some, None, Result, IsErrOf, OnOk}
 use Rattle.fp_host.specs.Causes.{IsCaused}
 use Rattle.fp_host.specs.Frame.{AtEnd}
@@ -29,13 +29,15 @@ use Rattle.op_change.specs.Deploys.{SameObjects}
 use Rattle.op_change.specs.Bringing.{AreTold, ChangesFor, LeftName, HostFaulted}
 use Rattle.op_change.specs.Brought.{supply_at, HasObjects}
 
--- At every moment each stop leaves the state.
+-- A fetch at each moment, if every crash left the state `s` before: no names change but those of
+-- `ChangesFor`, and if the remotes report their content, every crash still leaves `s`
 pub record Fetches (s : State) (name : Ref) (commit : List ℕ) (holds : Option Holdings)
     (u w : View) : Type 0 where
   pub opens : AreTold holds → Opens s u → Opens s w
   pub changes : Opens s u → ChangesFor s name commit u w
 
--- its objects are there, it is laid out where it isn't kept, and nothing is at the new link's name
+-- The commit is fetched: it has no fault, the store has its objects, it is checked out unless it is
+-- kept, and `repo/tmp/active` is absent
 pub record IsFetched (name : Ref) (commit : List ℕ) (kept : Bool) (have : Have)
     (u w : View) : Type 0 where
   pub clean : first_fault have commit ≡ None
@@ -43,8 +45,9 @@ pub record IsFetched (name : Ref) (commit : List ℕ) (kept : Bool) (have : Have
   pub link_free : w.names new_link ≡ absent
   pub laid : kept ≡ false → IsCheckedOut repo commit (commit_dir name commit) w
 
--- So it is. Each new file that has bytes came to a lasting name, and just those of the commit's
--- objects were made that the store lacked.
+-- A fetch succeeded. If the remotes report their content and every crash left the state `s` before,
+-- the commit is fetched, each new file that has bytes was put at a path where it lasts, and exactly
+-- those of the commit's objects were made that the store lacked.
 pub record WasFetched (s : State) (name : Ref) (commit : List ℕ) (kept : Bool) (url : List ℕ)
     (holds : Option Holdings) (u w : View) : Type 0 where
   pub fetched : (held : Holdings) → holds ≡ Some held → Opens s u
@@ -53,12 +56,13 @@ pub record WasFetched (s : State) (name : Ref) (commit : List ℕ) (kept : Bool)
   pub creates : (held : Holdings) → holds ≡ Some held → Opens s u
       → Creates repo (IsLacked repo (supply_at held (Some url) u) commit u) u w
 
--- the root of the commit has no entry `deploy`
+-- The commit's root directory has no entry `deploy`
 abbrev pub HasNoDeploy : Have → List ℕ → Type 0
 HasNoDeploy have commit = look have commit deploy_name ≡ nothing
 
--- where it is refused, and where a remote is at fault: the store has the same objects, and what was
--- made is gone
+-- The commit was refused, or a remote was at fault. If the remotes report their content, every
+-- crash left the state `s` before, and the commit has no entry `deploy`, the store has the same
+-- objects, and no names changed but those of `LeftName`.
 pub record WasTurnedDown (s : State) (name : Ref) (commit url : List ℕ) (holds : Option Holdings)
     (u w : View) : Type 0 where
   pub objects : (held : Holdings) → holds ≡ Some held → Opens s u
@@ -67,8 +71,11 @@ pub record WasTurnedDown (s : State) (name : Ref) (commit url : List ℕ) (holds
       → HasNoDeploy (supply_at held (Some url) u) commit
       → (q : Elements) → (w.names q ≡ u.names q) ⊎ LeftName s name commit q (w.names q)
 
--- What is refused, where the store's files are those of their names; what is so at each moment, in
--- the end, and where it is turned down; and whose a fault is. The remotes stay as they are.
+-- A fetch, from `u` before the call to `w` after it, on a host that reports its content. If the
+-- remotes report theirs, the store's files match their names, and the commit has no entry `deploy`,
+-- exactly the first fault of the commit is refused. `Fetches` holds at each moment, `WasFetched`
+-- after success, and `WasTurnedDown` after a refusal and after a fault of a remote. A fault of the
+-- host or the remotes has its cause. The content of the remotes stays the same.
 pub record Retrieves (s : State) (name : Ref) (commit : List ℕ) (kept : Bool) (url : List ℕ)
     (result : Result (Unit {0}) PullEnd) (u w : Outside) : Type 0 where
   pub same : w.holdings ≡ u.holdings

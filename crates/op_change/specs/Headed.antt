@@ -1,4 +1,4 @@
--- What is known of a commit whose head was read.
+-- A commit whose head was checked.
 use Rattle.std.specs.Prelude.{◌≡◌, ℕ, List, true, length, leb, Some}
 use Rattle.fp_base.specs.declared.object.ObjKind.TheVariants as kinds
 use Rattle.fp_name.specs.Refs.{Ref}
@@ -11,8 +11,8 @@ use Rattle.ost_model.specs.Order.{commit_at}
 use Rattle.ost_model.specs.Standing.{deploy_name, metadata_name}
 use Rattle.dep_states.specs.Sound.{reads_as}
 
--- the commit has this timestamp, no entry `deploy`, and a file `metadata` that reads as that of the
--- ref's kind
+-- The commit has this timestamp, its root directory has no entry `deploy`, and its file `metadata`
+-- is valid for the ref's kind
 pub record IsHeaded (have : Have) (name : Ref) (commit : List ℕ) (time : ℕ) : Type 0 where
   pub view : CommitView
   pub read : commit_at have commit ≡ Some view

@@ -1,4 +1,4 @@
--- A commit that is obtained of a remote, beside the state, before its row is deployed.
+-- Obtaining a commit from a remote, before its row is deployed.
 use Rattle.std.specs.Prelude.{◌≡◌, ℕ, List, Option, Some, None, Result, Ok, Err, IsErrOf}
 use Rattle.fp_host.specs.Causes.{IsCaused}
 use Rattle.fp_host.specs.Frame.{AtEnd}
@@ -26,15 +26,17 @@ use Rattle.op_change.specs.Bringing.{LeavesNames, WasLeft, HostFaulted}
 use Rattle.op_change.specs.Brought.{brought_refusal, commit_time, supply_at, HasObjects}
 use Rattle.op_change.specs.Fetching.{Fetches}
 
--- nothing speaks against it and the row has its time, or this is what it is refused for
+-- The result is a row with the commit's timestamp if nothing is refused, else the commit's refusal
 abbrev pub ObtainsWith : Have → Ref → List ℕ → Result RefRow PullEnd → Type 0
 ObtainsWith have name commit (Ok row) =
     (brought_refusal have name commit ≡ None) × (row.timestamp ≡ commit_time have commit)
 ObtainsWith have name commit (Err end) =
     RefusesBy (λ r. brought_refusal have name commit ≡ Some r) end
 
--- In the end its row can be deployed, and its objects are there. Each new file that has bytes came
--- to a lasting name, and just those of its objects were made that the store lacked.
+-- The commit was obtained. If the remotes report their content and every crash left the state `s`
+-- before, its row can be deployed, the store has its objects, each new file that has bytes was put
+-- at a path where it lasts, and exactly those of the commit's objects were made that the store
+-- lacked.
 pub record WasObtained (s : State) (origin : RemoteRow) (name : Ref) (commit : List ℕ)
     (holds : Option Holdings) (row : RefRow) (u w : View) : Type 0 where
   pub stages : (held : Holdings) → holds ≡ Some held → Opens s u → CanStage s row w
@@ -44,7 +46,11 @@ pub record WasObtained (s : State) (origin : RemoteRow) (name : Ref) (commit : L
   pub creates : (held : Holdings) → holds ≡ Some held → Opens s u
       → Creates repo (IsLacked repo (supply_at held (Some origin.url) u) commit u) u w
 
--- It is fetched at each moment, and obtained in the end or left; each fault is that outside's own.
+-- Obtaining a commit, from `u` before the call to `w` after it, on a host that reports its content.
+-- If the remotes report theirs and the store's files match their names, the result is the row or
+-- exactly the commit's refusal. `Fetches` holds at each moment, `WasObtained` after success,
+-- `WasLeft` after a refusal and after a fault of a remote, and `LeavesNames` after a refusal. A
+-- fault of the host or the remotes has its cause. The content of the remotes stays the same.
 pub record Obtains (s : State) (origin : RemoteRow) (name : Ref) (commit : List ℕ)
     (result : Result RefRow PullEnd) (u w : Outside) : Type 0 where
   pub same : w.holdings ≡ u.holdings

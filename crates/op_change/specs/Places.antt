@@ -1,4 +1,4 @@
--- The paths by which a commit is brought.
+-- The paths that bringing a commit uses.
 use Rattle.std.specs.Prelude.{◌≡◌, ℕ, List, ◌∷◌, true, codes}
 use Rattle.fp_name.specs.Hex.{is_digest}
 use Rattle.fp_name.specs.Refs.{Ref, is_ref}
@@ -7,11 +7,11 @@ use Rattle.fp_host.specs.Paths.{Elements}
 use Rattle.dep_states.specs.Names.{commit_dir}
 use Rattle.op_change.specs.declared.places.Places.{Places}
 
--- where the objects of a pull are kept until all are judged
+-- The work directory of a pull, `repo/tmp/pull`, which has its objects until all are checked
 abbrev pub pull_work : Elements
 pull_work = codes "pull" ∷ tmp
 
--- they are those of this commit of the ref
+-- The paths are those for this commit of the ref, and both are valid
 pub record ArePlaces (name : Ref) (commit : List ℕ) (places : Places) : Type 0 where
   pub repo_is : places.repo ≡ repo
   pub tmp_is : places.tmp ≡ tmp

@@ -1,4 +1,4 @@
-//! One operation on an installation.
+//! Applying one operation to an installation.
 ghost use Rattle.std.specs.Prelude.{ℕ, ◌≡◌, IfOk};
 ghost use Rattle.ost_walk.specs.Ends.{around};
 ghost use Rattle.dep_states.specs.After.{May, IsGood, after_op};
@@ -14,13 +14,14 @@ use fp_small::Op;
 use std::alloc::Global;
 use std::thread::Threads;
 
-/// Does one operation on an opened installation: every stop leaves the state of before or the one
-/// after, and once it is done, the one after. A migration writes `config`, and leaves the files of
-/// layout 1 where they are. An install or an update pulls what the store lacks of the commit from
-/// the remote of the state that has this name; it is refused where an object of the commit has a
-/// fault, and where its head isn't one of the ref. What isn't deployed any more is left for a
-/// tidying. Whatever the end but Ok, the installation is opened again before anything else is done
-/// with it.
+/// Does one operation on an opened installation, wholly or not at all: a crash at any moment leaves
+/// the previous state or the new one, and after success the new one. An install or an update pulls
+/// the objects that the store lacks from the remote that the operation names; it is refused if the
+/// commit's head isn't valid for the ref, or if an object of the commit has a fault. A migration
+/// writes `config`, and leaves the files of layout 1 where they are. Directories and objects that
+/// are no longer deployed are left for tidying. After an error, the installation must be opened
+/// again before anything else is done with it. Condition: the state allows the operation, and an
+/// override that is set has a file of at most 1 MiB.
 pub fn apply<H: Host, R: Remotes>(
     rt: &(impl Threads + Sync),
     alloc: Global,

@@ -1,4 +1,4 @@
-//! What is known of a commit before it is pulled.
+//! Checking a commit's head before the commit is pulled.
 ghost use Rattle.std.specs.Prelude.{Some, IfOk};
 ghost use Rattle.fp_small.specs.Places.{repo};
 ghost use Rattle.ost_model.specs.Objects.{Have};
@@ -16,20 +16,21 @@ use ost_head::read_head;
 use ost_walk::PullEnd;
 use std::alloc::Global;
 
-/// What is known of a commit before it is pulled.
+/// A commit whose head was checked, and which is to be pulled.
 #[derive(Drop)]
 pub(crate) struct Coming {
-    /// The row that its ref is to have.
+    /// The row that the ref gets.
     pub(crate) row: RefRow,
-    /// The paths by which it is brought.
+    /// The paths that bringing the commit uses.
     pub(crate) places: Places,
-    /// Whether the ref keeps it already, as its previous commit.
+    /// Whether the ref keeps the commit already, as its previous one.
     pub(crate) kept: bool,
 }
 
 impl Coming {
-    /// Reads the head of the commit, and makes its row and its paths. Nothing is changed. Refused
-    /// where the head isn't one of the ref; its time plays no part.
+    /// Reads the commit's head, and makes the row and the paths. Changes nothing. Errs with
+    /// `Refused` if the head isn't valid for the ref. The commit may be older than the one that is
+    /// deployed.
     pub(crate) fn of<H: Host, R: Remotes>(
         alloc: Global,
         host: &mut H,

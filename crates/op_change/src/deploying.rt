@@ -1,4 +1,4 @@
-//! A row that is deployed.
+//! Deploying the row of a ref.
 ghost use Rattle.std.specs.Prelude.{◌≡◌, false, IfOk, OnOk, IsErrOf};
 ghost use Rattle.fp_host.specs.OverHost.{AtEachMoment, AtReturn, FailsOnly};
 ghost use Rattle.dep_states.specs.Deploy.{goes_back_to};
@@ -12,9 +12,12 @@ use fp_host::{Host, HostEnd};
 use fp_small::RefRow;
 use std::alloc::Global;
 
-/// Deploys the row in the place of the one of its ref: its commit is recorded and linked, all is
-/// synced, and the link comes to `active`. It is for a commit that stands in its folder and isn't
-/// deployed.
+/// Deploys the row in place of its ref's row: writes the commit's record `deploy`, makes the link
+/// `repo/tmp/active`, syncs, renames the link onto the ref's `active`, and syncs again. A crash at
+/// any moment leaves the previous state or the one with the row. After `NoMemory`, nothing has
+/// changed. Condition: the commit is checked out in its directory and isn't deployed, the row's
+/// previous commit, if any, is the one that the ref is at, `repo/tmp/active` is absent, and the
+/// commit's `deploy` is absent or a file.
 pub fn deploy_row<H: Host>(
     alloc: Global,
     host: &mut H,

@@ -1,19 +1,19 @@
-//! How an operation ends.
+//! The errors of an operation.
 use fp_host::HostEnd;
 use fp_small::Refusal;
 use ost_walk::PullEnd;
 use std::alloc::AllocError;
 
-/// How an operation ends where it isn't done.
+/// The reason why an operation didn't succeed.
 #[derive(Drop)]
 pub enum ApplyEnd {
-    /// What the remote or the store holds of the commit is refused. The state is that of before.
+    /// The commit is refused, for its head or for one of its objects. The state is unchanged.
     Refused(Refusal),
-    /// A call of the host failed.
+    /// A call of the host failed. A crash may leave the previous state or the new one.
     Fault,
-    /// A call of the remotes failed.
+    /// A call of the remotes failed. The state is unchanged.
     RemoteFault,
-    /// There was no memory.
+    /// Memory ran out. The state is unchanged.
     NoMemory,
 }
 

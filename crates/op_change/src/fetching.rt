@@ -1,4 +1,4 @@
-//! A commit that is fetched beside the state.
+//! Fetching a commit: pulling it and checking it out, while the state stays as it is.
 ghost use Rattle.std.specs.Prelude.{◌≡◌, false};
 ghost use Rattle.ost_walk.specs.Ends.{around};
 ghost use Rattle.dep_states.specs.Frames.{KeptIn};
@@ -16,8 +16,10 @@ use ost_walk::PullEnd;
 use std::alloc::Global;
 use std::thread::Threads;
 
-/// Pulls the commit into the store, and lays it out in its folder where the state doesn't keep it.
-/// What stands in `repo/tmp` and in that folder goes before. The state isn't changed.
+/// Pulls the commit into the store, and checks it out into its directory unless `kept`. First
+/// clears everything below `repo/tmp`, and the commit's directory unless `kept`. The state stays as
+/// it is. Condition: unless `kept`, the state's row of the ref has the commit neither as its own
+/// nor as its previous one.
 pub(crate) fn fetch<H: Host, R: Remotes>(
     rt: &(impl Threads + Sync),
     alloc: Global,

@@ -1,4 +1,4 @@
-//! What a commit that was pulled needs before it is recorded.
+//! Setting up the store, and checking out a commit that was pulled.
 ghost use Rattle.std.specs.Prelude.{◌≡◌, OnOk, IsErrOf};
 ghost use Rattle.fp_host.specs.OverHost.{AtEachMoment, AtReturn, FailsOnly};
 ghost use Rattle.fp_small.specs.Places.{repo};
@@ -17,7 +17,7 @@ use ost_checkout::CheckoutEnd;
 use ost_walk::PullEnd;
 use std::alloc::Global;
 
-/// How it ends where the commit isn't laid out.
+/// Converts the error of a checkout of this commit to that of a pull.
 fn end_of(end: CheckoutEnd, commit: &Digest) -> PullEnd
     ensures { result ≡ of_checkout commit.now end }
 {
@@ -28,8 +28,8 @@ fn end_of(end: CheckoutEnd, commit: &Digest) -> PullEnd
     }
 }
 
-/// Makes the store ready, and lays the commit out in its folder where it isn't kept there. It is
-/// refused where its root has an entry `deploy`.
+/// Sets up the store's `refs/heads` and `config`, and checks the commit out into `folder` unless
+/// `kept`. Errs with `Refused` if the commit's root directory has an entry `deploy`.
 pub(crate) fn furnish<H: Host>(
     alloc: Global,
     host: &mut H,

@@ -1,4 +1,4 @@
-//! An install, or an update.
+//! Installing or updating a ref.
 ghost use Rattle.std.specs.Prelude.{ℕ, ◌≡◌, Some, true, IfOk, IsErrOf};
 ghost use Rattle.fp_host.specs.OverHost.{AtReturn};
 ghost use Rattle.fp_small.specs.Config.{name_of};
@@ -23,7 +23,7 @@ use fp_small::{RemoteRow, State};
 use std::alloc::Global;
 use std::thread::Threads;
 
-/// The row of the remote of this name, which is there.
+/// Returns the row of the remote with this name. Condition: the state has it.
 fn remote_of<'a>(state: &'a State, name: &RemoteName) -> &'a RemoteRow
     requires { has_name name_of state.now.remotes name.now ≡ true }
     ensures { at_name name_of state.now.remotes name.now ≡ Some result.now }
@@ -34,11 +34,13 @@ fn remote_of<'a>(state: &'a State, name: &RemoteName) -> &'a RemoteRow
     }
 }
 
-/// Brings a commit of the ref from the remote of this name, and deploys it. Its head is read first,
-/// and its time plays no part. What stands in `repo/tmp`, and in the folder of the commit where the
-/// ref doesn't keep it, goes then. Once all objects of the commit are stored, the store is made
-/// ready, and the commit is laid out, recorded and linked, synced, and switched to. It is for a
-/// remote that the state has, and for a commit at which the ref isn't.
+/// Brings a commit of the ref from the remote `origin`, and deploys it. First reads the commit's
+/// head, whatever its timestamp. Then clears everything below `repo/tmp`, and the commit's
+/// directory unless the ref keeps the commit; pulls the objects that the store lacks; sets up the
+/// store; and checks the commit out unless it is kept. Last writes the commit's record and its
+/// link, syncs, and switches the ref to it. Errs with `Refused` if the head isn't valid for the ref
+/// or an object of the commit has a fault. Condition: the state has the remote, and the ref isn't
+/// at this commit.
 pub fn bring<H: Host, R: Remotes>(
     rt: &(impl Threads + Sync),
     alloc: Global,

@@ -1,4 +1,5 @@
-//! Laws of what the steps ask for. Each is the contract of a function that does nothing.
+//! Laws about the conditions of the steps. Each law is the contract of a function with an empty
+//! body.
 ghost use Rattle.std.specs.Prelude.{◌≡◌, ℕ, List, true, false, None, Bool};
 ghost use Rattle.fp_host.specs.Outcome.{shows};
 ghost use Rattle.fp_host.specs.Paths.{absent};
@@ -16,9 +17,9 @@ ghost use Rattle.op_change.specs.Places.{pull_work};
 ghost use Rattle.op_change.specs.Readying.{CanReady};
 ghost use Rattle.op_change.specs.Rooms.{CanMakeRoom};
 
-/// Each step before a commit is recorded can be done in a view that opens some state: room can be
-/// made, a pull can be done, the store can be made ready, and a commit that the store has without a
-/// fault can be laid out where nothing stands in its folder.
+/// States that each step before a commit is recorded can be done in a view of which every crash
+/// leaves the same state: room can be made, a commit can be pulled, the store can be set up, and a
+/// commit without a fault in the store can be checked out if its directory is absent.
 pub fn steps_can_be_done()
     ensures room { (s : State) (v : View) (name : Ref) (commit : List ℕ) (kept : Bool) → IsTree v
         → Opens s v → CanMakeRoom tmp (commit_dir name commit) kept v }

@@ -1,4 +1,4 @@
-//! A commit that is laid out in its folder.
+//! Checking out a commit into its directory.
 ghost use Rattle.std.specs.Prelude.{OnOk, IsErrOf};
 ghost use Rattle.fp_host.specs.OverHost.{AtEachMoment, AtReturn, FailsOnly};
 ghost use Rattle.fp_small.specs.Places.{repo};
@@ -12,8 +12,9 @@ use fp_small::{make_above, repo_path};
 use ost_checkout::{CheckoutEnd, checkout};
 use std::alloc::Global;
 
-/// Lays the commit of the installation's store out in the folder, which is absent. The folders
-/// above it are made. Nothing is synced.
+/// Checks out a commit of the installation's store into the directory `to`, and makes the missing
+/// directories above it. Syncs nothing. Errs with `ReservedName` if the commit's root directory has
+/// an entry `deploy`. Condition: `to` is absent, and the commit has no fault in the store.
 pub(crate) fn lay_out<H: Host>(
     alloc: Global,
     host: &mut H,

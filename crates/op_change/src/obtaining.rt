@@ -1,4 +1,4 @@
-//! A commit that is obtained of a remote.
+//! Obtaining a commit from a remote.
 ghost use Rattle.std.specs.Prelude.{IfOk};
 ghost use Rattle.ost_walk.specs.Ends.{around};
 ghost use Rattle.dep_switch.specs.Rows.{IsAt};
@@ -15,8 +15,9 @@ use ost_walk::PullEnd;
 use std::alloc::Global;
 use std::thread::Threads;
 
-/// Reads the head of the commit, pulls it and lays it out, beside the state: all that can be
-/// refused. The row with which its ref is to be deployed.
+/// Reads the commit's head, pulls the commit and checks it out, and returns the row with which its
+/// ref is to be deployed. The state stays as it is. All that a commit can be refused for is found
+/// here. Condition: the ref isn't at this commit.
 pub(crate) fn obtain<H: Host, R: Remotes>(
     rt: &(impl Threads + Sync),
     alloc: Global,

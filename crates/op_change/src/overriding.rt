@@ -1,4 +1,4 @@
-//! Overrides, set and dropped.
+//! Setting and dropping overrides.
 ghost use Rattle.std.specs.Prelude.{◌≡◌, ◌≤◌, true, length, IfOk, OnOk, IsErrOf};
 ghost use Rattle.fp_host.specs.OverHost.{AtEachMoment, AtReturn, FailsOnly};
 ghost use Rattle.fp_keyfile.specs.KeyFile.{text_of, is_good};
@@ -19,7 +19,7 @@ use fp_host::{Host, HostEnd, Path};
 use fp_small::{OverrideRow, State, replace, take_away};
 use std::alloc::{AllocError, Global};
 
-/// The path of an override.
+/// Returns the path of an override, `overrides/NAME`.
 #[tactic(auto, using(fp_small::proofs::Elements::element_override))]
 fn path_of(alloc: Global, name: &Text) -> Result<Path, AllocError>
     requires { is_override name.now ≡ true }
@@ -28,7 +28,7 @@ fn path_of(alloc: Global, name: &Text) -> Result<Path, AllocError>
     Path::root(alloc).child("overrides")?.child(name.as_str())
 }
 
-/// The same override again.
+/// Copies an override.
 fn copy_of(row: &OverrideRow) -> Result<OverrideRow, AllocError>
     ensures { IfOk result (λ r. r ≡ row.now) }
 {
@@ -38,7 +38,7 @@ fn copy_of(row: &OverrideRow) -> Result<OverrideRow, AllocError>
     })
 }
 
-/// The state with the override in the place of the one of its name.
+/// Returns the state with the override, in place of the one with its name.
 fn with_override(state: State, row: OverrideRow) -> Result<State, AllocError>
     ensures { IfOk result (λ s. s ≡ with_layer state row) }
 {
@@ -53,7 +53,7 @@ fn with_override(state: State, row: OverrideRow) -> Result<State, AllocError>
     })
 }
 
-/// The state without the override of this name.
+/// Returns the state without the override of this name.
 fn without_override(state: State, name: &Text) -> State
     ensures { result ≡ without_layer state name.now }
 {
@@ -68,7 +68,7 @@ fn without_override(state: State, name: &Text) -> State
     }
 }
 
-/// Writes the file of an override anew.
+/// Replaces the file of an override, or creates it.
 fn write_layer<H: Host>(alloc: Global, host: &mut H, row: &OverrideRow) -> Result<(), HostEnd>
     requires { is_override row.now.name ≡ true }
     ensures any_moment { AtEachMoment H.Host host.old host.new
@@ -86,7 +86,8 @@ fn write_layer<H: Host>(alloc: Global, host: &mut H, row: &OverrideRow) -> Resul
     replace(alloc, host, &path, text.as_str().as_bytes())
 }
 
-/// Sets an override: its file is written anew.
+/// Sets an override: replaces its file, or creates it. After `NoMemory`, nothing has changed.
+/// Condition: the name and the groups are valid, and the file has at most 1 MiB.
 pub(crate) fn set_override<H: Host>(
     alloc: Global,
     host: &mut H,
@@ -112,7 +113,8 @@ pub(crate) fn set_override<H: Host>(
     Ok(Opened::of(state))
 }
 
-/// Drops an override: its file is taken away.
+/// Drops an override: removes its file, if there is one, and syncs. After `NoMemory`, nothing has
+/// changed.
 pub(crate) fn drop_override<H: Host>(
     alloc: Global,
     host: &mut H,

@@ -1,4 +1,4 @@
-//! The paths by which a commit is brought.
+//! The paths that bringing a commit uses.
 ghost use Rattle.std.specs.Prelude.{IfOk};
 ghost use Rattle.op_change.specs.Places.{ArePlaces};
 
@@ -8,21 +8,21 @@ use fp_name::{Digest, RefName};
 use fp_small::repo_path;
 use std::alloc::{AllocError, Global};
 
-/// The paths by which a commit is brought.
+/// The paths that bringing a commit uses.
 #[derive(Drop)]
 pub(crate) struct Places {
-    /// The installation's store.
+    /// The installation's store, `repo`.
     pub(crate) repo: Path,
-    /// Where work is that counts for nothing.
+    /// The store's directory of temporary files, `repo/tmp`.
     pub(crate) tmp: Path,
-    /// Where the pull keeps its objects until all are judged.
+    /// The pull's work directory `repo/tmp/pull`, which has its objects until all are checked.
     pub(crate) work: Path,
-    /// The folder of the commit.
+    /// The commit's directory.
     pub(crate) folder: Path,
 }
 
 impl Places {
-    /// Those of this commit of the ref.
+    /// Returns the paths for this commit of the ref.
     pub(crate) fn of(alloc: Global, name: &RefName, commit: &Digest) -> Result<Places, AllocError>
         ensures { IfOk result (ArePlaces name.now commit.now) }
     {

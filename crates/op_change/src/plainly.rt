@@ -1,4 +1,4 @@
-//! One operation that brings no commit.
+//! Operations that bring no commit.
 ghost use Rattle.std.specs.Prelude.{◌≡◌, IfOk, OnOk, IsErrOf};
 ghost use Rattle.fp_host.specs.OverHost.{AtEachMoment, AtReturn, FailsOnly};
 ghost use Rattle.dep_states.specs.Sound.{Opens};
@@ -13,8 +13,9 @@ use fp_host::{Host, HostEnd};
 use fp_small::Op;
 use std::alloc::Global;
 
-/// Does one operation that brings no commit: every stop leaves the state of before or the one
-/// after, and once it is done, the one after.
+/// Does one operation that brings no commit: a crash at any moment leaves the previous state or the
+/// new one, and after success the new one. Condition: the state allows the operation, and it is no
+/// install and no update.
 pub(crate) fn apply_plainly<H: Host>(
     alloc: Global,
     host: &mut H,
@@ -24,7 +25,7 @@ pub(crate) fn apply_plainly<H: Host>(
     requires { MayPlainly opened op.now }
     ensures state { IfOk result (λ o. o ≡ state_after opened (plain op.now)) }
     ensures good { IfOk result IsGood }
-    // A stop at any moment leaves the one state or the other.
+    // A crash at any moment leaves the previous state or the new one.
     ensures any_moment { AtEachMoment H.Host host.old host.new (DoesPlainly opened op.now) }
     ensures on_success { OnOk result (AtReturn H.Host host.old host.new
         (WasDonePlainly opened op.now)) }

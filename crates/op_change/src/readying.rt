@@ -1,4 +1,4 @@
-//! The store of an installation, made ready for its first commit.
+//! Setting up the store of an installation for its first commit.
 ghost use Rattle.std.specs.Prelude.{◌≡◌, IfOk, OnOk, IsErrOf};
 ghost use Rattle.fp_host.specs.OverHost.{AtEachMoment, AtReturn, FailsOnly};
 ghost use Rattle.fp_small.specs.Replace.{CanReplace};
@@ -9,7 +9,7 @@ use fp_small::{make_above, replace, repo_path};
 use ost_model::STORE_CONFIG;
 use std::alloc::{AllocError, Global};
 
-/// `config` of the store, and a name in the folder of its refs.
+/// Returns the path of the store's `config`, and a path directly in its directory `refs/heads`.
 fn store_paths(alloc: Global) -> Result<(Path, Path), AllocError>
     ensures { IfOk result (λ paths. (paths.0 ≡ store_config) × (paths.1 ≡ a_head)) }
 {
@@ -19,7 +19,7 @@ fn store_paths(alloc: Global) -> Result<(Path, Path), AllocError>
     Ok((config, head))
 }
 
-/// Writes `config` of the store where it is absent.
+/// Writes the store's `config` if it is absent.
 fn write_config<H: Host>(alloc: Global, host: &mut H, config: &Path) -> Result<(), HostEnd>
     requires { config.now ≡ store_config }
     ensures any_moment { AtEachMoment H.Host host.old host.new Configures }
@@ -33,8 +33,8 @@ fn write_config<H: Host>(alloc: Global, host: &mut H, config: &Path) -> Result<(
     }
 }
 
-/// Makes the folder `repo/refs/heads`, and then `repo/config`, each where it is absent. So where
-/// the store has a `config`, it has the folder of its refs.
+/// Makes the directory `repo/refs/heads` and then the file `repo/config`, each if it is absent.
+/// Since the directory comes first, a store with a `config` has the directory of its refs.
 pub(crate) fn ready_store<H: Host>(alloc: Global, host: &mut H) -> Result<(), HostEnd>
     ensures any_moment { AtEachMoment H.Host host.old host.new ReadiesStore }
     ensures on_success { OnOk result (AtReturn H.Host host.old host.new WasReadied) }

@@ -1,4 +1,4 @@
-//! A ref that goes back to its previous commit.
+//! Rolling a ref back to its previous commit.
 ghost use Rattle.std.specs.Prelude.{◌≡◌, IfOk, OnOk, IsErrOf};
 ghost use Rattle.fp_host.specs.OverHost.{AtEachMoment, AtReturn, FailsOnly};
 ghost use Rattle.fp_small.specs.declared.op.Op.TheVariants.{Rollback};
@@ -14,7 +14,7 @@ use fp_name::{Digest, RefName};
 use fp_small::{Previous, RefRow, State, clear};
 use std::alloc::{AllocError, Global};
 
-/// The row with its commit and the previous one in each other's places.
+/// Returns the row with its commit and its previous commit exchanged.
 fn exchanged(row: &RefRow, previous: &Previous) -> Result<RefRow, AllocError>
     ensures { IfOk result (λ r. r ≡ exchanged row.now previous.now) }
 {
@@ -31,7 +31,7 @@ fn exchanged(row: &RefRow, previous: &Previous) -> Result<RefRow, AllocError>
     })
 }
 
-/// The row of the ref after it went back. It is for a ref that has a previous commit.
+/// Returns the row that the ref has after a rollback. Condition: the ref has a previous commit.
 fn row_back(state: &State, name: &RefName) -> Result<RefRow, AllocError>
     requires { HasBack state.now.refs name.now }
     ensures { IfOk result (IsRowBack state.now.refs name.now) }
@@ -45,8 +45,9 @@ fn row_back(state: &State, name: &RefName) -> Result<RefRow, AllocError>
     exchanged(row, previous)
 }
 
-/// Takes a ref back to its previous commit, which this is: the folder of that commit is there. No
-/// remote is asked.
+/// Rolls the ref back to its previous commit, which is `commit`, and keeps the current one as its
+/// previous commit. Removes what is at `repo/tmp/active` first. No remote is asked, since the
+/// commit's directory is kept. A crash at any moment leaves the previous state or the new one.
 pub fn roll_back<H: Host>(
     alloc: Global,
     host: &mut H,

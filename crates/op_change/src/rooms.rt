@@ -1,4 +1,4 @@
-//! What stands in the way of a commit goes.
+//! Making room for a commit.
 ghost use Rattle.std.specs.Prelude.{OnOk, IsErrOf};
 ghost use Rattle.fp_host.specs.OverHost.{AtReturn, FailsOnly};
 ghost use Rattle.fp_host.specs.Frame.{Frame, NoPath};
@@ -8,7 +8,7 @@ use fp_host::{Host, HostEnd, Path};
 use fp_small::{clear, clear_below};
 use std::alloc::Global;
 
-/// Takes away all that is below the path `tmp`, and the folder where it isn't kept.
+/// Clears everything below `tmp`, and unless `kept` also `folder` and everything below it.
 pub(crate) fn make_room<H: Host>(
     alloc: Global,
     host: &mut H,

@@ -1,4 +1,4 @@
-//! The row of a ref at a commit that is brought.
+//! The row of a ref for a commit that is brought.
 ghost use Rattle.std.specs.Prelude.{◌≡◌, ◌<◌, ◌^◌, true, false, IfOk, OnOk};
 ghost use Rattle.fp_name.specs.Grammar.{is_remote_name};
 ghost use Rattle.fp_name.specs.Refs.{is_ref};
@@ -10,7 +10,8 @@ use fp_name::{Digest, RefName};
 use fp_small::{Previous, RefRow, RemoteRow, State};
 use std::alloc::AllocError;
 
-/// The commit at which the ref is, which becomes its previous one.
+/// Returns the commit that the ref is at, which becomes its previous one; `None` if the ref isn't
+/// deployed.
 fn previous_for(state: &State, name: &RefName) -> Option<Previous>
     ensures { result ≡ previous_for state.now name.now }
 {
@@ -23,7 +24,8 @@ fn previous_for(state: &State, name: &RefName) -> Option<Previous>
     }
 }
 
-/// The row of a ref at this commit, with the one of before as the previous one.
+/// Returns the row of the ref at this commit, with the commit that it is at now as its previous
+/// one.
 pub(crate) fn row_brought(
     state: &State,
     name: &RefName,
@@ -46,7 +48,7 @@ pub(crate) fn row_brought(
     })
 }
 
-/// Whether the ref keeps this commit as its previous one.
+/// Returns whether the ref keeps this commit as its previous one.
 pub(crate) fn is_kept(state: &State, name: &RefName, commit: &Digest) -> bool
     ensures kept { result ≡ true → HasRow state.now name.now (HasPrevious commit.now) }
     ensures unkept { result ≡ false → HasRow state.now name.now (HasPrevious commit.now) → ⊥ }

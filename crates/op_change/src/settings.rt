@@ -1,4 +1,4 @@
-//! One operation on the settings.
+//! Operations on the settings.
 ghost use Rattle.std.specs.Prelude.{◌≡◌, IfOk, OnOk, IsErrOf};
 ghost use Rattle.fp_host.specs.OverHost.{AtEachMoment, AtReturn, FailsOnly};
 ghost use Rattle.fp_small.specs.Config.{config_text, IsSettings};
@@ -18,10 +18,11 @@ use fp_small::{
 };
 use std::alloc::{AllocError, Global};
 
-/// Does one operation on the pins, the remotes or the layout of an opened installation: every stop
-/// leaves the state of before or the one after, and once it is done, the one after. A migration
-/// writes `config`, and leaves the files of layout 1 where they are. Whatever the end but Ok, the
-/// installation is opened again before anything else is done with it.
+/// Does one operation on the pins, the remotes or the layout of an opened installation: a crash at
+/// any moment leaves the previous state or the new one, and after success the new one. A migration
+/// writes `config`, and leaves the files of layout 1 where they are. After `NoMemory`, nothing has
+/// changed. After an error, the installation must be opened again before anything else is done with
+/// it.
 pub(crate) fn change_settings<H: Host>(
     alloc: Global,
     host: &mut H,
@@ -31,7 +32,7 @@ pub(crate) fn change_settings<H: Host>(
     requires { MaySet opened op.now }
     ensures state { IfOk result (λ o. o ≡ state_after opened (plain op.now)) }
     ensures good { IfOk result IsGood }
-    // A stop at any moment leaves the one state or the other.
+    // A crash at any moment leaves the previous state or the new one.
     ensures any_moment { AtEachMoment H.Host host.old host.new
         (Does opened (state_after opened (plain op.now))
         (ReplacesName config)) }
@@ -47,7 +48,7 @@ pub(crate) fn change_settings<H: Host>(
     Ok(Opened::of(state))
 }
 
-/// The state after the operation.
+/// Returns the state after an operation on the settings.
 fn changed(state: State, op: &Op) -> Result<State, AllocError>
     requires { IsOnConfig op.now }
     ensures { IfOk result (λ s. s ≡ state_after state (plain op.now)) }
@@ -81,7 +82,7 @@ fn changed(state: State, op: &Op) -> Result<State, AllocError>
     })
 }
 
-/// Writes `config` anew.
+/// Replaces `config`, or creates it, with the state's remotes and pins.
 fn write_state<H: Host>(alloc: Global, host: &mut H, state: &State) -> Result<(), HostEnd>
     requires { IsSettings (settings_of state.now) }
     ensures any_moment { AtEachMoment H.Host host.old host.new

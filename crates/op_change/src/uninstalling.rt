@@ -1,4 +1,4 @@
-//! A ref that is uninstalled.
+//! Uninstalling a ref.
 ghost use Rattle.std.specs.Prelude.{◌≡◌, ◌≢◌, None, IfOk, OnOk, IsErrOf};
 ghost use Rattle.fp_host.specs.OverHost.{AtEachMoment, AtReturn, FailsOnly};
 ghost use Rattle.fp_small.specs.Clear.{AbsentAt};
@@ -16,7 +16,7 @@ use fp_name::RefName;
 use fp_small::State;
 use std::alloc::{AllocError, Global};
 
-/// The plan for a ref that is deployed.
+/// Returns the plan for uninstalling a deployed ref.
 fn plan_for(alloc: Global, state: &State, name: &RefName) -> Result<RetirePlan, AllocError>
     requires { row_at state.now name.now ≢ None }
     ensures { IfOk result (IsPlanOf name.now) }
@@ -28,7 +28,9 @@ fn plan_for(alloc: Global, state: &State, name: &RefName) -> Result<RetirePlan, 
     }
 }
 
-/// Takes a deployed ref away: its `active` goes. Its folders and its objects stay for a tidying.
+/// Uninstalls a deployed ref: removes its `active`, and syncs. Its directories and objects are left
+/// for tidying. A crash at any moment leaves the state with the ref or the one without it. After
+/// `NoMemory`, nothing has changed.
 pub fn uninstall<H: Host>(
     alloc: Global,
     host: &mut H,

@@ -1,4 +1,4 @@
--- A commit that is laid out in a folder.
+-- Commits that are checked out into a directory.
 use Rattle.std.specs.Prelude.{◌≡◌, ℕ, List, ◌++◌, None}
 use Rattle.fp_host.specs.Paths.{Elements, Slot, absent, dir}
 use Rattle.fp_host.specs.View.{View}
@@ -13,66 +13,71 @@ use Rattle.ost_model.specs.Order.{first_fault}
 use Rattle.ost_model.specs.Look.{Found, nothing, directory, file_at, look}
 use Rattle.ost_model.specs.Standing.{expected, deploy_name}
 
--- some stop leaves this at the path
+-- Some crash leaves this node at the path
 pub record MayBeLeft (v : View) (p : Elements) (spot : Spot) : Type 0 where
   pub disk : Disk
   pub left : Leaves v disk
   pub is : spot ≡ disk p
 
--- What may come to stand where this is found: a folder, or what a stop leaves at the object's name
--- in the store at root.
+-- A checkout may leave this node where the commit has `found`: a directory, or a node that some
+-- crash leaves at the object's path in the store at `root`
 abbrev pub SpotOf : Elements → View → Found → Spot → Type 0
 SpotOf root v nothing spot = ⊥
 SpotOf root v (directory row) spot = spot ≡ folder
 SpotOf root v (file_at d) spot = MayBeLeft v (object_path root d kinds.File) spot
 
--- and what its name may come to hold: the object's own file, or a link of its text
+-- A checkout may give a name this entry where the commit has `found`: a directory, or the entry of
+-- the object's path, which is a hard link of its file or a symlink of its text
 abbrev pub SlotOf : Elements → View → Found → Slot → Type 0
 SlotOf root v nothing e = ⊥
 SlotOf root v (directory row) e = e ≡ dir
 SlotOf root v (file_at d) e = e ≡ v.names (object_path root d kinds.File)
 
--- the path is one of the commit's in this folder, and this may come to stand there
+-- The path is one of the commit's in the directory `to`, and a checkout may leave this node there
 pub record ChecksOutAt (root : Elements) (commit : List ℕ) (to : Elements) (v : View)
     (q : Elements) (spot : Spot) : Type 0 where
   pub rest : Elements
   pub at : q ≡ rest ++ to
   pub may : SpotOf root v (look (store root (shows v)) commit rest) spot
 
+-- The path is one of the commit's in the directory `to`, and a checkout may give it this entry
 pub record ChecksOutName (root : Elements) (commit : List ℕ) (to : Elements) (v : View)
     (q : Elements) (e : Slot) : Type 0 where
   pub rest : Elements
   pub at : q ≡ rest ++ to
   pub may : SlotOf root v (look (store root (shows v)) commit rest) e
 
--- no object of the store at root has its name in the folder
+-- No object of the store at `root` has its path at or below `to`
 pub record IsApart (root to : Elements) : Type 0 where
   pub off : (d : List ℕ) (kind : ObjKind) → IsWithin to (object_path root d kind) → ⊥
 
--- Paths of the commit may come into the folder, each as it is found in the commit, and nothing else
--- changes.
+-- If no object has its path at or below `to`, paths of the commit may be made in the directory
+-- `to`, each as in the commit, and nothing else changes
 pub record ChecksOut (root : Elements) (commit : List ℕ) (to : Elements) (u w : View) : Type 0 where
   pub keeps : IsApart root to
       → Keeps (ChecksOutAt root commit to u) (ChecksOutName root commit to u) NoPath u w
 
--- Each path of the commit stands in the folder: a directory is a folder, a file is the very file of
--- its object, a link has its object's text. No other path is there.
+-- The commit is checked out in the directory `to`: each path of the commit is there, a directory as
+-- a directory, a file as a hard link of its object's file, a symlink with its object's text. No
+-- other path is there.
 pub record IsCheckedOut (root : Elements) (commit : List ℕ) (to : Elements) (v : View) : Type 0
   where
     pub paths : (rest : Elements) → shows v (rest ++ to)
         ≡ expected root (shows v) (look (store root (shows v)) commit rest)
 
+-- The commit has no entry `deploy`, and was checked out in the directory `to` if no object has its
+-- path at or below `to`
 pub record WasCheckedOut (root : Elements) (commit : List ℕ) (to : Elements) (u w : View) : Type 0
   where
     pub whole : IsApart root to → IsCheckedOut root commit to w
     pub no_deploy : look (store root (shows u)) commit deploy_name ≡ nothing
 
--- the root of the commit has an entry `deploy`
+-- The commit's root directory has an entry `deploy`
 pub record HasReserved (root : Elements) (commit : List ℕ) (v : View) : Type 0 where
   pub there : look (store root (shows v)) commit deploy_name ≡ nothing → ⊥
 
--- where it may be laid out: the folder is absent, the one above it is there, and the commit's order
--- has no fault
+-- The directory `to` is absent, its parent is a directory, no object has its path at or below `to`,
+-- and the commit has no fault in the store
 pub record CanCheckOut (root : Elements) (commit : List ℕ) (to : Elements) (v : View) : Type 0 where
   pub apart : IsApart root to
   pub free : v.names to ≡ absent

@@ -1,4 +1,4 @@
--- What is read of a commit.
+-- Reading of commits and dirtrees in a store.
 use Rattle.std.specs.Prelude.{◌≡◌, ℕ, List, true, Some, None, Result, Err}
 use Rattle.std.specs.List.{list_all}
 use Rattle.fp_host.specs.Paths.{Elements, is_element}
@@ -15,20 +15,20 @@ use Rattle.ost_model.specs.Objects.{store, object_fault}
 use Rattle.ost_model.specs.Order.{tree_at, commit_at}
 use Rattle.ost_model.specs.Readers.{file_names, dir_names}
 
--- a rule is broken
+-- The object breaks a rule
 abbrev pub IsUnread : {A : Type 0} → Result A Rule → Type 0
 IsUnread read = (rule : Rule) × (read ≡ Err rule)
 
--- how a function over a host ends there
+-- The error of a function over a host for an object that can't be read
 abbrev pub unread_end : ObjectError → HostEnd
 unread_end (errors.Malformed rule) = ends.Fault
 unread_end errors.NoMemory = ends.NoMemory
 
--- this is the dirtree in the store at root
+-- `view` is the dirtree of the digest in the store at `root`
 pub record IsTree (root : Elements) (d : List ℕ) (v : View) (view : TreeView) : Type 0 where
   pub read : tree_at (store root (shows v)) d ≡ Some view
 
--- these are the digests of the root of the commit
+-- `found` is the digests of the commit's root directory
 pub record IsRoot (root : Elements) (commit : List ℕ) (v : View) (found : List ℕ × List ℕ) : Type 0
   where
     pub view : CommitView
@@ -36,14 +36,15 @@ pub record IsRoot (root : Elements) (commit : List ℕ) (v : View) (found : List
     pub tree : found.0 ≡ view.tree
     pub meta : found.1 ≡ view.meta
 
--- each name may be one of a path
+-- Each name of the dirtree may be an element of a path
 pub record HasGoodNames (view : TreeView) : Type 0 where
   pub files : list_all is_element (file_names view) ≡ true
   pub dirs : list_all is_element (dir_names view) ≡ true
 
--- the object has no fault
+-- The dirtree of the digest has no fault in the store at `root`
 pub record HasTree (root : Elements) (d : List ℕ) (v : View) : Type 0 where
   pub good : object_fault d kinds.DirTree (store root (shows v) d kinds.DirTree) ≡ None
 
+-- The commit of the digest has no fault in the store at `root`
 pub record HasCommit (root : Elements) (d : List ℕ) (v : View) : Type 0 where
   pub good : object_fault d kinds.Commit (store root (shows v) d kinds.Commit) ≡ None

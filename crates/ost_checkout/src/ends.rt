@@ -1,16 +1,16 @@
-//! How a checkout ends.
+//! The errors of a checkout.
 use fp_host::HostEnd;
 use std::alloc::AllocError;
 
-/// Why a commit was not laid out.
+/// The error of a checkout.
 #[derive(Clone, Copy, Debug, PartialEq, Eq)]
 pub enum CheckoutEnd {
-    /// The root of the commit has an entry `deploy`, which is the name of a file beside the
-    /// commit's own. Nothing changed.
+    /// The commit's root directory has an entry `deploy`, which is the name of fpk's own file in
+    /// the checkout's directory. Nothing changed.
     ReservedName,
-    /// A call of the host failed, or the host was not as the condition asks.
+    /// A call of the host failed, or the host's content didn't meet the condition.
     Fault,
-    /// There was no memory.
+    /// Memory ran out.
     NoMemory,
 }
 

@@ -1,5 +1,5 @@
-//! Laws of the words that the contract uses, for crates that build on it. Each is the contract of a
-//! function that does nothing.
+//! Laws of the definitions in the contract, for crates that build on it. Each is the contract of a
+//! function with an empty body.
 ghost use Rattle.std.specs.Prelude.{◌≡◌, ℕ, List};
 ghost use Rattle.fp_host.specs.Paths.{Elements};
 ghost use Rattle.fp_host.specs.View.{View};
@@ -7,8 +7,8 @@ ghost use Rattle.fp_host.specs.Outcome.{Disk, Leaves};
 ghost use Rattle.fp_small.specs.Clear.{IsWithin};
 ghost use Rattle.ost_checkout.specs.Checkout.{IsApart, ChecksOut};
 
-/// Outside the folder nothing changes: each name holds what it held, and each stop leaves there
-/// what some stop before would have left.
+/// States that nothing changes outside the checkout's directory: each name keeps its entry, and
+/// each crash leaves there what some crash before would have left.
 pub fn names_outside_stay()
     ensures name { (root : Elements) (commit : List ℕ) (to q : Elements) (u w : View)
         → IsApart root to → ChecksOut root commit to u w

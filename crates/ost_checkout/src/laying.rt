@@ -1,4 +1,4 @@
-//! A commit that is laid out in a folder.
+//! The checkout of a commit.
 ghost use Rattle.std.specs.Prelude.{◌≡◌, OnOk, IsErrOf};
 ghost use Rattle.fp_host.specs.OverHost.{AtEachMoment, AtReturn, FailsOnly};
 ghost use Rattle.fp_small.specs.Unsynced.{MakesNoFile};
@@ -12,12 +12,13 @@ use fp_host::{Host, Path};
 use fp_name::Digest;
 use std::alloc::Global;
 
-/// Lays a commit of the store in this folder out in another one, which is absent: a directory
-/// becomes a folder, a file a hard link to the object's file, a link a link of the same text. All
-/// paths are known before the first is made. Nothing is synced, no link is followed, and the modes
-/// of directories play no part. `ReservedName` comes where the root of the commit has an entry
-/// `deploy`; nothing changed then. It is for a folder in which no object of the store has its name,
-/// and for a commit whose order has no fault in this store.
+/// Checks out a commit of the store at `root` into the directory `to`: directories are made, files
+/// are hard links to the objects' files, and symlinks are made with the objects' texts. All paths
+/// are listed before the first is made. Syncs nothing, follows no symlinks, and ignores the modes
+/// of the commit's directories. Errs with `ReservedName` if the commit's root directory has an
+/// entry `deploy`; then nothing changed. After any other error, some of the paths may have been
+/// made. Condition: `to` is absent, its parent is a directory, no object of the store has its path
+/// at or below `to`, and the commit has no fault in the store.
 pub fn checkout<H: Host>(
     alloc: Global,
     host: &mut H,
@@ -25,15 +26,15 @@ pub fn checkout<H: Host>(
     commit: &Digest,
     to: &Path,
 ) -> Result<(), CheckoutEnd>
-    // A stop at any moment leaves in the folder some of the commit's paths, each as it is found in
-    // the commit, and all else as it was.
+    // A crash at any moment leaves in the directory some of the commit's paths, each as in the
+    // commit. Nothing else changes.
     ensures any_moment { AtEachMoment H.Host host.old host.new
         (ChecksOut root.now commit.now to.now) }
     ensures on_success { OnOk result (AtReturn H.Host host.old host.new
         (WasCheckedOut root.now commit.now to.now)) }
     ensures reserved { IsErrOf result CheckoutEnd.ReservedName
         → AtReturn H.Host host.old host.new (λ u w. (w ≡ u) × HasReserved root.now commit.now u) }
-    // What was unsettled stays so.
+    // Nothing is synced, and no file is created.
     ensures unsynced { AtReturn H.Host host.old host.new MakesNoFile }
     ensures fault_has_cause { FailsOnly H.Host host.old host.new
         (CanCheckOut root.now commit.now to.now) (IsErrOf result CheckoutEnd.Fault) }

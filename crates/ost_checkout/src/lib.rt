@@ -1,4 +1,4 @@
-//! A commit is laid out as a folder, from the objects of a store.
+//! Checking out a commit into a directory, from the objects of a store.
 #![tactic(auto)]
 
 mod ends;

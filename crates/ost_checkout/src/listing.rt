@@ -1,4 +1,4 @@
-//! The paths of a commit in a list, each after the directory that it is in.
+//! The list of a commit's paths, each after the directory that contains it.
 ghost use Rattle.std.specs.Prelude.{◌≡◌, ◌≤◌, ◌<◌, ◌+◌, ◌∷◌, [], leb, length, IfOk, IsErrOf, OnOk};
 ghost use Rattle.fp_host.specs.OverHost.{AtReturn, ChangesNothing, FailsOnly};
 ghost use Rattle.ost_checkout.specs.Listing.{IsDirAt, ExpandsDir, Expands, CanExpandDir, CanExpand, IsFirstRow, HasRows, CanListRows, most_rows};
@@ -12,7 +12,7 @@ use ost_model::MOST_OBJECTS;
 use ost_object::DirTree;
 use std::alloc::{AllocError, Global};
 
-/// Whether a list of `listed` rows has room for what is in this dirtree.
+/// Returns whether a list of `listed` rows has room for the entries of a dirtree.
 fn has_room(listed: usize, tree: &DirTree) -> bool
     requires { listed ≤ most_rows }
     ensures { result ≡ leb (listed + (length tree.now.files + length tree.now.dirs)) most_rows }
@@ -23,7 +23,8 @@ fn has_room(listed: usize, tree: &DirTree) -> bool
     files <= left && dirs <= left - files
 }
 
-/// Adds what is in the directory of this dirtree at the path.
+/// Appends the entries of a directory, given by its dirtree and its path. Errs with `Fault` if
+/// there would be more rows than a commit may have objects.
 fn expand_dir<H: Host>(
     alloc: Global,
     host: &mut H,
@@ -47,7 +48,8 @@ fn expand_dir<H: Host>(
     Ok(add_rows(path, &tree, rows)?)
 }
 
-/// The dirtree and the path of the directory at this index; None where a file or link is there.
+/// Returns the dirtree and the path of the directory at this index, or `None` for a file or
+/// symlink.
 fn dir_at(rows: &[Row], at: usize) -> Result<Option<(Digest, Path)>, AllocError>
     requires { at < length rows.now }
     ensures { IfOk result (IsDirAt rows.now at) }
@@ -59,7 +61,7 @@ fn dir_at(rows: &[Row], at: usize) -> Result<Option<(Digest, Path)>, AllocError>
     }
 }
 
-/// Adds what is in the directory at this index. In a file or link there is nothing.
+/// Appends the entries of the directory at this index. Does nothing for a file or symlink.
 fn expand<H: Host>(
     alloc: Global,
     host: &mut H,
@@ -82,7 +84,7 @@ fn expand<H: Host>(
     }
 }
 
-/// The row of the folder in which the commit is laid out.
+/// Returns the row of the checkout's directory itself.
 fn first_row<H: Host>(
     alloc: Global,
     host: &mut H,
@@ -106,7 +108,7 @@ fn first_row<H: Host>(
     })
 }
 
-/// A list of one row.
+/// Returns a list of one row.
 fn row_alone(alloc: Global, row: Row) -> Result<Vec<Row>, AllocError>
     ensures { IfOk result (λ rows. rows.items ≡ row ∷ []) }
 {
@@ -115,8 +117,8 @@ fn row_alone(alloc: Global, row: Row) -> Result<Vec<Row>, AllocError>
     Ok(rows)
 }
 
-/// The paths of the commit in this folder, each after the directory that it is in. It is for a
-/// commit whose order has no fault.
+/// Lists the paths of the commit in the checkout's directory, each after the directory that
+/// contains it. Condition: the commit has no fault in the store.
 pub(crate) fn list_rows<H: Host>(
     alloc: Global,
     host: &mut H,

@@ -1,4 +1,4 @@
-//! Paths of a commit that are put into a folder.
+//! Making the paths of a commit in the checkout's directory.
 ghost use Rattle.std.specs.Prelude.{◌≡◌, OnOk, IsErrOf};
 ghost use Rattle.fp_host.specs.OverHost.{AtEachMoment, AtReturn, FailsOnly};
 ghost use Rattle.fp_small.specs.Unsynced.{MakesNoFile};
@@ -13,7 +13,7 @@ use fp_name::Digest;
 use ost_store::path_of;
 use std::alloc::Global;
 
-/// Makes a link of the same text.
+/// Makes a symlink with the text of another.
 fn copy_link<H: Host>(alloc: Global, host: &mut H, from: &Path, to: &Path) -> Result<(), HostEnd>
     ensures any_moment { AtEachMoment H.Host host.old host.new (Copies from.now to.now) }
     ensures on_success { OnOk result (AtReturn H.Host host.old host.new
@@ -26,7 +26,7 @@ fn copy_link<H: Host>(alloc: Global, host: &mut H, from: &Path, to: &Path) -> Re
     Ok(host.symlink(text.as_str(), to)?)
 }
 
-/// Gives the file a second name, or makes a link of the same text.
+/// Makes a hard link of a file, or a symlink with the text of another.
 fn copy_object<H: Host>(alloc: Global, host: &mut H, from: &Path, to: &Path) -> Result<(), HostEnd>
     ensures any_moment { AtEachMoment H.Host host.old host.new (Copies from.now to.now) }
     ensures on_success { OnOk result (AtReturn H.Host host.old host.new
@@ -42,7 +42,7 @@ fn copy_object<H: Host>(alloc: Global, host: &mut H, from: &Path, to: &Path) -> 
     }
 }
 
-/// Puts the file or link of this object at the path.
+/// Makes the path a hard link of the object's file, or a symlink with its text.
 fn put_object<H: Host>(
     alloc: Global,
     host: &mut H,
@@ -63,7 +63,7 @@ fn put_object<H: Host>(
     copy_object(alloc, host, &object, path)
 }
 
-/// Puts what the row says at its path.
+/// Makes the row's directory, file or symlink at its path.
 fn put_row<H: Host>(alloc: Global, host: &mut H, root: &Path, row: &Row) -> Result<(), HostEnd>
     ensures any_moment { AtEachMoment H.Host host.old host.new (PutsRow root.now row.now) }
     ensures on_success { OnOk result (AtReturn H.Host host.old host.new (WasPut root.now row.now)) }
@@ -77,7 +77,7 @@ fn put_row<H: Host>(alloc: Global, host: &mut H, root: &Path, row: &Row) -> Resu
     }
 }
 
-/// Puts all of these at their paths, in this order.
+/// Makes the directories, files and symlinks of the rows, in this order.
 pub(crate) fn put_rows<H: Host>(
     alloc: Global,
     host: &mut H,

@@ -1,4 +1,4 @@
-//! Metadata objects of a store, read.
+//! Reading of commits and dirtrees in a store.
 ghost use Rattle.std.specs.Prelude.{◌≡◌, Ok, IfOk, IsErrOf};
 ghost use Rattle.fp_host.specs.OverHost.{AtReturn, ChangesNothing, FailsOnly};
 ghost use Rattle.ost_model.specs.Readers.{tree_read, commit_read};
@@ -14,7 +14,7 @@ use ost_object::{CommitRoot, DirTree, ObjectError, commit_root, read_dirtree};
 use ost_store::{Got, get};
 use std::alloc::Global;
 
-/// How a function over a host ends where an object can't be read.
+/// Returns the error of a function over a host for an object that can't be read.
 fn unread(error: ObjectError) -> HostEnd
     ensures { result ≡ unread_end error }
 {
@@ -24,7 +24,7 @@ fn unread(error: ObjectError) -> HostEnd
     }
 }
 
-/// The dirtree of these bytes.
+/// Reads the dirtree that bytes represent.
 fn tree_in(alloc: Global, bytes: &Blob) -> Result<DirTree, HostEnd>
     ensures read { IfOk result (λ tree. tree_read bytes.now ≡ Ok (tree_view tree)) }
     ensures names { IfOk result (λ tree. HasGoodNames (tree_view tree)) }
@@ -36,7 +36,7 @@ fn tree_in(alloc: Global, bytes: &Blob) -> Result<DirTree, HostEnd>
     }
 }
 
-/// The dirtree in the store in this folder. It is for one without a fault.
+/// Reads a dirtree of the store at `root`. Condition: it has no fault there.
 pub(crate) fn read_tree<H: Host>(
     alloc: Global,
     host: &mut H,
@@ -46,7 +46,7 @@ pub(crate) fn read_tree<H: Host>(
     ensures unchanged { ChangesNothing H.Host host.old host.new }
     ensures tells { IfOk result (λ tree. AtReturn H.Host host.old host.new
         (λ u w. IsTree root.now digest.now u (tree_view tree))) }
-    // So on every host.
+    // Holds also on a host that doesn't report its content.
     ensures names { IfOk result (λ tree. HasGoodNames (tree_view tree)) }
     ensures fault_has_cause { FailsOnly H.Host host.old host.new
         (HasTree root.now digest.now) (IsErrOf result HostEnd.Fault) }
@@ -64,7 +64,7 @@ pub(crate) fn read_tree<H: Host>(
     }
 }
 
-/// The root of the commit of these bytes.
+/// Reads the digests of a commit's root directory from the commit's bytes.
 fn root_in(alloc: Global, bytes: &Blob) -> Result<CommitRoot, HostEnd>
     ensures read { IfOk result (λ root. mapped root_in (commit_read bytes.now)
         ≡ Ok (root_view root)) }
@@ -77,7 +77,8 @@ fn root_in(alloc: Global, bytes: &Blob) -> Result<CommitRoot, HostEnd>
     }
 }
 
-/// The root of the commit in the store in this folder. It is for a commit without a fault.
+/// Reads the digests of a commit's root directory from the store at `root`. Condition: the commit
+/// has no fault there.
 pub(crate) fn read_root<H: Host>(
     alloc: Global,
     host: &mut H,

@@ -1,4 +1,4 @@
-//! The paths of a commit.
+//! The rows of a checkout: a path and what it is to be.
 ghost use Rattle.std.specs.Prelude.{◌≡◌, ◌++◌, map, OnOk, IfOk, true};
 ghost use Rattle.std.specs.List.{list_all, list_any};
 ghost use Rattle.fp_host.specs.Paths.{is_element, path_eq};
@@ -11,23 +11,23 @@ use fp_name::Digest;
 use ost_object::{DirEntry, DirTree, FileEntry};
 use std::alloc::AllocError;
 
-/// What stands at a path of a commit.
+/// The entry of a commit at a path.
 #[derive(Clone, Copy)]
 pub(crate) enum Entry {
-    /// A directory, with the digests of its dirtree and its dirmeta.
+    /// A directory, by the digests of its dirtree and its dirmeta.
     Dir { tree: Digest, meta: Digest },
-    /// A file or a link, with the digest of its object.
+    /// A file or symlink, by the digest of its object.
     File(Digest),
 }
 
-/// A path of a commit, below the folder in which the commit is laid out.
+/// A path of a commit in the checkout's directory, and its entry.
 #[derive(Drop)]
 pub(crate) struct Row {
     pub path: Path,
     pub entry: Entry,
 }
 
-/// A file or link in the folder.
+/// Returns the row of a file or symlink in a directory.
 fn file_row(folder: &Path, file: &FileEntry) -> Result<Row, AllocError>
     requires { is_element file.now.name ≡ true }
     ensures { IfOk result (λ row. row ≡ row_of_file folder.now (file_row file.now)) }
@@ -38,7 +38,7 @@ fn file_row(folder: &Path, file: &FileEntry) -> Result<Row, AllocError>
     })
 }
 
-/// A directory in the folder.
+/// Returns the row of a directory in a directory.
 fn dir_row(folder: &Path, dir: &DirEntry) -> Result<Row, AllocError>
     requires { is_element dir.now.name ≡ true }
     ensures { IfOk result (λ row. row ≡ row_of_dir folder.now (dir_row dir.now)) }
@@ -52,7 +52,7 @@ fn dir_row(folder: &Path, dir: &DirEntry) -> Result<Row, AllocError>
     })
 }
 
-/// Adds the files and links in the folder.
+/// Appends the rows of the files and symlinks in a directory.
 fn add_files(folder: &Path, files: &[FileEntry], rows: &mut Vec<Row>) -> Result<(), AllocError>
     requires { list_all is_element (names_of_files files.now) ≡ true }
     ensures { OnOk result (rows.new.items ≡ rows.old.items ++ map (row_of_file folder.now)
@@ -64,7 +64,7 @@ fn add_files(folder: &Path, files: &[FileEntry], rows: &mut Vec<Row>) -> Result<
     Ok(())
 }
 
-/// Adds the directories in the folder.
+/// Appends the rows of the directories in a directory.
 fn add_dirs(folder: &Path, dirs: &[DirEntry], rows: &mut Vec<Row>) -> Result<(), AllocError>
     requires { list_all is_element (names_of_dirs dirs.now) ≡ true }
     ensures { OnOk result (rows.new.items ≡ rows.old.items ++ map (row_of_dir folder.now)
@@ -76,7 +76,7 @@ fn add_dirs(folder: &Path, dirs: &[DirEntry], rows: &mut Vec<Row>) -> Result<(),
     Ok(())
 }
 
-/// Adds what is in the folder, the files first.
+/// Appends the rows of a directory's entries, the files and symlinks first.
 pub(crate) fn add_rows(folder: &Path, tree: &DirTree, rows: &mut Vec<Row>) -> Result<(), AllocError>
     requires files { list_all is_element (file_names (tree_view tree.now)) ≡ true }
     requires dirs { list_all is_element (dir_names (tree_view tree.now)) ≡ true }
@@ -87,7 +87,7 @@ pub(crate) fn add_rows(folder: &Path, tree: &DirTree, rows: &mut Vec<Row>) -> Re
     add_dirs(folder, tree.dirs.as_slice(), rows)
 }
 
-/// Whether the path is that of one of the rows.
+/// Returns whether the path is that of one of the rows.
 pub(crate) fn has_path(rows: &[Row], path: &Path) -> bool
     ensures { result ≡ list_any (λ row. path_eq row.path path.now) rows.now }
 {

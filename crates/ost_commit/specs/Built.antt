@@ -18,26 +18,27 @@ use Rattle.ost_commit.specs.Objects.{have_of, IsNamed, AreApart, Holds}
 use Rattle.ost_commit.specs.Commits.{commit_of_tree}
 use Rattle.ost_commit.specs.Shows.{found_said, meta_at, plain_meta}
 
+-- The commit is that of the rows, of this ref, subject and time, and has all its objects
 pub record BuiltCommit (rows : List TreeRow) (r : Ref) (subject : List ℕ) (timestamp : ℕ)
     (built : Built) : Type 0 where
-  -- the digests of the root's dirtree and dirmeta
+  -- The digests of the root's dirtree and dirmeta
   pub root : List ℕ
   pub meta : List ℕ
   pub commit : commit_at (have_of built.objects) built.commit
       ≡ Some (commit_of_tree r subject timestamp root meta)
-  -- at each path stands just what the rows say
+  -- At each path, the commit has what the rows state
   pub paths : (path : Elements) → found_said (look (have_of built.objects) built.commit path)
       ≡ says rows path
   pub directories : (path : Elements) (e : DirRow)
       → look (have_of built.objects) built.commit path ≡ directory e
       → meta_at (have_of built.objects) e.meta ≡ Some plain_meta
   pub contents : AllByRecursion (Holds (have_of built.objects)) rows
-  -- the objects are whole, and each is there once
+  -- The objects have no fault, match their digests, and are listed once each
   pub whole : first_fault (have_of built.objects) built.commit ≡ None
   pub named : AllByRecursion IsNamed built.objects
   pub apart : AreApart built.objects
 
--- why rows make no commit
+-- Holds if building the commit may fail with this error
 abbrev pub IsBuildFault : List TreeRow → Ref → List ℕ → ℕ → BuildError → Type 0
 IsBuildFault rows r subject timestamp (error.Row n) = first_refused rows ≡ Some n
 IsBuildFault rows r subject timestamp error.Collision = (first_refused rows ≡ None) × Collide

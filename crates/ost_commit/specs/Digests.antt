@@ -6,20 +6,20 @@ use Rattle.ost_model.specs.Contents.{file_digest, link_digest}
 use Rattle.ost_commit.specs.declared.row.TreeRow.{TreeRow}
 use Rattle.ost_commit.specs.declared.row.TreeRow.TheVariants as row
 
--- the digest of a row's file or link; that of a directory is any
+-- Holds if this is the digest of a row's file or symlink. For a directory's row, any digest is.
 abbrev pub IsDigestOf : TreeRow → List ℕ → Type 0
 IsDigestOf (row.Dir path) d = Unit {0}
 IsDigestOf (row.File path mode bytes) d = d ≡ file_digest mode bytes
 IsDigestOf (row.Link path target) d = d ≡ link_digest target
 
--- one for each row, in order
+-- Holds if there is a digest for each row, in order
 abbrev pub AreDigests : List TreeRow → List (List ℕ) → Type 0
 AreDigests [] [] = Unit {0}
 AreDigests [] (d ∷ ds) = ⊥
 AreDigests (r ∷ rs) [] = ⊥
 AreDigests (r ∷ rs) (d ∷ ds) = IsDigestOf r d × AreDigests rs ds
 
--- the object of a row; a directory has none
+-- The object of a row's file or symlink
 abbrev pub object_by : TreeRow → Option Object
 object_by (row.Dir path) = None
 object_by (row.File path mode bytes) = Some (objects.File mode bytes)

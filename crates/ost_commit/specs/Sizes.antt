@@ -1,4 +1,4 @@
--- Why a commit is too large.
+-- Commits that are too large.
 use Rattle.std.specs.Prelude.{◌≡◌, ◌≢◌, ◌≤◌, ◌⊎◌, ◌∷◌, ◌&&◌, ℕ, List, Bool, true, length, Some, Ok}
 use Rattle.std.specs.List.{list_all}
 use Rattle.std.specs.List.Sorted.{IsStrictlySortedBy}
@@ -22,27 +22,29 @@ use Rattle.ost_commit.specs.Folders.{child_in, child_said, put_at}
 use Rattle.ost_commit.specs.Entries.{Names, tree_rows}
 use Rattle.ost_commit.specs.Commits.{commit_of_tree}
 
+-- Tests whether the digest of a file or a symlink has 32 bytes
 abbrev pub has_digest : FileRow → Bool
 has_digest f = is_digest f.digest
 
+-- Tests whether the digests of a directory have 32 bytes
 abbrev pub has_digests : DirRow → Bool
 has_digests d = is_digest d.tree && is_digest d.meta
 
--- what should be digests are digests
+-- Tests whether all digests in a dirtree have 32 bytes
 abbrev pub are_named : TreeView → Bool
 are_named v = list_all has_digest v.files && list_all has_digests v.dirs
 
--- and stay so
+-- Holds if all digests of the new dirtree have 32 bytes, if those of the old one have
 abbrev pub StayNamed : DirTree → DirTree → Type 0
 StayNamed old new = are_named (tree_view old) ≡ true → are_named (tree_view new) ≡ true
 
--- no bytes, of at most 16 MiB, are the dirtree
+-- The dirtree has no serialised form of at most 16 MiB
 pub record IsUnwritten (v : TreeView) : Type 0 where
   pub digests : are_named v ≡ true
   pub none : (bytes : List ℕ) → tree_read bytes ≢ Ok v
 
--- A directory of at most 40,000 names in their order, each of them what is said there, has a
--- dirtree that no bytes are, with these digests. A file or link names its row.
+-- A directory of at most 40,000 names in ascending order, each of them an entry, has a dirtree
+-- without a serialised form of at most 16 MiB, with these digests
 pub record IsLargeDirectory (rows : List TreeRow) (said : Elements → Said) : Type 0 where
   pub path : Elements
   pub directory : said path ≡ a_directory
@@ -56,7 +58,7 @@ pub record IsLargeDirectory (rows : List TreeRow) (said : Elements → Said) : T
   pub names : Names
   pub none : IsUnwritten (tree_rows names entries)
 
--- no bytes, of at most 16 MiB, are the commit of a root with these digests
+-- The commit of a root with these digests has no serialised form of at most 16 MiB
 pub record IsLargeCommit (r : Ref) (subject : List ℕ) (timestamp : ℕ) : Type 0 where
   pub tree : List ℕ
   pub meta : List ℕ
@@ -64,5 +66,6 @@ pub record IsLargeCommit (r : Ref) (subject : List ℕ) (timestamp : ℕ) : Type
   pub meta_digest : is_digest meta ≡ true
   pub none : (bytes : List ℕ) → commit_read bytes ≢ Ok (commit_of_tree r subject timestamp tree meta)
 
+-- Holds if a dirtree or the commit has no serialised form of at most 16 MiB
 abbrev pub IsTooLarge : List TreeRow → (Elements → Said) → Ref → List ℕ → ℕ → Type 0
 IsTooLarge rows said r subject timestamp = IsLargeDirectory rows said ⊎ IsLargeCommit r subject timestamp

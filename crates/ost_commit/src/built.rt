@@ -1,4 +1,4 @@
-//! A commit that was built, with its objects.
+//! A commit that was built, and its objects.
 
 ghost use Rattle.std.specs.Prelude.{◌≡◌};
 ghost use Rattle.ost_commit.specs.declared.built.BuildError.TheVariants.{NoMemory};
@@ -10,7 +10,7 @@ use std::alloc::{AllocError, AllocFailed};
 use std::error::Error;
 use std::fmt;
 
-/// An object, with the digest that names it.
+/// An object with its digest.
 #[derive(Drop)]
 pub struct BuiltObject {
     /// The digest of the object.
@@ -21,23 +21,24 @@ pub struct BuiltObject {
     pub object: Object,
 }
 
-/// A commit and all its objects, each once.
+/// A commit and all its objects.
 #[derive(Drop)]
 pub struct Built {
     /// The digest of the commit.
     pub commit: Digest,
-    /// All its objects, each once.
+    /// All objects of the commit, each once.
     pub objects: Items<BuiltObject>,
 }
 
-/// Why rows make no commit.
+/// The reason why rows make no commit.
 #[derive(Clone, Copy, Debug, PartialEq, Eq)]
 pub enum BuildError {
-    /// The row with this number, counted from 1, is the first that is refused.
+    /// The number of the first row that is refused, counted from 1.
     Row(u64),
     /// Two different objects have one digest.
     Collision,
-    /// No bytes, of at most 16 MiB, are the dirtree of a directory, or the commit.
+    /// The dirtree of a directory or the commit has no serialised form of at most 16 MiB. A subject
+    /// with a zero byte is such a case too.
     TooLarge,
     /// Memory ran out.
     NoMemory,

@@ -1,4 +1,4 @@
-//! Commits that are built from rows.
+//! Building a commit from rows.
 
 ghost use Rattle.std.specs.Prelude.{◌≡◌, ◌∷◌, ◌++◌, List, [], None, IfOk, IfErr, OnOk};
 ghost use Rattle.std.specs.BTreeMap.{IsOrdered};
@@ -30,12 +30,13 @@ use ost_model::Object;
 use std::alloc::{AllocError, Global};
 use std::thread::Threads;
 
-/// The commit of a tree, bound to the ref, with this subject and time, in seconds since the
-/// beginning of 1970. It has no parent and no body. The rows come one after another: `Row` names
-/// the first whose path is there already, unless both are directories; that a file or link stands
-/// above; that is more than 64 directories deep; whose permission bits are not good; whose
-/// text is none of a link; whose file has more than 1 GiB; or with which there would be more than
-/// 40,000 names below the root. The digests of files and links are found by several threads.
+/// Builds the commit of a tree, bound to the ref, with this subject and this time in seconds since
+/// 1970. It has no parent and no body. Takes the rows one after another, and fails with `Row` at
+/// the first of them that has a path that exists already, unless both are directories; is below a
+/// file or a symlink; is a directory more than 64 levels below the root, or is in one; has
+/// permission bits not within 0775; has a text that isn't valid for a symlink; has a file of more
+/// than 1 GiB; or would make more than 40,000 names below the root. Several threads compute the
+/// digests of files and symlinks.
 pub fn commit_tree(
     rt: &(impl Threads + Sync),
     alloc: Global,
@@ -44,12 +45,13 @@ pub fn commit_tree(
     subject: &str,
     timestamp: u64,
 ) -> Result<Built, BuildError>
-    // At each path of the commit stands just what the rows say; its objects are whole.
+    // At each path, the commit has what the rows state. Its objects have no fault.
     ensures built { IfOk result (BuiltCommit rows.now name.now subject.now timestamp) }
-    // `Row` comes exactly with the first row that is refused, unless memory ran out.
+    // On success no row is refused.
     ensures taken { OnOk result (first_refused rows.now ≡ None) }
-    // `TooLarge` comes only where no bytes of at most 16 MiB are the dirtree of a directory, or the
-    // commit; `Collision` only where two different objects have one digest.
+    // `Row` has the number of the first row that is refused. `TooLarge` comes only if the dirtree
+    // of a directory or the commit has no serialised form of at most 16 MiB, and `Collision` only
+    // if two different objects have one digest.
     ensures error { IfErr result (IsBuildFault rows.now name.now subject.now timestamp) }
 {
     let heading = Heading {
@@ -63,7 +65,7 @@ pub fn commit_tree(
     with_directories(alloc, tree, digests.as_slice(), contents, heading)
 }
 
-/// The same with the files and links.
+/// Builds the commit of a tree whose files and symlinks are in `contents`.
 fn with_directories(
     alloc: Global,
     tree: Tree,
@@ -94,7 +96,8 @@ fn with_directories(
     Ok(gathered(alloc, contents, made.trees, meta_bytes, commit)?)
 }
 
-/// All objects of a commit.
+/// Returns the commit with all its objects: files and symlinks, dirtrees, the dirmeta and the
+/// commit.
 fn gathered(
     alloc: Global,
     contents: Table,
@@ -116,7 +119,7 @@ fn gathered(
     Ok(Built { commit, objects })
 }
 
-/// Adds a metadata object, and answers its digest.
+/// Adds a metadata object, and returns its digest.
 fn add_meta(
     objects: &mut Items<BuiltObject>,
     bytes: Blob,

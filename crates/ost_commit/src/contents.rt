@@ -1,4 +1,4 @@
-//! The files and links of rows: their digests, and their objects.
+//! The digests and the objects of the rows' files and symlinks.
 
 ghost use Rattle.std.specs.Prelude.{◌≡◌, ◌∷◌, ◌++◌, List, [], true, IfOk, IfErr, OnOk};
 ghost use Rattle.fp_base.specs.declared.object.ObjKind.TheVariants as kinds;
@@ -18,8 +18,8 @@ use par_digest::{Item, digests};
 use std::alloc::{AllocError, Global};
 use std::thread::Threads;
 
-/// The digest of each row's file or link. A directory stands for no bytes, and its digest serves
-/// nothing.
+/// Returns the digest of each row's file or symlink, in order. The digest for a directory's row has
+/// no meaning.
 pub(crate) fn row_digests(
     rt: &(impl Threads + Sync),
     alloc: Global,
@@ -32,7 +32,7 @@ pub(crate) fn row_digests(
     digests(rt, alloc, &items)
 }
 
-/// What the digests are taken of.
+/// Returns the bytes that are hashed for each row.
 fn items_of(alloc: Global, rows: &[TreeRow]) -> Result<Vec<Item>, AllocError>
     requires { AreGoodRows rows.now }
     ensures { IfOk result (λ items. AreDigests rows.now (item_digests items.items)) }
@@ -44,7 +44,7 @@ fn items_of(alloc: Global, rows: &[TreeRow]) -> Result<Vec<Item>, AllocError>
     Ok(items)
 }
 
-/// The same of one row.
+/// Returns the bytes that are hashed for a row: none for a directory.
 fn item_of(alloc: Global, row: &TreeRow) -> Result<Item, AllocError>
     requires { is_good_row row.now ≡ true }
     ensures { IfOk result (λ item. IsDigestOf row.now (item_digest item)) }
@@ -65,7 +65,8 @@ fn item_of(alloc: Global, row: &TreeRow) -> Result<Item, AllocError>
     }
 }
 
-/// The objects of the rows, each by its digest.
+/// Returns the objects of the rows' files and symlinks by their digests. `Collision` if two
+/// different objects have the same digest.
 pub(crate) fn contents_of(
     alloc: Global,
     rows: &[TreeRow],
@@ -83,7 +84,8 @@ pub(crate) fn contents_of(
     Ok(contents)
 }
 
-/// Adds the object of a row.
+/// Adds the object of a row, if it isn't a directory's. `Collision` if a different object has its
+/// digest.
 fn add_row(contents: &mut Table, row: &TreeRow, digest: Digest) -> Result<(), BuildError>
     requires good { is_good_row row.now ≡ true }
     requires digest { IsDigestOf row.now digest }
@@ -98,7 +100,7 @@ fn add_row(contents: &mut Table, row: &TreeRow, digest: Digest) -> Result<(), Bu
     }
 }
 
-/// The object of a row. A directory has none.
+/// Returns the object of a row, or `None` for a directory.
 fn object_of(row: &TreeRow) -> Result<Option<Object>, AllocError>
     ensures { IfOk result (λ object. object ≡ object_by row.now) }
 {

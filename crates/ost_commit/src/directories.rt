@@ -1,4 +1,4 @@
-//! The dirtrees of a tree, from the deepest to the root.
+//! Making the dirtrees of a tree, from the deepest to the root's.
 
 ghost use Rattle.std.specs.Prelude.{◌≡◌, ◌<◌, ◌+◌, ◌∷◌, ◌++◌, List, [], map, length, true, IfOk, IfErr, OnOk};
 ghost use Rattle.fp_base.specs.declared.object.ObjKind.TheVariants as kinds;
@@ -27,23 +27,23 @@ use ost_object::{DirEntry, DirTree, FileEntry};
 use std::alloc::{AllocError, Global};
 use std::collections::BTreeMap;
 
-/// A directory that is done: its dirtree, and how many objects it has with all below it, repeats
-/// counted.
+/// A directory whose dirtree is made: the digest of the dirtree, and the number of objects of the
+/// directory and all below it, with repeats.
 #[derive(Clone, Copy)]
 pub(crate) struct Done {
     pub(crate) tree: Digest,
     pub(crate) places: usize,
 }
 
-/// The dirtrees of a tree.
+/// The dirtrees of a tree, and the digest of the root's.
 #[derive(Drop)]
 pub(crate) struct Dirtrees {
     pub(crate) trees: Table,
     pub(crate) root: Digest,
 }
 
-/// The dirtrees of the directories, the first of which is the root and each of which comes before
-/// those in it.
+/// Makes the dirtrees of the directories. The first of them is the root, and each comes before
+/// those in it. `TooLarge` if a dirtree has no serialised form of at most 16 MiB.
 pub(crate) fn dirtrees_of(
     alloc: Global,
     mut folders: Vec<Folder>,
@@ -67,7 +67,7 @@ pub(crate) fn dirtrees_of(
     };
     let mut done = vec![in alloc; nothing; folders.len()]?;
     while let Some(folder) = folders.pop() {
-        // Its names ascend.
+        // The contract of `len` states that the names are in ascending order.
         let _count = folder.children.len();
         let at = folders.len();
         done[at] = add_dirtree(alloc, &mut trees, folder.children, contents, meta, &done)?;
@@ -78,7 +78,8 @@ pub(crate) fn dirtrees_of(
     })
 }
 
-/// Adds the dirtree of a directory, after those of the directories in it.
+/// Makes the dirtree of a directory, and adds it to the table. The dirtrees of the directories in
+/// it must have been made.
 fn add_dirtree(
     alloc: Global,
     trees: &mut Table,
@@ -108,15 +109,15 @@ fn add_dirtree(
     }
 }
 
-/// The names in a directory with their digests, and how many objects it has with all below it,
-/// repeats counted.
+/// A dirtree in the making, and the number of objects of the directory and all below it, with
+/// repeats.
 #[derive(Drop)]
 struct Listing {
     tree: DirTree,
     places: usize,
 }
 
-/// The names in a directory.
+/// Returns the dirtree of a directory with these children.
 fn listing_of(
     alloc: Global,
     mut children: BTreeMap<Text, Child>,
@@ -141,7 +142,7 @@ fn listing_of(
 }
 
 impl Listing {
-    /// No names. There is a dirtree, and a dirmeta.
+    /// Returns an empty dirtree. The number of objects is 2: the dirtree and the dirmeta.
     fn new(alloc: Global) -> Listing
         ensures tree { tree_view result.tree ≡ record { files = []; dirs = [] } }
         ensures places { result.places ≡ 2 }
@@ -155,7 +156,7 @@ impl Listing {
         }
     }
 
-    /// Adds a name, which comes after those that are there.
+    /// Adds a name, which must come after all names in the dirtree.
     fn add(
         &mut self,
         name: Text,
@@ -178,7 +179,7 @@ impl Listing {
         }
     }
 
-    /// Adds a file or a link.
+    /// Adds a file or a symlink.
     fn add_file(&mut self, name: Text, digest: Digest) -> Result<(), AllocError>
         requires { self.old.places + 1 < MOST_OBJECTS }
         ensures files { OnOk result (map file_row self.new.tree.files
@@ -187,7 +188,7 @@ impl Listing {
         ensures places { OnOk result (self.new.places ≡ self.old.places + 1) }
         ensures named { OnOk result (StayNamed self.old.tree self.new.tree) }
     {
-        // It is a digest.
+        // The contract of `as_bytes` states that a digest has 32 bytes.
         let _bytes = digest.as_bytes();
         self.places += 1;
         self.tree.files.push(FileEntry { name, digest })?;
@@ -204,7 +205,7 @@ impl Listing {
         ensures places { OnOk result (self.new.places ≡ self.old.places + done.places) }
         ensures named { OnOk result (StayNamed self.old.tree self.new.tree) }
     {
-        // Each is a digest.
+        // The contract of `as_bytes` states that a digest has 32 bytes.
         let _tree = done.tree.as_bytes();
         let _meta = meta.as_bytes();
         self.places += done.places;

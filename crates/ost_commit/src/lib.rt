@@ -1,4 +1,4 @@
-//! Commits that are built from the rows of a tree, as OSTree builds them.
+//! Builds commits from the rows of a tree, with the objects that OSTree makes for them.
 #![tactic(auto)]
 
 mod built;

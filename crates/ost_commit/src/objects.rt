@@ -11,10 +11,10 @@ use ost_model::Object;
 use std::alloc::AllocError;
 use std::collections::BTreeMap;
 
-/// Objects of one kind, by their digests.
+/// Objects of one kind by their digests.
 pub(crate) type Table = BTreeMap<Digest, Object>;
 
-/// Puts an object under its digest. One that is there has to be the same.
+/// Puts an object under its digest. `Collision` if a different object has this digest.
 pub(crate) fn put(table: &mut Table, digest: Digest, object: Object) -> Result<(), BuildError>
     ensures put { OnOk result (PutsObject table.old.entries table.new.entries digest object) }
     ensures error { IfErr result (IsFaultOfPut table.old.entries digest object) }
@@ -32,7 +32,7 @@ pub(crate) fn put(table: &mut Table, digest: Digest, object: Object) -> Result<(
     Ok(())
 }
 
-/// Whether the two are one object.
+/// Returns whether two objects are equal.
 fn are_same(a: &Object, b: &Object) -> bool
     ensures { IsTrue result ↔ (a.now ≡ b.now) }
 {
@@ -43,7 +43,7 @@ fn are_same(a: &Object, b: &Object) -> bool
     }
 }
 
-/// Whether the object is a metadata object of these bytes.
+/// Returns whether the object is a metadata object with these bytes.
 fn is_meta(object: &Object, bytes: &[u8]) -> bool
     ensures { IsTrue result ↔ (object.now ≡ objects.Meta bytes.now) }
 {
@@ -53,7 +53,7 @@ fn is_meta(object: &Object, bytes: &[u8]) -> bool
     }
 }
 
-/// Whether the object is a file with these permission bits and bytes.
+/// Returns whether the object is a file with these permission bits and bytes.
 fn is_file(object: &Object, mode: u32, bytes: &[u8]) -> bool
     ensures { IsTrue result ↔ (object.now ≡ objects.File mode bytes.now) }
 {
@@ -66,7 +66,7 @@ fn is_file(object: &Object, mode: u32, bytes: &[u8]) -> bool
     }
 }
 
-/// Whether the object is a link with this text.
+/// Returns whether the object is a symlink with this text.
 fn is_link(object: &Object, text: &str) -> bool
     ensures { IsTrue result ↔ (object.now ≡ objects.Link text.now) }
 {
@@ -76,7 +76,7 @@ fn is_link(object: &Object, text: &str) -> bool
     }
 }
 
-/// Adds all objects of the table, ascending by their digests.
+/// Adds all objects of the table, in ascending order of their digests.
 pub(crate) fn add_all(
     objects: &mut Items<BuiltObject>,
     mut table: Table,

@@ -6,19 +6,19 @@ ghost use Rattle.ost_commit.specs.Rows.{row_path};
 use fp_base::{Blob, Text};
 use fp_host::Path;
 
-/// One row of a tree. The directories above its path are made where they are absent.
+/// A row of a tree. The directories above its path are made if they are missing.
 #[derive(Drop)]
 pub enum TreeRow {
     /// A directory.
     Dir(Path),
-    /// A file, with its permission bits.
+    /// A regular file, by its permission bits and its content.
     File { path: Path, mode: u32, bytes: Blob },
-    /// A symbolic link, with its text.
+    /// A symlink, by its text.
     Link { path: Path, target: Text },
 }
 
 impl TreeRow {
-    /// Where the row's directory, file or link stands.
+    /// Returns the path of the row's directory, file or symlink.
     pub fn path(&self) -> &Path
         ensures { result.now ≡ row_path self.now }
     {

@@ -1,4 +1,4 @@
-//! The directories of a tree, as rows make them.
+//! Gathering rows into the directories of a tree.
 
 ghost use Rattle.std.specs.Prelude.{◌≡◌, ◌≢◌, ◌≤◌, ◌<◌, ◌+◌, ◌^◌, ◌∷◌, [], ℕ, List, true, None, length, drop, IfOk, IfErr, OnOk};
 ghost use Rattle.fp_host.specs.Paths.{Elements, is_element};
@@ -15,23 +15,23 @@ use ost_content::is_permission;
 use std::alloc::{AllocError, Global};
 use std::collections::BTreeMap;
 
-/// The most directories above a file or a link.
+/// The maximum number of directories above a file or a symlink, without the root.
 const MOST_LEVELS: usize = ost_model::MOST_LEVELS as usize;
 
-/// The most bytes of a file.
+/// The maximum size of a file in bytes.
 const MOST_BYTES: usize = ost_model::MOST_FILE_BYTES as usize;
 
-/// What stands in a directory.
+/// A child of a directory.
 #[derive(Clone, Copy)]
 pub(crate) enum Child {
-    /// The file or link of this row, counted from 0.
+    /// A file or a symlink, by the index of its row.
     Content(usize),
-    /// This directory of the tree.
+    /// A directory, by its index in the tree.
     Folder(usize),
 }
 
 impl Child {
-    /// The directory that stands there, if one does.
+    /// Returns the index of the directory, or `None` for a file or a symlink.
     fn folder(self) -> Option<usize>
         ensures { result ≡ folder_place self }
     {
@@ -42,14 +42,15 @@ impl Child {
     }
 }
 
-/// A directory, with what is in it by name.
+/// A directory and its children by their names.
 #[derive(Drop)]
 pub(crate) struct Folder {
     pub(crate) path: Path,
     pub(crate) children: BTreeMap<Text, Child>,
 }
 
-/// Directories, the root first and each before those in it, and the number of names below the root.
+/// The directories of a tree, the root first and each before those in it, and the number of names
+/// below the root.
 #[derive(Drop)]
 pub(crate) struct Tree {
     pub(crate) folders: Vec<Folder>,
@@ -57,7 +58,7 @@ pub(crate) struct Tree {
 }
 
 impl Tree {
-    /// The root alone.
+    /// Returns a tree with the root only.
     fn new(alloc: Global) -> Result<Tree, AllocError>
         ensures gathers { (rows : List TreeRow)
             → IfOk result (λ tree. Gathers rows (says []) tree.folders.items) }
@@ -75,7 +76,7 @@ impl Tree {
         })
     }
 
-    /// The tree of rows. `Row` names the first that is refused.
+    /// Returns the tree of rows. `Row` with the number of the first row that is refused.
     pub(crate) fn of_rows(alloc: Global, rows: &[TreeRow]) -> Result<Tree, BuildError>
         ensures gathers { IfOk result (λ tree. Gathers rows.now (says rows.now)
             tree.folders.items) }
@@ -92,7 +93,7 @@ impl Tree {
         Ok(tree)
     }
 
-    /// Takes the row with this place, or refuses it.
+    /// Adds the row with the index `at`. Returns false if the row is refused.
     fn take(&mut self, alloc: Global, row: &TreeRow, at: usize) -> Result<bool, AllocError>
         requires gathered { AreGathered self.old.folders.items }
         requires few { self.old.names ≤ MOST_NAMES }
@@ -110,7 +111,8 @@ impl Tree {
         Ok(taken && self.names <= MOST_NAMES)
     }
 
-    /// Puts the row with this place into the directory above its path, where it may stand.
+    /// Adds the row with the index `at` to the directory `folder` above its path. Returns false if
+    /// its path exists already, unless both are directories.
     fn put_row(
         &mut self,
         alloc: Global,
@@ -133,8 +135,8 @@ impl Tree {
         }
     }
 
-    /// The directory above the path. Those on the way are made where nothing stands; None where a
-    /// file or link does.
+    /// Returns the index of the directory above the path, and makes the missing directories on the
+    /// way. Returns `None` if a file or a symlink is on the way.
     fn folder_above(&mut self, alloc: Global, path: &Path) -> Result<Option<usize>, AllocError>
         requires gathered { AreGathered self.old.folders.items }
         requires short { length path.now ≤ MOST_LEVELS + 1 }
@@ -155,8 +157,8 @@ impl Tree {
         Ok(Some(folder))
     }
 
-    /// The directory of the path, in the directory above it. It is made where nothing stands; None
-    /// where a file or link does.
+    /// Returns the index of the directory at `path`, whose parent has the index `folder`. Makes it
+    /// if nothing is there. Returns `None` if a file or a symlink is there.
     fn enter(
         &mut self,
         alloc: Global,
@@ -187,7 +189,7 @@ impl Tree {
         }
     }
 
-    /// What stands in the directory under the name.
+    /// Returns the child of a directory with this name.
     fn child(&self, folder: usize, name: &Text) -> Option<Child>
         requires { folder < length self.now.folders.items }
         ensures { (f : Folder) → At self.now.folders.items folder f
@@ -196,7 +198,7 @@ impl Tree {
         self.folders[folder].children.get(name).copied()
     }
 
-    /// Puts a new name into the directory.
+    /// Adds a new name to a directory.
     fn put(&mut self, folder: usize, name: Text, child: Child) -> Result<(), AllocError>
         requires within { folder < length self.old.folders.items }
         requires few { self.old.names < 2 ^ 32 }
@@ -208,7 +210,8 @@ impl Tree {
         Ok(())
     }
 
-    /// Takes a directory, which may be there. The root is there always.
+    /// Adds a directory, which may exist already. The root always exists. Returns false if a file
+    /// or a symlink is at the path.
     fn take_folder(&mut self, alloc: Global, folder: usize, path: &Path) -> Result<bool, AllocError>
         requires gathered { AreGathered self.old.folders.items }
         requires at { FolderAt self.old.folders.items folder (drop 1 path.now) }
@@ -225,7 +228,7 @@ impl Tree {
         Ok(entered.is_some())
     }
 
-    /// Takes a file or a link, which may not be there.
+    /// Adds a file or a symlink. Returns false if something is at the path.
     fn take_content(
         &mut self,
         alloc: Global,
@@ -252,7 +255,8 @@ impl Tree {
     }
 }
 
-/// Whether the row is good by itself.
+/// Returns whether the row is valid by itself: its depth, permission bits, size and text are within
+/// the limits.
 fn is_good(row: &TreeRow) -> bool
     ensures { result ≡ is_good_row row.now }
 {
@@ -267,7 +271,7 @@ fn is_good(row: &TreeRow) -> bool
     }
 }
 
-/// The name of the path, which isn't the root.
+/// Returns the last name of a path, which isn't the root.
 fn name_of(alloc: Global, path: &Path) -> Result<Text, AllocError>
     requires { path.now ≢ [] }
     ensures name { IfOk result (λ name. path.now ≡ name ∷ drop 1 path.now) }

@@ -1,4 +1,4 @@
-//! Metadata objects, as they are written.
+//! Writing metadata objects.
 
 ghost use Rattle.std.specs.Prelude.{◌≡◌, ◌≢◌, ℕ, List, IfOk, IfErr, Ok};
 ghost use Rattle.gv_value.specs.Views.{shape_of, plain};
@@ -25,7 +25,7 @@ use ost_object::{
 };
 use std::alloc::{AllocError, Global};
 
-/// What there is of a commit besides its root.
+/// The parts of a commit besides its root: the ref that it is bound to, the subject and the time.
 #[derive(Clone, Copy)]
 pub(crate) struct Heading<'a> {
     pub(crate) name: &'a RefName,
@@ -33,14 +33,14 @@ pub(crate) struct Heading<'a> {
     pub(crate) timestamp: u64,
 }
 
-/// The digests of a directory's dirtree and dirmeta.
+/// The digests of the root's dirtree and dirmeta.
 #[derive(Clone, Copy)]
 pub(crate) struct Root {
     pub(crate) tree: Digest,
     pub(crate) meta: Digest,
 }
 
-/// The bytes of each directory's dirmeta.
+/// Returns the serialised form of the dirmeta that every directory has.
 pub(crate) fn dirmeta_bytes(alloc: Global) -> Result<Blob, BuildError>
     ensures reads { IfOk result (λ bytes. meta_read bytes ≡ Ok plain_meta) }
     ensures error { IfErr result (IsWantOfRoom ⊥) }
@@ -51,7 +51,7 @@ pub(crate) fn dirmeta_bytes(alloc: Global) -> Result<Blob, BuildError>
     object_bytes(write_dirmeta(alloc, &meta))
 }
 
-/// The bytes of a dirtree.
+/// Returns the serialised form of a dirtree. `TooLarge` if there is none of at most 16 MiB.
 pub(crate) fn dirtree_bytes(alloc: Global, tree: &DirTree) -> Result<Blob, BuildError>
     ensures reads { IfOk result (λ bytes. tree_read bytes ≡ Ok (tree_view tree.now)) }
     ensures error { IfErr result (IsWantOfRoom ((bytes : List ℕ)
@@ -60,7 +60,8 @@ pub(crate) fn dirtree_bytes(alloc: Global, tree: &DirTree) -> Result<Blob, Build
     object_bytes(write_dirtree(alloc, tree))
 }
 
-/// The bytes of the commit of a root.
+/// Returns the serialised form of the commit with this root. `TooLarge` if there is none of at most
+/// 16 MiB.
 pub(crate) fn commit_bytes(alloc: Global, heading: Heading, root: Root) -> Result<Blob, BuildError>
     ensures reads { IfOk result (λ bytes. commit_read bytes
         ≡ Ok (commit_of_tree heading.entry.name.now
@@ -68,14 +69,14 @@ pub(crate) fn commit_bytes(alloc: Global, heading: Heading, root: Root) -> Resul
     ensures error { IfErr result (IsWantOfRoom (IsLargeCommit heading.entry.name.now
         heading.entry.subject.now heading.entry.timestamp)) }
 {
-    // Each is a digest.
+    // The contract of `as_bytes` states that a digest has 32 bytes.
     let _tree = root.tree.as_bytes();
     let _meta = root.meta.as_bytes();
     let commit = commit_of(alloc, heading, root)?;
     object_bytes(write_commit(alloc, &commit))
 }
 
-/// The commit of a root.
+/// Returns the commit with this root.
 fn commit_of(alloc: Global, heading: Heading, root: Root) -> Result<Commit, BuildError>
     ensures says { IfOk result (λ commit. commit_view commit ≡ commit_of_tree heading.entry.name.now
         heading.entry.subject.now heading.entry.timestamp root.tree root.meta) }
@@ -94,7 +95,7 @@ fn commit_of(alloc: Global, heading: Heading, root: Root) -> Result<Commit, Buil
     })
 }
 
-/// The bytes of the metadata of a commit that is bound to the ref.
+/// Returns the serialised form of the metadata of a commit that is bound to the ref.
 fn binding_bytes(alloc: Global, name: &RefName) -> Result<Blob, BuildError>
     ensures says { IfOk result (λ bytes. tree_at dictionary_shape bytes ≡ binding_of name.now) }
     ensures error { IfErr result (IsWantOfRoom (HasNoBytes dictionary_shape (binding_of name.now))) }
@@ -103,7 +104,7 @@ fn binding_bytes(alloc: Global, name: &RefName) -> Result<Blob, BuildError>
     dictionary_bytes(alloc, &value)
 }
 
-/// The bytes of the value of a commit's metadata.
+/// Returns the serialised form of a value of type `a{sv}`.
 fn dictionary_bytes(alloc: Global, value: &GvValue) -> Result<Blob, BuildError>
     ensures says { IfOk result (λ bytes. tree_at dictionary_shape bytes ≡ plain value.now) }
     ensures error { IfErr result (IsWantOfRoom (HasNoBytes dictionary_shape (plain value.now))) }
@@ -112,7 +113,7 @@ fn dictionary_bytes(alloc: Global, value: &GvValue) -> Result<Blob, BuildError>
     encoded(alloc, &of, value)
 }
 
-/// The bytes of a value of a type.
+/// Returns the serialised form of a value of a type. `TooLarge` if there is none of at most 16 MiB.
 fn encoded(alloc: Global, of: &GvType, value: &GvValue) -> Result<Blob, BuildError>
     ensures says { IfOk result (λ bytes. tree_at (shape_of of.now) bytes ≡ plain value.now) }
     ensures error { IfErr result (IsWantOfRoom (HasNoBytes (shape_of of.now) (plain value.now))) }
@@ -125,7 +126,8 @@ fn encoded(alloc: Global, of: &GvType, value: &GvValue) -> Result<Blob, BuildErr
     }
 }
 
-/// The metadata of a commit that is bound to the ref.
+/// Returns the metadata of a commit that is bound to the ref: its only entry is
+/// `ostree.ref-binding`.
 fn bound_to(alloc: Global, name: &RefName) -> Result<GvValue, AllocError>
     ensures { IfOk result (λ value. plain value ≡ binding_of name.now) }
 {
@@ -133,7 +135,7 @@ fn bound_to(alloc: Global, name: &RefName) -> Result<GvValue, AllocError>
     Ok(GvValue::Array(vec![in alloc; entry]?))
 }
 
-/// The entry of the metadata that says the ref.
+/// Returns the entry `ostree.ref-binding` with the ref.
 fn binding_entry(alloc: Global, name: &RefName) -> Result<GvValue, AllocError>
     ensures { IfOk result (λ value. plain value ≡ binding_entry_of name.now) }
 {
@@ -142,7 +144,7 @@ fn binding_entry(alloc: Global, name: &RefName) -> Result<GvValue, AllocError>
     Ok(GvValue::Entry(key, value))
 }
 
-/// A text as a value, in a box.
+/// Returns a text as a value in a box.
 fn boxed_text(alloc: Global, text: &str) -> Result<Box<GvValue>, AllocError>
     ensures { IfOk result (λ value. plain value.value ≡ text_value text.now) }
 {
@@ -150,7 +152,7 @@ fn boxed_text(alloc: Global, text: &str) -> Result<Box<GvValue>, AllocError>
     Ok(Box::new(alloc, value)?)
 }
 
-/// The list of the ref, as a variant in a box.
+/// Returns the list with the ref as a variant in a box.
 fn boxed_refs(alloc: Global, name: &RefName) -> Result<Box<GvValue>, AllocError>
     ensures { IfOk result (λ value. plain value.value ≡ refs_of name.now) }
 {
@@ -158,7 +160,7 @@ fn boxed_refs(alloc: Global, name: &RefName) -> Result<Box<GvValue>, AllocError>
     Ok(Box::new(alloc, value)?)
 }
 
-/// The list of the ref, as a variant.
+/// Returns the list with the ref as a variant of type `as`.
 fn refs_as_value(alloc: Global, name: &RefName) -> Result<GvValue, AllocError>
     ensures { IfOk result (λ value. plain value ≡ refs_of name.now) }
 {
@@ -167,7 +169,7 @@ fn refs_as_value(alloc: Global, name: &RefName) -> Result<GvValue, AllocError>
     Ok(GvValue::Variant(of, refs))
 }
 
-/// The list of one text.
+/// Returns a list with one text as a value of type `as`.
 fn list_of(alloc: Global, text: &str) -> Result<GvValue, AllocError>
     ensures { IfOk result (λ value. plain value ≡ one_text text.now) }
 {
@@ -175,7 +177,7 @@ fn list_of(alloc: Global, text: &str) -> Result<GvValue, AllocError>
     Ok(GvValue::Array(vec![in alloc; value]?))
 }
 
-/// The type of a list of texts.
+/// Returns the type `as` of a list of texts.
 fn texts_type(alloc: Global) -> Result<GvType, AllocError>
     ensures { IfOk result (λ of. shape_of of ≡ Shape.array text_shape) }
 {
@@ -186,7 +188,7 @@ fn texts_type(alloc: Global) -> Result<GvType, AllocError>
     }
 }
 
-/// The bytes of an object; it is too large where no bytes read as it.
+/// Returns the bytes of an object, or `TooLarge` if no bytes read as the object.
 fn object_bytes(bytes: Result<Blob, ObjectError>) -> Result<Blob, BuildError>
     ensures bytes { IfOk result (λ b. bytes ≡ Ok b) }
     ensures error { IfErr result (IsWantOfRoom (IsRefused bytes)) }

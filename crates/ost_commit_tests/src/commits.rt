@@ -1,4 +1,5 @@
-//! Commits that are built from rows, against what the `ostree` command makes of the same tree.
+//! Commits that are built of rows, compared to those that the `ostree` command makes of the same
+//! tree.
 
 use fp_base::{Blob, Text};
 use fp_host::Path;
@@ -10,7 +11,7 @@ use std::panic::Expect;
 use std::process::Abort;
 use std::thread::Threads;
 
-/// The path of the text.
+/// Returns the path of a text.
 fn path_of(rt: &impl Abort, alloc: Global, text: &str) -> Path {
     Path::parse(alloc, text).expect(rt, "a path")
 }
@@ -37,7 +38,8 @@ fn push(rt: &impl Abort, rows: &mut Vec<TreeRow>, row: TreeRow) {
 /// The metadata of the application.
 const METADATA: &[u8] = b"[Application]\nname=org.example.App\n";
 
-/// A file below two folders, one at the root, a link, and an empty folder.
+/// Returns the rows of a file two directories below the root, a file at the root, a symlink, and an
+/// empty directory.
 fn rows(rt: &impl Abort, alloc: Global) -> Vec<TreeRow> {
     let mut rows = Vec::new(alloc);
     let run = file(rt, alloc, "files/bin/run", 0o755, b"#!/bin/sh\n");
@@ -48,7 +50,7 @@ fn rows(rt: &impl Abort, alloc: Global) -> Vec<TreeRow> {
     rows
 }
 
-/// A file that stands below a link.
+/// Returns the rows of a symlink and of a file below it.
 fn bad_rows(rt: &impl Abort, alloc: Global) -> Vec<TreeRow> {
     let mut rows = Vec::new(alloc);
     push(rt, &mut rows, link(rt, alloc, "a", "b"));
@@ -56,7 +58,7 @@ fn bad_rows(rt: &impl Abort, alloc: Global) -> Vec<TreeRow> {
     rows
 }
 
-/// The digits of a commit that was built, or the row that is refused.
+/// Returns the digest of a commit that was built, as hexadecimal digits, or the error.
 fn digits_of(built: &Result<Built, BuildError>) -> Result<[u8; 64], BuildError> {
     match built {
         Ok(built) => Ok(built.commit.digits()),
@@ -64,7 +66,8 @@ fn digits_of(built: &Result<Built, BuildError>) -> Result<[u8; 64], BuildError> 
     }
 }
 
-/// The same of these rows, with this subject.
+/// Builds a commit of these rows with this subject, and returns its digest as hexadecimal digits,
+/// or the error.
 fn digits_with(
     rt: &(impl Abort + Threads + Sync),
     alloc: Global,
@@ -78,7 +81,7 @@ fn digits_with(
     digits
 }
 
-/// The same of these rows.
+/// Builds a commit of these rows, and returns its digest as hexadecimal digits, or the error.
 fn digits(
     rt: &(impl Abort + Threads + Sync),
     alloc: Global,
@@ -87,22 +90,22 @@ fn digits(
     digits_with(rt, alloc, rows, "subject")
 }
 
-/// `ostree commit --no-xattrs --owner-uid=0 --owner-gid=0 --timestamp=@1700000000` gives this
-/// digest.
+/// Checks the digest that `ostree commit --no-xattrs --owner-uid=0 --owner-gid=0
+/// --timestamp=@1700000000` gives.
 #[test]
 fn as_ostree(rt: HostRuntime) {
     let found = digits(&rt, rt.alloc(), &rows(&rt, rt.alloc()));
     assert!(rt; found == Ok(*b"6a9c63939657b099e13480c81b59c39977f1b660cd41bd1e0e2adb60c706027f"));
 }
 
-/// What it gives to a tree of 1,100 files, in a folder `files`: their names are the numbers from
-/// 1000 on, and the bytes of each are those of its name.
+/// The digest of the commit that the `ostree` command makes of a tree of 1,100 files in a directory
+/// `files`: their names are the numbers from 1000 on, and the content of each is its name.
 pub const MANY: [u8; 64] = *b"83d18e69cbeb79ab908981967b6e54a9b8e16d9aeb59ddccb46409d0af7de04e";
 
-/// The numbers that name them.
+/// The numbers that are the names of the 1,100 files.
 pub const NAMES: Range<u32> = 1_000..2_100;
 
-/// A file whose bytes are those of its name.
+/// Makes the row of a file whose content is its name.
 fn numbered(rt: &impl Abort, alloc: Global, number: u32) -> TreeRow {
     let name = number.to_string(alloc).expect(rt, "memory");
     let path = ["files/", &name].concat(alloc).expect(rt, "memory");
@@ -123,8 +126,8 @@ fn many_as_ostree(rt: HostRuntime) {
     assert!(rt; found == Ok(MANY));
 }
 
-/// The commit of no file whose subject is 100 KiB of the letter s, spelled by the format of
-/// OSTree's objects, has this digest.
+/// Checks the digest of the commit of no file with a subject of 100 KiB of the letter `s`, encoded
+/// by the format of OSTree's objects.
 #[test]
 fn long_subject(rt: HostRuntime) {
     let subject = "s".repeat(rt.alloc(), 100 << 10).expect(&rt, "memory");

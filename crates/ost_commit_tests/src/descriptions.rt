@@ -1,4 +1,4 @@
-//! Commits of descriptions, against what the `ostree` command makes of the same tree.
+//! Commits of descriptions, compared to those that the `ostree` command makes of the same tree.
 
 use crate::commits::{MANY, NAMES};
 use fp_name::RefName;
@@ -9,7 +9,7 @@ use std::panic::Expect;
 use std::process::Abort;
 use std::thread::Threads;
 
-/// The digits of a commit that was made, or why there is none.
+/// Returns the digest of a commit that was built, as hexadecimal digits, or the error.
 fn digits_of(built: &Result<Built, DescriptionError>) -> Result<[u8; 64], DescriptionError> {
     match built {
         Ok(built) => Ok(built.commit.digits()),
@@ -17,7 +17,8 @@ fn digits_of(built: &Result<Built, DescriptionError>) -> Result<[u8; 64], Descri
     }
 }
 
-/// The same of this description.
+/// Builds the commit of this description, and returns its digest as hexadecimal digits, or the
+/// error.
 fn digits(
     rt: &(impl Abort + Threads + Sync),
     alloc: Global,
@@ -30,7 +31,8 @@ fn digits(
     digits
 }
 
-/// A file below two folders, one at the root, a link, and an empty folder.
+/// The description of a file two directories below the root, a file at the root, a symlink, and an
+/// empty directory.
 const TREE: &[u8] = b"timestamp 1700000000
 subject subject
 file files/bin/run 755 23212f62696e2f73680a
@@ -39,22 +41,22 @@ link files/link bin/run
 dir empty
 ";
 
-/// `ostree commit --no-xattrs --owner-uid=0 --owner-gid=0 --timestamp=@1700000000` gives this
-/// digest.
+/// Checks the digest that `ostree commit --no-xattrs --owner-uid=0 --owner-gid=0
+/// --timestamp=@1700000000` gives.
 #[test]
 fn described_as_ostree(rt: HostRuntime) {
     let found = digits(&rt, rt.alloc(), TREE);
     assert!(rt; found == Ok(*b"6a9c63939657b099e13480c81b59c39977f1b660cd41bd1e0e2adb60c706027f"));
 }
 
-/// Adds the line of a file whose bytes are those of its name.
+/// Appends the line of a file whose content is its name.
 fn put_file(alloc: Global, text: &mut String, number: u32) -> Result<(), AllocError> {
     let name = number.to_string(alloc)?;
     let digits = hex::encode(alloc, name.as_bytes())?;
     write!(text, "file files/{name} 644 {digits}\n")
 }
 
-/// The description of the tree of 1,100 files.
+/// Returns the description of the tree of 1,100 files.
 fn many_files(rt: &impl Abort, alloc: Global) -> String {
     let heading = "timestamp 1700000000\nsubject subject\n";
     let mut text = String::from_str(alloc, heading).expect(rt, "memory");
@@ -70,7 +72,7 @@ fn many_described_as_ostree(rt: HostRuntime) {
     assert!(rt; digits(&rt, rt.alloc(), tree.as_bytes()) == Ok(MANY));
 }
 
-/// Descriptions, and the line that is bad.
+/// Descriptions, and the number of the first bad line of each.
 const BAD: &[(&[u8], u64)] = &[
     (b"", 1),
     (b"timestamp 0\n", 2),
@@ -94,7 +96,7 @@ const BAD: &[(&[u8], u64)] = &[
     ),
 ];
 
-/// Ends the test where this isn't so, and prints the row.
+/// Ends the test and prints the row's number, unless the row is right.
 fn agree_at(rt: &impl Abort, row: usize, is_so: bool) {
     assert!(rt; is_so, "row {row}");
 }

@@ -1,4 +1,4 @@
-//! Tests of commits that are built from rows, and from descriptions.
+//! Tests of commits that are built of rows, and of descriptions.
 #![tactic(auto)]
 
 #[cfg(test)]

@@ -1,4 +1,4 @@
-//! The digests of objects.
+//! The digests of whole objects.
 ghost use Rattle.std.specs.Prelude.{◌≡◌, true, IfOk};
 ghost use Rattle.sha2.specs.Sha256.{sha256 as sha256_of};
 ghost use Rattle.fp_host.specs.Paths.{is_link_text};
@@ -10,7 +10,8 @@ use fp_name::Digest;
 use sha2::{Digest as Hash, Sha256};
 use std::alloc::{AllocError, Global};
 
-/// The digest of a file with these permission bits and this content.
+/// Returns the digest of a file with this content and these permission bits, which must be within
+/// 0775.
 pub fn file_digest(mode: u32, bytes: &[u8]) -> Digest
     requires { is_permission mode ≡ true }
     ensures { result ≡ digest_of_file mode bytes.now }
@@ -20,7 +21,8 @@ pub fn file_digest(mode: u32, bytes: &[u8]) -> Digest
     hasher.finish()
 }
 
-/// The digest of a link with this text.
+/// Returns the digest of a symlink with this text, which must have 1 to 4,095 bytes and no zero
+/// byte.
 pub fn link_digest(alloc: Global, target: &str) -> Result<Digest, AllocError>
     requires { is_link_text target.now ≡ true }
     ensures { IfOk result (λ digest. digest ≡ digest_of_link target.now) }
@@ -29,14 +31,14 @@ pub fn link_digest(alloc: Global, target: &str) -> Result<Digest, AllocError>
     Ok(sha256(header.as_slice()))
 }
 
-/// The digest of a metadata object with these bytes.
+/// Returns the digest of a metadata object with these bytes.
 pub fn meta_digest(bytes: &[u8]) -> Digest
     ensures { result ≡ digest_of_meta bytes.now }
 {
     sha256(bytes)
 }
 
-/// SHA-256 of bytes.
+/// Returns the SHA-256 of bytes.
 fn sha256(bytes: &[u8]) -> Digest
     ensures { result ≡ sha256_of bytes.now }
 {

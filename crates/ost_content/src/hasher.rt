@@ -1,4 +1,4 @@
-//! A file's digest, of a content that comes in pieces.
+//! The digest of a file whose content comes in pieces.
 
 ghost use Rattle.std.specs.Prelude.{◌≡◌, ◌++◌, [], ℕ, List, true};
 ghost use Rattle.ost_model.specs.Contents.{file_digest as digest_of_file, is_permission};
@@ -9,8 +9,9 @@ use fp_name::Digest;
 use sha2::{Digest as Hash, Sha256};
 use std::marker::Model;
 
-/// Takes in the content of a file piece by piece and then gives the file's digest. No call takes
-/// memory. Contracts see the state of SHA-256, and say of it what was taken in.
+/// A hasher that computes the digest of a file whose content is given piece by piece. No call
+/// allocates. Contracts see the state of SHA-256; `HasTaken` relates it to the content that was
+/// given.
 #[derive(Debug, Drop)]
 pub struct ContentHasher {
     hasher: Sha256,
@@ -25,7 +26,8 @@ impl Model for ContentHasher {
 }
 
 impl ContentHasher {
-    /// A hasher for a file with these permission bits, of whose content nothing was taken in yet.
+    /// Returns a hasher for a file with these permission bits, which must be within 0775. The
+    /// content is empty so far.
     pub fn new(mode: u32) -> Self
         requires { is_permission mode ≡ true }
         ensures { HasTaken result mode [] }
@@ -35,7 +37,7 @@ impl ContentHasher {
         ContentHasher { hasher }
     }
 
-    /// Takes in the next piece of the content.
+    /// Adds the next piece of the content.
     pub fn update(&mut self, piece: &[u8])
         ensures { (mode : ℕ) (bytes : List ℕ) → HasTaken self.old mode bytes → HasTaken self.new
             mode (bytes ++ piece.now) }
@@ -43,7 +45,7 @@ impl ContentHasher {
         self.hasher.update(piece);
     }
 
-    /// The digest of the file whose content is all that was taken in, however it was cut.
+    /// Returns the digest of the file. It doesn't depend on how the content was split into pieces.
     pub fn finish(self) -> Digest
         ensures { (mode : ℕ) (bytes : List ℕ) → HasTaken self mode bytes → result ≡ digest_of_file
             mode bytes }

@@ -1,5 +1,5 @@
-//! What the digest of a file or a link begins with: a GVariant of the type `(uuuusa(ayay))` after
-//! its length.
+//! The headers that digests of files and symlinks begin with: a GVariant of the type
+//! `(uuuusa(ayay))` after its length.
 
 ghost use Rattle.std.specs.Prelude.{◌≡◌, ◌<◌, ◌^◌, ◌++◌, true, take, IfOk};
 ghost use Rattle.std.specs.Int.{w32, to_be_bytes};
@@ -14,11 +14,11 @@ use gv_value::width;
 use ost_model::{LINK_MODE, REGULAR_MODE};
 use std::alloc::{AllocError, Global};
 
-/// How many bytes the four numbers of a header take.
+/// The size of a header's four numbers, in bytes.
 const NUMBERS: usize = 16;
 
-/// A header's length, four zero bytes, and the header's numbers, which but for the mode are 0. All
-/// are big endian.
+/// Returns a header's length, four zero bytes, and the header's four numbers, which are 0 except
+/// for the mode. All are in big-endian order.
 fn beginning(length: u32, mode: u32) -> [u8; 24]
     ensures { result ≡ to_be_bytes w32 length ++ (zeros 12 ++ (to_be_bytes w32 mode ++ zeros 4)) }
 {
@@ -28,8 +28,8 @@ fn beginning(length: u32, mode: u32) -> [u8; 24]
     bytes
 }
 
-/// The header of a file with these permission bits, after its length: what its digest is taken of,
-/// before its content.
+/// Returns the header of a file with these permission bits, which must be within 0775, after the
+/// header's length. The digest is that of the header and then the content.
 pub fn header(mode: u32) -> [u8; 26]
     requires { is_permission mode ≡ true }
     ensures { result ≡ file_header mode }
@@ -40,7 +40,8 @@ pub fn header(mode: u32) -> [u8; 26]
     bytes
 }
 
-/// The header of a link with this text, after its length: what its digest is taken of.
+/// Returns the header of a symlink with this text, which must have 1 to 4,095 bytes and no zero
+/// byte, after the header's length. The digest is that of the header.
 pub fn link_header(alloc: Global, target: &str) -> Result<Blob, AllocError>
     requires { is_link_text target.now ≡ true }
     ensures { IfOk result (λ bytes. bytes ≡ header_of_link target.now) }

@@ -1,5 +1,5 @@
-//! The digests of OSTree's objects: SHA-256 of a metadata object's bytes, and of the header and
-//! content of a file or link.
+//! The digests of OSTree's objects: SHA-256 of a metadata object's bytes, or of the header and
+//! content of a file or symlink.
 #![tactic(auto)]
 
 mod conditions;

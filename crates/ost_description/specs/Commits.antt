@@ -11,36 +11,36 @@ use Rattle.ost_description.specs.declared.description.DescriptionError.{Descript
 use Rattle.ost_description.specs.declared.description.DescriptionError.TheVariants as error
 use Rattle.ost_description.specs.Descriptions.{described}
 
--- the commit of what the bytes describe, bound to the ref
+-- The bytes describe a tree, and `built` is its commit, bound to the ref
 pub record IsDescribed (bytes : List ℕ) (r : Ref) (built : Built) : Type 0 where
   pub description : Description
   pub reads : described bytes ≡ Ok description
   pub commit : BuiltCommit description.rows r description.subject description.timestamp built
 
--- a description was read
+-- A description was read
 pub record IsRead (read : Result Description ℕ) : Type 0 where
   pub description : Description
   pub is : read ≡ Ok description
 
--- one whose commit, bound to the ref, is too large
+-- A description was read, and its commit, bound to the ref, is too large
 pub record IsReadTooLarge (r : Ref) (read : Result Description ℕ) : Type 0 where
   pub description : Description
   pub is : read ≡ Ok description
   pub large : IsTooLarge description.rows (says description.rows) r description.subject
       description.timestamp
 
--- why there is no commit of what was read
+-- Holds if making the commit of what was read may fail with this error
 abbrev pub IsFaultOf : Ref → Result Description ℕ → DescriptionError → Type 0
 IsFaultOf r read (error.Record number) = read ≡ Err number
 IsFaultOf r read error.Collision = IsRead read × Collide
 IsFaultOf r read error.TooLarge = IsReadTooLarge r read
 IsFaultOf r read error.NoMemory = Unit {0}
 
--- or of what the bytes describe
+-- Holds if making the commit of a description in bytes may fail with this error
 abbrev pub IsDescriptionFault : Ref → List ℕ → DescriptionError → Type 0
 IsDescriptionFault r bytes e = IsFaultOf r (described bytes) e
 
--- why the bytes describe nothing
+-- Holds if reading a description may fail with this error
 abbrev pub IsReadFault : List ℕ → DescriptionError → Type 0
 IsReadFault bytes (error.Record number) = described bytes ≡ Err number
 IsReadFault bytes error.Collision = ⊥

@@ -1,4 +1,4 @@
-//! Commits of descriptions.
+//! Building the commit of a description.
 
 ghost use Rattle.std.specs.Prelude.{◌≡◌, ◌<◌, ◌+◌, ◌^◌, ℕ, None, IfOk, IfErr};
 ghost use Rattle.fp_name.specs.Refs.{Ref};
@@ -16,25 +16,25 @@ use ost_commit::{BuildError, Built, commit_tree};
 use std::alloc::Global;
 use std::thread::Threads;
 
-/// The commit of the tree that the bytes describe, bound to the ref.
+/// Builds the commit of the tree that the bytes describe, bound to the ref.
 ///
-/// A description is lines, each with a newline at its end: `timestamp T`, the time in seconds since
-/// the beginning of 1970, below 2^64; `subject TEXT`, at most 1,024 bytes of UTF-8 without control
-/// characters; then any of `dir PATH`, `file PATH MODE HEX` and `link PATH TARGET`. T has no
-/// leading zero. A PATH has no spaces, MODE is three octal digits, HEX is lower-case hexadecimal,
-/// or a dash for no bytes, and TARGET goes to the line's end. `Record` names the first line that
-/// isn't so, or whose row `commit_tree` refuses, whichever comes first. A line that isn't there is
-/// named by its number.
+/// A description is a list of lines, each ended by a newline: `timestamp T`, the time in seconds
+/// since 1970, below 2^64; `subject TEXT`, at most 1,024 bytes of UTF-8 without control characters;
+/// then any number of `dir PATH`, `file PATH MODE HEX` and `link PATH TARGET`. T is decimal without
+/// a leading zero. PATH has no spaces. MODE is three octal digits. HEX is one byte or more in
+/// lower-case hexadecimal, or a dash for no bytes. TARGET extends to the end of the line. `Record`
+/// has the number, counted from 1, of the first line that is malformed or whose row `commit_tree`
+/// refuses. A missing line and text after the last newline count as malformed lines.
 pub fn commit_description(
     rt: &(impl Threads + Sync),
     alloc: Global,
     bytes: &[u8],
     name: &RefName,
 ) -> Result<Built, DescriptionError>
-    // The bytes describe a tree, and this is its commit.
+    // On success the bytes describe a tree, and the result is its commit.
     ensures built { IfOk result (IsDescribed bytes.now name.now) }
-    // `Record` comes exactly with the first bad line, unless memory ran out.
-    // `TooLarge` and `Collision` come only with their causes.
+    // `Record` has the number of the first bad line. `TooLarge` and `Collision` come only with
+    // their causes.
     ensures error { IfErr result (IsDescriptionFault name.now bytes.now) }
 {
     let draft = draft_of(alloc, bytes)?;
@@ -49,8 +49,8 @@ pub fn commit_description(
     }
 }
 
-/// Why there is no commit where rows make none, for this reason, and a line that isn't formed as a
-/// row, if there is one, stands after them.
+/// Returns the error for a description whose rows make no commit for the reason `error`. `unformed`
+/// is the number of the malformed line after the rows, if there is one.
 fn refusal(error: BuildError, unformed: Option<u64>) -> DescriptionError
     requires small { (number : ℕ) → error ≡ errors.Row number → number + 2 < 2 ^ 64 }
     ensures { (d : Description) (r : Ref) → IsBuildFault d.rows r d.subject d.timestamp error
@@ -64,7 +64,8 @@ fn refusal(error: BuildError, unformed: Option<u64>) -> DescriptionError
     }
 }
 
-/// The line that isn't formed as a row, or else this reason.
+/// Returns `Record` with the number of the malformed line if there is one, and otherwise the
+/// reason.
 fn unformed_or(unformed: Option<u64>, reason: DescriptionError) -> DescriptionError
     ensures { (d : Description) (r : Ref) → IsFaultOf r (checked_description d None None) reason
         → IsFaultOf r (checked_description d unformed None) result }

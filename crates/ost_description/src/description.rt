@@ -1,4 +1,4 @@
-//! What a description says, and why there is none.
+//! Descriptions and their errors.
 
 ghost use Rattle.std.specs.Prelude.{◌≡◌};
 ghost use Rattle.ost_description.specs.declared.description.DescriptionError.TheVariants.{NoMemory};
@@ -9,25 +9,25 @@ use std::alloc::{AllocError, AllocFailed};
 use std::error::Error;
 use std::fmt;
 
-/// What a description says.
+/// The contents of a description.
 #[derive(Drop)]
 pub struct Description {
-    /// When the commit was made, in seconds since the beginning of 1970.
+    /// The time of the commit in seconds since 1970.
     pub timestamp: u64,
-    /// What the commit is about, in one line.
+    /// The subject of the commit: one line.
     pub subject: Text,
-    /// What stands in the tree.
+    /// The directories, files and symlinks of the tree.
     pub rows: Items<TreeRow>,
 }
 
-/// Why bytes make no commit.
+/// The reason why bytes make no commit.
 #[derive(Clone, Copy, Debug, PartialEq, Eq)]
 pub enum DescriptionError {
-    /// The line with this number, counted from 1, is the first that is bad.
+    /// The number of the first bad line, counted from 1.
     Record(u64),
     /// Two different objects have one digest.
     Collision,
-    /// No bytes, of at most 16 MiB, are the dirtree of a directory, or the commit.
+    /// The dirtree of a directory or the commit has no serialised form of at most 16 MiB.
     TooLarge,
     /// Memory ran out.
     NoMemory,

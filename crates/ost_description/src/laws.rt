@@ -1,5 +1,5 @@
-//! Laws of the words that the contracts use, for crates that build on them. Each is the contract of
-//! a function that does nothing.
+//! Laws of the definitions that the contracts use, for crates that build on them. Each is the
+//! contract of a function that does nothing.
 
 ghost use Rattle.std.specs.Prelude.{◌≡◌, ◌∷◌, ◌++◌, ◌+◌, ℕ, List, None, Some, false, length};
 ghost use Rattle.std.specs.List.{list_any};
@@ -10,8 +10,7 @@ ghost use Rattle.ost_description.specs.Descriptions.{described, checked_descript
 ghost use Rattle.ost_description.specs.Writing.{IsWritable, description_text, is_newline};
 
 /// A written description reads back, or is refused at the first row that `commit_tree` refuses.
-/// Where a line stands after it that isn't formed as a row, that line is the bad one, unless such a
-/// row comes before; so there is a bad description for each line.
+/// With a malformed line after its rows, it is refused at that line, unless it has such a row.
 pub fn written_descriptions_read_back()
     ensures reads { (d : Description) → IsWritable d
         → described (description_text d) ≡ checked_description d None (first_refused d.rows) }
@@ -21,7 +20,7 @@ pub fn written_descriptions_read_back()
         ≡ checked_description d (Some (length d.rows + 3)) (first_refused d.rows) }
 {}
 
-/// The most bytes of a subject, as a number.
+/// The maximum number of bytes of a subject is 1,024.
 pub fn limits_as_numbers()
     ensures { MOST_SUBJECT_BYTES ≡ 1024 }
 {}

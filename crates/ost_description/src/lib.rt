@@ -1,4 +1,4 @@
-//! Descriptions of trees, line by line, and the commits that are built from them.
+//! Reads descriptions of trees, line by line, and builds commits from them.
 #![tactic(auto)]
 
 mod committing;

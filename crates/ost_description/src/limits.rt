@@ -1,4 +1,4 @@
-//! What a description has at most.
+//! The limit of a description.
 
-/// The most bytes of a subject.
+/// The maximum number of bytes of a subject.
 pub const MOST_SUBJECT_BYTES: usize = 1024;

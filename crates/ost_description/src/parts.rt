@@ -1,4 +1,4 @@
-//! The parts of a description's lines.
+//! Reading the parts of a description's lines.
 
 ghost use Rattle.std.specs.Prelude.{◌≡◌, ◌<◌, ◌==◌, IfOk, IfSome, true, not};
 ghost use Rattle.std.specs.Char.{is_ascii_digit};
@@ -13,33 +13,35 @@ use fp_host::{Path, PathError};
 use std::alloc::{AllocError, Global};
 use std::str;
 
-/// Whether a zero stands before other digits.
+/// Returns whether the text has a leading zero before other digits.
 fn has_leading_zero(text: &[u8]) -> bool
     ensures { result ≡ has_leading_zero text.now }
 {
     text.len() > 1 && text[0] == b'0'
 }
 
+/// Returns whether the byte is a decimal ASCII digit.
 fn is_digit(byte: u8) -> bool
     ensures { result ≡ is_ascii_digit byte }
 {
     matches!(byte, b'0'..=b'9')
 }
 
+/// Returns whether all bytes are decimal ASCII digits.
 fn is_all_digits(text: &[u8]) -> bool
     ensures { result ≡ list_all is_ascii_digit text.now }
 {
     text.iter().all(|byte| is_digit(*byte))
 }
 
-/// Whether these are decimal digits, one or more, without a leading zero.
+/// Returns whether the text is one or more decimal digits without a leading zero.
 fn are_digits(text: &[u8]) -> bool
     ensures { result ≡ are_digits_of text.now }
 {
     !text.is_empty() && !has_leading_zero(text) && is_all_digits(text)
 }
 
-/// The number that decimal digits write, where it is below 2^64.
+/// Returns the number in decimal digits, or `None` if it isn't below 2^64.
 fn value(digits: &str) -> Option<u64>
     requires { are_digits_of digits.now ≡ true }
     ensures { Gives (λ n. n) result (number_in digits.now) }
@@ -50,7 +52,8 @@ fn value(digits: &str) -> Option<u64>
     }
 }
 
-/// A number below 2^64 in decimal digits, without a leading zero.
+/// Returns the number below 2^64 in decimal digits without a leading zero, or `None` for any other
+/// text.
 #[tactic(auto, unfolding(crate::specs::Parts::number_in))]
 pub(crate) fn number(text: &[u8]) -> Option<u64>
     ensures { Gives (λ n. n) result (number_in text.now) }
@@ -64,7 +67,7 @@ pub(crate) fn number(text: &[u8]) -> Option<u64>
     }
 }
 
-/// The number of an octal digit.
+/// Returns the value of an octal digit, or `None` for any other byte.
 fn octal_digit(digit: u8) -> Option<u32>
     ensures digit { Gives (λ n. n) result (octal_in digit) }
     ensures small { IfSome result (λ n. n < 8) }
@@ -75,7 +78,7 @@ fn octal_digit(digit: u8) -> Option<u32>
     Some((digit - b'0') as u32)
 }
 
-/// Permission bits, as three octal digits.
+/// Returns permission bits from three octal digits, or `None` for any other text.
 #[tactic(auto, unfolding(crate::specs::Parts::mode_in))]
 pub(crate) fn mode(text: &[u8]) -> Option<u32>
     ensures { Gives (λ n. n) result (mode_in text.now) }
@@ -89,7 +92,8 @@ pub(crate) fn mode(text: &[u8]) -> Option<u32>
     Some(first * 64 + second * 8 + third)
 }
 
-/// The bytes of a file: a dash where there are none, else lower-case hexadecimal.
+/// Returns the content of a file: no bytes for a dash, and otherwise those in lower-case
+/// hexadecimal. `None` for any other text, the empty one included.
 #[tactic(auto, unfolding(crate::specs::Parts::content_in))]
 pub(crate) fn content(alloc: Global, text: &[u8]) -> Result<Option<Blob>, AllocError>
     ensures { IfOk result (λ found. Gives (λ b. b) found (content_in text.now)) }
@@ -101,7 +105,7 @@ pub(crate) fn content(alloc: Global, text: &[u8]) -> Result<Option<Blob>, AllocE
     Ok(found.map(Blob::from_vec))
 }
 
-/// Text in UTF-8.
+/// Returns the bytes as a text, or `None` if they aren't UTF-8.
 #[tactic(auto, unfolding(crate::specs::Parts::text_in))]
 pub(crate) fn text(bytes: &[u8]) -> Option<&str>
     ensures { Gives (λ t. t.now) result (text_in bytes.now) }
@@ -112,13 +116,14 @@ pub(crate) fn text(bytes: &[u8]) -> Option<&str>
     }
 }
 
+/// Returns whether a byte is a space.
 fn has_space(bytes: &[u8]) -> bool
     ensures { result ≡ list_any (λ b. b == 32) bytes.now }
 {
     bytes.iter().any(|byte| *byte == b' ')
 }
 
-/// A path without spaces.
+/// Returns the path without spaces in the bytes, or `None` if they aren't one.
 #[tactic(auto, unfolding(crate::specs::Parts::path_in, crate::specs::Parts::text_in))]
 pub(crate) fn path(alloc: Global, bytes: &[u8]) -> Result<Option<Path>, AllocError>
     ensures { IfOk result (λ found. Gives (λ p. p) found (path_in bytes.now)) }
@@ -136,13 +141,14 @@ pub(crate) fn path(alloc: Global, bytes: &[u8]) -> Result<Option<Path>, AllocErr
     }
 }
 
+/// Returns whether no byte is an ASCII control character.
 fn has_no_control(text: &[u8]) -> bool
     ensures { result ≡ list_all (λ b. not (is_control b)) text.now }
 {
     text.iter().all(|byte| !is_control(*byte))
 }
 
-/// Whether the text may be a subject: at most 1,024 bytes without control characters.
+/// Returns whether the text can be a subject: at most 1,024 bytes without control characters.
 pub(crate) fn is_subject(text: &str) -> bool
     ensures { result ≡ may_be_subject text.now }
 {

@@ -1,4 +1,4 @@
-//! Reading a description up to the first line that isn't formed as its place wants.
+//! Reading a description up to the first malformed line.
 
 ghost use Rattle.std.specs.Prelude.{◌≡◌, ◌<◌, ◌≤◌, ◌+◌, ◌^◌, ◌==◌, if◌then◌else◌, length, Some, None, IfOk, IfErr, IfSome};
 ghost use Rattle.ost_commit.specs.Refusals.{first_refused};
@@ -12,7 +12,7 @@ use fp_base::{Items, Text, cut};
 use ost_commit::TreeRow;
 use std::alloc::{AllocError, Global};
 
-/// What a line says after this word and a space.
+/// Returns the part of a line after its first word and a space, or `None` if that isn't the word.
 fn rest_after<'a>(word: &[u8], line: &'a [u8]) -> Option<&'a [u8]>
     ensures { Gives (λ rest. rest.now) result (said_after word.now line.now) }
 {
@@ -20,7 +20,7 @@ fn rest_after<'a>(word: &[u8], line: &'a [u8]) -> Option<&'a [u8]>
     if first == word { Some(rest) } else { None }
 }
 
-/// The number of a line `timestamp T`.
+/// Returns the number in a line `timestamp T`, or `None` if the line is malformed.
 #[tactic(auto, unfolding(crate::specs::Descriptions::timestamp_in))]
 fn timestamp_of(line: &[u8]) -> Option<u64>
     ensures { Gives (λ n. n) result (timestamp_in line.now) }
@@ -28,7 +28,7 @@ fn timestamp_of(line: &[u8]) -> Option<u64>
     number(rest_after(b"timestamp", line)?)
 }
 
-/// The text of a line `subject TEXT`.
+/// Returns the text in a line `subject TEXT`, or `None` if the line is malformed.
 #[tactic(auto, unfolding(crate::specs::Descriptions::subject_in))]
 fn subject_of(line: &[u8]) -> Option<&str>
     ensures { Gives (λ t. t.now) result (subject_in line.now) }
@@ -41,7 +41,8 @@ fn subject_of(line: &[u8]) -> Option<&str>
     }
 }
 
-/// The directory of a line `dir PATH`, after its first word.
+/// Returns the row of a line `dir PATH`, by the part after its first word, or `None` if the line is
+/// malformed.
 #[tactic(auto, unfolding(crate::specs::Descriptions::folder_in))]
 fn folder_of(alloc: Global, rest: &[u8]) -> Result<Option<TreeRow>, AllocError>
     ensures { IfOk result (λ found. Gives (λ r. r) found (folder_in rest.now)) }
@@ -52,7 +53,8 @@ fn folder_of(alloc: Global, rest: &[u8]) -> Result<Option<TreeRow>, AllocError>
     }
 }
 
-/// The file of a line `file PATH MODE HEX`, after its first word.
+/// Returns the row of a line `file PATH MODE HEX`, by the part after its first word, or `None` if
+/// the line is malformed.
 #[tactic(auto, unfolding(crate::specs::Descriptions::file_in))]
 fn file_of(alloc: Global, rest: &[u8]) -> Result<Option<TreeRow>, AllocError>
     ensures { IfOk result (λ found. Gives (λ r. r) found (file_in rest.now)) }
@@ -75,7 +77,8 @@ fn file_of(alloc: Global, rest: &[u8]) -> Result<Option<TreeRow>, AllocError>
     Ok(Some(TreeRow::File { path, mode, bytes }))
 }
 
-/// The link of a line `link PATH TARGET`, after its first word.
+/// Returns the row of a line `link PATH TARGET`, by the part after its first word, or `None` if the
+/// line is malformed.
 #[tactic(auto, unfolding(crate::specs::Descriptions::link_in))]
 fn link_of(alloc: Global, rest: &[u8]) -> Result<Option<TreeRow>, AllocError>
     ensures { IfOk result (λ found. Gives (λ r. r) found (link_in rest.now)) }
@@ -93,7 +96,7 @@ fn link_of(alloc: Global, rest: &[u8]) -> Result<Option<TreeRow>, AllocError>
     Ok(Some(TreeRow::Link { path, target }))
 }
 
-/// The row of a line that is formed as one.
+/// Returns the row of a line, or `None` if the line is malformed.
 #[tactic(auto, unfolding(crate::specs::Descriptions::row_in))]
 fn row_of(alloc: Global, line: &[u8]) -> Result<Option<TreeRow>, AllocError>
     ensures { IfOk result (λ found. Gives (λ r. r) found (row_in line.now)) }
@@ -109,7 +112,7 @@ fn row_of(alloc: Global, line: &[u8]) -> Result<Option<TreeRow>, AllocError>
     }
 }
 
-/// The first two lines, and what stands after them.
+/// The contents of the first two lines, and the bytes after them.
 #[derive(Clone, Copy)]
 struct Heading<'a> {
     timestamp: u64,
@@ -117,7 +120,7 @@ struct Heading<'a> {
     rest: &'a [u8],
 }
 
-/// Reads the first two lines.
+/// Reads the first two lines. `Record` with 1 or 2 if that line is malformed or missing.
 fn read_heading(bytes: &[u8]) -> Result<Heading, DescriptionError>
     ensures reads { IfOk result (λ h. described bytes.now
         ≡ with_rows h.timestamp h.subject.now (pieces h.rest.now)) }
@@ -137,7 +140,8 @@ fn read_heading(bytes: &[u8]) -> Result<Heading, DescriptionError>
     })
 }
 
-/// The number of a first line `timestamp T`, and what stands after it.
+/// Returns the number in a first line `timestamp T`, and the bytes after that line. `None` if the
+/// line is malformed or missing.
 fn timestamp_line(bytes: &[u8]) -> Option<(u64, &[u8])>
     ensures line { Gives (λ p. (p.0, pieces p.1.now)) result
         (first_by timestamp_in (pieces bytes.now)) }
@@ -147,7 +151,8 @@ fn timestamp_line(bytes: &[u8]) -> Option<(u64, &[u8])>
     Some((timestamp_of(line)?, rest))
 }
 
-/// The text of a first line `subject TEXT`, and what stands after it.
+/// Returns the text in a first line `subject TEXT`, and the bytes after that line. `None` if the
+/// line is malformed or missing.
 fn subject_line(bytes: &[u8]) -> Option<(&str, &[u8])>
     ensures line { Gives (λ p. (p.0.now, pieces p.1.now)) result
         (first_by subject_in (pieces bytes.now)) }
@@ -157,14 +162,14 @@ fn subject_line(bytes: &[u8]) -> Option<(&str, &[u8])>
     Some((subject_of(line)?, rest))
 }
 
-/// Rows up to the first line that isn't formed as one, and the number of that line.
+/// The rows up to the first malformed line, and the number of that line.
 #[derive(Drop)]
 struct Lines {
     rows: Vec<TreeRow>,
     unformed: Option<u64>,
 }
 
-/// Reads the lines from the third on.
+/// Reads the lines from the third on, up to the first malformed one.
 fn lines_of(alloc: Global, bytes: &[u8]) -> Result<Lines, AllocError>
     requires { length bytes.now + 3 < 2 ^ 64 }
     ensures rows { IfOk result (λ lines. lines.rows.items ≡ rows_in (pieces bytes.now)) }
@@ -191,22 +196,22 @@ fn lines_of(alloc: Global, bytes: &[u8]) -> Result<Lines, AllocError>
     })
 }
 
-/// The number of what stands after the last newline, unless nothing does.
+/// Returns the line number of the text after the last newline, or `None` if there is no such text.
 fn leftover(rest: &[u8], number: u64) -> Option<u64>
     ensures { result ≡ (if length rest.now == 0 then None else Some number) }
 {
     if rest.is_empty() { None } else { Some(number) }
 }
 
-/// A description up to the first line that isn't formed as its place wants, and the number of that
-/// line.
+/// A description up to the first malformed line, and the number of that line.
 #[derive(Drop)]
 pub(crate) struct Draft {
     pub(crate) description: Description,
     pub(crate) unformed: Option<u64>,
 }
 
-/// Reads a description up to the first row that isn't formed as one.
+/// Reads a description up to the first malformed row. `Record` if one of the first two lines is
+/// malformed or missing.
 pub(crate) fn draft_of(alloc: Global, bytes: &[u8]) -> Result<Draft, DescriptionError>
     ensures reads { IfOk result (λ d. described bytes.now
         ≡ checked_description d.description d.unformed (first_refused d.description.rows)) }

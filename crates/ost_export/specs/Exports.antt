@@ -1,4 +1,4 @@
--- What an export does to a host, and what it promises.
+-- The changes and the promises of an export.
 use Rattle.std.specs.Prelude.{◌≡◌, ◌⊎◌, ℕ, List, ◌∷◌, Some, None, codes}
 use Rattle.std.specs.List.{AllByRecursion}
 use Rattle.fp_host.specs.Paths.{Elements, Slot, absent, dir, IsAbove}
@@ -27,85 +27,94 @@ use Rattle.ost_export.specs.Storing.{IsWork, IsWorkAt, IsNewObject, IsNewName, I
 
 -- ---- the files of the store
 
+-- The path of `config` in the store at `root`
 abbrev pub config_path : Elements → Elements
 config_path root = codes "config" ∷ root
 
--- what `config` says
+-- The content of `config`
 abbrev pub config_text : List ℕ
 config_text = STORE_CONFIG.now
 
+-- The path of the ref's file in the store at `root`
 abbrev pub ref_path : Elements → Ref → Elements
 ref_path root r = place_path root (Head r)
 
--- a name in the folder of the remotes' refs
+-- A path in the directory of the remotes' refs
 abbrev pub a_remote : Elements → Elements
 a_remote root = codes "x" ∷ remotes root
 
--- ---- what may come to stand where
+-- ---- what may be at which path
 
--- a folder above an object or the file of the ref, or one of the work
+-- The path is above an object or the ref's file, or is `repo` or `repo/tmp`
 abbrev pub IsFolderAbove : Elements → Ref → Elements → Type 0
 IsFolderAbove root r q = IsStoreFolder root q ⊎ IsAbove q (ref_path root r)
 
--- or that of the remotes' refs
+-- The path is above an object or the ref's file, or is `repo`, `repo/tmp` or the directory of the
+-- remotes' refs
 abbrev pub IsExportFolder : Elements → Ref → Elements → Type 0
 IsExportFolder root r q = IsFolderAbove root r q ⊎ (q ≡ remotes root)
 
--- What may stand where before the ref is written: work at the first free name of repo/tmp, new
--- objects, `config`, and folders.
+-- An export may leave this node at a path before it writes the ref: work at the first free name of
+-- `repo/tmp`, new objects, `config`, and directories
 abbrev pub FurnishesAt : Have → Elements → Ref → View → Elements → Spot → Type 0
 FurnishesAt have root r u q spot = IsWorkAt u q spot
     ⊎ (IsNewObject have root u q spot
     ⊎ ((IsExportFolder root r q × (spot ≡ folder))
     ⊎ ((q ≡ config_path root) × IsNew config_text spot)))
 
+-- An export may give a name this entry before it writes the ref: work at the first free name of
+-- `repo/tmp`, new objects, `config`, and directories
 abbrev pub FurnishesName : Have → Elements → Ref → View → Elements → Slot → Type 0
 FurnishesName have root r u q e = IsWork u q
     ⊎ (IsNewName have root u q
     ⊎ ((IsExportFolder root r q × (e ≡ dir)) ⊎ ((q ≡ config_path root) × IsFile e)))
 
--- Only new files get bytes.
+-- An export at each moment before it writes the ref. Only new files get bytes.
 pub record Furnishes (have : Have) (root : Elements) (r : Ref) (u w : View) : Type 0 where
   pub keeps : Keeps (FurnishesAt have root r u) (FurnishesName have root r u) (IsWork u) u w
   pub files : KeepsFiles u w
 
--- and the ref's file too
+-- An export may leave this node at a path: one of `FurnishesAt`, or the ref's new file
 abbrev pub ExportsAt : Have → Elements → Ref → List ℕ → View → Elements → Spot → Type 0
 ExportsAt have root r commit u q spot =
     FurnishesAt have root r u q spot ⊎ ((q ≡ ref_path root r) × IsNew (ref_bytes commit) spot)
 
+-- An export may give a name this entry: one of `FurnishesName`, or the ref's file
 abbrev pub ExportsName : Have → Elements → Ref → View → Elements → Slot → Type 0
 ExportsName have root r u q e = FurnishesName have root r u q e ⊎ ((q ≡ ref_path root r) × IsFile e)
 
--- So an export goes on into the store at root. Only new files get bytes.
+-- An export into the store at `root` at each moment. Only new files get bytes.
 pub record Exports (have : Have) (root : Elements) (r : Ref) (commit : List ℕ)
     (u w : View) : Type 0 where
   pub keeps : Keeps (ExportsAt have root r commit u) (ExportsName have root r u) (IsWork u) u w
   pub files : KeepsFiles u w
 
--- the same from a sync on; before it nothing changes
+-- An export at each moment, with the sync at its start, before which nothing changes
 abbrev pub ExportsSynced : Have → Elements → Ref → List ℕ → View → View → Type 0
 ExportsSynced have root r commit u w = (w ≡ u) ⊎ Exports have root r commit (done syncs u) w
 
+-- An export at each moment before it writes the ref, with the sync at its start, before which
+-- nothing changes
 abbrev pub FurnishesSynced : Have → Elements → Ref → View → View → Type 0
 FurnishesSynced have root r u w = (w ≡ u) ⊎ Furnishes have root r (done syncs u) w
 
--- the name holds what it held, and at each stop what some stop before would have left there
+-- The name keeps its entry, and each crash leaves at its path what some crash before would have
+-- left
 pub record IsSpared (q : Elements) (u w : View) : Type 0 where
   pub name : w.names q ≡ u.names q
   pub outcomes : (disk : Disk) → Leaves w disk
       → (before : Disk) × Leaves u before × (disk q ≡ before q)
 
--- ---- the end
+-- ---- the result
 
--- the store has none of these objects under another's name: nothing stands at each name, or the
+-- No other object is at the paths of these objects in the store: nothing is at each path, or the
 -- object itself
 pub record AreFit (have : Have) (root : Elements) (v : View) : Type 0 where
   pub each : (d : List ℕ) (kind : ObjKind) (object : Object) → have d kind ≡ Some object
       → IsFitFor root d kind object v
 
--- The disk has a store of mode `bare-user-only` whose ref has the commit, which has no fault, and
--- these objects.
+-- The disk has a store in the mode bare-user-only with these objects, whose ref points to the
+-- commit, and the commit has no fault
 pub record IsOffered (have : Have) (root : Elements) (r : Ref) (commit : List ℕ)
     (disk : Disk) : Type 0 where
   pub config : IsNew config_text (disk (config_path root))
@@ -114,19 +123,21 @@ pub record IsOffered (have : Have) (root : Elements) (r : Ref) (commit : List �
       → store root disk d kind ≡ Some object
   pub clean : first_fault (store root disk) commit ≡ None
 
--- Where it may be done: nothing stands at `config` and at the ref's place, or a file; and the
--- folders above what it writes are absent or folders.
+-- The files `config` and of the ref are absent or files, and the directories above what an export
+-- writes are absent or directories
 pub record CanExport (root : Elements) (r : Ref) (v : View) : Type 0 where
   pub config : IsFreeFile (config_path root) v
   pub ref : IsFreeFile (ref_path root r) v
   pub folders : (q : Elements) → IsFolderAbove root r q → IsFree v q
 
--- where the files stay that are made: objects, `config`, the file of the ref
+-- The path is one at which an export makes a file that stays: that of an object, of `config` or of
+-- the ref
 abbrev pub IsExported : Elements → Ref → Elements → Type 0
 IsExported root r q = IsObjectName root q ⊎ ((q ≡ config_path root) ⊎ (q ≡ ref_path root r))
 
--- On Ok every stop leaves what stands, the ref is offered, and nothing is left of the work. Each
--- new file that has bytes came to such a name.
+-- The export succeeded: every crash leaves exactly the present content, and nothing is left of the
+-- work. The ref is offered if no other object was at the paths of the commit's objects. Each new
+-- file with bytes was put at the path of an object, of `config` or of the ref.
 pub record WasExported (have : Have) (root : Elements) (r : Ref) (commit : List ℕ)
     (u w : View) : Type 0 where
   pub settled : IsSettled w
@@ -136,7 +147,8 @@ pub record WasExported (have : Have) (root : Elements) (r : Ref) (commit : List 
   pub work : (q : Elements) → IsWork u q → w.names q ≡ absent
   pub shares : Shares (IsExported root r) u w
 
--- and a file's permission bits are good, a link's text is one
+-- The export can be done, and the objects can be stored: the permission bits of each file are
+-- within 0775 (octal), and the text of each symlink is valid
 pub record CanExportAll (root : Elements) (r : Ref) (objects : List BuiltObject)
     (v : View) : Type 0 where
   pub keepable : AllByRecursion IsKeepableObject objects

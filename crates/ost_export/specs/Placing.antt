@@ -1,4 +1,4 @@
--- Staged objects that come to their names in the store.
+-- Moving staged objects to their paths in the store.
 use Rattle.std.specs.Prelude.{◌≡◌, ◌⊎◌, ℕ, List, true, Some, Contains}
 use Rattle.fp_host.specs.Paths.{Elements, Slot, absent, dir}
 use Rattle.fp_host.specs.View.{View}
@@ -15,12 +15,12 @@ use Rattle.ost_store.specs.Stays.{Stays}
 use Rattle.ost_store.specs.ObjectNames.{AreOpen, IsAboveObject}
 use Rattle.ost_export.specs.Staging.{Named, AreStaged}
 
--- this object, and no other, under its true name
+-- The node is this object, and matches its digest and kind
 pub record IsTheObject (d : List ℕ) (kind : ObjKind) (object : Object) (spot : Spot) : Type 0 where
   pub named : IsNamedAt d kind spot
   pub is : object_at kind spot ≡ Some object
 
--- one of these objects at its name in the store
+-- The node is one of these objects, at its path in the store
 pub record IsObjectOf (have : Have) (root : Elements) (objects : List Named) (q : Elements)
     (spot : Spot) : Type 0 where
   pub name : Named
@@ -31,26 +31,30 @@ pub record IsObjectOf (have : Have) (root : Elements) (objects : List Named) (q 
   pub at : q ≡ object_path root name.0 name.1
   pub there : IsTheObject name.0 name.1 object spot
 
+-- The path is that of one of these objects in the store
 pub record IsNameOf (root : Elements) (objects : List Named) (q : Elements) : Type 0 where
   pub name : Named
   pub among : In objects name
   pub digits : is_digest name.0 ≡ true
   pub at : q ≡ object_path root name.0 name.1
 
--- What may stand where: these objects at their names, folders above them, and nothing in the work
--- folder t.
+-- Placing the objects may leave this node at a path: an object at its path, directories above that,
+-- and nothing in the work directory `t`
 abbrev pub PutsAt : Have → Elements → Elements → List Named → Elements → Spot → Type 0
 PutsAt have root t objects q spot = (IsWithin t q × (spot ≡ gone))
     ⊎ (IsObjectOf have root objects q spot ⊎ (IsAboveObject root q × (spot ≡ folder)))
 
+-- Placing the objects may give a name this entry: an object's path any, the names above it a
+-- directory, and those in the work directory `t` none
 abbrev pub PutsName : Elements → Elements → List Named → Elements → Slot → Type 0
 PutsName root t objects q e =
     (IsWithin t q × (e ≡ absent)) ⊎ (IsNameOf root objects q ⊎ (IsAboveObject root q × (e ≡ dir)))
 
+-- The objects may be placed, and nothing else changes. No file is given bytes.
 pub record Puts (have : Have) (root t : Elements) (objects : List Named) (u w : View) : Type 0 where
   pub keeps : Keeps (PutsAt have root t objects) (PutsName root t objects) NoPath u w
 
--- what stands at the object's path in the folder t is ready to be placed
+-- The object is ready to be placed from its path in the directory `t`
 pub record IsReadyIn (have : Have) (t : Elements) (o : Named) (v : View) : Type 0 where
   pub object : Object
   pub digits : is_digest o.0 ≡ true
@@ -58,34 +62,36 @@ pub record IsReadyIn (have : Have) (t : Elements) (o : Named) (v : View) : Type 
   pub ready : IsReadyAs o.0 o.1 (object_path t o.0 o.1) v
   pub shown : object_at o.1 (shows v (object_path t o.0 o.1)) ≡ Some object
 
--- so are all of these, each of which is named once
+-- The objects are ready to be placed from their paths in the directory `t`, and each occurs once
 pub record AreReady (have : Have) (t : Elements) (objects : List Named) (v : View) : Type 0 where
   pub each : (o : Named) → In objects o → IsReadyIn have t o v
   pub once : IsOnce objects
 
--- nothing stands at their names in the store at root
+-- Nothing is at the paths of the objects in the store at `root`
 pub record AreLacking (root : Elements) (objects : List Named) (v : View) : Type 0 where
   pub free : (o : Named) → In objects o → v.names (object_path root o.0 o.1) ≡ absent
 
--- where they may be placed
+-- The objects are ready to be placed, nothing is at their paths in the store, and the paths above
+-- are absent or directories
 pub record CanPlaceAll (have : Have) (root t : Elements) (objects : List Named) (v : View) : Type 0
   where
     pub ready : AreReady have t objects v
     pub lacking : AreLacking root objects v
     pub open_above : AreOpen root v
 
--- What stood at the object's path in the folder t stands at its name, and was put there.
+-- The node at the object's path in the directory `t` is now at its path in the store, where it was
+-- put
 pub record CameTo (root t : Elements) (u w : View) (o : Named) : Type 0 where
   pub shown : shows w (object_path root o.0 o.1) ≡ shows u (object_path t o.0 o.1)
   pub stood : Contains w.stood (object_path root o.0 o.1, u.names (object_path t o.0 o.1))
 
--- all of these came to their names, and the others are as before
+-- All of these objects were placed, and every other object's path stays as it was
 pub record PlacesAll (root t : Elements) (objects : List Named) (u w : View) : Type 0 where
   pub came : (o : Named) → In objects o → CameTo root t u w o
   pub others : (d : List ℕ) (kind : ObjKind) → is_digest d ≡ true → (In objects (d, kind) → ⊥)
       → Stays (object_path root d kind) u w
 
--- the same where these are still to come
+-- All of these objects except those left were placed, and every other object's path stays as it was
 pub record PlacesSome (root t : Elements) (objects left : List Named) (u w : View) : Type 0 where
   pub among : (o : Named) → In left o → In objects o
   pub came : (o : Named) → In objects o → In left o ⊎ ((In left o → ⊥) × CameTo root t u w o)
@@ -94,19 +100,23 @@ pub record PlacesSome (root t : Elements) (objects left : List Named) (u w : Vie
   pub others : (d : List ℕ) (kind : ObjKind) → is_digest d ≡ true → (In objects (d, kind) → ⊥)
       → Stays (object_path root d kind) u w
 
--- they came to their names, the folder t is gone, and every stop leaves what stands
+-- The objects were placed, the directory `t` was cleared, and every crash leaves exactly the
+-- present content
 pub record WasStored (root t : Elements) (objects : List Named) (u w : View) : Type 0 where
   pub places : PlacesAll root t objects u w
   pub cleared : IsCleared t w
   pub settled : IsSettled w
 
+-- If the objects are ready, they may be placed, and nothing else changes
 abbrev pub PutsReady : Have → Elements → Elements → List Named → View → View → Type 0
 PutsReady have root t objects u w = AreReady have t objects u → Puts have root t objects u w
 
+-- If the objects are staged, they may be placed, and nothing else changes
 abbrev pub PutsStaged : Have → Elements → Elements → List Named → View → View → Type 0
 PutsStaged have root t objects u w = AreStaged have t objects u → Puts have root t objects u w
 
--- where they may be stored
+-- The objects are staged, nothing is at their paths in the store, the paths above are absent or
+-- directories, and the directory `t` can be cleared
 pub record CanStore (have : Have) (root t : Elements) (objects : List Named) (v : View) : Type 0
   where
     pub staged : AreStaged have t objects v

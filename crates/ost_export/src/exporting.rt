@@ -1,4 +1,4 @@
-//! A built commit that is offered.
+//! Exporting a built commit.
 ghost use Rattle.std.specs.Prelude.{◌≡◌, None, IfOk, OnOk, IsErrOf};
 ghost use Rattle.fp_host.specs.OverHost.{AtEachMoment, AtReturn, FailsOnly};
 ghost use Rattle.ost_model.specs.Order.{first_fault};
@@ -16,14 +16,15 @@ use ost_commit::Built;
 use ost_refs::{RefPlace, write_ref};
 use std::alloc::{AllocError, Global};
 
-/// The place of the store's own ref of this name.
+/// Returns the place of the store's own ref with this name (in `refs/heads`).
 fn head_of(name: &RefName) -> Result<RefPlace, AllocError>
     ensures { IfOk result (λ place. place ≡ Head name.now) }
 {
     Ok(RefPlace::Head(name.copy()?))
 }
 
-/// Writes the commit into the store, and offers it, without a sync before the first change.
+/// Writes the commit into the store and offers it under the ref, without a sync before the first
+/// change.
 fn write_offer<H: Host>(
     alloc: Global,
     host: &mut H,
@@ -52,12 +53,14 @@ fn write_offer<H: Host>(
     write_ref(alloc, host, root, &place, &built.commit)
 }
 
-/// Writes the commit into the store below `root`, and offers it there under the ref. Objects whose
-/// names are there stay, and so do other refs; `config` and the ref's file are written anew. The
-/// folder `refs/remotes` is made where nothing stands at that name. The first change comes after a
-/// sync, the objects come first, and the ref's file last. It is for a store that is neither
-/// `repo/tmp` nor below it, and for a commit without a fault whose objects are those that their
-/// digests name, each once.
+/// Writes a built commit into the store at `root`, and offers it there under the ref. Objects whose
+/// paths exist are left alone, and so are other refs; `config` and the ref's file are replaced.
+/// Makes the directory `refs/remotes` if nothing is at that path. Syncs before the first change;
+/// then objects come first, and the ref's file last. The store must be neither `repo/tmp` nor below
+/// it. The commit must have no fault, and its objects must match their digests and occur once each.
+/// Condition: `config` and the ref's file are absent or files, the paths above them and above
+/// objects are absent or directories, the permission bits of files are within 0775, and the texts
+/// of symlinks are valid.
 pub fn export<H: Host>(
     alloc: Global,
     host: &mut H,
@@ -68,17 +71,18 @@ pub fn export<H: Host>(
     requires no_work { IsNoWork root.now }
     requires whole { AreWhole built.now.objects }
     requires clean { first_fault (have_of built.now.objects) built.now.commit ≡ None }
-    // Nothing changed yet, or a stop leaves what stood at the entry, but for what an export writes:
-    // at the ref's place what stood there or the whole new file. Other refs, objects that were
-    // there and all else outside the store and the work stay.
+    // Nothing changed yet; or a crash leaves what was there at the start, except for what an export
+    // writes. At the ref's path it leaves what was there or the whole new file. Other refs, objects
+    // that were there, and everything outside the store and `repo/tmp` stay as they were, except
+    // that directories above these may be made.
     ensures any_moment { AtEachMoment H.Host host.old host.new
         (ExportsSynced (have_of built.now.objects) root.now name.now built.now.commit) }
-    // After it every stop leaves the store in which the ref is offered, where the store had nothing
-    // else under the objects' names.
+    // Every crash leaves the store in which the ref is offered, if no other object was at the paths
+    // of the commit's objects.
     ensures on_success { OnOk result
         (AtReturn H.Host host.old host.new
         (WasExported (have_of built.now.objects) root.now name.now built.now.commit)) }
-    // Where memory runs out the ref's place is as it was.
+    // If memory runs out, the ref's path is as it was.
     ensures starved { IsErrOf result HostEnd.NoMemory
         → AtReturn H.Host host.old host.new
         (FurnishesSynced (have_of built.now.objects) root.now name.now) }

@@ -1,4 +1,4 @@
-//! What a store has beside its objects and refs: `config`, and the folder of its remotes' refs.
+//! The rest of a store besides objects and refs: `config`, and the directory of its remotes' refs.
 ghost use Rattle.std.specs.Prelude.{◌≡◌, IfOk, OnOk, IsErrOf};
 ghost use Rattle.fp_host.specs.OverHost.{AtEachMoment, AtReturn, FailsOnly};
 ghost use Rattle.fp_host.specs.Paths.{absent, dir};
@@ -13,21 +13,21 @@ use fp_small::{make_above, replace};
 use ost_model::STORE_CONFIG;
 use std::alloc::{AllocError, Global};
 
-/// The path of `config`.
+/// Returns the path of `config`.
 fn config_path(root: &Path) -> Result<Path, AllocError>
     ensures { IfOk result (λ path. path ≡ config_path root.now) }
 {
     root.child("config")
 }
 
-/// What `config` says, as a file.
+/// Returns the content of `config`.
 fn config_bytes(alloc: Global) -> Result<Vec<u8>, AllocError>
     ensures { IfOk result (λ bytes. bytes.items ≡ config_text) }
 {
     Vec::from_slice(alloc, STORE_CONFIG.as_bytes())
 }
 
-/// The folder of the remotes' refs, and a name in it.
+/// Returns the path of the directory of the remotes' refs, and a path in it.
 fn remotes_paths(root: &Path) -> Result<(Path, Path), AllocError>
     ensures { IfOk result (λ paths. (paths.0 ≡ remotes root.now) × (paths.1 ≡ a_remote root.now)) }
 {
@@ -36,7 +36,7 @@ fn remotes_paths(root: &Path) -> Result<(Path, Path), AllocError>
     Ok((folder, below))
 }
 
-/// Writes `config` anew, and syncs.
+/// Replaces `config`, and syncs.
 pub(crate) fn write_config<H: Host>(alloc: Global, host: &mut H, root: &Path) -> Result<(), HostEnd>
     ensures any_moment { AtEachMoment H.Host host.old host.new
         (Replaces (config_path root.now) config_text) }
@@ -50,8 +50,8 @@ pub(crate) fn write_config<H: Host>(alloc: Global, host: &mut H, root: &Path) ->
     replace(alloc, host, &path, &bytes)
 }
 
-/// Makes the folder `refs/remotes` and those above it where nothing stands there. OSTree's own
-/// tools need it.
+/// Makes the directory `refs/remotes` and the missing directories above it. Does nothing if
+/// anything is at that path. OSTree's own tools need it.
 pub(crate) fn make_remotes<H: Host>(alloc: Global, host: &mut H, root: &Path) -> Result<(), HostEnd>
     ensures frame { Frame (FoldersAt (ancestors (a_remote root.now)))
         (DirsAt (ancestors (a_remote root.now))) NoPath

@@ -1,5 +1,5 @@
-//! Laws of the words that the contracts use, for crates that build on them. Each is the contract of
-//! a function that does nothing.
+//! Laws of the definitions in the contracts, for crates that build on them. Each is the contract of
+//! a function with an empty body.
 ghost use Rattle.std.specs.Prelude.{◌≡◌, ◌≢◌, ℕ, List, None, true, Ok};
 ghost use Rattle.fp_host.specs.Paths.{Elements, absent, IsAbove};
 ghost use Rattle.fp_host.specs.View.{View, IsTree};
@@ -25,8 +25,9 @@ ghost use Rattle.ost_export.specs.Staging.{AreWhole};
 ghost use Rattle.ost_export.specs.Storing.{IsNoWork};
 ghost use Rattle.ost_export.specs.Exports.{AreFit, CanExport, Exports, IsOffered, IsSpared, ref_path};
 
-/// At every moment of an export, another ref of the store is as it was, each object that was there,
-/// and what is neither in the store nor above it nor in `repo/tmp`.
+/// States that at each moment of an export these are as they were: the store's other refs, each
+/// object that was there, and everything that is neither in the store nor above it nor in
+/// `repo/tmp`.
 pub fn exports_spare_the_rest()
     ensures refs { (have : Have) (root : Elements) (r : Ref) (commit : List ℕ) (place : RefPlace)
         (u w : View) → IsNoWork root → place_path root place ≢ ref_path root r
@@ -40,23 +41,24 @@ pub fn exports_spare_the_rest()
         → q ≢ repo → Exports have root r commit u w → IsSpared q u w }
 {}
 
-/// What is asked of a built commit holds of each that is built from rows.
+/// States that each commit built from rows meets the conditions of an export: its objects match
+/// their digests and occur once each, and it has no fault.
 pub fn built_commits_are_whole()
     ensures { (rows : List TreeRow) (r : Ref) (subject : List ℕ) (timestamp : ℕ) (built : Built)
         → BuiltCommit rows r subject timestamp built → AreWhole built.objects
         × (first_fault (have_of built.objects) built.commit ≡ None) }
 {}
 
-/// What is asked of a host can be met: where nothing stands but the root, and where nothing stands
-/// at the store's folder.
+/// States that the conditions on hosts can be met: on a host with nothing but its root, and on one
+/// with nothing at the store's directory.
 pub fn exports_can_be_done()
     ensures bare { (root : Elements) (r : Ref) (v : View) → IsBare v → CanExport root r v }
     ensures fit { (have : Have) (root : Elements) (v : View) → IsTree v → v.names root ≡ absent
         → AreFit have root v }
 {}
 
-/// What an export leaves is what a remote offers under the ref, seen from any url, and the remote's
-/// objects are the store's.
+/// States that a store after an export, as a remote at any URL, offers the commit under the ref,
+/// and that the remote's objects are the store's.
 pub fn exports_are_offers()
     ensures offered { (have : Have) (root : Elements) (r : Ref) (commit : List ℕ) (disk : Disk)
         (remote : RemoteRow) → is_digest commit ≡ true → IsOffered have root r commit disk

@@ -1,4 +1,4 @@
-//! Stores that serve as remotes: a built commit is written into one, and offered there under a ref.
+//! Writing a built commit into a store that serves as a remote, and offering it there under a ref.
 #![tactic(auto)]
 
 mod exporting;

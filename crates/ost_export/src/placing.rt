@@ -1,4 +1,4 @@
-//! Staged objects that come to their names.
+//! Moving staged objects to their paths in the store.
 ghost use Rattle.std.specs.Prelude.{OnOk, IsErrOf};
 ghost use Rattle.fp_host.specs.OverHost.{AtEachMoment, AtReturn, FailsOnly};
 ghost use Rattle.ost_model.specs.Objects.{Have};
@@ -11,8 +11,9 @@ use fp_name::Digest;
 use ost_store::place_from;
 use std::alloc::Global;
 
-/// Gives these objects, which stand in the work folder, their names in the store. Nothing is
-/// synced. It is for different objects that the store lacks and that were synced.
+/// Moves these objects from the work directory to their paths in the store, and empties the list.
+/// Syncs nothing. Condition: the objects are different and synced, and nothing is at their paths in
+/// the store.
 pub(crate) fn place_all<H: Host>(
     alloc: Global,
     host: &mut H,

@@ -1,4 +1,4 @@
-//! Objects that a store lacks, staged in the work folder.
+//! Staging the objects that a store lacks in the work directory.
 ghost use Rattle.std.specs.Prelude.{◌≡◌, ◌∷◌, ◌++◌, [], true, false, Bool, Some, None, IfOk, OnOk, IsErrOf};
 ghost use Rattle.std.specs.List.{AllByRecursion};
 ghost use Rattle.fp_host.specs.OverHost.{AtEachMoment, AtReturn, ChangesNothing, FailsAlone, FailsOnly};
@@ -16,7 +16,7 @@ use ost_commit::BuiltObject;
 use ost_store::{path_of, stage};
 use std::alloc::Global;
 
-/// Whether nothing stands at the path.
+/// Returns whether nothing is at the path.
 fn is_absent<H: Host>(host: &mut H, path: &Path) -> Result<bool, HostEnd>
     ensures unchanged { ChangesNothing H.Host host.old host.new }
     ensures tells { IfOk result (λ none. AtReturn H.Host host.old host.new
@@ -29,7 +29,7 @@ fn is_absent<H: Host>(host: &mut H, path: &Path) -> Result<bool, HostEnd>
     }
 }
 
-/// Whether the object stands neither in the store nor in the work folder.
+/// Returns whether nothing is at the object's path in the store, nor in the work directory.
 fn is_lacking<H: Host>(
     alloc: Global,
     host: &mut H,
@@ -54,7 +54,7 @@ fn is_lacking<H: Host>(
     }
 }
 
-/// Makes the work folder hold the object, and notes it.
+/// Stages the object in the work directory, and appends it to the list.
 fn stage_object<H: Host>(
     alloc: Global,
     host: &mut H,
@@ -80,7 +80,7 @@ fn stage_object<H: Host>(
     }
 }
 
-/// Stages the object, unless the store has something at its name or the work folder has the object.
+/// Stages the object, unless something is at its path in the store or in the work directory.
 fn stage_lacking<H: Host>(
     alloc: Global,
     host: &mut H,
@@ -106,9 +106,10 @@ fn stage_lacking<H: Host>(
     }
 }
 
-/// Stages each of these objects at whose name in the store nothing stands, below the work folder as
-/// in a store, and answers which those are. Nothing is synced. It is for a work folder in
-/// `repo/tmp` in which nothing stands, and for a store elsewhere.
+/// Stages each of these objects that has nothing at its path in the store, at its path in the work
+/// directory. Returns the staged objects. Syncs nothing. The work directory must be one of
+/// `repo/tmp/new0`, `repo/tmp/new1` and so on, and nothing should be there; the store must be
+/// neither `repo/tmp` nor below it.
 pub(crate) fn stage_all<H: Host>(
     alloc: Global,
     host: &mut H,

@@ -1,4 +1,4 @@
-//! The objects of a built commit, written into a store.
+//! Writing the objects of a built commit into a store.
 ghost use Rattle.std.specs.Prelude.{OnOk, IfOk, IsErrOf};
 ghost use Rattle.fp_host.specs.OverHost.{AtEachMoment, AtReturn, FailsOnly};
 ghost use Rattle.ost_model.specs.Objects.{Have};
@@ -16,8 +16,8 @@ use fp_small::{clear, staging_place};
 use ost_commit::BuiltObject;
 use std::alloc::Global;
 
-/// Stores the objects that stand in the work folder, and leaves nothing of it. They are made last
-/// before the first of them has its name, and again when all have.
+/// Moves the staged objects to their paths in the store, and clears the work directory. Syncs
+/// before the first object is moved, and after all are.
 fn store_staged<H: Host>(
     alloc: Global,
     host: &mut H,
@@ -41,8 +41,8 @@ fn store_staged<H: Host>(
     Ok(host.sync()?)
 }
 
-/// Writes the objects into the store below `root`, each at whose name nothing stands. What is there
-/// stays. They are staged below the first free name of `repo/tmp`, and nothing is left there.
+/// Writes the objects into the store at `root`, except those at whose path something is. They are
+/// staged below the first free name of `repo/tmp`, which is cleared afterwards.
 pub(crate) fn store_objects<H: Host>(
     alloc: Global,
     host: &mut H,

@@ -1,4 +1,4 @@
--- What one path below `objects` is.
+-- The check of one path below `objects`.
 use Rattle.std.specs.Prelude.{◌≡◌, ◌&&◌, ℕ, List, Bool, true, not, is_some, if◌then◌else◌, Option, Some, None}
 use Rattle.fp_host.specs.Paths.{Elements}
 use Rattle.fp_host.specs.View.{View}
@@ -17,63 +17,66 @@ use Rattle.ost_fsck.specs.declared.report.Finding.TheVariants as findings
 use Rattle.ost_fsck.specs.Report.{IsNameless}
 use Rattle.ost_store.specs.Names.{name_in}
 
--- the most bytes of a metadata object
+-- The maximum size of a metadata object, in bytes
 abbrev pub meta_most : ℕ
 meta_most = MOST_METADATA_OBJECT_BYTES
 
--- no rule is broken
+-- Tests whether the bytes break no rule of their kind
 abbrev pub keeps_rules : ObjKind → List ℕ → Bool
 keeps_rules kind bytes = not (is_some (broken_rule kind bytes))
 
--- an object is the one that its digest names
+-- Tests whether an object is that of the digest and the kind
 abbrev pub is_true : List ℕ → ObjKind → Option Object → Bool
 is_true d kind object = not (is_some (name_fault d kind object))
 
--- the permission bits of a file are good
+-- Tests whether a file's permission bits are within 0775 (octal); anything else passes
 abbrev pub has_bits : Stat → Bool
 has_bits Absent = true
 has_bits Dir = true
 has_bits Link = true
 has_bits (StatFile id mode size) = is_permission mode
 
+-- Tests whether the node is the object of the digest and the kind, with good permission bits
 abbrev pub is_named : List ℕ → ObjKind → Spot → Bool
 is_named d kind spot = has_good_bits spot && is_true d kind (object_at kind spot)
 
--- whether the store's object is the one that the digest names was told
+-- `is` is whether the store at `root` has the object of the digest and the kind
 pub record IsTrueAt (root : Elements) (d : List ℕ) (kind : ObjKind) (v : View) (is : Bool) : Type 0
   where
     pub same : is ≡ is_true d kind (store root (shows v) d kind)
 
--- and whether the permission bits of what stands there are good
+-- `are` is whether the permission bits of the path are within 0775 (octal); true if it is no file
 pub record AreBitsAt (path : Elements) (v : View) (are : Bool) : Type 0 where
   pub same : are ≡ has_good_bits (shows v path)
 
--- and both
+-- `is` is whether the store at `root` has the object of the digest and the kind, with good
+-- permission bits
 pub record IsNamedAt (root : Elements) (d : List ℕ) (kind : ObjKind) (v : View)
     (is : Bool) : Type 0 where
   pub same : is ≡ is_named d kind (shows v (object_path root d kind))
 
+-- A finding that the object is bad, unless the test holds
 abbrev pub bad_unless : Bool → List ℕ → ObjKind → Option Finding
 bad_unless is d kind = if is then None else Some (findings.Bad d kind)
 
--- an object's name was looked at, and what is wrong there
+-- The path of an object was checked; `finding` is its fault, if it has one
 pub record LooksAt (root : Elements) (d : List ℕ) (kind : ObjKind) (v : View) (is_object : Bool)
     (finding : Option Finding) : Type 0 where
   pub is : is_object ≡ true
   pub found : finding ≡ bad_unless (is_named d kind (shows v (object_path root d kind))) d kind
 
--- the path is the name of this object, or of none
+-- The path is that of this object, or of none
 abbrev pub IsNameOf : Elements → Elements → Option (List ℕ × ObjKind) → Type 0
 IsNameOf root path (Some object) = (is_digest object.0 ≡ true) × (path ≡ name_in root object)
 IsNameOf root path None = IsNameless root path
 
--- what is found at the path of what has this name
+-- The finding at a path, by the object whose path it is
 abbrev pub finding_at : Elements → Option (List ℕ × ObjKind) → Disk → Option Finding
 finding_at path None disk = Some (findings.Stray path)
 finding_at path (Some object) disk =
     bad_unless (is_named object.0 object.1 (disk path)) object.0 object.1
 
--- a path was looked at: whether it is an object's name, and what is wrong there
+-- The path was checked: whether it is that of an object, and the fault there
 pub record Looks (root path : Elements) (v : View) (is_object : Bool)
     (finding : Option Finding) : Type 0 where
   pub object : Option (List ℕ × ObjKind)

@@ -1,4 +1,4 @@
-//! Paths that are looked at together, so that two threads hash their small objects.
+//! Checking paths in batches, so that several threads can hash their small objects.
 ghost use Rattle.std.specs.Prelude.{◌≡◌, ◌≤◌, ◌++◌, ◌∷◌, [], length, IfOk, OnOk, IsErrOf};
 ghost use Rattle.fp_host.specs.OverHost.{AtReturn, ChangesNothing, FailsAlone};
 ghost use Rattle.ost_fsck.specs.Batches.{AreRows, ChecksMore, findings_by, objects_by};
@@ -12,9 +12,9 @@ use par_digest::{Gate, Item, MOST_IN_BATCH, digests_gated};
 use std::alloc::{AllocError, Global};
 use std::thread::Threads;
 
-/// Looks at each of these paths, 64 at most, in the store in this folder, adds what is found, and says how many
-/// are the name of an object. The digests of the small objects come from one call, which has the
-/// gate.
+/// Checks each of these paths, which are at most 64, in the store at `root`, and appends the
+/// findings. Returns how many are the path of an object. The digests of the small objects are
+/// computed in one call, which is given the gate.
 pub(crate) fn check_batch<T: Threads + Sync, H: Host, G: Gate + Sync>(
     rt: &T,
     alloc: Global,
@@ -38,8 +38,7 @@ pub(crate) fn check_batch<T: Threads + Sync, H: Host, G: Gate + Sync>(
     Ok(judge_all(rows, digests.as_slice(), findings)?)
 }
 
-/// Reads what stands at each of these paths in the store in this folder. The items of small objects
-/// come after the others.
+/// Reads each of these paths in the store at `root`. Appends the items of small objects.
 fn read_all<H: Host>(
     alloc: Global,
     host: &mut H,
@@ -62,7 +61,7 @@ fn read_all<H: Host>(
     Ok(rows)
 }
 
-/// Adds the row of a path.
+/// Appends the row of a path.
 fn add_row(row: Row, rows: &mut Vec<Row>) -> Result<(), AllocError>
     ensures { OnOk result (rows.new.items ≡ rows.old.items ++ row ∷ []) }
 {
@@ -70,8 +69,8 @@ fn add_row(row: Row, rows: &mut Vec<Row>) -> Result<(), AllocError>
     Ok(())
 }
 
-/// Adds what is found where these are the digests of the items, and says how many paths are the
-/// name of an object.
+/// Appends the findings of the rows, by the digests of the items. Returns the number of rows whose
+/// path is that of an object.
 fn judge_all(
     rows: Vec<Row>,
     digests: &[Digest],
@@ -90,7 +89,7 @@ fn judge_all(
     Ok(objects)
 }
 
-/// Adds the finding, where there is one.
+/// Appends the finding, if there is one.
 fn add_finding(finding: Option<Finding>, findings: &mut Vec<Finding>) -> Result<(), AllocError>
     ensures { OnOk result (findings.new.items ≡ with_found findings.old.items finding) }
 {

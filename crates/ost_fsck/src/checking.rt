@@ -1,4 +1,4 @@
-//! All that stands below `objects`.
+//! Checking everything below `objects`.
 ghost use Rattle.std.specs.Prelude.{IfOk, IsErrOf};
 ghost use Rattle.fp_host.specs.OverHost.{AtReturn, ChangesNothing, FailsAlone, FailsOnly};
 ghost use Rattle.fp_host.specs.Outcome.{shows};
@@ -15,7 +15,7 @@ use par_digest::{Gate, MOST_IN_BATCH};
 use std::alloc::Global;
 use std::thread::Threads;
 
-/// Looks at each of these paths in the store in this folder, a batch after the other.
+/// Checks each of these paths in the store at `root`, one batch after another.
 fn check_all<T: Threads + Sync, H: Host, G: Gate + Sync>(
     rt: &T,
     alloc: Global,
@@ -44,10 +44,11 @@ fn check_all<T: Threads + Sync, H: Host, G: Gate + Sync>(
     })
 }
 
-/// Checks the store in this folder: each file and link below `objects` is looked at, an object's
-/// content too, whatever commits use it. Two threads hash the objects of up to 256 KiB, 64 at most
-/// together, and the gate is told of each such batch. A larger file is read piece by piece. Nothing
-/// changes. It isn't for paths of more than 128 elements.
+/// Checks each file and symlink below `objects` in the store at `root`, and the content of each
+/// object, whether or not a commit uses it. Paths are checked in batches of at most 64. In each
+/// batch, several threads compute the digests of the objects of up to 256 KiB, and the gate is
+/// called as by `digests_gated`. A larger file is read piece by piece. Changes nothing. Condition:
+/// no path below `objects` has more than 128 elements.
 pub fn check_store<T: Threads + Sync, H: Host, G: Gate + Sync>(
     rt: &T,
     alloc: Global,

@@ -1,4 +1,4 @@
-//! Small objects as what their digests are taken of.
+//! Small objects as items to be hashed.
 ghost use Rattle.std.specs.Prelude.{◌≡◌, ◌≤◌, length, true, IfOk, IsErrOf};
 ghost use Rattle.fp_host.specs.OverHost.{AtReturn, ChangesNothing, FailsAlone};
 ghost use Rattle.fp_host.specs.Outcome.{points};
@@ -13,8 +13,8 @@ use ost_content::{header, is_permission, link_header};
 use par_digest::{Item, MOST_SMALL_BYTES};
 use std::alloc::{AllocError, Global};
 
-/// The small object at the path as an item, where nothing but its digest keeps it from being one of
-/// the kind.
+/// Returns the item of the small object at the path, if only its digest remains to be checked.
+/// Returns `None` if it is no object of the kind whatever its digest, or has more than 256 KiB.
 pub(crate) fn small_item<H: Host>(
     alloc: Global,
     host: &mut H,
@@ -33,7 +33,8 @@ pub(crate) fn small_item<H: Host>(
     }
 }
 
-/// The file at the path, with these permission bits, as an item.
+/// Returns the item of the file at the path, which has these permission bits. Returns `None` if it
+/// has more than 256 KiB, or is a metadata object that breaks a rule.
 fn file_item<H: Host>(
     alloc: Global,
     host: &mut H,
@@ -53,7 +54,8 @@ fn file_item<H: Host>(
     }
 }
 
-/// A file with these permission bits and these bytes as an item.
+/// Returns the item of a file with these permission bits and these bytes. Returns `None` if a
+/// metadata object breaks a rule.
 fn item_of(alloc: Global, kind: ObjKind, mode: u32, bytes: Blob) -> Result<Option<Item>, HostEnd>
     requires { is_permission mode ≡ true }
     ensures tells { length bytes ≤ small_most → IfOk result (IsFileItem kind mode bytes) }
@@ -67,7 +69,8 @@ fn item_of(alloc: Global, kind: ObjKind, mode: u32, bytes: Blob) -> Result<Optio
     }
 }
 
-/// What stands before the bytes of a file with these permission bits where its digest is taken.
+/// Returns what comes before a file's bytes when its digest is computed: the header for the kind
+/// `File`, else nothing.
 fn head_of(alloc: Global, kind: ObjKind, mode: u32) -> Result<Blob, AllocError>
     requires { is_permission mode ≡ true }
     ensures { IfOk result (λ head. head ≡ head_of kind mode) }
@@ -80,7 +83,7 @@ fn head_of(alloc: Global, kind: ObjKind, mode: u32) -> Result<Blob, AllocError>
     }
 }
 
-/// A link with this text as an item.
+/// Returns the item of a symlink with this text. Returns `None` if it is no object of the kind.
 fn link_item(alloc: Global, kind: ObjKind, text: &Text) -> Result<Option<Item>, AllocError>
     ensures { IfOk result (IsItemIn kind (points text.now)) }
 {

@@ -1,4 +1,4 @@
-//! One object, looked at by itself.
+//! Checking one object by itself.
 ghost use Rattle.std.specs.Prelude.{◌≡◌, false, Some, IfOk, IsErrOf};
 ghost use Rattle.fp_host.specs.OverHost.{AtReturn, ChangesNothing, FailsAlone};
 ghost use Rattle.fp_base.specs.declared.object.ObjKind.TheVariants as kinds;
@@ -16,16 +16,16 @@ use ost_store::path_of;
 use ost_walk::WalkEnd;
 use std::alloc::{AllocError, Global};
 
-/// What was seen at a path.
+/// The result of checking a path.
 #[derive(Drop)]
 pub(crate) struct Seen {
-    /// Whether it is the name of an object.
+    /// Whether the path is that of an object.
     pub(crate) is_object: bool,
-    /// What is wrong there.
+    /// The fault at the path, if there is one.
     pub(crate) finding: Option<Finding>,
 }
 
-/// Whether the permission bits of a file are good.
+/// Returns whether a file's permission bits are within 0775; true for anything else.
 fn has_bits(stat: Stat) -> bool
     ensures { result ≡ has_bits stat }
 {
@@ -35,7 +35,7 @@ fn has_bits(stat: Stat) -> bool
     }
 }
 
-/// Whether the permission bits of what stands at the path are good.
+/// Returns whether the permission bits of the path are within 0775; true if it is no file.
 fn are_bits_good<H: Host>(host: &mut H, path: &Path) -> Result<bool, HostEnd>
     ensures unchanged { ChangesNothing H.Host host.old host.new }
     ensures tells { IfOk result (λ are. AtReturn H.Host host.old host.new
@@ -46,8 +46,8 @@ fn are_bits_good<H: Host>(host: &mut H, path: &Path) -> Result<bool, HostEnd>
     Ok(has_bits(stat))
 }
 
-/// Whether the store in this folder has the file or link that the digest names. A file is read
-/// piece by piece.
+/// Returns whether the store at `root` has the file or symlink of this digest. Reads a file piece
+/// by piece.
 fn has_content<H: Host>(
     alloc: Global,
     host: &mut H,
@@ -67,7 +67,7 @@ fn has_content<H: Host>(
     }
 }
 
-/// Whether the store in this folder has the object that the digest names.
+/// Returns whether the store at `root` has the object of this digest and kind.
 fn has_object<H: Host>(
     alloc: Global,
     host: &mut H,
@@ -88,8 +88,8 @@ fn has_object<H: Host>(
     }
 }
 
-/// Whether what stands at the object's name in the store in this folder is that object, with
-/// good permission bits.
+/// Returns whether the store at `root` has the object of this digest and kind, with good permission
+/// bits.
 fn is_named<H: Host>(
     alloc: Global,
     host: &mut H,
@@ -110,7 +110,7 @@ fn is_named<H: Host>(
     }
 }
 
-/// What is wrong with an object, where it isn't the one that its name says.
+/// Returns a finding that the object is bad, unless `is` holds.
 pub(crate) fn bad_unless(is: bool, digest: Digest, kind: ObjKind) -> Option<Finding>
     ensures { result ≡ bad_unless is digest kind }
 {
@@ -121,7 +121,7 @@ pub(crate) fn bad_unless(is: bool, digest: Digest, kind: ObjKind) -> Option<Find
     }
 }
 
-/// A path that is the name of no object.
+/// Returns the result for a path that is that of no object.
 pub(crate) fn stray(path: &Path) -> Result<Seen, AllocError>
     ensures object { IfOk result (λ seen. seen.is_object ≡ false) }
     ensures found { IfOk result (λ seen. seen.finding ≡ Some (findings.Stray path.now)) }
@@ -132,7 +132,7 @@ pub(crate) fn stray(path: &Path) -> Result<Seen, AllocError>
     })
 }
 
-/// Looks at the name of an object in the store in this folder.
+/// Checks the path of an object in the store at `root`.
 pub(crate) fn look_at<H: Host>(
     alloc: Global,
     host: &mut H,

@@ -1,5 +1,5 @@
-//! A store is checked whole: which of its objects aren't what their names say, and what stands
-//! among them that is no object.
+//! Checking a whole store: which of its objects don't match their names, and which files and
+//! symlinks among them are no objects.
 #![tactic(auto)]
 
 mod batch;

@@ -1,4 +1,4 @@
-//! Metadata objects: whether they are what their digests name.
+//! Checking metadata objects.
 ghost use Rattle.std.specs.Prelude.{◌≡◌, ◌≤◌, false, Option, Some, length, IfOk, IsErrOf};
 ghost use Rattle.fp_host.specs.OverHost.{AtReturn, ChangesNothing, FailsAlone};
 ghost use Rattle.fp_base.specs.declared.object.ObjKind.TheVariants as kinds;
@@ -17,7 +17,7 @@ use ost_object::{ObjectError, commit_root, read_dirmeta, read_dirtree};
 use ost_store::{Got, get};
 use std::alloc::Global;
 
-/// Whether the bytes are a commit.
+/// Returns whether the bytes are a commit that breaks no rule.
 fn is_commit(alloc: Global, bytes: &[u8]) -> Result<bool, HostEnd>
     ensures tells { IfOk result (λ is. is ≡ keeps_rules kinds.Commit bytes.now) }
     ensures no_fault { IsErrOf result HostEnd.Fault → ⊥ }
@@ -29,7 +29,7 @@ fn is_commit(alloc: Global, bytes: &[u8]) -> Result<bool, HostEnd>
     }
 }
 
-/// Whether the bytes are a dirtree.
+/// Returns whether the bytes are a dirtree that breaks no rule.
 fn is_dirtree(alloc: Global, bytes: &[u8]) -> Result<bool, HostEnd>
     ensures tells { IfOk result (λ is. is ≡ keeps_rules kinds.DirTree bytes.now) }
     ensures no_fault { IsErrOf result HostEnd.Fault → ⊥ }
@@ -41,7 +41,7 @@ fn is_dirtree(alloc: Global, bytes: &[u8]) -> Result<bool, HostEnd>
     }
 }
 
-/// Whether the bytes are a dirmeta.
+/// Returns whether the bytes are a dirmeta that breaks no rule.
 fn is_dirmeta(alloc: Global, bytes: &[u8]) -> Result<bool, HostEnd>
     ensures tells { IfOk result (λ is. is ≡ keeps_rules kinds.DirMeta bytes.now) }
     ensures no_fault { IsErrOf result HostEnd.Fault → ⊥ }
@@ -53,7 +53,7 @@ fn is_dirmeta(alloc: Global, bytes: &[u8]) -> Result<bool, HostEnd>
     }
 }
 
-/// Whether the bytes keep the rules of their kind.
+/// Returns whether the bytes break no rule of their kind.
 pub(crate) fn keeps_rules(alloc: Global, kind: ObjKind, bytes: &[u8]) -> Result<bool, HostEnd>
     ensures tells { IfOk result (λ keeps. keeps ≡ keeps_rules kind bytes.now) }
     ensures no_fault { IsErrOf result HostEnd.Fault → ⊥ }
@@ -66,7 +66,8 @@ pub(crate) fn keeps_rules(alloc: Global, kind: ObjKind, bytes: &[u8]) -> Result<
     }
 }
 
-/// Whether the bytes, which are within the limit, are the metadata object that the digest names.
+/// Returns whether the bytes, which are within the limit, are the metadata object of this digest
+/// and kind.
 fn is_named(alloc: Global, digest: &Digest, kind: ObjKind, bytes: &Blob) -> Result<bool, HostEnd>
     requires { may_be_link kind ≡ false }
     ensures tells { length bytes.now ≤ meta_most
@@ -79,7 +80,7 @@ fn is_named(alloc: Global, digest: &Digest, kind: ObjKind, bytes: &Blob) -> Resu
     keeps_rules(alloc, kind, bytes.as_slice())
 }
 
-/// Whether what was got of a metadata object is the one that the digest names.
+/// Returns whether the result of a lookup is the metadata object of this digest and kind.
 fn is_true(alloc: Global, digest: &Digest, kind: ObjKind, got: &Got) -> Result<bool, HostEnd>
     requires { may_be_link kind ≡ false }
     ensures tells { (there : Option Object) → got.now ≡ got_of meta_most there
@@ -92,7 +93,7 @@ fn is_true(alloc: Global, digest: &Digest, kind: ObjKind, got: &Got) -> Result<b
     }
 }
 
-/// Whether the store in this folder has the metadata object that the digest names.
+/// Returns whether the store at `root` has the metadata object of this digest and kind.
 pub(crate) fn has_metadata<H: Host>(
     alloc: Global,
     host: &mut H,

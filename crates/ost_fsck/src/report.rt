@@ -1,23 +1,23 @@
-//! What is found in a store.
+//! The report of checking a store.
 
 use fp_base::{Items, ObjKind};
 use fp_host::Path;
 use fp_name::Digest;
 
-/// What is wrong with a file or link below `objects`.
+/// A fault of a file or symlink below `objects`.
 #[derive(Drop)]
 pub enum Finding {
-    /// It has the name of this object, and isn't that object.
+    /// A file or symlink at the path of this object that isn't the object.
     Bad { digest: Digest, kind: ObjKind },
-    /// Its path is the name of no object.
+    /// The path of a file or symlink, which is that of no object.
     Stray(Path),
 }
 
-/// What is found in a store.
+/// The report of checking a store.
 #[derive(Drop)]
 pub struct Report {
-    /// What is wrong, ascending by the bytes of the paths.
+    /// The faults, ascending by the bytes of their paths.
     pub findings: Items<Finding>,
-    /// How many files and links have the name of an object, good or bad.
+    /// The number of files and symlinks at the path of an object, good or bad.
     pub objects: u64,
 }

@@ -1,4 +1,4 @@
-//! What is known of a path once it is read.
+//! The results of reading paths, before digests are computed.
 ghost use Rattle.std.specs.Prelude.{◌≡◌, ◌++◌, ◌∷◌, [], length, IfOk, OnOk, IsErrOf};
 ghost use Rattle.fp_host.specs.OverHost.{AtReturn, ChangesNothing, FailsAlone};
 ghost use Rattle.ost_fsck.specs.declared.row.Row.TheVariants as rows;
@@ -13,12 +13,13 @@ use ost_store::{object_named, path_of};
 use par_digest::Item;
 use std::alloc::{AllocError, Global};
 
-/// What is known of a path once it is read.
+/// The result of reading a path.
 #[derive(Drop)]
 pub(crate) enum Row {
-    /// All that is asked.
+    /// The path needs no digest, and was checked.
     Answer(Seen),
-    /// It has this name, and is this object exactly where the item of this number has its digest.
+    /// The path is that of this object, and is good if and only if the item at the index `number`
+    /// has its digest.
     Question {
         digest: Digest,
         kind: ObjKind,
@@ -26,8 +27,7 @@ pub(crate) enum Row {
     },
 }
 
-/// Reads what stands at a path below `objects` in the store in this folder. The item of a small
-/// object comes after the others.
+/// Reads a path below `objects` in the store at `root`. Appends the item of a small object.
 pub(crate) fn read<H: Host>(
     alloc: Global,
     host: &mut H,
@@ -47,7 +47,7 @@ pub(crate) fn read<H: Host>(
     }
 }
 
-/// Reads what stands at the name of an object in the store in this folder.
+/// Reads the path of an object in the store at `root`. Appends the item of a small object.
 fn read_object<H: Host>(
     alloc: Global,
     host: &mut H,
@@ -70,7 +70,7 @@ fn read_object<H: Host>(
     }
 }
 
-/// Puts the item of an object after the others, and asks whether it has the object's digest.
+/// Appends the item of an object, and returns the row that asks whether it has the object's digest.
 fn question(
     digest: Digest,
     kind: ObjKind,
@@ -89,7 +89,7 @@ fn question(
     })
 }
 
-/// Whether the digest of this number is this one.
+/// Returns whether the digest at the index `number` equals `digest`.
 fn is_at(digests: &[Digest], number: usize, digest: &Digest) -> bool
     ensures { result ≡ is_at digests.now number digest.now }
 {
@@ -99,7 +99,7 @@ fn is_at(digests: &[Digest], number: usize, digest: &Digest) -> bool
     }
 }
 
-/// What was seen at a path, where these are the digests of the items.
+/// Returns the result of checking a path, by the digests of the items.
 pub(crate) fn judge(row: Row, digests: &[Digest]) -> Seen
     ensures { result ≡ seen_by digests.now row }
 {

@@ -1,4 +1,4 @@
--- Files and links whose content isn't read, or is read in pieces.
+-- Files and symlinks whose content isn't read, or is read in pieces.
 use Rattle.std.specs.Prelude.{◌≡◌, ◌≤◌, ℕ, List, Bool, true, false, Option, Some, None, Result, Ok, Err}
 use Rattle.fp_host.specs.Paths.{is_link_text}
 use Rattle.fp_base.specs.declared.object.ObjKind.TheVariants as kinds
@@ -14,44 +14,47 @@ use Rattle.ost_head.specs.Stored.{IsFileOf}
 use Rattle.ost_head.specs.declared.content.Content.{Content}
 use Rattle.ost_head.specs.declared.content.Content.TheVariants as content
 
--- a file of this size with these permission bits is within the limits
+-- A file of this size with these permission bits is within the limits
 pub record IsWithinLimits (mode size : ℕ) : Type 0 where
   pub short : size ≤ MOST_FILE_BYTES
   pub bits : is_permission mode ≡ true
 
--- the text may be a link's, and the link is the one that its digest names
+-- The text of the symlink is valid, and the link matches its digest
 pub record IsGoodLink (d text : List ℕ) : Type 0 where
   pub may_be : is_link_text text ≡ true
   pub good : object_fault d kinds.File (Some (objects.Link text)) ≡ None
 
--- what is known of a content, wherever it comes from
+-- Holds if a symlink's text is valid and the link matches its digest, or a file is within the
+-- limits
 abbrev pub IsFitContent : List ℕ → Content → Type 0
 IsFitContent d (content.Link text) = IsGoodLink d text
 IsFitContent d (content.File mode size) = IsWithinLimits mode size
 
--- it is that of this object
+-- Holds if the content is that of the object
 abbrev pub IsContentOf : Option Object → Content → Type 0
 IsContentOf there (content.Link text) = there ≡ Some (objects.Link text)
 IsContentOf there (content.File mode size) = IsFileOf mode size there
 
--- the content of what is there, or its fault
+-- Holds if the result is the content of the object, or the refusal with its fault
 abbrev pub LooksAt : List ℕ → Option Object → Result Content WalkEnd → Type 0
 LooksAt d there result =
     EndsBy (IsContentOf there) (IsFaultOf d kinds.File (object_fault d kinds.File there)) result
 
--- an object is there, and it has no fault
+-- There is an object, and it has no fault
 pub record IsGoodThere (d : List ℕ) (there : Option Object) : Type 0 where
   pub object : Object
   pub is : there ≡ Some object
   pub good : object_fault d kinds.File (Some object) ≡ None
 
--- whether there is one, without a fault; or its fault
+-- Holds if the result is true and there is an object without a fault, or it is false and there is
+-- none, or the refusal with the fault of the object
 abbrev pub ChecksIfThere : List ℕ → Option Object → Result Bool WalkEnd → Type 0
 ChecksIfThere d there (Ok true) = IsGoodThere d there
 ChecksIfThere d there (Ok false) = there ≡ None
 ChecksIfThere d there (Err end) = RefusesBy (IsFaultThere d kinds.File there) end
 
--- the check of what is there
+-- Holds if there is an object without a fault, or the result is the refusal with the fault of the
+-- object
 abbrev pub ChecksThere : {A : Type 0} → List ℕ → Option Object → Result A WalkEnd → Type 0
 ChecksThere d there result =
     EndsBy (λ a. IsGoodThere d there) (IsFaultThere d kinds.File there) result

@@ -1,4 +1,4 @@
--- Files of a remote that are copied piece by piece.
+-- Copying files of a remote piece by piece.
 use Rattle.std.specs.Prelude.{◌≡◌, ◌≤◌, ℕ, List, ◌++◌, length, take, Option, Some, None}
 use Rattle.sha2.specs.declared.Sha256.{Sha256}
 use Rattle.fp_host.specs.Paths.{Elements}
@@ -11,25 +11,26 @@ use Rattle.ost_model.specs.declared.object.Object.TheVariants as objects
 use Rattle.ost_store.specs.Stage.{IsOpen, Stages, WasStaged}
 use Rattle.ost_head.specs.Pieces.{TakesIn}
 
--- these bytes came to the end of the file at t, where it was created since the last sync, and no
--- file was made
+-- If the file at `t` was created since the last sync, these bytes were appended to it; no file was
+-- created
 pub record Appends (t : Elements) (bytes : List ℕ) (u w : View) : Type 0 where
   pub none : (id : ℕ) → u.files id ≡ None → w.files id ≡ None
   pub grown : (mode : ℕ) (had : List ℕ) → IsOpen t mode had u → IsOpen t mode (had ++ bytes) w
 
--- a file that was created since the last sync stands at t
+-- A file that was created since the last sync is at `t`
 pub record IsNewFile (t : Elements) (v : View) : Type 0 where
   pub mode : ℕ
   pub bytes : List ℕ
   pub is : IsOpen t mode bytes v
 
--- the remote's file at p, where it is told and of this size, has these bytes
+-- Holds if these are the bytes of the remote's file at `p`, if the remotes report their content and
+-- the file has this size
 abbrev pub IsWhole : Elements → List ℕ → Option Holdings → ℕ → List ℕ → Type 0
 IsWhole p url holds size bytes = (held : Holdings) → holds ≡ Some held
     → length (bytes_of (held url p)) ≡ size → bytes ≡ bytes_of (held url p)
 
--- The bytes of the remote's file at p from this place on came into the room, to the end of the file
--- at t and into the hasher: n of them, for which the room had place.
+-- Bytes of the remote's file at `p`, from the offset `at` on, were read into `room`, appended to
+-- the file at `t`, and added to the hasher. Their number is `n`, at most the length of `room`.
 pub record CopiesPiece (t p : Elements) (url : List ℕ) (holds : Option Holdings) (at : ℕ)
     (room room' : List ℕ) (before after : Sha256) (a b : Option Moments) (n : ℕ) : Type 0 where
   pub bound : n ≤ length room
@@ -38,8 +39,7 @@ pub record CopiesPiece (t p : Elements) (url : List ℕ) (holds : Option Holding
   pub hashes : TakesIn (take n room') before after
   pub long : length (take n room') ≡ n
 
--- the remote's file at p, of this size, came to the end of the file at t, and was taken in by the
--- hasher
+-- The remote's file at `p`, of this size, was appended to the file at `t` and added to the hasher
 pub record CopiesFile (t p : Elements) (url : List ℕ) (holds : Option Holdings) (size : ℕ)
     (before after : Sha256) (a b : Option Moments) : Type 0 where
   pub bytes : List ℕ
@@ -48,7 +48,8 @@ pub record CopiesFile (t p : Elements) (url : List ℕ) (holds : Option Holdings
   pub appended : AtEnd (Appends t bytes) a b
   pub hashed : TakesIn bytes before after
 
--- the same, and this is the digest of the file with these permission bits
+-- The remote's file at `p`, of this size, was appended to the file at `t`, and the digest is that
+-- of a file with these permission bits and the copied bytes
 pub record IsCopied (t p : Elements) (url : List ℕ) (holds : Option Holdings) (mode size : ℕ)
     (a b : Option Moments) (digest : List ℕ) : Type 0 where
   pub bytes : List ℕ
@@ -57,7 +58,8 @@ pub record IsCopied (t p : Elements) (url : List ℕ) (holds : Option Holdings) 
   pub appended : AtEnd (Appends t bytes) a b
   pub digest_is : digest ≡ file_digest mode bytes
 
--- the same, and the file at t, with these permission bits, is new
+-- The remote's file at `p`, of this size, was copied to a new file at `t` with these permission
+-- bits, and the digest is that of the copy
 pub record IsCopiedAnew (t p : Elements) (url : List ℕ) (holds : Option Holdings) (mode size : ℕ)
     (a b : Option Moments) (digest : List ℕ) : Type 0 where
   pub bytes : List ℕ

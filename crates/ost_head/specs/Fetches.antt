@@ -8,6 +8,6 @@ use Rattle.ost_model.specs.Remotes.{as_spot}
 use Rattle.ost_walk.specs.declared.ends.WalkEnd.{WalkEnd}
 use Rattle.ost_head.specs.Objects.{Reads}
 
--- the object that stands so at the remote was read, or isn't for its fault
+-- Holds if the result is the object of a remote's node, or the refusal with its fault
 abbrev pub ReadsAt : List ℕ → ObjKind → Held → Result Object WalkEnd → Type 0
 ReadsAt d kind held result = Reads d kind (object_at kind (as_spot held)) result

@@ -1,4 +1,4 @@
--- Where an object was found.
+-- The source of an object that was found.
 use Rattle.std.specs.Prelude.{◌≡◌, ⊤, ℕ, List, Option, Some, None}
 use Rattle.fp_host.specs.Paths.{Elements}
 use Rattle.fp_host.specs.Moments.{Moments}
@@ -12,32 +12,34 @@ use Rattle.ost_store.specs.Stage.{IsKeepable}
 use Rattle.ost_head.specs.declared.found.Found.{Found}
 use Rattle.ost_head.specs.declared.found.Found.TheVariants as found
 
+-- The object that was found
 abbrev pub found_object : Found → Object
 found_object (found.Stored object) = object
 found_object (found.New object) = object
 
--- a host that tells what it holds has this at the object's name
+-- If the host reports its content, the store has this object, or none
 pub record HostHas (root : Elements) (told : Option Moments) (d : List ℕ) (kind : ObjKind)
     (object : Option Object) : Type 0 where
   pub is : (m : Moments) → told ≡ Some m → store root (shows m.now) d kind ≡ object
 
--- remotes that tell what they hold have this object
+-- If the remotes report their content, the remote has this object
 pub record RemoteHas (url : List ℕ) (holds : Option Holdings) (d : List ℕ) (kind : ObjKind)
     (object : Object) : Type 0 where
   pub is : (held : Holdings) → holds ≡ Some held → remote_at held url d kind ≡ Some object
 
+-- The store doesn't have the object, and the remote has it
 pub record IsNew (root : Elements) (url : List ℕ) (told : Option Moments) (holds : Option Holdings)
     (d : List ℕ) (kind : ObjKind) (object : Object) : Type 0 where
   pub none : HostHas root told d kind None
   pub there : RemoteHas url holds d kind object
 
--- it is the store's; or the store has none, and it is the remote's
+-- Holds if the object is the store's, or the store has none and it is the remote's
 abbrev pub IsFound : Elements → List ℕ → Option Moments → Option Holdings → List ℕ → ObjKind
     → Found → Type 0
 IsFound root url told holds d kind (found.Stored object) = HostHas root told d kind (Some object)
 IsFound root url told holds d kind (found.New object) = IsNew root url told holds d kind object
 
--- an object that the store lacks is one that a store may keep
+-- Holds if an object that the store lacks is one that a store may keep
 abbrev pub IsKeepableIfNew : Found → Type 0
 IsKeepableIfNew (found.Stored object) = ⊤
 IsKeepableIfNew (found.New object) = IsKeepable object

@@ -1,4 +1,4 @@
--- What is kept of a commit's file `metadata`.
+-- The part of a commit's file `metadata` that is kept.
 use Rattle.std.specs.Prelude.{◌≡◌, ℕ, List, length, leb, Option, Some, None, Result, Ok, Err, if◌then◌else◌}
 use Rattle.fp_base.specs.declared.object.ObjKind.TheVariants as kinds
 use Rattle.ost_model.specs.declared.limits.TheConstants.{MOST_METADATA_FILE_BYTES}
@@ -11,25 +11,26 @@ use Rattle.ost_head.specs.Heads.{content_in}
 use Rattle.ost_head.specs.declared.metadata.Kept.{Kept}
 use Rattle.ost_head.specs.declared.metadata.Kept.TheVariants as kept
 
--- the content where the limit lets it be, else how many bytes it has
+-- The content if it is within the limit, and otherwise its size in bytes
 abbrev pub kept_of : Option (List ℕ) → Kept
 kept_of None = kept.Nothing
 kept_of (Some bytes) = if leb (length bytes) MOST_METADATA_FILE_BYTES then kept.Bytes bytes
     else kept.Longer (length bytes)
 
--- a file or link is there, it has no fault, and this is kept of it
+-- There is a file or a symlink without a fault, and this part of it is kept
 pub record IsKept (d : List ℕ) (there : Option Object) (k : Kept) : Type 0 where
   pub object : Object
   pub is : there ≡ Some object
   pub good : object_fault d kinds.File (Some object) ≡ None
   pub kept_is : k ≡ kept_of (content_in (Some object))
 
--- that, or its fault
+-- Holds if the result is the part of the object that is kept, or the refusal with its fault
 abbrev pub Keeps : List ℕ → Option Object → Result Kept WalkEnd → Type 0
 Keeps d there result =
     EndsBy (IsKept d there) (IsFaultOf d kinds.File (object_fault d kinds.File there)) result
 
--- nothing is there, or a file or link without a fault, or one with this fault
+-- Holds if the result is `None` and there is no object, or it is the part of the object that is
+-- kept, or the refusal with its fault
 abbrev pub KeepsIfThere : List ℕ → Option Object → Result (Option Kept) WalkEnd → Type 0
 KeepsIfThere d there (Ok None) = there ≡ None
 KeepsIfThere d there (Ok (Some k)) = IsKept d there k

@@ -1,4 +1,4 @@
--- What the root of a commit says of a head.
+-- The root of a commit, and the head that it leads to.
 use Rattle.std.specs.Prelude.{◌≡◌, ℕ, List, Option, Result, Err}
 use Rattle.fp_base.specs.declared.object.ObjKind.TheVariants as kinds
 use Rattle.fp_name.specs.Refs.{Ref}
@@ -16,19 +16,21 @@ use Rattle.ost_head.specs.Heads.{with_tree, head_in, head_of, unless_refused}
 use Rattle.ost_head.specs.declared.head.Head.{Head}
 use Rattle.ost_head.specs.declared.head.Root.{Root}
 
--- the head of a commit, with the dirtree that its root has
+-- The head of a commit, by the dirtree of its root
 abbrev pub of_tree : Have → Ref → List ℕ → Option ℕ → CommitView → Result Head Refusal
 of_tree have name commit since c = unless_refused (object_refused have c.tree kinds.DirTree)
     (with_tree have name commit since c (tree_at have c.tree))
 
--- the root's dirtree was read, or the head is refused so
+-- Holds if the result is the dirtree of the root, with which the head is read, or the refusal of
+-- the head
 abbrev pub ReadsTree : Have → CommitView → Result DirTree WalkEnd → Type 0
 ReadsTree have c result = (name : Ref) (commit : List ℕ) (since : Option ℕ)
     → EndsBy (λ t. of_tree have name commit since c
     ≡ head_in have name commit since c (tree_view t))
     (λ w. of_tree have name commit since c ≡ Err (walk_refusal w)) result
 
--- the same of the commit and its root
+-- Holds if the result is the commit and the dirtree of its root, with which the head is read, or
+-- the refusal of the head
 abbrev pub ReadsRoot : Have → List ℕ → Result Root WalkEnd → Type 0
 ReadsRoot have commit result = (name : Ref) (since : Option ℕ)
     → EndsBy (λ r. head_of have name commit since

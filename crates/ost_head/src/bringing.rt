@@ -1,4 +1,4 @@
-//! A file or link of the remote that comes to the work folder.
+//! Copying a file or a symlink of the remote to the work directory.
 ghost use Rattle.std.specs.Prelude.{◌≡◌, ◌<◌, length, Some, IfOk, OnOk, IsErrOf};
 ghost use Rattle.fp_base.specs.declared.object.ObjKind.TheVariants as kinds;
 ghost use Rattle.fp_host.specs.OverHost.{AtEachMoment, AtReturn, FailsOnly};
@@ -22,8 +22,9 @@ use ost_store::{path_of, stage, stage_file};
 use ost_walk::{ObjectFault, WalkEnd};
 use std::alloc::Global;
 
-/// Makes the absent path a file with these permission bits, to which the remote's file of this size
-/// is copied, and gives the digest of what it then is.
+/// Creates a file with these permission bits at `to`, copies the remote's file of `size` bytes to
+/// it, and returns the digest of the copy. Condition: nothing is at `to`, and each path above it is
+/// absent or a directory.
 fn copy_anew<H: Host, R: Remotes>(
     alloc: Global,
     host: &mut H,
@@ -51,7 +52,8 @@ fn copy_anew<H: Host, R: Remotes>(
     copy_file(host, remotes, url, from, to, mode, size, buffer)
 }
 
-/// Checks that the digest of a file is its name.
+/// Checks that the computed digest `got` of a file is the one in its name. `Refused` with `Corrupt`
+/// if it isn't.
 fn check_digest(digest: &Digest, got: &Digest) -> Result<(), WalkEnd>
     ensures tells { EndsBy (λ _. got.now ≡ digest.now) (IsCorruptAs digest.now got.now) result }
     ensures faults { NoFault result }
@@ -63,8 +65,9 @@ fn check_digest(digest: &Digest, got: &Digest) -> Result<(), WalkEnd>
     }
 }
 
-/// Makes the absent path hold the remote's file with these permission bits and of this size, which
-/// is copied piece by piece. It is refused where its digest is another.
+/// Creates a file with these permission bits at `to`, and copies the remote's file of `size` bytes
+/// to it, piece by piece. `Refused` with `Corrupt` if the copy doesn't match its digest; the copy
+/// stays. Condition: nothing is at `to`, and each path above it is absent or a directory.
 fn bring_file<H: Host, R: Remotes>(
     alloc: Global,
     host: &mut H,
@@ -104,7 +107,8 @@ fn bring_file<H: Host, R: Remotes>(
     check_digest(digest, &got)
 }
 
-/// Makes the absent path hold the link with this text.
+/// Creates the symlink with this text at `to`. Condition: nothing is at `to`, each path above it is
+/// absent or a directory, and the text is valid.
 fn bring_link<H: Host>(alloc: Global, host: &mut H, to: &Path, text: Text) -> Result<(), WalkEnd>
     ensures any_moment { AtEachMoment H.Host host.old host.new (Stages to.now (objects.Link text)) }
     ensures on_success { OnOk result (AtReturn H.Host host.old host.new
@@ -119,7 +123,10 @@ fn bring_link<H: Host>(alloc: Global, host: &mut H, to: &Path, text: Text) -> Re
     Ok(())
 }
 
-/// Makes the absent path hold the remote's file or link, checked.
+/// Copies a file or a symlink of the remote at `url` to `to`, and checks it. Makes the missing
+/// directories above `to`. Reads a file piece by piece. Syncs nothing. `Refused` with the object's
+/// fault; a copy that doesn't match its digest stays at `to`. Condition: nothing is at `to`, and
+/// each path above it is absent or a directory.
 pub fn bring<H: Host, R: Remotes>(
     alloc: Global,
     host: &mut H,

@@ -1,4 +1,4 @@
-//! Files and links of the store, checked piece by piece.
+//! Checking files and symlinks of the store piece by piece.
 ghost use Rattle.std.specs.Prelude.{◌≡◌, ◌<◌, ◌≤◌, ◌++◌, ℕ, List, length, take, true, IfOk, IsErrOf, Some};
 ghost use Rattle.fp_base.specs.declared.object.ObjKind.TheVariants as kinds;
 ghost use Rattle.fp_host.specs.OverHost.{ChangesNothing, FailsAlone, FailsOnly};
@@ -26,8 +26,8 @@ use ost_store::{Got, get, read_piece};
 use ost_walk::{ObjectFault, WalkEnd};
 use std::alloc::Global;
 
-/// Takes in the bytes of the file from this place on, until the room is full or none is left, and
-/// says how many.
+/// Adds bytes of the store's file to the hasher, from the byte offset `at` on, as many as fit into
+/// `room` or are left. Returns their number. Condition: the store has the object as a regular file.
 fn hash_piece<H: Host>(
     alloc: Global,
     host: &mut H,
@@ -52,7 +52,8 @@ fn hash_piece<H: Host>(
     Ok(count)
 }
 
-/// Takes in the content of the file of this size, as many bytes at once as the buffer has room for.
+/// Adds the content of the store's file, which has `size` bytes, to the hasher, in pieces of the
+/// buffer's size. Condition: the store has the object as a regular file.
 fn hash_pieces<H: Host>(
     alloc: Global,
     host: &mut H,
@@ -83,7 +84,8 @@ fn hash_pieces<H: Host>(
     Ok(())
 }
 
-/// The digest of the file with these permission bits and of this size.
+/// Computes the digest of the store's file with these permission bits and of `size` bytes.
+/// Condition: the store has the object as a regular file.
 fn stored_digest<H: Host>(
     alloc: Global,
     host: &mut H,
@@ -107,8 +109,9 @@ fn stored_digest<H: Host>(
     Ok(hasher.finish())
 }
 
-/// Checks that the file with these permission bits and of this size is the one that its digest
-/// names.
+/// Checks that the store's file, with these permission bits and of `size` bytes, is within the
+/// limits and matches its digest. Returns true, or `Refused` with its fault. Condition: the store
+/// has the object as a regular file.
 #[tactic(auto, using(crate::proofs::Checked::stored_refused, crate::proofs::Checked::stored_good, crate::proofs::Checked::stored_corrupt))]
 pub(crate) fn check_file<H: Host>(
     alloc: Global,
@@ -135,7 +138,8 @@ pub(crate) fn check_file<H: Host>(
     }
 }
 
-/// Checks that the link with this text is the one that its digest names.
+/// Checks that a symlink of the store has a valid text and matches its digest. Returns true, or
+/// `Refused` with its fault.
 #[tactic(auto, using(crate::proofs::Checked::text_good, crate::proofs::Checked::text_refused))]
 pub(crate) fn check_text(alloc: Global, digest: &Digest, text: &Text) -> Result<bool, WalkEnd>
     ensures tells { is_link_text text.now ≡ true
@@ -148,8 +152,9 @@ pub(crate) fn check_text(alloc: Global, digest: &Digest, text: &Text) -> Result<
     }
 }
 
-/// Whether the store in this folder has the file or link, which is checked as that of a remote is.
-/// A file is read piece by piece and never stands whole in memory.
+/// Returns whether the store at `root` has a `file` object, and checks the object as one of a
+/// remote is checked. `Refused` with its fault. Reads a file piece by piece, and never keeps all of
+/// it in memory. Changes nothing.
 pub fn check_stored<H: Host>(
     alloc: Global,
     host: &mut H,

@@ -1,4 +1,4 @@
-//! Files and links of the remote, whose content isn't read yet.
+//! Looking up files and symlinks of the remote without reading their content.
 ghost use Rattle.std.specs.Prelude.{◌≡◌, IfOk, IsErrOf, Some};
 ghost use Rattle.fp_host.specs.Remote.{Held, Holdings, IsNode};
 ghost use Rattle.fp_host.specs.declared.remotes.Node.TheVariants as nodes;
@@ -16,17 +16,18 @@ use ost_store::path_of;
 use ost_walk::{ObjectFault, WalkEnd};
 use std::alloc::Global;
 
-/// A file or link of the remote.
+/// A file or a symlink of the remote.
 #[derive(Drop)]
 pub enum Content {
-    /// A link with this text, checked.
+    /// A symlink with this text. It matches its digest.
     Link(Text),
-    /// A file with these permission bits and of this size, within the limits. Its digest isn't
-    /// known yet.
+    /// A file with these permission bits and of `size` bytes, both within the limits. Its digest
+    /// isn't checked yet.
     File { mode: u32, size: u64 },
 }
 
-/// A file of the remote with these permission bits and of this size.
+/// Returns a file of the remote with these permission bits and of `size` bytes. `Refused` if it
+/// exceeds a limit.
 #[tactic(auto, using(crate::proofs::Checked::node_sized, crate::proofs::Checked::node_refused))]
 fn sized(digest: &Digest, mode: u32, size: u64) -> Result<Content, WalkEnd>
     ensures fit { IfOk result (IsFitContent digest.now) }
@@ -40,7 +41,8 @@ fn sized(digest: &Digest, mode: u32, size: u64) -> Result<Content, WalkEnd>
     }
 }
 
-/// A link of the remote with this text.
+/// Returns a symlink of the remote with this text. `Refused` if the text isn't valid or the link
+/// doesn't match its digest.
 #[tactic(auto, using(crate::proofs::Checked::node_linked, crate::proofs::Checked::node_unlinked))]
 fn linked(alloc: Global, digest: &Digest, text: Text) -> Result<Content, WalkEnd>
     ensures fit { IfOk result (IsFitContent digest.now) }
@@ -54,7 +56,7 @@ fn linked(alloc: Global, digest: &Digest, text: Text) -> Result<Content, WalkEnd
     }
 }
 
-/// The file or link that stands so at a remote.
+/// Returns the file or the symlink that the node of a remote is. `Refused` with its fault.
 #[tactic(auto, using(crate::proofs::Checked::node_missing))]
 fn content_in(alloc: Global, digest: &Digest, node: Node) -> Result<Content, WalkEnd>
     ensures fit { IfOk result (IsFitContent digest.now) }
@@ -70,9 +72,10 @@ fn content_in(alloc: Global, digest: &Digest, node: Node) -> Result<Content, Wal
     }
 }
 
-/// The file or link of the remote at the url, whose content isn't read. It is refused where it is
-/// missing, too long or of permission bits that aren't taken, and where a link's digest isn't its
-/// name.
+/// Looks up a file or a symlink of the remote at `url`, without reading a file's content. `Refused`
+/// with `Missing` if there is none, with `TooLong` if a file has more than 1 GiB, with
+/// `RefusedMode` if its permission bits aren't within 0775, and with `Corrupt` if a symlink doesn't
+/// match its digest.
 pub(crate) fn remote_content<R: Remotes>(
     alloc: Global,
     remotes: &mut R,

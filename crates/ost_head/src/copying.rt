@@ -1,4 +1,4 @@
-//! A file of the remote that is copied piece by piece while its digest is taken.
+//! Copying a file of the remote piece by piece, and computing its digest meanwhile.
 ghost use Rattle.std.specs.Prelude.{◌≡◌, ◌<◌, length, true, IfOk, OnOk, IsErrOf};
 ghost use Rattle.fp_host.specs.OverHost.{FailsOnly};
 ghost use Rattle.fp_host.specs.Frame.{Frame, Only, NoName};
@@ -14,8 +14,9 @@ use ost_content::ContentHasher;
 use ost_store::stage_piece;
 use ost_walk::WalkEnd;
 
-/// Adds the bytes of the remote's file from this place on, until the room is full or none is left,
-/// to the end of the new file, and takes them in. Says how many.
+/// Reads bytes of the remote's file from the byte offset `at` on, as many as fit into `room` or are
+/// left. Appends them to the file at `to`, adds them to the hasher, and returns their number.
+/// Condition: a file that was created since the last sync is at `to`.
 fn copy_piece<H: Host, R: Remotes>(
     host: &mut H,
     remotes: &mut R,
@@ -43,9 +44,10 @@ fn copy_piece<H: Host, R: Remotes>(
     Ok(count)
 }
 
-/// Adds the remote's file of this size to the end of the new file, as many bytes at once as the
-/// buffer has room for, and takes them in. It ends where the remote has no more bytes, and takes no
-/// more than the size.
+/// Appends the content of the remote's file, which has `size` bytes, to the file at `to`, in pieces
+/// of the buffer's size, and adds it to the hasher. Ends early if the remote has fewer bytes, and
+/// never copies more than `size`. Condition: a file that was created since the last sync is at
+/// `to`.
 fn copy_pieces<H: Host, R: Remotes>(
     host: &mut H,
     remotes: &mut R,
@@ -88,8 +90,9 @@ fn copy_pieces<H: Host, R: Remotes>(
     Ok(())
 }
 
-/// Adds the remote's file of this size to the end of the new file with these permission bits, which
-/// is empty, and gives the digest of what it then is.
+/// Appends the remote's file of `size` bytes to the file at `to`, which is empty and has these
+/// permission bits. Returns the digest of the copy. Condition: a file that was created since the
+/// last sync is at `to`.
 #[tactic(auto, using(crate::proofs::Copied::copied_digest))]
 pub(crate) fn copy_file<H: Host, R: Remotes>(
     host: &mut H,

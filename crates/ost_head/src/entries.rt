@@ -1,4 +1,4 @@
-//! Entries of a dirtree.
+//! Looking up the entries of a dirtree.
 ghost use Rattle.std.specs.Prelude.{◌≡◌, Some, map, is_some};
 ghost use Rattle.ost_model.specs.Look.{find_dir, entry_in, file_in};
 ghost use Rattle.ost_object.specs.Views.{dir_row, tree_view};
@@ -8,7 +8,7 @@ use fp_name::Digest;
 use ost_object::{DirEntry, DirTree};
 use ost_walk::find_file;
 
-/// Whether a directory has this name among these.
+/// Returns whether a directory has this name.
 fn has_dir(dirs: &[DirEntry], name: &str) -> bool
     ensures { result ≡ is_some (find_dir name.now (map dir_row dirs.now)) }
 {
@@ -20,7 +20,8 @@ fn has_dir(dirs: &[DirEntry], name: &str) -> bool
     false
 }
 
-/// The digest of the file of this name in a directory.
+/// Returns the digest of the file or symlink with this name, or `None` if a directory or nothing
+/// has the name.
 #[tactic(auto, using(crate::proofs::Entered::dir_there, crate::proofs::Entered::no_dir))]
 pub(crate) fn file_in(tree: &DirTree, name: &str) -> Option<Digest>
     ensures { result ≡ file_in (entry_in name.now (Some (tree_view tree.now))) }
@@ -31,7 +32,7 @@ pub(crate) fn file_in(tree: &DirTree, name: &str) -> Option<Digest>
     find_file(tree.files.as_slice(), name)
 }
 
-/// Whether nothing in a directory has this name.
+/// Returns whether neither a file, a symlink nor a directory has this name.
 #[tactic(auto, using(crate::proofs::Entered::none_with_dir, crate::proofs::Entered::none_without_dir))]
 pub(crate) fn has_none(tree: &DirTree, name: &str) -> bool
     ensures { result ≡ is_nothing (entry_in name.now (Some (tree_view tree.now))) }

@@ -1,4 +1,4 @@
-//! Objects of the remote.
+//! Reading and checking objects of the remote.
 ghost use Rattle.std.specs.Prelude.{◌≡◌, ℕ, true, false, IfOk, IsErrOf, Some, None};
 ghost use Rattle.fp_base.specs.declared.object.ObjKind.TheVariants as kinds;
 ghost use Rattle.fp_host.specs.Remote.{Holdings, IsNode, target};
@@ -20,7 +20,8 @@ use ost_store::path_of;
 use ost_walk::{ObjectFault, WalkEnd, read_remote, refused};
 use std::alloc::Global;
 
-/// A file of the remote with these permission bits and of this size.
+/// Reads a file of the remote with these permission bits and of `size` bytes. `Refused` with
+/// `TooLong` or `RefusedMode` if it exceeds a limit.
 fn read_file<R: Remotes>(
     alloc: Global,
     remotes: &mut R,
@@ -49,7 +50,8 @@ fn read_file<R: Remotes>(
     Ok(Object::File { mode, bytes })
 }
 
-/// A link of the remote with this text.
+/// Returns a symlink of the remote with this text. `Refused` with `Missing` if the text isn't
+/// valid.
 fn read_link(digest: &Digest, text: Text) -> Result<Object, WalkEnd>
     ensures fit { IfOk result (IsFit kinds.File) }
     ensures tells { ReadsAt digest.now kinds.File (target text) result }
@@ -62,7 +64,8 @@ fn read_link(digest: &Digest, text: Text) -> Result<Object, WalkEnd>
     }
 }
 
-/// The file or link of the remote at the path.
+/// Reads the file or the symlink at a path of the remote. `Refused` if there is none, or if it
+/// exceeds a limit.
 fn read_content<R: Remotes>(
     alloc: Global,
     remotes: &mut R,
@@ -86,7 +89,8 @@ fn read_content<R: Remotes>(
     }
 }
 
-/// A metadata object of the remote, a file of this size.
+/// Reads a metadata object of the remote, a file of `size` bytes. `Refused` with `TooLong` if it
+/// has more than 16 MiB.
 fn read_sized<R: Remotes>(
     alloc: Global,
     remotes: &mut R,
@@ -112,7 +116,8 @@ fn read_sized<R: Remotes>(
     Ok(Object::Meta(read_remote(alloc, remotes, url, path, size)?))
 }
 
-/// The metadata object of the remote at the path.
+/// Reads the metadata object at a path of the remote. `Refused` with `Missing` if there is no file,
+/// or with `TooLong`.
 fn read_meta<R: Remotes>(
     alloc: Global,
     remotes: &mut R,
@@ -137,8 +142,8 @@ fn read_meta<R: Remotes>(
     }
 }
 
-/// The object of the remote, of its kind and within its limits. Whether its name is true isn't
-/// looked at.
+/// Reads an object of the remote. `Refused` if there is none of this kind, or if it exceeds a
+/// limit. Doesn't check whether the object matches its digest.
 fn read_object<R: Remotes>(
     alloc: Global,
     remotes: &mut R,
@@ -163,9 +168,9 @@ fn read_object<R: Remotes>(
     }
 }
 
-/// The object of the remote at the url, checked: it is refused where it is missing, too long, of
-/// permission bits that aren't taken, where its digest isn't its name, and where it breaks a rule
-/// of its kind.
+/// Reads an object of the remote at `url`, and checks it. `Refused` with `Missing` if there is none
+/// of this kind, with `TooLong` or `RefusedMode` if it exceeds a limit, with `Corrupt` if it
+/// doesn't match its digest, and with `Malformed` if it breaks a rule of its kind.
 pub(crate) fn fetch<R: Remotes>(
     alloc: Global,
     remotes: &mut R,

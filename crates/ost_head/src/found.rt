@@ -1,4 +1,4 @@
-//! Objects of the store, or else of the remote.
+//! Finding an object in the store or else at the remote.
 ghost use Rattle.std.specs.Prelude.{◌≡◌, None, Some, IfOk};
 ghost use Rattle.ost_model.specs.Objects.{Have, object_fault};
 ghost use Rattle.ost_model.specs.Remotes.{Supplies};
@@ -15,16 +15,17 @@ use ost_model::Object;
 use ost_walk::WalkEnd;
 use std::alloc::Global;
 
-/// An object that was checked, and where it was found.
+/// An object that was checked, and its source.
 #[derive(Drop)]
 pub enum Found {
-    /// The store has it.
+    /// The store has the object.
     Stored(Object),
-    /// The remote has it, and the store has none.
+    /// The remote has the object, and the store doesn't.
     New(Object),
 }
 
-/// The store's object where it has one, else the remote's, checked.
+/// Finds an object in the store at `root`, or else at the remote at `url`, and checks it. `Refused`
+/// with its fault: if the store's object has one, the remote isn't asked. Changes nothing.
 pub fn find<H: Host, R: Remotes>(
     alloc: Global,
     host: &mut H,

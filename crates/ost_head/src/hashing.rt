@@ -1,4 +1,4 @@
-//! A file of the remote whose digest is taken piece by piece.
+//! Computing the digest of a remote's file piece by piece.
 ghost use Rattle.std.specs.Prelude.{◌≡◌, ◌<◌, ◌≤◌, length, take, true, IfOk, IsErrOf, Some};
 ghost use Rattle.fp_host.specs.Remote.{CameFrom, Holdings, bytes_of};
 ghost use Rattle.ost_model.specs.Contents.{file_digest, is_permission};
@@ -11,8 +11,8 @@ use fp_name::Digest;
 use ost_content::ContentHasher;
 use std::alloc::Global;
 
-/// Takes in the bytes of the remote's file from this place on, until the room is full or none is
-/// left, and says how many.
+/// Adds bytes of the remote's file to the hasher, from the byte offset `at` on, as many as fit into
+/// `room` or are left. Returns their number.
 fn hash_piece<R: Remotes>(
     remotes: &mut R,
     url: &str,
@@ -34,8 +34,8 @@ fn hash_piece<R: Remotes>(
     Ok(count)
 }
 
-/// Takes in the content of the remote's file of this size, as many bytes at once as the room has
-/// place for. It ends where the remote has no more bytes.
+/// Adds the content of the remote's file, which has `size` bytes, to the hasher, in pieces of
+/// `room`'s size. Ends early if the remote has fewer bytes.
 fn hash_pieces<R: Remotes>(
     remotes: &mut R,
     url: &str,
@@ -64,8 +64,8 @@ fn hash_pieces<R: Remotes>(
     Ok(())
 }
 
-/// The digest of the remote's file with these permission bits and of this size, which never stands
-/// whole in memory.
+/// Computes the digest of the remote's file with these permission bits and of `size` bytes. Never
+/// keeps all of it in memory.
 pub(crate) fn remote_digest<R: Remotes>(
     alloc: Global,
     remotes: &mut R,

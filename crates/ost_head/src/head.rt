@@ -1,4 +1,4 @@
-//! The head of a ref: its commit, checked as far as an installer has to know it.
+//! Reading the head of a ref: its commit, checked as far as an installation needs to know it.
 ghost use Rattle.std.specs.Prelude.{◌≡◌, ◌≤◌, ℕ, List, length, Option, Some, IfOk, codes};
 ghost use Rattle.std.specs.Option.{option_or};
 ghost use Rattle.fp_small.specs.Places.{repo};
@@ -25,14 +25,14 @@ use ost_object::{Commit, DirTree};
 use ost_walk::{PullEnd, WalkEnd};
 use std::alloc::{AllocError, Global};
 
-/// The head of a ref.
+/// The head of a ref: its commit, and the parts of it that an installation needs.
 #[derive(Drop)]
 pub struct Head {
     /// The digest of the commit.
     pub commit: Digest,
-    /// In seconds since 1970.
+    /// The time of the commit in seconds since 1970.
     pub timestamp: u64,
-    /// The file `metadata` of the commit.
+    /// The content of the commit's file `metadata`.
     pub metadata: Blob,
 }
 
@@ -43,7 +43,8 @@ pub(crate) struct Root {
     pub(crate) tree: DirTree,
 }
 
-/// The dirtree and the dirmeta of a commit's root.
+/// Returns the dirtree of a commit's root, and checks the root's dirmeta. `Refused` with the first
+/// fault.
 fn read_tree<H: Host, R: Remotes>(
     alloc: Global,
     host: &mut H,
@@ -68,7 +69,8 @@ fn read_tree<H: Host, R: Remotes>(
     }
 }
 
-/// The commit and its root, checked.
+/// Returns a commit and the dirtree of its root, and checks the root's dirmeta. `Refused` with the
+/// first fault.
 fn read_root<H: Host, R: Remotes>(
     alloc: Global,
     host: &mut H,
@@ -93,7 +95,8 @@ fn read_root<H: Host, R: Remotes>(
     }
 }
 
-/// The refusal of a commit by its binding and its time, or of its root.
+/// Returns the refusal of a commit for its ref binding, its time, or an entry `deploy` in its root,
+/// in this order.
 fn refuse_early(
     alloc: Global,
     name: &RefName,
@@ -111,7 +114,8 @@ fn refuse_early(
     }
 }
 
-/// The head with a file `metadata` of these bytes, which its limit lets be.
+/// Returns the head with this file `metadata`, which is within its limit. `Refused` with
+/// `BadMetadata` if the file isn't valid.
 fn head_with(
     alloc: Global,
     name: &RefName,
@@ -134,7 +138,8 @@ fn head_with(
     }
 }
 
-/// The head of whose file `metadata` this is kept.
+/// Returns the head with this file `metadata`. `Refused` if the file is too long, missing, or not
+/// valid.
 fn head_kept(
     alloc: Global,
     name: &RefName,
@@ -153,7 +158,8 @@ fn head_kept(
     }
 }
 
-/// The head whose file `metadata` has this digest.
+/// Returns the head whose file `metadata` has this digest. `Refused` if the file has a fault as an
+/// object, is too long, is a symlink, or isn't valid.
 fn head_at<H: Host, R: Remotes>(
     alloc: Global,
     host: &mut H,
@@ -178,7 +184,8 @@ fn head_at<H: Host, R: Remotes>(
     }
 }
 
-/// The head of a commit whose root has this dirtree.
+/// Returns the head of a commit whose root has this dirtree. `Refused` if the file `metadata` is
+/// missing or refused.
 fn head_below<H: Host, R: Remotes>(
     alloc: Global,
     host: &mut H,
@@ -208,7 +215,8 @@ fn head_below<H: Host, R: Remotes>(
     }
 }
 
-/// The head of a commit that was read with its root.
+/// Returns the head of a commit that was read with its root. `Refused` for its ref binding, its
+/// time, an entry `deploy` or its file `metadata`, in this order.
 #[tactic(auto, using(crate::proofs::Looking::looks_none))]
 fn head_in<H: Host, R: Remotes>(
     alloc: Global,
@@ -239,12 +247,13 @@ fn head_in<H: Host, R: Remotes>(
     }
 }
 
-/// The head of the ref whose commit this is, from the store or else from the remote: its commit,
-/// its root's dirtree and dirmeta and its file `metadata` are checked, and nothing changes. It is
-/// refused where one of these objects has a fault; `RefBinding` where the commit is bound to other
-/// refs; `Older` where it is older than `since`, the time of the commit that is deployed;
-/// `ReservedName` where the root has an entry `deploy`; and where `metadata` is missing, a link,
-/// too long, or doesn't read.
+/// Reads the head of a ref, by the digest of its commit. Looks up objects in the repository and
+/// else at the remote, and checks them: the commit, the dirtree and the dirmeta of its root, and
+/// its file `metadata`. Refuses in this order: the first three objects if one has a fault; with
+/// `RefBinding` if the commit is bound to other refs only; with `Older` if its time is before
+/// `since`, the time of the deployed commit; with `ReservedName` if the root has an entry `deploy`;
+/// the file `metadata` if it has a fault as an object; with `Limit` if it has more than 1 MiB; and
+/// with `BadMetadata` if it is missing, not a regular file, or not valid. Changes nothing.
 pub fn read_head<H: Host, R: Remotes>(
     alloc: Global,
     host: &mut H,

@@ -1,4 +1,4 @@
-//! Objects that are judged.
+//! Checking objects that were read.
 ghost use Rattle.std.specs.Prelude.{◌≡◌, None, IfOk};
 ghost use Rattle.fp_base.specs.declared.object.ObjKind.TheVariants as kinds;
 ghost use Rattle.ost_model.specs.Objects.{digest_of};
@@ -14,7 +14,7 @@ use ost_object::{commit_root, read_dirmeta, read_dirtree};
 use ost_walk::{ObjectFault, WalkEnd, check_mode, refused, unread};
 use std::alloc::{AllocError, Global};
 
-/// The digest of an object.
+/// Computes the digest of an object.
 fn digest_of(alloc: Global, object: &Object) -> Result<Digest, AllocError>
     requires { IsKeepable object.now }
     ensures { IfOk result (λ digest. digest ≡ digest_of object.now) }
@@ -26,7 +26,7 @@ fn digest_of(alloc: Global, object: &Object) -> Result<Digest, AllocError>
     }
 }
 
-/// Checks that the bytes are a commit.
+/// Checks the bytes by the rules for commits. `Refused` with `Malformed` if they break one.
 fn check_commit(alloc: Global, digest: &Digest, bytes: &Blob) -> Result<(), WalkEnd>
     ensures tells { ChecksRules digest.now kinds.Commit bytes.now result }
     ensures faults { NoFault result }
@@ -37,7 +37,7 @@ fn check_commit(alloc: Global, digest: &Digest, bytes: &Blob) -> Result<(), Walk
     }
 }
 
-/// Checks that the bytes are a dirtree.
+/// Checks the bytes by the rules for dirtrees. `Refused` with `Malformed` if they break one.
 fn check_tree(alloc: Global, digest: &Digest, bytes: &Blob) -> Result<(), WalkEnd>
     ensures tells { ChecksRules digest.now kinds.DirTree bytes.now result }
     ensures faults { NoFault result }
@@ -48,7 +48,8 @@ fn check_tree(alloc: Global, digest: &Digest, bytes: &Blob) -> Result<(), WalkEn
     }
 }
 
-/// Checks that the bytes are a dirmeta whose permission bits are good.
+/// Checks the bytes by the rules for dirmetas, and that the permission bits are within 0775.
+/// `Refused` with `Malformed` or `RefusedMode`.
 fn check_meta(alloc: Global, digest: &Digest, bytes: &Blob) -> Result<(), WalkEnd>
     ensures tells { ChecksRules digest.now kinds.DirMeta bytes.now result }
     ensures faults { NoFault result }
@@ -59,7 +60,8 @@ fn check_meta(alloc: Global, digest: &Digest, bytes: &Blob) -> Result<(), WalkEn
     }
 }
 
-/// Checks the bytes of a metadata object by the rules of its kind.
+/// Checks the bytes of a metadata object by the rules of its kind. Any bytes pass as a `file`
+/// object.
 fn check_bytes(alloc: Global, digest: &Digest, kind: ObjKind, bytes: &Blob) -> Result<(), WalkEnd>
     ensures tells { ChecksRules digest.now kind bytes.now result }
     ensures faults { NoFault result }
@@ -72,7 +74,7 @@ fn check_bytes(alloc: Global, digest: &Digest, kind: ObjKind, bytes: &Blob) -> R
     }
 }
 
-/// Checks an object by the rules of its kind.
+/// Checks an object by the rules of its kind. A file and a symlink follow them in any case.
 fn check_rules(
     alloc: Global,
     digest: &Digest,
@@ -89,8 +91,9 @@ fn check_rules(
     }
 }
 
-/// Checks that an object, of the kind and within its limits, is the one that its digest names: its
-/// digest, then the rules of its kind.
+/// Checks an object of this kind that is within its limits. `Refused` with `Corrupt` if it doesn't
+/// match its digest, and otherwise with `Malformed` or `RefusedMode` if it breaks a rule of its
+/// kind.
 pub(crate) fn check(
     alloc: Global,
     digest: &Digest,

@@ -1,4 +1,5 @@
-//! What a remote offers: the commit of a ref, its head, and single objects, each checked.
+//! Reads what a remote offers: the commit of a ref, its head, and single objects. All of it is
+//! checked.
 #![tactic(auto)]
 
 mod bringing;

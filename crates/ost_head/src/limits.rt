@@ -1,4 +1,4 @@
-//! What keeps a file or link from being the one that its digest names.
+//! The checks of files and symlinks against their limits and digests.
 ghost use Rattle.std.specs.Prelude.{◌≡◌, ℕ, List, length, IfOk, Some};
 ghost use Rattle.fp_host.specs.Outcome.{points};
 ghost use Rattle.fp_base.specs.declared.object.ObjKind.TheVariants as kinds;
@@ -15,7 +15,7 @@ use ost_model::MOST_FILE_BYTES;
 use ost_walk::{ObjectFault, WalkEnd, WalkFault};
 use std::alloc::Global;
 
-/// The refusal of the file or link.
+/// Returns the error that refuses a `file` object with a fault.
 pub(crate) fn refused(digest: &Digest, fault: ObjectFault) -> WalkEnd
     ensures { result ≡ refusal digest.now kinds.File fault }
 {
@@ -26,7 +26,8 @@ pub(crate) fn refused(digest: &Digest, fault: ObjectFault) -> WalkEnd
     })
 }
 
-/// Checks the limits of a file with these permission bits and of this size.
+/// Checks that a file has at most 1 GiB and permission bits within 0775. `Refused` with `TooLong`
+/// or `RefusedMode`.
 #[tactic(auto, using(crate::proofs::Checked::limits_long, crate::proofs::Checked::limits_moded))]
 pub(crate) fn check_limits(digest: &Digest, mode: u32, size: u64) -> Result<(), WalkEnd>
     ensures fit { IfOk result (λ _. IsWithinLimits mode size) }
@@ -45,7 +46,8 @@ pub(crate) fn check_limits(digest: &Digest, mode: u32, size: u64) -> Result<(), 
     Ok(())
 }
 
-/// Checks that the text may be a link's, and that the link is the one that its digest names.
+/// Checks that the text of a symlink is valid, and that the link matches its digest. `Refused` with
+/// `Missing` or `Corrupt`.
 #[tactic(auto, using(crate::proofs::Checked::link_missing, crate::proofs::Checked::link_good, crate::proofs::Checked::link_corrupt))]
 pub(crate) fn check_link(alloc: Global, digest: &Digest, text: &str) -> Result<(), WalkEnd>
     ensures tells { EndsBy (λ _. IsGoodLink digest.now text.now) (IsFaultOf digest.now kinds.File

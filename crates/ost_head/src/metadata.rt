@@ -1,4 +1,4 @@
-//! The file `metadata` of a commit, from the store or else from the remote.
+//! Reading the file `metadata` of a commit from the store or else from the remote.
 ghost use Rattle.std.specs.Prelude.{◌≡◌, true, IsErrOf, Some};
 ghost use Rattle.fp_base.specs.declared.object.ObjKind.TheVariants as kinds;
 ghost use Rattle.fp_host.specs.OverHost.{ChangesNothing, FailsAlone};
@@ -26,18 +26,18 @@ use ost_store::{Got, get, path_of};
 use ost_walk::{ObjectFault, WalkEnd};
 use std::alloc::Global;
 
-/// What is kept of a file `metadata` that was checked.
+/// The part of a checked file `metadata` that is kept.
 #[derive(Drop)]
 pub(crate) enum Kept {
-    /// Its content.
+    /// The content, of at most 1 MiB.
     Bytes(Blob),
-    /// How many bytes it has, more than the limit lets it have. They aren't kept.
+    /// The size in bytes of a file of more than 1 MiB, whose content isn't kept.
     Longer(u64),
-    /// It is no file.
+    /// There is no regular file.
     Nothing,
 }
 
-/// Checks the store's link with this text.
+/// Checks a symlink of the store, and returns `Nothing` for it. `Refused` with its fault.
 #[tactic(auto, using(crate::proofs::Kept::text_kept))]
 fn keep_link(alloc: Global, digest: &Digest, text: &Text) -> Result<Option<Kept>, WalkEnd>
     ensures tells { is_link_text text.now ≡ true
@@ -50,7 +50,8 @@ fn keep_link(alloc: Global, digest: &Digest, text: &Text) -> Result<Option<Kept>
     }
 }
 
-/// What is kept of the store's file or link, which is checked; None where the store has none.
+/// Reads and checks the file or the symlink of the store, and returns the part that is kept, or
+/// `None` if the store has neither. `Refused` with its fault.
 fn find_stored<H: Host>(
     alloc: Global,
     host: &mut H,
@@ -72,7 +73,8 @@ fn find_stored<H: Host>(
     }
 }
 
-/// What is kept of the remote's file with these permission bits and of this size, which is checked.
+/// Reads and checks the remote's file with these permission bits and of `size` bytes, and returns
+/// the part that is kept. `Refused` with `Corrupt`.
 fn keep_file<R: Remotes>(
     alloc: Global,
     remotes: &mut R,
@@ -94,7 +96,8 @@ fn keep_file<R: Remotes>(
     keep_remote(alloc, remotes, url, &path, digest, mode, size)
 }
 
-/// What is kept of the remote's file or link, which is checked.
+/// Reads and checks the file or the symlink of the remote, and returns the part that is kept.
+/// `Refused` with its fault.
 #[tactic(auto, using(crate::proofs::Kept::link_kept))]
 fn find_remote<R: Remotes>(
     alloc: Global,
@@ -116,9 +119,9 @@ fn find_remote<R: Remotes>(
     }
 }
 
-/// What is kept of the file `metadata` of this digest: the store's where it has one, else the
-/// remote's, checked. One that is longer than its limit is read piece by piece and never stands
-/// whole in memory.
+/// Reads and checks the file `metadata` with this digest, of the store or else of the remote, and
+/// returns the part that is kept. `Refused` with the fault of the object. Reads a file of more than
+/// 1 MiB piece by piece, and never keeps all of it in memory.
 #[tactic(auto, using(crate::proofs::Kept::store_keeps, crate::proofs::Kept::remote_keeps, crate::proofs::Kept::store_refuses))]
 pub(crate) fn find_metadata<H: Host, R: Remotes>(
     alloc: Global,

@@ -1,4 +1,4 @@
-//! The mode of a repository.
+//! The mode of a repository, as its `config` states it.
 ghost use Rattle.std.specs.Prelude.{◌≡◌, IfOk};
 ghost use Rattle.std.specs.List.{list_all};
 ghost use Rattle.std.specs.Option.{option_copied};
@@ -10,10 +10,10 @@ use fp_keyfile::{KeyError, KeyFile};
 use ost_refs::MOST_MODE_BYTES;
 use std::alloc::{AllocError, Global};
 
-/// What stands for a mode that isn't said.
+/// The text that replaces a mode that is missing or not valid.
 const NO_MODE: &str = "-";
 
-/// Whether a key of the group `core` has this value.
+/// Returns whether a key of the group `core` has this value.
 fn is_core(file: &KeyFile, key: &str, value: &str) -> bool
     ensures { result ≡ is_core file.now key.now value.now }
 {
@@ -23,28 +23,30 @@ fn is_core(file: &KeyFile, key: &str, value: &str) -> bool
     }
 }
 
-/// Whether this is the `config` of a repository that is pulled from.
+/// Returns whether this is the `config` of a repository of version 1 and of the mode
+/// `bare-user-only`. fpk pulls only from such a repository.
 fn is_pullable(file: &KeyFile) -> bool
     ensures { result ≡ is_pullable file.now }
 {
     is_core(file, "repo_version", "1") && is_core(file, "mode", "bare-user-only")
 }
 
-/// Whether the byte is a lower-case letter, a digit or `-`.
+/// Returns whether the byte is a lower-case ASCII letter, a digit or `-`.
 fn is_mode_byte(byte: u8) -> bool
     ensures { result ≡ is_mode_byte byte }
 {
     byte.is_ascii_lowercase() || byte.is_ascii_digit() || byte == b'-'
 }
 
-/// Whether each byte is a lower-case letter, a digit or `-`.
+/// Returns whether each byte is a lower-case ASCII letter, a digit or `-`.
 fn are_mode_bytes(bytes: &[u8]) -> bool
     ensures { result ≡ list_all is_mode_byte bytes.now }
 {
     bytes.iter().all(|byte| is_mode_byte(*byte))
 }
 
-/// Whether the text is a mode that is said.
+/// Returns whether the text can be shown as a mode: 1 to `MOST_MODE_BYTES` lower-case ASCII
+/// letters, digits and `-`.
 fn is_mode_word(text: &str) -> bool
     ensures { result ≡ is_mode_word text.now }
 {
@@ -58,7 +60,7 @@ fn is_mode_word(text: &str) -> bool
     are_mode_bytes(bytes)
 }
 
-/// The mode that is said, `-` where it is none.
+/// Returns the mode if it can be shown, and `-` otherwise.
 fn mode_word(mode: Option<&str>) -> &str
     ensures { result.now ≡ mode_word (option_copied mode.entry) }
 {
@@ -68,7 +70,7 @@ fn mode_word(mode: Option<&str>) -> &str
     }
 }
 
-/// The mode that is refused, where this isn't the `config` of a repository that is pulled from.
+/// Returns the mode that is refused, or `None` if fpk pulls from a repository with this `config`.
 fn mode_refused(alloc: Global, file: &KeyFile) -> Result<Option<Text>, AllocError>
     ensures { IfOk result (λ mode. mode ≡ mode_refused file.now) }
 {
@@ -79,7 +81,8 @@ fn mode_refused(alloc: Global, file: &KeyFile) -> Result<Option<Text>, AllocErro
     Ok(Some(Text::from_str(alloc, mode)?))
 }
 
-/// The mode that is refused, of the bytes of `config` where there is such a file.
+/// Returns the mode that is refused, or `None` if fpk pulls from a repository with this `config`. A
+/// `config` that is missing or no key file has the mode `-`.
 pub(crate) fn mode_in(alloc: Global, config: Option<Blob>) -> Result<Option<Text>, AllocError>
     ensures { IfOk result (λ mode. mode ≡ mode_in config) }
 {

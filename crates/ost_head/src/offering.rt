@@ -1,4 +1,4 @@
-//! What a remote offers under a ref.
+//! Reading the commit that a remote offers under a ref.
 ghost use Rattle.std.specs.Prelude.{◌≡◌, IfOk, IsErrOf, Some};
 ghost use Rattle.fp_host.specs.Remote.{Holdings};
 ghost use Rattle.fp_small.specs.declared.refusal.Refusal.TheVariants as refusals;
@@ -16,21 +16,21 @@ use ost_refs::{MOST_STORE_CONFIG_BYTES, REF_FILE_BYTES, RefFile, RefPlace, path_
 use ost_walk::PullEnd;
 use std::alloc::{AllocError, Global};
 
-/// The path of `config`.
+/// Returns the path of the remote's file `config`.
 fn config_path(alloc: Global) -> Result<Path, AllocError>
     ensures { IfOk result (λ path. path ≡ config_path) }
 {
     Path::root(alloc).child("config")
 }
 
-/// The path of the ref's file.
+/// Returns the path of the ref's file at the remote.
 fn ref_path(alloc: Global, name: &RefName) -> Result<Path, AllocError>
     ensures { IfOk result (λ path. path ≡ ref_path name.now) }
 {
     path_of(&Path::root(alloc), &RefPlace::Head(name.copy()?))
 }
 
-/// The mode that is refused of the remote, where it isn't one that is pulled from.
+/// Returns the mode of the remote that is refused, or `None` if fpk pulls from the remote.
 fn mode_of<R: Remotes>(
     alloc: Global,
     remotes: &mut R,
@@ -54,7 +54,7 @@ fn mode_of<R: Remotes>(
     Ok(mode_in(alloc, config)?)
 }
 
-/// What the ref's file says at the remote.
+/// Reads the ref's file at the remote. A file that is missing or too long is `Bad`.
 fn ref_of<R: Remotes>(
     alloc: Global,
     remotes: &mut R,
@@ -75,7 +75,7 @@ fn ref_of<R: Remotes>(
     }
 }
 
-/// The refusal of a remote's mode.
+/// Returns the refusal of a remote for its mode.
 fn refuse_mode(remote: &RemoteRow, mode: Text) -> Result<Refusal, AllocError>
     ensures { IfOk result (λ r. r ≡ refusals.WrongMode remote.now.name mode) }
 {
@@ -85,7 +85,7 @@ fn refuse_mode(remote: &RemoteRow, mode: Text) -> Result<Refusal, AllocError>
     })
 }
 
-/// The refusal of a ref that isn't offered.
+/// Returns the refusal of a ref that the remote doesn't offer.
 fn refuse_ref(remote: &RemoteRow, name: &RefName) -> Result<Refusal, AllocError>
     ensures { IfOk result (λ r. r ≡ refusals.NoSuchRef remote.now.name name.now) }
 {
@@ -95,7 +95,8 @@ fn refuse_ref(remote: &RemoteRow, name: &RefName) -> Result<Refusal, AllocError>
     })
 }
 
-/// The commit that the ref's file names at a remote whose mode is right.
+/// Returns the commit in the ref's file at the remote, whose mode isn't checked. `Refused` with
+/// `NoSuchRef`.
 fn commit_of<R: Remotes>(
     alloc: Global,
     remotes: &mut R,
@@ -115,9 +116,10 @@ fn commit_of<R: Remotes>(
     }
 }
 
-/// The commit that the remote offers under the ref. `WrongMode` where its `config` isn't that of a
-/// repository of version 1 and of the mode `bare-user-only`, and `NoSuchRef` where the ref's file
-/// isn't 64 digits and a newline. It never answers `HostFault`.
+/// Returns the commit that the remote offers under the ref. `Refused` with `WrongMode` if its
+/// `config` isn't that of a repository of version 1 and of the mode `bare-user-only`, and with
+/// `NoSuchRef` if the ref's file isn't 64 lower-case hexadecimal digits and a newline. Never fails
+/// with `HostFault`.
 pub fn offer<R: Remotes>(
     alloc: Global,
     remotes: &mut R,

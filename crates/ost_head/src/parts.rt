@@ -1,4 +1,4 @@
-//! The metadata objects of a commit's root, read.
+//! Reading the metadata objects of a commit's root.
 ghost use Rattle.std.specs.Prelude.{◌≡◌, None, Some};
 ghost use Rattle.fp_base.specs.declared.object.ObjKind.TheVariants as kinds;
 ghost use Rattle.ost_model.specs.Objects.{Have, object_fault};
@@ -20,7 +20,7 @@ use ost_object::{Commit, DirTree, read_commit, read_dirtree};
 use ost_walk::{ObjectFault, WalkEnd, refused, unread};
 use std::alloc::Global;
 
-/// The object that was found.
+/// Returns the object that was found.
 pub(crate) fn object_in(found: &Found) -> &Object
     ensures { result.now ≡ found_object found.now }
 {
@@ -29,7 +29,7 @@ pub(crate) fn object_in(found: &Found) -> &Object
     }
 }
 
-/// The commit that an object is.
+/// Reads the commit of an object.
 #[tactic(auto, using(crate::proofs::Parted::commit_is, crate::proofs::Parted::commit_unread, crate::proofs::Parted::commit_no_other))]
 fn commit_in(alloc: Global, digest: &Digest, object: &Object) -> Result<Commit, WalkEnd>
     ensures tells { object_fault digest.now kinds.Commit (Some object.now) ≡ None
@@ -45,7 +45,7 @@ fn commit_in(alloc: Global, digest: &Digest, object: &Object) -> Result<Commit, 
     }
 }
 
-/// The dirtree that an object is.
+/// Reads the dirtree of an object.
 #[tactic(auto, using(crate::proofs::Parted::tree_is, crate::proofs::Parted::tree_unread, crate::proofs::Parted::tree_no_other))]
 fn tree_in(alloc: Global, digest: &Digest, object: &Object) -> Result<DirTree, WalkEnd>
     ensures tells { object_fault digest.now kinds.DirTree (Some object.now) ≡ None
@@ -61,7 +61,7 @@ fn tree_in(alloc: Global, digest: &Digest, object: &Object) -> Result<DirTree, W
     }
 }
 
-/// The commit, from the store or the remote, checked.
+/// Finds, checks and reads a commit, of the store or else of the remote. `Refused` with its fault.
 pub(crate) fn find_commit<H: Host, R: Remotes>(
     alloc: Global,
     host: &mut H,
@@ -85,7 +85,7 @@ pub(crate) fn find_commit<H: Host, R: Remotes>(
     }
 }
 
-/// The dirtree, from the store or the remote, checked.
+/// Finds, checks and reads a dirtree, of the store or else of the remote. `Refused` with its fault.
 pub(crate) fn find_tree<H: Host, R: Remotes>(
     alloc: Global,
     host: &mut H,
@@ -109,7 +109,7 @@ pub(crate) fn find_tree<H: Host, R: Remotes>(
     }
 }
 
-/// Checks the dirmeta, of the store or the remote.
+/// Finds and checks a dirmeta, of the store or else of the remote. `Refused` with its fault.
 #[tactic(auto, using(crate::proofs::Parted::found_good))]
 pub(crate) fn find_meta<H: Host, R: Remotes>(
     alloc: Global,

@@ -1,4 +1,4 @@
-//! Why a head is refused.
+//! The refusals of heads.
 ghost use Rattle.std.specs.Prelude.{◌≡◌, IfOk};
 ghost use Rattle.fp_name.specs.Refs.{ref_text};
 ghost use Rattle.fp_base.specs.declared.what.What.TheVariants as whats;
@@ -17,14 +17,14 @@ use fp_small::Refusal;
 use ost_object::{Commit, DirTree, binding};
 use std::alloc::{AllocError, Global};
 
-/// Whether the ref is among the names.
+/// Returns whether the ref is among the names.
 fn lists(names: &Items<Text>, name: &RefName) -> bool
     ensures { result ≡ lists names.now (ref_text name.now) }
 {
     names.as_slice().iter().any(|n| n.as_str() == name.as_str())
 }
 
-/// The refusal of a commit that is bound to other refs.
+/// Returns the refusal of a commit for its ref binding, if it has one without the ref.
 fn refuse_binding(name: &RefName, names: Option<Items<Text>>) -> Result<Option<Refusal>, AllocError>
     ensures { IfOk result (λ r. r ≡ binding_refused name.now names) }
 {
@@ -37,7 +37,8 @@ fn refuse_binding(name: &RefName, names: Option<Items<Text>>) -> Result<Option<R
     Ok(Some(Refusal::RefBinding { name: name.copy()? }))
 }
 
-/// The refusal of a commit that is older than what is deployed.
+/// Returns the refusal of a commit for its time `offered`, if it is before `since`, the time of the
+/// deployed commit.
 fn refuse_age(
     name: &RefName,
     since: Option<u64>,
@@ -58,7 +59,7 @@ fn refuse_age(
     }))
 }
 
-/// The refusal of a commit by its binding and its time.
+/// Returns the refusal of a commit for its ref binding, or else for its time.
 pub(crate) fn refuse_commit(
     alloc: Global,
     name: &RefName,
@@ -73,7 +74,7 @@ pub(crate) fn refuse_commit(
     }
 }
 
-/// The refusal of a root with an entry `deploy`.
+/// Returns the refusal of a commit whose root has an entry `deploy`.
 pub(crate) fn refuse_root(commit: &Digest, tree: &DirTree) -> Option<Refusal>
     ensures { result ≡ root_refused commit.now (tree_view tree.now) }
 {
@@ -84,7 +85,7 @@ pub(crate) fn refuse_root(commit: &Digest, tree: &DirTree) -> Option<Refusal>
     }
 }
 
-/// The refusal where there is no file `metadata`.
+/// Returns the refusal of a ref whose commit has no regular file `metadata`.
 pub(crate) fn refuse_absent(name: &RefName) -> Result<Refusal, AllocError>
     ensures { IfOk result (λ r. r ≡ no_metadata name.now) }
 {
@@ -95,7 +96,8 @@ pub(crate) fn refuse_absent(name: &RefName) -> Result<Refusal, AllocError>
     })
 }
 
-/// The refusal of a key file that is no metadata.
+/// Returns the refusal of a ref for a file `metadata` that is a key file without the groups and
+/// keys that it must have.
 fn refuse_meta(alloc: Global, name: &RefName, file: &KeyFile) -> Result<Option<Refusal>, AllocError>
     ensures { IfOk result (λ r. r ≡ meta_refused name.now (meta_of (meta_kind name.now.kind)
         file.now)) }
@@ -111,7 +113,8 @@ fn refuse_meta(alloc: Global, name: &RefName, file: &KeyFile) -> Result<Option<R
     }
 }
 
-/// The refusal of lines that are no metadata.
+/// Returns the refusal of a ref for a file `metadata` that isn't valid: as a key file, or by its
+/// groups and keys.
 pub(crate) fn refuse_lines(
     alloc: Global,
     name: &RefName,
@@ -130,7 +133,7 @@ pub(crate) fn refuse_lines(
     }
 }
 
-/// The refusal of a file `metadata` of this many bytes, more than its limit.
+/// Returns the refusal for a file `metadata` of `size` bytes, which is more than its limit.
 pub(crate) fn refuse_longer(size: u64) -> Refusal
     ensures { result ≡ refusals.Limit whats.MetadataFile size }
 {

@@ -1,4 +1,4 @@
-//! Small files of a remote.
+//! Reading small files of a remote.
 ghost use Rattle.std.specs.Prelude.{◌≡◌, length, ℕ, IfOk, IsErrOf, Some};
 ghost use Rattle.fp_host.specs.Remote.{Holdings, IsNode, bytes_of};
 ghost use Rattle.fp_host.specs.declared.remotes.Node.TheVariants as nodes;
@@ -9,7 +9,7 @@ use fp_base::Blob;
 use fp_host::{Node, Path, RemoteError, Remotes};
 use std::alloc::{AllocError, Global};
 
-/// The number of a file's bytes.
+/// Returns the size in bytes of a regular file, or `None` for any other node.
 pub(crate) fn file_size(node: &Node) -> Option<u64>
     ensures { result ≡ size_in node.now }
 {
@@ -19,7 +19,7 @@ pub(crate) fn file_size(node: &Node) -> Option<u64>
     }
 }
 
-/// A buffer of this number of zeros.
+/// Returns a buffer of `size` zero bytes. Fails only with `NoMemory`.
 pub(crate) fn buffer(alloc: Global, size: u64) -> Result<Vec<u8>, RemoteError>
     ensures size { IfOk result (λ bytes. length bytes.items ≡ size) }
     ensures remote { IsErrOf result RemoteError.Failed → ⊥ }
@@ -30,7 +30,8 @@ pub(crate) fn buffer(alloc: Global, size: u64) -> Result<Vec<u8>, RemoteError>
     }
 }
 
-/// The bytes of a file of this size.
+/// Returns the content of a remote's file of `size` bytes. Allocates that many bytes, so the size
+/// should have been checked against a limit.
 pub(crate) fn read_whole<R: Remotes>(
     alloc: Global,
     remotes: &mut R,
@@ -51,7 +52,7 @@ pub(crate) fn read_whole<R: Remotes>(
     Ok(Blob::from_vec(bytes))
 }
 
-/// The bytes of a file of this size, where it is within the limit.
+/// Returns the content of a remote's file of `size` bytes, or `None` if these are more than `most`.
 fn load_sized<R: Remotes>(
     alloc: Global,
     remotes: &mut R,
@@ -73,7 +74,8 @@ fn load_sized<R: Remotes>(
     Ok(Some(read_whole(alloc, remotes, url, path, size)?))
 }
 
-/// The bytes of a file of the remote at the url, where there is a file within the limit.
+/// Returns the content of the file at a path of the remote at `url`, or `None` if there is no
+/// regular file of at most `most` bytes.
 pub(crate) fn load_remote<R: Remotes>(
     alloc: Global,
     remotes: &mut R,

@@ -1,4 +1,4 @@
-//! Objects of the store.
+//! Reading and checking objects of the store.
 ghost use Rattle.std.specs.Prelude.{◌≡◌, true, false, IfOk, IsErrOf, Some};
 ghost use Rattle.fp_base.specs.declared.object.ObjKind.TheVariants as kinds;
 ghost use Rattle.fp_host.specs.OverHost.{ChangesNothing, FailsAlone, FailsOnly};
@@ -22,7 +22,9 @@ use ost_store::{Got, get, read_sized};
 use ost_walk::{ObjectFault, WalkEnd, refused};
 use std::alloc::Global;
 
-/// A file of the store with these permission bits and of this size.
+/// Reads a file of the store with these permission bits and of `size` bytes. `Refused` with
+/// `TooLong` or `RefusedMode` if it exceeds a limit. Condition: the store has the object as a
+/// regular file.
 fn read_file<H: Host>(
     alloc: Global,
     host: &mut H,
@@ -53,7 +55,7 @@ fn read_file<H: Host>(
     }
 }
 
-/// A link of the store with this text.
+/// Returns a symlink of the store with this text. `Refused` with `Missing` if the text isn't valid.
 fn read_link(digest: &Digest, text: Text) -> Result<Option<Object>, WalkEnd>
     ensures fit { IfOk result (IsFitIfThere kinds.File) }
     ensures tells { is_link_text text ≡ true
@@ -67,7 +69,8 @@ fn read_link(digest: &Digest, text: Text) -> Result<Option<Object>, WalkEnd>
     }
 }
 
-/// A metadata object of the store of these bytes.
+/// Returns a metadata object of the store with these bytes. `Refused` with `TooLong` if they are
+/// more than 16 MiB.
 fn read_whole(digest: &Digest, kind: ObjKind, bytes: Blob) -> Result<Option<Object>, WalkEnd>
     requires { may_be_link kind ≡ false }
     ensures fit { IfOk result (IsFitIfThere kind) }
@@ -81,7 +84,8 @@ fn read_whole(digest: &Digest, kind: ObjKind, bytes: Blob) -> Result<Option<Obje
     Ok(Some(Object::Meta(bytes)))
 }
 
-/// The file or link that the store has of the object, within its limits.
+/// Reads a file or a symlink of the store, or returns `None` if there is none. `Refused` if it
+/// exceeds a limit.
 fn read_content<H: Host>(
     alloc: Global,
     host: &mut H,
@@ -105,7 +109,8 @@ fn read_content<H: Host>(
     }
 }
 
-/// The metadata object that the store has, within its limit.
+/// Reads a metadata object of the store, or returns `None` if there is none. `Refused` with
+/// `TooLong` if it has more than 16 MiB.
 fn read_meta<H: Host>(
     alloc: Global,
     host: &mut H,
@@ -129,8 +134,8 @@ fn read_meta<H: Host>(
     }
 }
 
-/// The object that the store has, of its kind and within its limits. Whether its name is true isn't
-/// looked at.
+/// Reads an object of the store, or returns `None` if there is none. `Refused` if it exceeds a
+/// limit. Doesn't check whether the object matches its digest.
 fn read_object<H: Host>(
     alloc: Global,
     host: &mut H,
@@ -154,8 +159,8 @@ fn read_object<H: Host>(
     }
 }
 
-/// The object that the store in this folder has, checked as that of a remote is; None where it has
-/// none.
+/// Reads an object of the store at `root`, and checks it as one of a remote is checked. Returns
+/// `None` if the store doesn't have it. `Refused` with its fault. Changes nothing.
 pub(crate) fn stored<H: Host>(
     alloc: Global,
     host: &mut H,

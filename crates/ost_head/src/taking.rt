@@ -1,4 +1,5 @@
-//! A file `metadata` whose content is taken, or only hashed where it is longer than its limit.
+//! Reading a file `metadata`: its content is kept if it is within its limit, and otherwise only
+//! hashed.
 ghost use Rattle.std.specs.Prelude.{◌≡◌, ◌<◌, ◌≤◌, IsErrOf, Some};
 ghost use Rattle.fp_base.specs.declared.object.ObjKind.TheVariants as kinds;
 ghost use Rattle.fp_host.specs.OverHost.{ChangesNothing, FailsOnly};
@@ -27,7 +28,8 @@ use ost_store::read_sized;
 use ost_walk::{ObjectFault, WalkEnd};
 use std::alloc::Global;
 
-/// Takes the content of the store's file of this size, which the limit lets it have.
+/// Reads and checks the store's file of `size` bytes, at most 1 MiB, and returns its content.
+/// Condition: the store has the object as a regular file.
 #[tactic(auto, using(crate::proofs::Checked::stored_refused, crate::proofs::Kept::stored_taken, crate::proofs::Kept::stored_other))]
 fn take_stored<H: Host>(
     alloc: Global,
@@ -56,7 +58,8 @@ fn take_stored<H: Host>(
     }
 }
 
-/// Checks the store's file of this size, which is longer than the limit.
+/// Checks the store's file of `size` bytes, more than 1 MiB, and returns its size. Condition: the
+/// store has the object as a regular file.
 #[tactic(auto, using(crate::proofs::Kept::stored_longer))]
 fn hash_stored<H: Host>(
     alloc: Global,
@@ -81,7 +84,9 @@ fn hash_stored<H: Host>(
     }
 }
 
-/// What is kept of the store's file with these permission bits and of this size, which is checked.
+/// Reads and checks the store's file with these permission bits and of `size` bytes, and returns
+/// the part that is kept. `Refused` with its fault. Condition: the store has the object as a
+/// regular file.
 pub(crate) fn keep_stored<H: Host>(
     alloc: Global,
     host: &mut H,
@@ -105,7 +110,7 @@ pub(crate) fn keep_stored<H: Host>(
     }
 }
 
-/// Takes the content of the remote's file of this size, which the limit lets it have.
+/// Reads and checks the remote's file of `size` bytes, at most 1 MiB, and returns its content.
 #[tactic(auto, using(crate::proofs::Kept::remote_taken, crate::proofs::Kept::remote_other))]
 fn take_remote<R: Remotes>(
     alloc: Global,
@@ -135,7 +140,7 @@ fn take_remote<R: Remotes>(
     }
 }
 
-/// Checks the remote's file of this size, which is longer than the limit.
+/// Checks the remote's file of `size` bytes, more than 1 MiB, and returns its size.
 #[tactic(auto, using(crate::proofs::Kept::remote_longer, crate::proofs::Kept::remote_off))]
 fn hash_remote<R: Remotes>(
     alloc: Global,
@@ -164,7 +169,8 @@ fn hash_remote<R: Remotes>(
     }
 }
 
-/// What is kept of the remote's file with these permission bits and of this size, which is checked.
+/// Reads and checks the remote's file with these permission bits and of `size` bytes, and returns
+/// the part that is kept. `Refused` with `Corrupt`.
 pub(crate) fn keep_remote<R: Remotes>(
     alloc: Global,
     remotes: &mut R,

@@ -7,7 +7,7 @@ use Rattle.fp_base.specs.declared.object.ObjKind.{ObjKind}
 use Rattle.ost_model.specs.Objects.{Have, Fault, object_path}
 use Rattle.ost_model.specs.Order.{Place, In, order, first_walk_fault}
 
--- Used: the object stands in the order of one of the commits
+-- The object is in the order of one of the commits
 pub record IsUsed (have : Have) (commits : List (List ℕ)) (object : List ℕ × ObjKind) : Type 0 where
   pub commit : List ℕ
   pub place : Place
@@ -15,17 +15,17 @@ pub record IsUsed (have : Have) (commits : List (List ℕ)) (object : List ℕ �
   pub within : In (order have commit) place
   pub is : object ≡ (place.digest, place.kind)
 
--- the text of the path that the object has in every store
+-- The text of an object's path in every store
 abbrev pub object_text : List ℕ × ObjKind → List ℕ
 object_text object = path_text (object_path [] object.0 object.1)
 
--- what the commits use, each object once, ascending by these texts
+-- The objects that the commits use, each once, in ascending order of the texts of their paths
 pub record ListsUsed (have : Have) (commits : List (List ℕ))
     (objects : List (List ℕ × ObjKind)) : Type 0 where
   pub each : (object : List ℕ × ObjKind) → Contains objects object ↔ IsUsed have commits object
   pub ascending : is_ascending (map object_text objects) ≡ true
 
--- the first fault of the first commit that has one, among the metadata objects and the limits
+-- The first fault of the first commit that has one, by walks that read only metadata objects
 abbrev pub used_fault : Have → List (List ℕ) → Option (Place × Fault)
 used_fault have [] = None
 used_fault have (commit ∷ commits) =

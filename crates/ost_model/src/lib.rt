@@ -1,6 +1,6 @@
-//! The objects of OSTree's repositories, as definitions that contracts cite: what an object says,
-//! which rule it breaks, the order of a commit's objects, and what it means that a commit stands in
-//! a folder.
+//! The objects of OSTree's repositories, as definitions for contracts: the content of an object,
+//! the rule that it breaks, the order of a commit's objects, and when a commit is checked out in a
+//! directory.
 #![tactic(auto)]
 
 pub mod laws;

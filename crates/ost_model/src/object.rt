@@ -1,14 +1,14 @@
-//! Objects of a repository.
+//! The objects of a repository.
 
 use fp_base::{Blob, Text};
 
-/// An object.
+/// An object of a repository.
 #[derive(Debug, Drop)]
 pub enum Object {
-    /// The bytes of a commit, a dirtree or a dirmeta.
+    /// A commit, a dirtree or a dirmeta, by its bytes.
     Meta(Blob),
-    /// A file, with its permission bits.
+    /// A regular file, by its permission bits and its bytes.
     File { mode: u32, bytes: Blob },
-    /// A symbolic link, with its text.
+    /// A symlink, by its text.
     Link(Text),
 }

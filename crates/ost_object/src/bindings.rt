@@ -1,4 +1,4 @@
-//! The refs that a commit is bound to.
+//! Reading the refs that a commit is bound to.
 ghost use Rattle.std.specs.Prelude.{◌≡◌, ◌↔◌, ◌∷◌, [], IfOk, IsTrue, option_map, option_and_then};
 ghost use Rattle.std.specs.Option.{IsSome};
 ghost use Rattle.gv_value.specs.Reading.{value_of};
@@ -24,8 +24,9 @@ use gv_value::{Basic, GvType, GvValue, Kind, Parts};
 use ost_model::REF_BINDING;
 use std::alloc::{AllocError, Global};
 
-/// The refs that a commit says it was made for: the value of the last entry `ostree.ref-binding` of
-/// its metadata, where that has type `as`. Of the metadata no value is made but that one.
+/// Returns the refs that a commit was made for (OSTree's ref binding): the value of the last entry
+/// `ostree.ref-binding` of its metadata. `None` if there is no such entry, or the last one doesn't
+/// have the type `as`. Decodes no other value of the metadata.
 pub fn binding(alloc: Global, commit: &Commit) -> Result<Option<Items<Text>>, AllocError>
     ensures { IfOk result (λ found. found ≡ binding_in (tree_at dictionary_shape
         commit.now.metadata)) }
@@ -37,7 +38,8 @@ pub fn binding(alloc: Global, commit: &Commit) -> Result<Option<Items<Text>>, Al
     }
 }
 
-/// The bytes of the entries of metadata.
+/// Returns the bytes of each entry of a commit's metadata, in order. `Malformed` with the rule
+/// `Value` if `bytes` aren't a value of type `a{sv}`.
 fn entries_of(alloc: Global, bytes: &[u8]) -> Result<Vec<&[u8]>, ObjectError>
     ensures { Divides (λ entries. slices entries.items) result bytes.now }
 {
@@ -46,7 +48,7 @@ fn entries_of(alloc: Global, bytes: &[u8]) -> Result<Vec<&[u8]>, ObjectError>
     children_of(alloc, &of, bytes)
 }
 
-/// The last binding among entries.
+/// Returns the refs of the last binding among entries, or `None` if there is none of type `as`.
 fn last_binding(alloc: Global, entries: &[&[u8]]) -> Result<Option<Items<Text>>, AllocError>
     requires { AreEntries (slices entries.now) }
     ensures { IfOk result (λ found. found ≡ binding_in (array (entry_trees (slices entries.now)))) }
@@ -55,7 +57,7 @@ fn last_binding(alloc: Global, entries: &[&[u8]]) -> Result<Option<Items<Text>>,
     last_of(alloc, &of, entries)
 }
 
-/// The last binding among entries, by their type.
+/// Returns the refs of the last binding among entries, whose type is `of`.
 fn last_of(alloc: Global, of: &GvType, entries: &[&[u8]]) -> Result<Option<Items<Text>>, AllocError>
     requires shape { shape_of of.now ≡ entry_shape }
     requires normal { AreEntries (slices entries.now) }
@@ -70,7 +72,8 @@ fn last_of(alloc: Global, of: &GvType, entries: &[&[u8]]) -> Result<Option<Items
     Ok(found)
 }
 
-/// The texts of an entry, where it is a binding.
+/// Returns `None` if the entry isn't a ref binding. Otherwise returns its refs, which are `None` if
+/// its value doesn't have the type `as`.
 fn bound_by(
     alloc: Global,
     of: &GvType,
@@ -88,7 +91,8 @@ fn bound_by(
     }
 }
 
-/// The same by the entry's key and value.
+/// Returns the refs of an entry by the bytes of its key and its value: `None` if the key isn't that
+/// of a ref binding.
 fn bound_pair(alloc: Global, members: &[&[u8]]) -> Result<Option<Option<Items<Text>>>, AllocError>
     ensures { IfOk result (λ found. found ≡ option_map texts_in
         (named_in binding_name (pair_tree (slices members.now)))) }
@@ -105,7 +109,7 @@ fn bound_pair(alloc: Global, members: &[&[u8]]) -> Result<Option<Option<Items<Te
     }
 }
 
-/// Whether the bytes of a key are the name of the binding.
+/// Returns whether the bytes of a key are the name of the ref binding.
 fn is_binding(alloc: Global, key: &[u8]) -> Result<bool, AllocError>
     ensures { IfOk result (λ named. named ≡ is_named binding_name (tree_at text_shape key.now)) }
 {
@@ -113,7 +117,8 @@ fn is_binding(alloc: Global, key: &[u8]) -> Result<bool, AllocError>
     Ok(text.as_str() == REF_BINDING)
 }
 
-/// The texts of the bytes of a variant of type `as`.
+/// Returns the texts in the bytes of a variant, or `None` if its value doesn't have the type `as`.
+/// Decodes the value only if the type string is `as`.
 fn texts_of_bytes(alloc: Global, bytes: &[u8]) -> Result<Option<Items<Text>>, AllocError>
     ensures { IfOk result (λ found. found ≡ texts_in (tree_at variant bytes.now)) }
 {
@@ -131,7 +136,7 @@ fn texts_of_bytes(alloc: Global, bytes: &[u8]) -> Result<Option<Items<Text>>, Al
     }
 }
 
-/// Whether a type string is `as`.
+/// Returns whether a type string is `as`.
 fn are_texts_by(text: &[u8]) -> bool
     ensures { IsTrue result ↔ (text.now ≡ 97 ∷ (115 ∷ [])) }
 {
@@ -141,7 +146,7 @@ fn are_texts_by(text: &[u8]) -> bool
     }
 }
 
-/// The same where the type is `as`.
+/// Decodes a variant, and returns its texts, or `None` if its value doesn't have the type `as`.
 fn texts_of_variant(alloc: Global, bytes: &[u8]) -> Result<Option<Items<Text>>, AllocError>
     ensures { IfOk result (λ found. found ≡ texts_in (tree_at variant bytes.now)) }
 {
@@ -153,7 +158,7 @@ fn texts_of_variant(alloc: Global, bytes: &[u8]) -> Result<Option<Items<Text>>, 
     }
 }
 
-/// The texts of a variant of type `as`.
+/// Returns the texts of a variant, or `None` if its value doesn't have the type `as`.
 fn texts_of(alloc: Global, value: &GvValue) -> Result<Option<Items<Text>>, AllocError>
     ensures { IfOk result (λ found. found ≡ texts_in (plain value.now)) }
 {
@@ -169,7 +174,7 @@ fn texts_of(alloc: Global, value: &GvValue) -> Result<Option<Items<Text>>, Alloc
     }
 }
 
-/// Whether a type is `as`.
+/// Returns whether a type is `as`.
 fn are_texts(of: &GvType) -> bool
     ensures { result ≡ spec.are_texts (shape_of of.now) }
 {
@@ -179,7 +184,7 @@ fn are_texts(of: &GvType) -> bool
     }
 }
 
-/// Whether a type is `s`.
+/// Returns whether a type is `s`.
 fn is_text(of: &GvType) -> bool
     ensures { result ≡ spec.is_text (shape_of of.now) }
 {
@@ -189,7 +194,7 @@ fn is_text(of: &GvType) -> bool
     }
 }
 
-/// Whether a basic type is `s`.
+/// Returns whether a basic type is `s`.
 fn is_str(of: Basic) -> bool
     ensures { result ≡ spec.is_text (basic of) }
 {
@@ -199,7 +204,7 @@ fn is_str(of: Basic) -> bool
     }
 }
 
-/// The texts of an array.
+/// Returns the texts of an array, or `None` if an item isn't a text.
 fn item_texts(alloc: Global, value: &GvValue) -> Result<Option<Items<Text>>, AllocError>
     ensures { IfOk result (λ found. found ≡ option_and_then (each_of text_in)
         (items_in (plain value.now))) }
@@ -211,7 +216,7 @@ fn item_texts(alloc: Global, value: &GvValue) -> Result<Option<Items<Text>>, All
     }
 }
 
-/// The items, where each is a text.
+/// Returns the items as texts, or `None` if one isn't a text.
 fn if_texts(alloc: Global, items: &[GvValue]) -> Result<Option<Items<Text>>, AllocError>
     ensures { IfOk result (λ found. found ≡ each_of text_in (plains items.now)) }
 {
@@ -222,7 +227,7 @@ fn if_texts(alloc: Global, items: &[GvValue]) -> Result<Option<Items<Text>>, All
     }
 }
 
-/// No texts, where there are no bytes: a byte is no text.
+/// Returns an empty list if there are no bytes, and otherwise `None`: a byte isn't a text.
 fn no_texts(alloc: Global, bytes: &[u8]) -> Option<Items<Text>>
     ensures { result ≡ each_of text_in (byte_trees bytes.now) }
 {
@@ -232,7 +237,7 @@ fn no_texts(alloc: Global, bytes: &[u8]) -> Option<Items<Text>>
     }
 }
 
-/// Texts, one by one.
+/// Returns the texts of values of type `s`. `Malformed` if one isn't a text.
 fn text_rows(alloc: Global, values: &[GvValue]) -> Result<Vec<Text>, ObjectError>
     ensures { Finds (λ texts. texts.items) result (each_of text_in (plains values.now)) }
 {

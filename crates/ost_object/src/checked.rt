@@ -1,5 +1,4 @@
-//! Parts of bytes that were checked to be a value: they are where they belong, so nothing but
-//! memory can be wanting.
+//! Cutting bytes that are known to be a value: nothing but a lack of memory can make it fail.
 ghost use Rattle.std.specs.Prelude.{◌≡◌, ◌≤◌, length, IfOk, Some};
 ghost use Rattle.std.specs.Option.{IsSome};
 ghost use Rattle.gv_value.specs.declared.limits.TheConstants.{MOST_BYTES};
@@ -12,7 +11,7 @@ use gv_decode::{DecodeError, Elements, array_elements, children, next_element};
 use gv_value::GvType;
 use std::alloc::{AllocError, Global};
 
-/// The bytes of the members of a tuple.
+/// Returns the bytes of the members of a tuple.
 pub fn members_of<'a>(
     alloc: Global,
     of: &GvType,
@@ -31,7 +30,7 @@ pub fn members_of<'a>(
     }
 }
 
-/// The rows of an array, which are cut one after another.
+/// Returns the elements of an array, for `next_row` to cut one after another.
 pub fn rows_of<'a>(alloc: Global, of: &GvType, bytes: &'a [u8]) -> Result<Elements<'a>, AllocError>
     requires short { length bytes.now ≤ MOST_BYTES }
     requires there { IsSome (elements_in (shape_of of.now) bytes.now) }
@@ -47,7 +46,7 @@ pub fn rows_of<'a>(alloc: Global, of: &GvType, bytes: &'a [u8]) -> Result<Elemen
     }
 }
 
-/// The bytes of the next of the rows that are left, and those after it; nothing after the last one.
+/// Cuts the next row, and returns its bytes and the rows after it, or `None` after the last one.
 pub fn next_row(rows: Elements<'_>) -> Result<Option<(&[u8], Elements<'_>)>, AllocError>
     requires ready { IsOpen rows }
     requires there { IsSome (elements_left rows) }

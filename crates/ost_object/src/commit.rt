@@ -1,35 +1,35 @@
-//! A commit.
+//! Commit objects.
 use fp_base::{Blob, Text};
 use fp_name::Digest;
 
-/// A commit object: `(a{sv}aya(say)sstayay)`. What isn't looked at is kept as its bytes, which a
-/// reader has checked to be in GVariant's normal form: so the memory of a commit is little more
-/// than its bytes, however they were made.
+/// A commit object, of the GVariant type `(a{sv}aya(say)sstayay)`. The metadata and the related
+/// objects are kept as bytes that the reader has checked to be in normal form, so that a commit
+/// takes little more memory than its bytes, whatever they are.
 #[derive(Drop)]
 pub struct Commit {
-    /// The bytes of a value of type `a{sv}`.
+    /// The metadata: the bytes of a value of type `a{sv}`.
     pub metadata: Blob,
-    /// The commit before it, if there was one.
+    /// The parent commit, if there is one.
     pub parent: Option<Digest>,
-    /// The bytes of a value of type `a(say)`.
+    /// The related objects: the bytes of a value of type `a(say)`.
     pub related: Blob,
-    /// What its author calls it.
+    /// The subject: the commit's title.
     pub subject: Text,
-    /// What its author says of it.
+    /// The body: the longer description of the commit.
     pub body: Text,
-    /// Seconds since the beginning of 1970.
+    /// The time in seconds since 1970-01-01 00:00 UTC.
     pub timestamp: u64,
-    /// The dirtree of the root.
+    /// The digest of the root's dirtree.
     pub tree: Digest,
-    /// The dirmeta of the root.
+    /// The digest of the root's dirmeta.
     pub meta: Digest,
 }
 
-/// The root of a commit: all that a walk reads of it.
+/// The root directory of a commit: all that is needed to walk its tree.
 #[derive(Clone, Copy, Debug, PartialEq, Eq)]
 pub struct CommitRoot {
-    /// The dirtree of the root.
+    /// The digest of the root's dirtree.
     pub tree: Digest,
-    /// The dirmeta of the root.
+    /// The digest of the root's dirmeta.
     pub meta: Digest,
 }

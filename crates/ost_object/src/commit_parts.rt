@@ -1,4 +1,4 @@
-//! The bytes of a commit's fields.
+//! Parting a commit into the bytes of its fields.
 ghost use Rattle.std.specs.Prelude.{◌≡◌, option_and_then};
 ghost use Rattle.gv_value.specs.Reading.{value_of};
 ghost use Rattle.gv_decode.specs.Decoded.{slices};
@@ -16,39 +16,40 @@ use fp_base::Rule;
 use fp_name::Digest;
 use std::alloc::Global;
 
-/// The bytes of a commit's fields, each of which is a value of the field's type.
+/// The bytes of each field of a commit, each a value of the field's type.
 #[derive(Clone, Copy)]
 pub struct CommitParts<'a> {
-    /// `a{sv}`.
+    /// `a{sv}`: the metadata.
     pub metadata: &'a [u8],
-    /// `ay`: the digest of the commit before it, or nothing.
+    /// `ay`: the digest of the parent commit, or no bytes.
     pub parent: &'a [u8],
-    /// `a(say)`.
+    /// `a(say)`: the related objects.
     pub related: &'a [u8],
-    /// `s`.
+    /// `s`: the subject.
     pub subject: &'a [u8],
-    /// `s`.
+    /// `s`: the body.
     pub body: &'a [u8],
-    /// `t`: seconds since 1970, the highest byte first.
+    /// `t`: the time in seconds since 1970, big-endian.
     pub time: &'a [u8],
-    /// `ay`: the digest of the dirtree of the root.
+    /// `ay`: the digest of the root's dirtree.
     pub tree: &'a [u8],
-    /// `ay`: the digest of the dirmeta of the root.
+    /// `ay`: the digest of the root's dirmeta.
     pub meta: &'a [u8],
 }
 
 /// The digests in a commit.
 #[derive(Clone, Copy)]
 pub struct CommitDigests {
-    /// That of the commit before it, if there was one.
+    /// The digest of the parent commit, if there is one.
     pub parent: Option<Digest>,
-    /// That of the dirtree of the root.
+    /// The digest of the root's dirtree.
     pub tree: Digest,
-    /// That of the dirmeta of the root.
+    /// The digest of the root's dirmeta.
     pub meta: Digest,
 }
 
-/// The fields of the commit that bytes are.
+/// Returns the fields of a commit, by the bytes of the object. `Malformed` with the rule `Value` if
+/// the bytes aren't a value of the commits' type in normal form.
 pub fn commit_parts(alloc: Global, bytes: &[u8]) -> Result<CommitParts<'_>, ObjectError>
     ensures { Finds parts_view result (option_and_then commit_in
         (value_of commit_shape bytes.now)) }
@@ -59,7 +60,8 @@ pub fn commit_parts(alloc: Global, bytes: &[u8]) -> Result<CommitParts<'_>, Obje
     eight_parts(&members)
 }
 
-/// The same by the commit's members.
+/// Returns the fields of a commit, by its members. `Malformed` with the rule `Value` if there
+/// aren't eight.
 fn eight_parts<'a>(members: &[&'a [u8]]) -> Result<CommitParts<'a>, ObjectError>
     ensures { Finds part_list result (if_eight (slices members.now)) }
 {
@@ -78,7 +80,8 @@ fn eight_parts<'a>(members: &[&'a [u8]]) -> Result<CommitParts<'a>, ObjectError>
     }
 }
 
-/// The digests of a commit, or the first rule after `Value` that it breaks.
+/// Returns the digests of a commit. `Malformed` with the first of the rules `Parent`, `Tree` and
+/// `Meta` that it breaks.
 pub fn commit_digests(parts: &CommitParts<'_>) -> Result<CommitDigests, ObjectError>
     ensures { Reads digests_view result (kept (commit_breaks (parts_view parts.now))
         (digests_in (parts_view parts.now))) }

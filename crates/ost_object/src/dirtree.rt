@@ -1,32 +1,33 @@
-//! The names in a directory.
+//! Dirtree objects.
 use fp_base::{Items, Text};
 use fp_name::Digest;
 
-/// A file or a link in a directory, with the digest of its object.
+/// A file or a symlink in a directory.
 #[derive(Drop)]
 pub struct FileEntry {
-    /// Its name in the directory.
+    /// The name in the directory.
     pub name: Text,
-    /// The digest of its object.
+    /// The digest of the `file` object.
     pub digest: Digest,
 }
 
-/// A directory in a directory, with the digests of its dirtree and its dirmeta.
+/// A directory in a directory.
 #[derive(Drop)]
 pub struct DirEntry {
-    /// Its name in the directory.
+    /// The name in the directory.
     pub name: Text,
-    /// The digest of its dirtree.
+    /// The digest of the directory's dirtree.
     pub tree: Digest,
-    /// The digest of its dirmeta.
+    /// The digest of the directory's dirmeta.
     pub meta: Digest,
 }
 
-/// A dirtree object: `(a(say)a(sayay))`.
+/// A dirtree object, of the GVariant type `(a(say)a(sayay))`: the list of a directory's entries.
 #[derive(Drop)]
 pub struct DirTree {
-    /// Its files and links.
+    /// The files and symlinks. A valid dirtree has them in strictly ascending order of their names'
+    /// bytes.
     pub files: Items<FileEntry>,
-    /// Its directories.
+    /// The directories. A valid dirtree has them in strictly ascending order of their names' bytes.
     pub dirs: Items<DirEntry>,
 }

@@ -1,4 +1,4 @@
-//! What keeps an object from being read or written.
+//! The error of reading or writing a metadata object.
 ghost use Rattle.std.specs.Prelude.{◌≡◌};
 ghost use Rattle.ost_object.specs.declared.error.ObjectError.TheVariants.{NoMemory};
 
@@ -7,10 +7,10 @@ use std::alloc::{AllocError, AllocFailed};
 use std::error::Error;
 use std::fmt;
 
-/// Why an object can't be read or written.
+/// The reason why a metadata object can't be read or written.
 #[derive(Clone, Copy, Debug, PartialEq, Eq)]
 pub enum ObjectError {
-    /// It breaks this rule.
+    /// The object breaks this rule.
     Malformed(Rule),
     /// Memory ran out.
     NoMemory,

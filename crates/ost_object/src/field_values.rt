@@ -1,4 +1,4 @@
-//! The values that fields are written as.
+//! Making the GVariant values of fields.
 ghost use Rattle.std.specs.Prelude.{◌≡◌, true, IfOk};
 ghost use Rattle.gv_value.specs.Views.{plain};
 ghost use Rattle.ost_model.specs.Readers.{is_long};
@@ -10,21 +10,21 @@ use fp_name::Digest;
 use gv_value::GvValue;
 use std::alloc::{AllocError, Global};
 
-/// A text as a value of type `s`.
+/// Returns a text as a value of type `s`.
 pub fn text_as_value(alloc: Global, text: &str) -> Result<GvValue, AllocError>
     ensures { IfOk result (λ value. plain value ≡ text_value text.now) }
 {
     Ok(GvValue::Str(Text::from_string(String::from_str(alloc, text)?)))
 }
 
-/// Bytes as a value of type `ay`.
+/// Returns bytes as a value of type `ay`.
 pub fn bytes_as_value(alloc: Global, bytes: &[u8]) -> Result<GvValue, AllocError>
     ensures { IfOk result (λ value. plain value ≡ bytes_value bytes.now) }
 {
     Ok(GvValue::Bytes(Blob::from_vec(Vec::from_slice(alloc, bytes)?)))
 }
 
-/// A digest as a value of type `ay`.
+/// Returns a digest as a value of type `ay`.
 #[tactic(auto, using(crate::proofs::OneTree::long_digest))]
 pub fn digest_as_value(alloc: Global, digest: &Digest) -> Result<GvValue, AllocError>
     ensures value { IfOk result (λ value. plain value ≡ bytes_value digest.now) }

@@ -1,14 +1,14 @@
-//! Fields of metadata objects as they were read, before the rules after `Value` are tried.
+//! The fields of a dirmeta as read, before they are checked.
 
-/// The fields of a dirmeta.
+/// The fields of a dirmeta, after the rule `Value` was checked and before the others are.
 #[derive(Clone, Copy)]
 pub struct MetaFields {
-    /// The owner.
+    /// The user ID of the owner.
     pub uid: u32,
-    /// The group.
+    /// The ID of the group.
     pub gid: u32,
-    /// The type and the permission bits.
+    /// The file type and the permission bits.
     pub mode: u32,
-    /// There are no extended attributes.
+    /// Whether there are no extended attributes.
     pub bare: bool,
 }

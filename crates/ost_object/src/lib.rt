@@ -1,5 +1,5 @@
-//! The metadata objects of OSTree's repositories: commits, dirtrees and dirmetas, read and written
-//! exactly.
+//! Reads and writes the metadata objects of OSTree's repositories: commits, dirtrees and dirmetas.
+//! Only objects in GVariant's normal form that follow all rules are read.
 #![tactic(auto)]
 
 mod bindings;

@@ -1,10 +1,12 @@
-//! Numbers as OSTree keeps them, big endian, in values of GVariant, whose numbers are little endian.
+//! The order of the bytes of numbers: OSTree keeps them in big-endian order, in GVariant values,
+//! which are in little-endian order.
 ghost use Rattle.std.specs.Prelude.{◌≡◌};
 ghost use Rattle.std.specs.Int.{w32, w64, swap_bytes};
 
 use byteorder::{BigEndian, ByteOrder, LittleEndian};
 
-/// The number that a value of type `u` keeps, or the one by which it keeps this number.
+/// Returns the number with its four bytes in reverse order. This turns a number into the one that a
+/// value of type `u` keeps for it, and back.
 pub fn turned_u32(number: u32) -> u32
     ensures { result ≡ swap_bytes w32 number }
 {
@@ -13,7 +15,8 @@ pub fn turned_u32(number: u32) -> u32
     BigEndian::read_u32(&bytes)
 }
 
-/// The number that a value of type `t` keeps, or the one by which it keeps this number.
+/// Returns the number with its eight bytes in reverse order. This turns a number into the one that
+/// a value of type `t` keeps for it, and back.
 pub fn turned_u64(number: u64) -> u64
     ensures { result ≡ swap_bytes w64 number }
 {

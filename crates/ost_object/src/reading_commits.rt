@@ -1,4 +1,4 @@
-//! Commits, as they are read.
+//! Reading commits.
 ghost use Rattle.std.specs.Prelude.{◌≡◌, IfOk};
 ghost use Rattle.ost_model.specs.Readers.{commit_read};
 ghost use Rattle.ost_object.specs.Answers.{Reads, mapped};
@@ -11,7 +11,8 @@ use crate::values::{text_of_bytes, time_of_bytes};
 use fp_base::{Blob, Text};
 use std::alloc::{AllocError, Global};
 
-/// The commit that bytes are, or the first rule that they break.
+/// Reads a commit object. `Malformed` with the first of the rules `Value`, `Parent`, `Tree` and
+/// `Meta` that the bytes break.
 pub fn read_commit(alloc: Global, bytes: &[u8]) -> Result<Commit, ObjectError>
     ensures { Reads commit_view result (commit_read bytes.now) }
 {
@@ -20,8 +21,8 @@ pub fn read_commit(alloc: Global, bytes: &[u8]) -> Result<Commit, ObjectError>
     Ok(whole_commit(alloc, &parts, digests)?)
 }
 
-/// The root of the commit that bytes are, or the first rule that they break: as `read_commit`, with
-/// nothing copied.
+/// Reads the root of a commit object, without copying anything. `Malformed` as for `read_commit`,
+/// with the first of the rules `Value`, `Parent`, `Tree` and `Meta` that the bytes break.
 pub fn commit_root(alloc: Global, bytes: &[u8]) -> Result<CommitRoot, ObjectError>
     ensures { Reads root_view result (mapped root_in (commit_read bytes.now)) }
 {
@@ -35,7 +36,7 @@ pub fn commit_root(alloc: Global, bytes: &[u8]) -> Result<CommitRoot, ObjectErro
     }
 }
 
-/// The commit of these fields and digests.
+/// Returns the commit of these fields and digests.
 fn whole_commit(
     alloc: Global,
     parts: &CommitParts<'_>,
@@ -59,7 +60,7 @@ fn whole_commit(
     })
 }
 
-/// The subject and the body.
+/// Returns the subject and the body.
 fn said_in(alloc: Global, parts: &CommitParts<'_>) -> Result<(Text, Text), AllocError>
     ensures { IfOk result (λ texts. (texts.0 ≡ text_at parts.now.subject.now) ×
         (texts.1 ≡ text_at parts.now.body.now)) }
@@ -69,7 +70,7 @@ fn said_in(alloc: Global, parts: &CommitParts<'_>) -> Result<(Text, Text), Alloc
     Ok((subject, body))
 }
 
-/// The metadata and what is related, which are kept as they are.
+/// Returns copies of the bytes of the metadata and of the related objects.
 fn kept_of(alloc: Global, parts: &CommitParts<'_>) -> Result<(Blob, Blob), AllocError>
     ensures { IfOk result (λ kept. (kept.0 ≡ parts.now.metadata.now) ×
         (kept.1 ≡ parts.now.related.now)) }

@@ -1,4 +1,4 @@
-//! Dirmetas, as they are read.
+//! Reading dirmetas.
 ghost use Rattle.std.specs.Prelude.{◌≡◌, IfOk, Some};
 ghost use Rattle.std.specs.Option.{IsSome, option_map};
 ghost use Rattle.gv_value.specs.Reading.{value_of};
@@ -21,8 +21,8 @@ use fp_base::Rule;
 use ost_model::{DIRECTORY_TYPE, LOWEST_TYPE_BIT};
 use std::alloc::{AllocError, Global};
 
-/// The dirmeta that bytes are, or the first rule that they break. Extended attributes are checked
-/// and not kept.
+/// Reads a dirmeta object. `Malformed` with the first of the rules `Value`, `Owner`, `Xattrs` and
+/// `Kind` that the bytes break.
 pub fn read_dirmeta(alloc: Global, bytes: &[u8]) -> Result<DirMeta, ObjectError>
     ensures { Reads meta_view result (meta_read bytes.now) }
 {
@@ -33,7 +33,7 @@ pub fn read_dirmeta(alloc: Global, bytes: &[u8]) -> Result<DirMeta, ObjectError>
     meta_of_fields(fields)
 }
 
-/// The fields of these members.
+/// Returns the fields of a dirmeta by the bytes of its members.
 fn fields_of(alloc: Global, members: &[&[u8]]) -> Result<MetaFields, ObjectError>
     requires { AreEach meta_shapes (slices members.now) }
     ensures { Finds meta_fields result (meta_in
@@ -50,7 +50,7 @@ fn fields_of(alloc: Global, members: &[&[u8]]) -> Result<MetaFields, ObjectError
     }
 }
 
-/// Whether an array of extended attributes is empty.
+/// Returns whether an array of extended attributes is empty.
 fn is_bare(alloc: Global, bytes: &[u8]) -> Result<bool, AllocError>
     requires { IsSome (value_of attributes_shape bytes.now) }
     ensures { IfOk result (λ bare. option_map are_none
@@ -62,7 +62,8 @@ fn is_bare(alloc: Global, bytes: &[u8]) -> Result<bool, AllocError>
     Ok(first.is_none())
 }
 
-/// The dirmeta of these fields, or the first rule after `Value` that they break.
+/// Returns the dirmeta of these fields. `Malformed` with the first of the rules `Owner`, `Xattrs`
+/// and `Kind` that they break.
 fn meta_of_fields(fields: MetaFields) -> Result<DirMeta, ObjectError>
     ensures { Reads meta_view result (kept (meta_breaks (meta_fields fields))
         (meta_fields fields)) }

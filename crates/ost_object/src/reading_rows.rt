@@ -1,4 +1,4 @@
-//! The rows of a dirtree, as they are read: cut one after another from bytes that were checked.
+//! Reading the rows of a dirtree, one after another, from bytes that are known to be a value.
 ghost use Rattle.std.specs.Prelude.{◌≡◌, ◌∷◌, [], map, option_and_then};
 ghost use Rattle.std.specs.Option.{IsSome};
 ghost use Rattle.gv_value.specs.Reading.{value_of};
@@ -26,7 +26,8 @@ use gv_decode::Elements;
 use gv_value::GvType;
 use std::alloc::Global;
 
-/// The files of an array, where each digest has 32 bytes.
+/// Returns the files in an array. `Malformed` with the rule `Digest` if a digest isn't 32 bytes
+/// long.
 pub fn files_of(alloc: Global, bytes: &[u8]) -> Result<Vec<FileEntry>, ObjectError>
     requires { IsSome (value_of related_shape bytes.now) }
     ensures { Tries Rule.Digest (λ files. map file_row files.items) result
@@ -38,7 +39,8 @@ pub fn files_of(alloc: Global, bytes: &[u8]) -> Result<Vec<FileEntry>, ObjectErr
     file_rows(alloc, &row, rows)
 }
 
-/// The directories of an array, where each digest has 32 bytes.
+/// Returns the directories in an array. `Malformed` with the rule `Digest` if a digest isn't 32
+/// bytes long.
 pub fn dirs_of(alloc: Global, bytes: &[u8]) -> Result<Vec<DirEntry>, ObjectError>
     requires { IsSome (value_of dirs_shape bytes.now) }
     ensures { Tries Rule.Digest (λ dirs. map dir_row dirs.items) result
@@ -50,7 +52,7 @@ pub fn dirs_of(alloc: Global, bytes: &[u8]) -> Result<Vec<DirEntry>, ObjectError
     dir_rows(alloc, &row, rows)
 }
 
-/// Files, one by one.
+/// Returns the files of the rows that are left. `of` is the type of a row.
 fn file_rows(alloc: Global, of: &GvType, rows: Elements<'_>) -> Result<Vec<FileEntry>, ObjectError>
     requires ready { IsOpen rows }
     requires of { shape_of of.now ≡ tuple_shape file_shapes }
@@ -67,7 +69,7 @@ fn file_rows(alloc: Global, of: &GvType, rows: Elements<'_>) -> Result<Vec<FileE
     Ok(files)
 }
 
-/// Directories, one by one.
+/// Returns the directories of the rows that are left. `of` is the type of a row.
 fn dir_rows(alloc: Global, of: &GvType, rows: Elements<'_>) -> Result<Vec<DirEntry>, ObjectError>
     requires ready { IsOpen rows }
     requires of { shape_of of.now ≡ tuple_shape dir_shapes }
@@ -84,7 +86,7 @@ fn dir_rows(alloc: Global, of: &GvType, rows: Elements<'_>) -> Result<Vec<DirEnt
     Ok(dirs)
 }
 
-/// A file, where its digest has 32 bytes.
+/// Returns the file of a row. `Malformed` with the rule `Digest` if its digest isn't 32 bytes long.
 fn file_entry(alloc: Global, of: &GvType, bytes: &[u8]) -> Result<FileEntry, ObjectError>
     requires of { shape_of of.now ≡ tuple_shape file_shapes }
     requires value { IsSome (value_of (tuple_shape file_shapes) bytes.now) }
@@ -95,7 +97,7 @@ fn file_entry(alloc: Global, of: &GvType, bytes: &[u8]) -> Result<FileEntry, Obj
     file_of_members(alloc, &members)
 }
 
-/// The same by its members.
+/// Returns the file of a row, by the bytes of its members.
 fn file_of_members(alloc: Global, members: &[&[u8]]) -> Result<FileEntry, ObjectError>
     requires { AreEach file_shapes (slices members.now) }
     ensures { Tries Rule.Digest file_row result (option_and_then (passing has_long)
@@ -107,7 +109,7 @@ fn file_of_members(alloc: Global, members: &[&[u8]]) -> Result<FileEntry, Object
     }
 }
 
-/// The same by its name and its digest.
+/// Returns the file of a row, by the bytes of its name and its digest.
 fn file_of_parts(alloc: Global, name: &[u8], digest: &[u8]) -> Result<FileEntry, ObjectError>
     requires name { IsSome (value_of text_shape name.now) }
     requires digest { IsSome (value_of bytes_shape digest.now) }
@@ -119,7 +121,8 @@ fn file_of_parts(alloc: Global, name: &[u8], digest: &[u8]) -> Result<FileEntry,
     Ok(FileEntry { name, digest })
 }
 
-/// A directory, where its digests have 32 bytes.
+/// Returns the directory of a row. `Malformed` with the rule `Digest` if one of its digests isn't
+/// 32 bytes long.
 fn dir_entry(alloc: Global, of: &GvType, bytes: &[u8]) -> Result<DirEntry, ObjectError>
     requires of { shape_of of.now ≡ tuple_shape dir_shapes }
     requires value { IsSome (value_of (tuple_shape dir_shapes) bytes.now) }
@@ -130,7 +133,7 @@ fn dir_entry(alloc: Global, of: &GvType, bytes: &[u8]) -> Result<DirEntry, Objec
     dir_of_members(alloc, &members)
 }
 
-/// The same by its members.
+/// Returns the directory of a row, by the bytes of its members.
 fn dir_of_members(alloc: Global, members: &[&[u8]]) -> Result<DirEntry, ObjectError>
     requires { AreEach dir_shapes (slices members.now) }
     ensures { Tries Rule.Digest dir_row result (option_and_then (passing has_both_long)
@@ -142,7 +145,7 @@ fn dir_of_members(alloc: Global, members: &[&[u8]]) -> Result<DirEntry, ObjectEr
     }
 }
 
-/// The same by its name and its digests.
+/// Returns the directory of a row, by the bytes of its name and its digests.
 fn dir_of_parts(
     alloc: Global,
     name: &[u8],

@@ -1,4 +1,4 @@
-//! Dirtrees, as they are read.
+//! Reading dirtrees.
 ghost use Rattle.std.specs.Prelude.{◌≡◌, ◌∷◌, []};
 ghost use Rattle.std.specs.Option.{IsSome};
 ghost use Rattle.gv_value.specs.Reading.{value_of};
@@ -21,8 +21,9 @@ use crate::values::check;
 use fp_base::Items;
 use std::alloc::Global;
 
-/// The dirtree that bytes are, or the first rule that they break. The bytes are checked before
-/// anything is kept of them, and then cut row by row.
+/// Reads a dirtree object. `Malformed` with the first of the rules `Value`, `Digest`, `Name`,
+/// `Order` and `Both` that the bytes break. Checks all bytes before it keeps anything, and then
+/// cuts them row by row.
 pub fn read_dirtree(alloc: Global, bytes: &[u8]) -> Result<DirTree, ObjectError>
     ensures { Reads tree_view result (tree_read bytes.now) }
 {
@@ -32,7 +33,8 @@ pub fn read_dirtree(alloc: Global, bytes: &[u8]) -> Result<DirTree, ObjectError>
     tree_of_members(alloc, &members)
 }
 
-/// The dirtree of these members, or the first rule after `Value` that they break.
+/// Returns the dirtree by the bytes of its members. `Malformed` with the first of the rules
+/// `Digest`, `Name`, `Order` and `Both` that it breaks.
 fn tree_of_members(alloc: Global, members: &[&[u8]]) -> Result<DirTree, ObjectError>
     requires { AreEach rows_shapes (slices members.now) }
     ensures { Reads tree_view result (judged tree_breaks
@@ -44,7 +46,8 @@ fn tree_of_members(alloc: Global, members: &[&[u8]]) -> Result<DirTree, ObjectEr
     }
 }
 
-/// The same by the bytes of both arrays.
+/// Returns the dirtree by the bytes of its two arrays. `Malformed` with the first of the rules
+/// `Digest`, `Name`, `Order` and `Both` that it breaks.
 fn tree_of_rows(alloc: Global, files: &[u8], dirs: &[u8]) -> Result<DirTree, ObjectError>
     requires files { IsSome (value_of related_shape files.now) }
     requires dirs { IsSome (value_of dirs_shape dirs.now) }
@@ -56,7 +59,8 @@ fn tree_of_rows(alloc: Global, files: &[u8], dirs: &[u8]) -> Result<DirTree, Obj
     named(files, dirs)
 }
 
-/// The dirtree, or the first rule after `Digest` that it breaks.
+/// Returns the dirtree of these files and directories. `Malformed` with the first of the rules
+/// `Name`, `Order` and `Both` that it breaks.
 fn named(files: Vec<FileEntry>, dirs: Vec<DirEntry>) -> Result<DirTree, ObjectError>
     ensures { Reads tree_view result (kept (first_broken (name_tests
         (rows_view files.items dirs.items))) (rows_view files.items dirs.items)) }

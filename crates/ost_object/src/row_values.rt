@@ -1,4 +1,4 @@
-//! The values that the rows of a dirtree are written as.
+//! Making the GVariant values of a dirtree's rows.
 ghost use Rattle.std.specs.Prelude.{◌≡◌, true, map, IfOk, OnOk};
 ghost use Rattle.std.specs.List.{list_all};
 ghost use Rattle.gv_value.specs.Views.{plain, plains};
@@ -11,7 +11,7 @@ use crate::field_values::{digest_as_value, text_as_value};
 use gv_value::GvValue;
 use std::alloc::{AllocError, Global};
 
-/// Files as values of type `(say)`.
+/// Returns files as values of type `(say)`.
 pub fn files_as_values(alloc: Global, files: &[FileEntry]) -> Result<Vec<GvValue>, AllocError>
     ensures values { IfOk result (λ values. plains values.items ≡ each_value file_value
         (map file_row files.now)) }
@@ -24,7 +24,7 @@ pub fn files_as_values(alloc: Global, files: &[FileEntry]) -> Result<Vec<GvValue
     Ok(values)
 }
 
-/// A file's name and digest.
+/// Returns a file as a value of type `(say)`: its name and its digest.
 fn file_as_value(alloc: Global, file: &FileEntry) -> Result<GvValue, AllocError>
     ensures value { IfOk result (λ value. plain value ≡ file_value (file_row file.now)) }
     ensures long { OnOk result (has_long (file_row file.now) ≡ true) }
@@ -34,7 +34,7 @@ fn file_as_value(alloc: Global, file: &FileEntry) -> Result<GvValue, AllocError>
     Ok(GvValue::Tuple(vec![in alloc; name, digest]?))
 }
 
-/// Directories as values of type `(sayay)`.
+/// Returns directories as values of type `(sayay)`.
 pub fn dirs_as_values(alloc: Global, dirs: &[DirEntry]) -> Result<Vec<GvValue>, AllocError>
     ensures values { IfOk result (λ values. plains values.items ≡ each_value dir_value
         (map dir_row dirs.now)) }
@@ -47,7 +47,8 @@ pub fn dirs_as_values(alloc: Global, dirs: &[DirEntry]) -> Result<Vec<GvValue>, 
     Ok(values)
 }
 
-/// A directory's name and digests.
+/// Returns a directory as a value of type `(sayay)`: its name and the digests of its dirtree and
+/// its dirmeta.
 fn dir_as_value(alloc: Global, dir: &DirEntry) -> Result<GvValue, AllocError>
     ensures value { IfOk result (λ value. plain value ≡ dir_value (dir_row dir.now)) }
     ensures long { OnOk result (has_both_long (dir_row dir.now) ≡ true) }

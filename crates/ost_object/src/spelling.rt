@@ -1,4 +1,4 @@
-//! The bytes of values.
+//! Encoding values.
 ghost use Rattle.gv_value.specs.Views.{shape_of, plain};
 ghost use Rattle.ost_object.specs.Writes.{Spells};
 
@@ -8,7 +8,8 @@ use gv_encode::{EncodeError, encode};
 use gv_value::{GvType, GvValue};
 use std::alloc::Global;
 
-/// The bytes of a value of a type.
+/// Returns the serialised form of a value of a type. `Malformed` with the rule `Value` if there is
+/// none of at most 16 MiB.
 pub fn spelled(alloc: Global, of: &GvType, value: &GvValue) -> Result<Blob, ObjectError>
     ensures { Spells result (shape_of of.now) (plain value.now) }
 {

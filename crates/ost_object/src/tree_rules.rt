@@ -1,4 +1,4 @@
-//! The rules of names in a dirtree.
+//! The rules for the names in a dirtree.
 ghost use Rattle.std.specs.Prelude.{◌≡◌, true};
 ghost use Rattle.std.specs.List.{list_all};
 ghost use Rattle.fp_host.specs.Paths.{is_element as is_name};
@@ -11,7 +11,7 @@ use fp_base::Rule;
 use fp_host::is_element;
 use std::cmp::Ordering;
 
-/// The first rule after `Digest` that a dirtree breaks.
+/// Returns the first of the rules `Name`, `Order` and `Both` that a dirtree breaks.
 pub fn broken_name(files: &[FileEntry], dirs: &[DirEntry]) -> Option<Rule>
     ensures { result ≡ first_broken (name_tests (rows_view files.now dirs.now)) }
 {
@@ -27,7 +27,7 @@ pub fn broken_name(files: &[FileEntry], dirs: &[DirEntry]) -> Option<Rule>
     None
 }
 
-/// Whether each name can be that of a file.
+/// Returns whether each file's name can be a file name.
 fn are_file_names(files: &[FileEntry]) -> bool
     ensures { result ≡ list_all is_name (names_of_files files.now) }
 {
@@ -39,7 +39,7 @@ fn are_file_names(files: &[FileEntry]) -> bool
     true
 }
 
-/// Whether each name can be that of a directory.
+/// Returns whether each directory's name can be a file name.
 fn are_dir_names(dirs: &[DirEntry]) -> bool
     ensures { result ≡ list_all is_name (names_of_dirs dirs.now) }
 {
@@ -51,7 +51,7 @@ fn are_dir_names(dirs: &[DirEntry]) -> bool
     true
 }
 
-/// Whether the names of files ascend by their bytes.
+/// Returns whether the names of the files are strictly ascending by their bytes.
 fn files_ascend(files: &[FileEntry]) -> bool
     ensures { result ≡ is_ascending (names_of_files files.now) }
 {
@@ -63,7 +63,7 @@ fn files_ascend(files: &[FileEntry]) -> bool
     true
 }
 
-/// Whether the names of directories ascend by their bytes.
+/// Returns whether the names of the directories are strictly ascending by their bytes.
 fn dirs_ascend(dirs: &[DirEntry]) -> bool
     ensures { result ≡ is_ascending (names_of_dirs dirs.now) }
 {
@@ -75,7 +75,8 @@ fn dirs_ascend(dirs: &[DirEntry]) -> bool
     true
 }
 
-/// Whether a name is in both lists, which ascend: they are gone through together.
+/// Returns whether a name is in both lists. Both are in ascending order, so one pass over them is
+/// enough.
 fn share_a_name(files: &[FileEntry], dirs: &[DirEntry]) -> bool
     requires files { is_ascending (names_of_files files.now) ≡ true }
     requires dirs { is_ascending (names_of_dirs dirs.now) ≡ true }

@@ -1,4 +1,4 @@
-//! The types of metadata objects.
+//! The GVariant types of metadata objects and their parts.
 ghost use Rattle.std.specs.Prelude.{◌≡◌, IfOk, IsErr};
 ghost use Rattle.gv_value.specs.Shape.{variant, tuple};
 ghost use Rattle.gv_value.specs.Views.{shape_of};
@@ -10,7 +10,7 @@ ghost use Rattle.ost_object.specs.Entries.{entry_shape};
 use gv_value::{GvType, TypeError};
 use std::alloc::{AllocError, Global};
 
-/// The type of a commit.
+/// Returns the type of a commit.
 pub fn commit_type(alloc: Global) -> Result<GvType, AllocError>
     ensures { IfOk result (λ of. shape_of of ≡ commit_shape) }
 {
@@ -21,7 +21,7 @@ pub fn commit_type(alloc: Global) -> Result<GvType, AllocError>
     }
 }
 
-/// The type of a dirtree.
+/// Returns the type of a dirtree.
 pub fn tree_type(alloc: Global) -> Result<GvType, AllocError>
     ensures { IfOk result (λ of. shape_of of ≡ tree_shape) }
 {
@@ -32,7 +32,7 @@ pub fn tree_type(alloc: Global) -> Result<GvType, AllocError>
     }
 }
 
-/// The type of a dirmeta.
+/// Returns the type of a dirmeta.
 pub fn meta_type(alloc: Global) -> Result<GvType, AllocError>
     ensures { IfOk result (λ of. shape_of of ≡ meta_shape) }
 {
@@ -43,7 +43,7 @@ pub fn meta_type(alloc: Global) -> Result<GvType, AllocError>
     }
 }
 
-/// The type of a commit's metadata.
+/// Returns the type `a{sv}` of a commit's metadata.
 pub fn dictionary_type(alloc: Global) -> Result<GvType, AllocError>
     ensures { IfOk result (λ of. shape_of of ≡ dictionary_shape) }
 {
@@ -54,7 +54,7 @@ pub fn dictionary_type(alloc: Global) -> Result<GvType, AllocError>
     }
 }
 
-/// The type of an entry of a commit's metadata.
+/// Returns the type `{sv}` of an entry of a commit's metadata.
 pub fn entry_type(alloc: Global) -> Result<GvType, AllocError>
     ensures { IfOk result (λ of. shape_of of ≡ entry_shape) }
 {
@@ -65,7 +65,7 @@ pub fn entry_type(alloc: Global) -> Result<GvType, AllocError>
     }
 }
 
-/// The type of variants.
+/// Returns the type `v` of variants.
 pub fn variant_type(alloc: Global) -> Result<GvType, AllocError>
     ensures { IfOk result (λ of. shape_of of ≡ variant) }
 {
@@ -76,7 +76,8 @@ pub fn variant_type(alloc: Global) -> Result<GvType, AllocError>
     }
 }
 
-/// The type of what a commit is related to, and of a dirtree's files.
+/// Returns the type `a(say)`, which the related objects of a commit have, and the files of a
+/// dirtree.
 pub fn related_type(alloc: Global) -> Result<GvType, AllocError>
     ensures { IfOk result (λ of. shape_of of ≡ related_shape) }
 {
@@ -87,7 +88,7 @@ pub fn related_type(alloc: Global) -> Result<GvType, AllocError>
     }
 }
 
-/// The type of a dirtree's directories.
+/// Returns the type of a dirtree's directories.
 pub fn dirs_type(alloc: Global) -> Result<GvType, AllocError>
     ensures { IfOk result (λ of. shape_of of ≡ dirs_shape) }
 {
@@ -98,7 +99,7 @@ pub fn dirs_type(alloc: Global) -> Result<GvType, AllocError>
     }
 }
 
-/// The type of a file in a dirtree.
+/// Returns the type of a file in a dirtree.
 pub fn file_type(alloc: Global) -> Result<GvType, AllocError>
     ensures { IfOk result (λ of. shape_of of ≡ tuple file_shapes) }
 {
@@ -109,7 +110,7 @@ pub fn file_type(alloc: Global) -> Result<GvType, AllocError>
     }
 }
 
-/// The type of a directory in a dirtree.
+/// Returns the type of a directory in a dirtree.
 pub fn dir_type(alloc: Global) -> Result<GvType, AllocError>
     ensures { IfOk result (λ of. shape_of of ≡ tuple dir_shapes) }
 {
@@ -120,7 +121,7 @@ pub fn dir_type(alloc: Global) -> Result<GvType, AllocError>
     }
 }
 
-/// The type of a dirmeta's extended attributes.
+/// Returns the type of a dirmeta's extended attributes.
 pub fn attributes_type(alloc: Global) -> Result<GvType, AllocError>
     ensures { IfOk result (λ of. shape_of of ≡ attributes_shape) }
 {

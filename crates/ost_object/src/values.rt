@@ -1,4 +1,4 @@
-//! The values that fields are.
+//! Decoding the values of fields.
 ghost use Rattle.std.specs.Prelude.{◌≡◌, ◌≤◌, length, IfOk, option_and_then};
 ghost use Rattle.gv_value.specs.declared.limits.TheConstants.{MOST_BYTES};
 ghost use Rattle.gv_value.specs.Reading.{value_of};
@@ -18,7 +18,8 @@ use gv_decode::{DecodeError, check_normal, children, decode};
 use gv_value::{Basic, GvType, GvValue};
 use std::alloc::{AllocError, Global};
 
-/// The value of a type that bytes are.
+/// Decodes a value of a type. `Malformed` with the rule `Value` if the bytes aren't one in normal
+/// form.
 pub fn value_of(alloc: Global, of: &GvType, bytes: &[u8]) -> Result<GvValue, ObjectError>
     ensures { Finds plain result (value_of (shape_of of.now) bytes.now) }
 {
@@ -30,7 +31,8 @@ pub fn value_of(alloc: Global, of: &GvType, bytes: &[u8]) -> Result<GvValue, Obj
     }
 }
 
-/// Whether bytes are a value of a type.
+/// Checks whether bytes are a value of a type in normal form. `Malformed` with the rule `Value` if
+/// they aren't.
 pub fn check(alloc: Global, of: &GvType, bytes: &[u8]) -> Result<(), ObjectError>
     ensures { Holds result (value_of (shape_of of.now) bytes.now) }
 {
@@ -42,7 +44,8 @@ pub fn check(alloc: Global, of: &GvType, bytes: &[u8]) -> Result<(), ObjectError
     }
 }
 
-/// The bytes of the children of a container that isn't too long.
+/// Returns the bytes of the children of a container of at most 16 MiB. `Malformed` with the rule
+/// `Value` if the bytes can't be cut into children.
 pub fn children_of<'a>(
     alloc: Global,
     of: &GvType,
@@ -59,7 +62,7 @@ pub fn children_of<'a>(
     }
 }
 
-/// The text that bytes of type `s` are, or the empty text where they are none.
+/// Returns the text in the bytes of a value of type `s`, or the empty text if they aren't one.
 pub fn text_of_bytes(alloc: Global, bytes: &[u8]) -> Result<Text, AllocError>
     ensures { IfOk result (λ text. text ≡ text_at bytes.now) }
 {
@@ -70,7 +73,7 @@ pub fn text_of_bytes(alloc: Global, bytes: &[u8]) -> Result<Text, AllocError>
     }
 }
 
-/// The text that bytes of type `s` are.
+/// Returns the text in the bytes of a value of type `s`.
 fn text_in_bytes(alloc: Global, bytes: &[u8]) -> Result<Text, ObjectError>
     ensures { Finds as_is result (option_and_then text_in (value_of text_shape bytes.now)) }
 {
@@ -78,7 +81,7 @@ fn text_in_bytes(alloc: Global, bytes: &[u8]) -> Result<Text, ObjectError>
     text_of(alloc, &value)
 }
 
-/// The number that bytes of type `t` are, which is kept big endian, or 0 where they are none.
+/// Returns the big-endian number in the bytes of a value of type `t`, or 0 if they aren't one.
 pub fn time_of_bytes(alloc: Global, bytes: &[u8]) -> Result<u64, AllocError>
     ensures { IfOk result (λ time. time ≡ time_at bytes.now) }
 {
@@ -89,7 +92,7 @@ pub fn time_of_bytes(alloc: Global, bytes: &[u8]) -> Result<u64, AllocError>
     }
 }
 
-/// The number that bytes of type `t` are, which is kept big endian.
+/// Returns the big-endian number in the bytes of a value of type `t`.
 fn time_in_bytes(alloc: Global, bytes: &[u8]) -> Result<u64, ObjectError>
     ensures { Finds as_is result (option_and_then time_in (value_of time_shape bytes.now)) }
 {
@@ -97,7 +100,8 @@ fn time_in_bytes(alloc: Global, bytes: &[u8]) -> Result<u64, ObjectError>
     time_of(&value)
 }
 
-/// The number that bytes of type `u` are, which is kept big endian.
+/// Returns the big-endian number in the bytes of a value of type `u`. `Malformed` with the rule
+/// `Value` if they aren't one.
 pub fn number_in_bytes(alloc: Global, bytes: &[u8]) -> Result<u32, ObjectError>
     ensures { Finds as_is result (number_in (tree_at number_shape bytes.now)) }
 {
@@ -105,7 +109,7 @@ pub fn number_in_bytes(alloc: Global, bytes: &[u8]) -> Result<u32, ObjectError>
     number_of(&value)
 }
 
-/// The text of a value of type `s`.
+/// Returns the text of a value. `Malformed` with the rule `Value` if it doesn't have the type `s`.
 pub fn text_of(alloc: Global, value: &GvValue) -> Result<Text, ObjectError>
     ensures { Finds as_is result (text_in (plain value.now)) }
 {
@@ -115,7 +119,8 @@ pub fn text_of(alloc: Global, value: &GvValue) -> Result<Text, ObjectError>
     }
 }
 
-/// The number of a value of type `u`, which is kept big endian.
+/// Returns the big-endian number of a value. `Malformed` with the rule `Value` if it doesn't have
+/// the type `u`.
 fn number_of(value: &GvValue) -> Result<u32, ObjectError>
     ensures { Finds as_is result (number_in (plain value.now)) }
 {
@@ -125,7 +130,8 @@ fn number_of(value: &GvValue) -> Result<u32, ObjectError>
     }
 }
 
-/// The number of a value of type `t`, which is kept big endian.
+/// Returns the big-endian number of a value. `Malformed` with the rule `Value` if it doesn't have
+/// the type `t`.
 fn time_of(value: &GvValue) -> Result<u64, ObjectError>
     ensures { Finds as_is result (time_in (plain value.now)) }
 {

@@ -1,4 +1,4 @@
-//! Commits, as they are written.
+//! Writing commits.
 ghost use Rattle.std.specs.Prelude.{◌≡◌, ◌<◌, ◌^◌, true, None, ◌==◌, ◌||◌, length, IfOk, OnOk};
 ghost use Rattle.gv_value.specs.Views.{plain};
 ghost use Rattle.ost_model.specs.Readers.{commit_breaks, commit_read, is_long};
@@ -21,7 +21,10 @@ use fp_name::Digest;
 use gv_value::GvValue;
 use std::alloc::{AllocError, Global};
 
-/// The bytes that read as a commit. `Malformed` comes exactly where there are none.
+/// Returns the serialised form of a commit: the bytes that `read_commit` reads as this commit.
+/// `Malformed` with the rule `Value` if and only if there are none: the metadata or the related
+/// objects aren't values of their types, a text has a zero byte, or there would be more than 16
+/// MiB.
 pub fn write_commit(alloc: Global, commit: &Commit) -> Result<Blob, ObjectError>
     ensures { Writes commit_read commit_breaks result (commit_view commit.now) }
 {
@@ -32,7 +35,7 @@ pub fn write_commit(alloc: Global, commit: &Commit) -> Result<Blob, ObjectError>
     }
 }
 
-/// The same with the metadata's value.
+/// Writes a commit whose metadata and digests are already values.
 fn with_metadata(
     alloc: Global,
     commit: &Commit,
@@ -52,7 +55,7 @@ fn with_metadata(
     }
 }
 
-/// The value of a commit's metadata.
+/// Decodes the metadata of a commit.
 fn metadata_of(alloc: Global, commit: &Commit) -> Result<GvValue, ObjectError>
     ensures { Decodes result dictionary_shape (tree_at dictionary_shape commit.now.metadata) }
 {
@@ -60,7 +63,7 @@ fn metadata_of(alloc: Global, commit: &Commit) -> Result<GvValue, ObjectError>
     value_of(alloc, &of, commit.metadata.as_slice())
 }
 
-/// The value of what a commit is related to.
+/// Decodes the related objects of a commit.
 fn related_of(alloc: Global, commit: &Commit) -> Result<GvValue, ObjectError>
     ensures { Decodes result related_shape (tree_at related_shape commit.now.related) }
 {
@@ -68,7 +71,7 @@ fn related_of(alloc: Global, commit: &Commit) -> Result<GvValue, ObjectError>
     value_of(alloc, &of, commit.related.as_slice())
 }
 
-/// The values of a commit's digests.
+/// The digests of a commit, as values of type `ay`.
 #[derive(Drop)]
 struct DigestValues {
     parent: GvValue,
@@ -76,7 +79,7 @@ struct DigestValues {
     meta: GvValue,
 }
 
-/// A commit's digests as values. They have their lengths.
+/// Returns the digests of a commit as values. Each has a length that the rules allow.
 #[tactic(auto, using(crate::proofs::Lengths::unbroken))]
 fn digest_values(alloc: Global, commit: &Commit) -> Result<DigestValues, AllocError>
     ensures good { OnOk result (commit_breaks (commit_view commit.now) ≡ None) }
@@ -91,7 +94,7 @@ fn digest_values(alloc: Global, commit: &Commit) -> Result<DigestValues, AllocEr
     Ok(DigestValues { parent, tree, meta })
 }
 
-/// A parent as a value of type `ay`.
+/// Returns a parent's digest as a value of type `ay`, without bytes if there is no parent.
 #[tactic(auto, using(crate::proofs::Lengths::or_long))]
 fn parent_as_value(alloc: Global, parent: &Option<Digest>) -> Result<GvValue, AllocError>
     ensures value { IfOk result (λ value. plain value ≡ bytes_value (parent_bytes parent.now)) }
@@ -104,7 +107,8 @@ fn parent_as_value(alloc: Global, parent: &Option<Digest>) -> Result<GvValue, Al
     }
 }
 
-/// The bytes of a commit's values.
+/// Returns the serialised form of a commit, by the values of its metadata, its related objects and
+/// its digests.
 fn spelled_commit(
     alloc: Global,
     commit: &Commit,
@@ -124,7 +128,7 @@ fn spelled_commit(
     }
 }
 
-/// The values of what a commit says: its subject, its body and its time.
+/// The subject, the body and the time of a commit, as values.
 #[derive(Drop)]
 struct SaidValues {
     subject: GvValue,
@@ -132,7 +136,7 @@ struct SaidValues {
     time: GvValue,
 }
 
-/// What a commit says, as values.
+/// Returns the subject, the body and the time of a commit as values.
 fn said_values(alloc: Global, commit: &Commit) -> Result<SaidValues, AllocError>
     ensures subject { IfOk result (λ said. plain said.subject ≡ text_value commit.now.subject) }
     ensures body { IfOk result (λ said. plain said.body ≡ text_value commit.now.body) }
@@ -149,7 +153,7 @@ fn said_values(alloc: Global, commit: &Commit) -> Result<SaidValues, AllocError>
     })
 }
 
-/// The bytes of a commit's members.
+/// Returns the serialised form of a commit, by the values of its fields.
 fn spelled_members(
     alloc: Global,
     metadata: GvValue,
@@ -167,7 +171,7 @@ fn spelled_members(
     }
 }
 
-/// The bytes of a commit's value.
+/// Returns the serialised form of a commit, by its value.
 fn spelled_value(alloc: Global, value: &GvValue) -> Result<Blob, ObjectError>
     ensures { Spells result commit_shape (plain value.now) }
 {
@@ -175,7 +179,7 @@ fn spelled_value(alloc: Global, value: &GvValue) -> Result<Blob, ObjectError>
     spelled(alloc, &of, value)
 }
 
-/// A time as a value of type `t`, big endian.
+/// Returns a time in seconds since 1970 as a value of type `t`, in big-endian order.
 fn time_as_value(time: u64) -> GvValue
     ensures value { plain result ≡ time_value time }
     ensures small { time < 2 ^ 64 }
@@ -183,7 +187,7 @@ fn time_as_value(time: u64) -> GvValue
     GvValue::Uint64(turned_u64(time))
 }
 
-/// The value of a commit, of its members.
+/// Returns the value of a commit, by the values of its fields.
 fn commit_as_value(
     alloc: Global,
     metadata: GvValue,

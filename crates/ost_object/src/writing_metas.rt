@@ -1,4 +1,4 @@
-//! Dirmetas, as they are written.
+//! Writing dirmetas.
 ghost use Rattle.std.specs.Prelude.{◌≡◌, ◌<◌, ◌^◌, IfOk};
 ghost use Rattle.gv_value.specs.Views.{plain};
 ghost use Rattle.ost_model.specs.Readers.{meta_breaks, meta_read};
@@ -16,7 +16,9 @@ use gv_value::GvValue;
 use ost_model::{DIRECTORY_TYPE, LOWEST_TYPE_BIT};
 use std::alloc::{AllocError, Global};
 
-/// The bytes that read as a dirmeta. `Malformed` comes exactly where there are none.
+/// Returns the serialised form of a dirmeta: the bytes that `read_dirmeta` reads as this dirmeta.
+/// `Malformed` if and only if there are none, with the rule `Kind` if the mode isn't that of a
+/// directory.
 pub fn write_dirmeta(alloc: Global, meta: &DirMeta) -> Result<Blob, ObjectError>
     ensures { Writes meta_read meta_breaks result (meta_view meta.now) }
 {
@@ -29,7 +31,7 @@ pub fn write_dirmeta(alloc: Global, meta: &DirMeta) -> Result<Blob, ObjectError>
     spelled(alloc, &of, &value)
 }
 
-/// The value of a dirmeta: owner, group, mode and extended attributes.
+/// Returns the value of a dirmeta: owner and group 0, the mode, and no extended attributes.
 fn value_of(alloc: Global, meta: DirMeta) -> Result<GvValue, AllocError>
     ensures value { IfOk result (λ value. plain value ≡ meta_value (meta_view meta)) }
     ensures small { meta.mode < 2 ^ 32 }

@@ -1,4 +1,4 @@
-//! Dirtrees, as they are written.
+//! Writing dirtrees.
 ghost use Rattle.std.specs.Prelude.{◌≡◌, IfOk};
 ghost use Rattle.gv_value.specs.Tree.{tuple, array, tree as first, no_trees};
 ghost use Rattle.gv_value.specs.Views.{plain, plains};
@@ -17,14 +17,16 @@ use fp_base::Blob;
 use gv_value::GvValue;
 use std::alloc::{AllocError, Global};
 
-/// The bytes that read as a dirtree. `Malformed` comes exactly where there are none.
+/// Returns the serialised form of a dirtree: the bytes that `read_dirtree` reads as this dirtree.
+/// `Malformed` if and only if there are none: with the first of the rules `Name`, `Order` and
+/// `Both` that it breaks, or with `Value` if there would be more than 16 MiB.
 pub fn write_dirtree(alloc: Global, tree: &DirTree) -> Result<Blob, ObjectError>
     ensures { Writes tree_read tree_breaks result (tree_view tree.now) }
 {
     write_rows(alloc, tree.files.as_slice(), tree.dirs.as_slice())
 }
 
-/// The same by the rows.
+/// Writes the dirtree of these files and directories.
 fn write_rows(alloc: Global, files: &[FileEntry], dirs: &[DirEntry]) -> Result<Blob, ObjectError>
     ensures { Writes tree_read tree_breaks result (rows_view files.now dirs.now) }
 {
@@ -36,7 +38,7 @@ fn write_rows(alloc: Global, files: &[FileEntry], dirs: &[DirEntry]) -> Result<B
     }
 }
 
-/// The bytes of the values of rows.
+/// Returns the serialised form of a dirtree, by the values of its files and directories.
 fn spelled_rows(alloc: Global, files: Vec<GvValue>, dirs: Vec<GvValue>) -> Result<Blob, ObjectError>
     ensures { Spells result tree_shape (tuple (first (array (plains files.items))
         (first (array (plains dirs.items)) no_trees))) }
@@ -46,7 +48,7 @@ fn spelled_rows(alloc: Global, files: Vec<GvValue>, dirs: Vec<GvValue>) -> Resul
     spelled(alloc, &of, &value)
 }
 
-/// The value of rows.
+/// Returns the value of a dirtree, by the values of its files and directories.
 fn rows_as_value(
     alloc: Global,
     files: Vec<GvValue>,

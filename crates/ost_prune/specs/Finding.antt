@@ -1,4 +1,4 @@
--- What is found in the folders of a store.
+-- Finding unused objects in the directories of a store.
 use Rattle.std.specs.Prelude.{◌≡◌, ◌⊎◌, ◌↔◌, ◌++◌, ℕ, List, map, take, true, Option, Some, None, Contains}
 use Rattle.fp_host.specs.Paths.{Elements, path_text}
 use Rattle.fp_host.specs.Reads.{is_ascending}
@@ -9,7 +9,8 @@ use Rattle.fp_base.specs.declared.object.ObjKind.{ObjKind}
 use Rattle.ost_prune.specs.Prune.{IsUnused}
 use Rattle.ost_store.specs.Names.{name_in, name_text}
 
--- the path is the name of this object, which no commit uses; or of none
+-- Holds if the path is the name of this object, which is unused; or there is no object, and the
+-- path isn't the name of an unused one
 abbrev pub IsUnusedAt : Elements → List (List ℕ) → Elements → View
     → Option (List ℕ × ObjKind) → Type 0
 IsUnusedAt root keep path v (Some object) =
@@ -17,8 +18,8 @@ IsUnusedAt root keep path v (Some object) =
 IsUnusedAt root keep path v None =
     (object : List ℕ × ObjKind) → path ≡ name_in root object → IsUnused root keep v object → ⊥
 
--- The objects among the names that no commit uses came to the list. Where the texts of the list and
--- of the names ascend in a row, those of the new list do.
+-- The unused objects among the names were added to the list. If the texts of the list and then
+-- those of the names are ascending, the texts of the new list are.
 pub record PicksNames (root : Elements) (keep : List (List ℕ)) (paths : List Elements) (v : View)
     (found found' : List (List ℕ × ObjKind)) : Type 0 where
   pub each : (object : List ℕ × ObjKind) → Contains found' object ↔ (Contains found object
@@ -26,17 +27,18 @@ pub record PicksNames (root : Elements) (keep : List (List ℕ)) (paths : List E
   pub ascending : is_ascending (map (name_text root) found ++ map path_text paths) ≡ true
       → is_ascending (map (name_text root) found') ≡ true
 
--- the name of the object's folder: the first two digits
+-- The name of an object's directory: the first two digits of its digest
 abbrev pub folder_of : List ℕ × ObjKind → List ℕ
 folder_of object = take 2 (hex object.0)
 
--- the objects are of folders before that of this name
+-- Holds if the objects are in directories whose names come before this one
 abbrev pub AreBefore : List ℕ → List (List ℕ × ObjKind) → Type 0
 AreBefore name found = (object : List ℕ × ObjKind) → Contains found object
     → (is_digest object.0 ≡ true) × (comes_before (folder_of object) name ≡ true)
 
--- So came the objects of the folder of this name. Where those in the list ascend and are of folders
--- before it, they all ascend.
+-- The unused objects of the directory with this name were added to the list. If the texts of the
+-- list are ascending and its objects are in directories before this one, the texts of the new list
+-- are ascending.
 pub record PicksFolder (root : Elements) (keep : List (List ℕ)) (name : List ℕ) (v : View)
     (found found' : List (List ℕ × ObjKind)) : Type 0 where
   pub each : (object : List ℕ × ObjKind) → Contains found' object ↔ (Contains found object
@@ -44,8 +46,8 @@ pub record PicksFolder (root : Elements) (keep : List (List ℕ)) (name : List �
   pub ascending : is_ascending (map (name_text root) found) ≡ true → AreBefore name found
       → is_ascending (map (name_text root) found') ≡ true
 
--- These are the objects of the folders of these names that no commit uses. Where the names ascend,
--- they do too.
+-- These are the unused objects of the directories with these names. If the names are ascending, the
+-- texts of the objects are.
 pub record PicksUnused (root : Elements) (keep : List (List ℕ)) (names : List (List ℕ)) (v : View)
     (found : List (List ℕ × ObjKind)) : Type 0 where
   pub each : (object : List ℕ × ObjKind) → Contains found object

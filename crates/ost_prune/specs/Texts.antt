@@ -13,28 +13,27 @@ use Rattle.ost_model.specs.Used.{IsUsed, used_fault}
 use Rattle.ost_walk.specs.Steps.{IsOrder}
 use Rattle.ost_store.specs.Names.{name_in, name_text}
 
--- the text is that of the object's path in the store at root, and is read as it
+-- The text is that of the object's path in the store at `root`, and is read as that path
 pub record IsTextOf (root : Elements) (object : List ℕ × ObjKind) (text : List ℕ) : Type 0 where
   pub good : is_digest object.0 ≡ true
   pub is : text ≡ name_text root object
   pub back : elements_of text ≡ name_in root object
 
--- the set has besides what it had the texts of these objects, and no others
+-- The texts of these objects were added to the set, and no others
 pub record AddsTexts (root : Elements) (objects : List (List ℕ × ObjKind))
     (had has : List ℕ → Bool) : Type 0 where
   pub each : (q : List ℕ) → has q ≡ (had q || list_any (λ o. bytes_eq (name_text root o) q) objects)
   pub good : (object : List ℕ × ObjKind) → Contains objects object
       → IsTextOf root object (name_text root object)
 
--- so it has those of all that the commit uses, which has no fault
+-- The texts of all objects that the commit uses were added to the set, and the commit has no fault
 pub record AddsOrder (root : Elements) (have : Have) (commit : List ℕ) (had has : List ℕ → Bool)
     : Type 0 where
   pub objects : List (List ℕ × ObjKind)
   pub order : IsOrder have commit objects
   pub adds : AddsTexts root objects had has
 
--- The set tells which of these objects the commits use: it has the text of each, and of no other
--- object.
+-- The set has the text of each object that the commits use, and of no other object
 pub record TellsUsed (root : Elements) (have : Have) (keep : List (List ℕ)) (has : List ℕ → Bool)
     : Type 0 where
   pub used : (object : List ℕ × ObjKind) → IsUsed have keep object
@@ -43,22 +42,23 @@ pub record TellsUsed (root : Elements) (have : Have) (keep : List (List ℕ)) (h
       → elements_of (name_text root object) ≡ name_in root object
       → has (name_text root object) ≡ true → IsUsed have keep object
 
--- and none of the commits has a fault
+-- The set has the texts of the objects that the commits use, and none of the commits has a fault
 pub record AreGathered (root : Elements) (have : Have) (keep : List (List ℕ)) (has : List ℕ → Bool)
     : Type 0 where
   pub tells : TellsUsed root have keep has
   pub clean : used_fault have keep ≡ None
 
--- so it tells of the store at root
+-- Holds if the set has the texts of the objects that the commits use in the store at `root`
 abbrev pub AreUsedTexts : Elements → List (List ℕ) → View → (List ℕ → Bool) → Type 0
 AreUsedTexts root keep v has = TellsUsed root (store root (shows v)) keep has
 
--- the orders of the commits have no fault in the store at root
+-- The orders of the commits have no fault in the store at `root`
 pub record AreWhole (root : Elements) (keep : List (List ℕ)) (v : View) : Type 0 where
   pub whole : (commit : List ℕ) → Contains keep commit
       → first_fault (store root (shows v)) commit ≡ None
 
--- So it is of what was found; nothing was, where the order of one of the commits has a fault.
+-- Holds if `Is` holds of the result; or the result is `None`, and the order of one of the commits
+-- has a fault
 abbrev pub UnlessFaulty : {A : Type 0} → Elements → List (List ℕ) → View → (A → Type 0) → Option A
     → Type 0
 UnlessFaulty root keep v Is None = AreWhole root keep v → ⊥

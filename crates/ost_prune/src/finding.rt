@@ -1,4 +1,4 @@
-//! The objects of a store that no commit uses.
+//! Finding the objects of a store that no commit uses.
 ghost use Rattle.std.specs.Prelude.{◌≡◌, ◌≢◌, ◌∷◌, ◌++◌, [], List, ℕ, map, true, IfOk, OnOk, IsErrOf};
 ghost use Rattle.std.specs.HashSet.{contains_text};
 ghost use Rattle.std.specs.List.{list_all};
@@ -19,8 +19,8 @@ use ost_store::{has, object_named};
 use std::alloc::{AllocError, Global};
 use std::collections::HashSet;
 
-/// Whether the set has the text of the path of this name in the folder. The text is written into
-/// the buffer, so that a name takes no memory of its own.
+/// Returns whether the set has the text of the path of `name` in the directory. Writes the text
+/// into `buffer`, so that no name needs memory of its own.
 fn is_used(
     used: &HashSet<String>,
     folder: &Path,
@@ -38,8 +38,8 @@ fn is_used(
     Ok(used.contains(buffer.as_str()))
 }
 
-/// The object that has this name in the folder, where it is there and isn't used. Nothing is asked
-/// of a used one.
+/// Returns the object with this name in the directory, if the store has it and no commit uses it.
+/// Makes no call to the host for a used one.
 fn unused_at<H: Host>(
     alloc: Global,
     host: &mut H,
@@ -71,7 +71,7 @@ fn unused_at<H: Host>(
     }
 }
 
-/// Adds the object, where there is one.
+/// Adds the object, if there is one.
 fn add_found(
     object: Option<(Digest, ObjKind)>,
     found: &mut Vec<(Digest, ObjKind)>,
@@ -84,7 +84,7 @@ fn add_found(
     Ok(())
 }
 
-/// Adds the objects among these names in the folder that aren't used.
+/// Adds the unused objects among these names in the directory.
 fn pick_names<H: Host>(
     alloc: Global,
     host: &mut H,
@@ -111,7 +111,7 @@ fn pick_names<H: Host>(
     Ok(())
 }
 
-/// Adds the objects that aren't used of the folder of this name in `objects`.
+/// Adds the unused objects of the directory with this name in `objects`.
 fn pick_folder<H: Host>(
     alloc: Global,
     host: &mut H,
@@ -137,7 +137,7 @@ fn pick_folder<H: Host>(
     pick_names(alloc, host, root, used, &folder, names.as_slice(), found)
 }
 
-/// The objects that aren't used of the folders of these names in `objects`.
+/// Returns the unused objects of the directories with these names in `objects`.
 fn pick_folders<H: Host>(
     alloc: Global,
     host: &mut H,
@@ -161,8 +161,9 @@ fn pick_folders<H: Host>(
     Ok(found)
 }
 
-/// The objects of the store in this folder whose texts the set lacks, ascending by the texts of
-/// their paths. Only the folders in `objects` and names that aren't used are asked what they are.
+/// Returns the objects of the store at `root` whose texts are not in the set, in ascending order of
+/// the texts of their paths. Looks up only the directories in `objects` and the names that are not
+/// in the set.
 fn pick_all<H: Host>(
     alloc: Global,
     host: &mut H,
@@ -180,8 +181,9 @@ fn pick_all<H: Host>(
     pick_folders(alloc, host, root, used, &objects, names.as_slice())
 }
 
-/// The objects of the store in this folder that no commit to keep uses, ascending by the texts of
-/// their paths, or None where the order of one of these commits has a fault there.
+/// Returns the objects of the store at `root` that no commit of `keep` uses, in ascending order of
+/// the texts of their paths. Returns `None` if the order of one of these commits has a fault in
+/// this store. Changes nothing.
 pub(crate) fn find_unused<H: Host>(
     alloc: Global,
     host: &mut H,

@@ -1,4 +1,4 @@
-//! The folders of a store's objects, and the names in them.
+//! The directories in `objects`, and the names in them.
 ghost use Rattle.std.specs.Prelude.{◌≡◌, IfOk, IsErrOf, is_some};
 ghost use Rattle.std.specs.List.{list_all};
 ghost use Rattle.fp_host.specs.OverHost.{AtReturn, ChangesNothing, FailsAlone};
@@ -11,35 +11,37 @@ use fp_base::{Items, Text};
 use fp_host::{Host, HostEnd, Path, Stat};
 use std::alloc::Global;
 
-/// Whether it is a hexadecimal digit in lower case.
+/// Returns whether the byte is a lower-case hexadecimal digit.
 fn is_digit(c: u8) -> bool
     ensures { result ≡ is_some (digit_value c) }
 {
     matches!(c, b'0'..=b'9' | b'a'..=b'f')
 }
 
-/// Whether all of them are such digits.
+/// Returns whether all bytes are lower-case hexadecimal digits.
 fn are_digits(digits: &[u8]) -> bool
     ensures { result ≡ list_all (λ c. is_some (digit_value c)) digits.now }
 {
     digits.iter().all(|c| is_digit(*c))
 }
 
-/// Whether they are two such digits.
+/// Returns whether the bytes are two lower-case hexadecimal digits.
 fn are_two_digits(digits: &[u8]) -> bool
     ensures { result ≡ is_prefix digits.now }
 {
     digits.len() == 2 && are_digits(digits)
 }
 
-/// Whether the name is two such digits, as that of each folder of objects is.
+/// Returns whether the name can be that of a directory in `objects`: two lower-case hexadecimal
+/// digits.
 pub(crate) fn is_prefix(name: &str) -> bool
     ensures { result ≡ is_prefix name.now }
 {
     are_two_digits(name.as_bytes())
 }
 
-/// The names directly in the folder, ascending by their bytes; none where it is no folder.
+/// Returns the names in the directory, in ascending order of their bytes, or no names if the path
+/// isn't a directory.
 pub(crate) fn names_within<H: Host>(
     alloc: Global,
     host: &mut H,

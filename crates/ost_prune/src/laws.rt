@@ -1,5 +1,5 @@
-//! Laws of the words that the contract uses, for crates that build on it. Each is the contract of a
-//! function that does nothing.
+//! Laws of the definitions that the contract uses, for crates that build on it. Each is the
+//! contract of a function that does nothing.
 ghost use Rattle.std.specs.Prelude.{◌≡◌, ◌↔◌, ℕ, List, true, false};
 ghost use Rattle.fp_host.specs.Paths.{Elements};
 ghost use Rattle.fp_host.specs.View.{View, IsTree};
@@ -12,8 +12,8 @@ ghost use Rattle.ost_model.specs.Used.{IsUsed};
 ghost use Rattle.ost_prune.specs.Prune.{is_commit, CommitsFirst, IsStored, IsUnused, LeavesAsBefore, Prunes, WasPruned};
 ghost use Rattle.ost_store.specs.Names.{name_in};
 
-/// What a commit to keep uses is untouched: its name holds what it held, and each stop leaves there
-/// what some stop before would have left.
+/// Pruning leaves an object that a commit of `keep` uses as it was: the name still has its entry,
+/// and a crash leaves only what a crash before could have left there.
 pub fn used_objects_stay()
     ensures name { (root : Elements) (keep : List (List ℕ)) (object : List ℕ × ObjKind)
         (u w : View) → is_digest object.0 ≡ true
@@ -26,7 +26,7 @@ pub fn used_objects_stay()
         → LeavesAsBefore u w (name_in root object) }
 {}
 
-/// After it an object is there exactly if it was there and isn't one that no commit to keep uses.
+/// After pruning, the store has exactly those objects that it had before and that are not unused.
 pub fn used_objects_are_left()
     ensures { (root : Elements) (keep : List (List ℕ)) (number : ℕ) (object : List ℕ × ObjKind)
         (u w : View) → IsTree u → IsTree w
@@ -35,8 +35,8 @@ pub fn used_objects_are_left()
         ↔ (IsStored root u object × (IsUnused root keep u object → ⊥)) }
 {}
 
-/// Of the objects that no commit to keep uses, a commit's name may go first, and the order is kept;
-/// where another object's name goes while such a commit is there, it is broken.
+/// Removing the name of an unused commit first keeps the order. Removing that of another unused
+/// object while an unused commit is present breaks it.
 pub fn commits_go_first()
     ensures kept { (root : Elements) (keep : List (List ℕ)) (commit : List ℕ × ObjKind) (u : View)
         → IsUnused root keep u commit → is_commit commit ≡ true

@@ -1,4 +1,4 @@
-//! Objects that no commit uses are taken out of a store.
+//! Prunes a store: removes the objects that no commit uses.
 #![tactic(auto)]
 
 mod finding;

@@ -1,4 +1,4 @@
-//! Commits apart from other objects.
+//! Parting commits from other objects.
 ghost use Rattle.std.specs.Prelude.{◌≡◌, IfOk};
 ghost use Rattle.ost_prune.specs.Prune.{is_commit_kind};
 ghost use Rattle.ost_prune.specs.Removing.{commits_of, others_of};
@@ -7,14 +7,14 @@ use fp_base::ObjKind;
 use fp_name::Digest;
 use std::alloc::{AllocError, Global};
 
-/// Whether it is the kind of commits.
+/// Returns whether the kind is that of commits.
 fn is_commit_kind(kind: ObjKind) -> bool
     ensures { result ≡ is_commit_kind kind }
 {
     matches!(kind, ObjKind::Commit)
 }
 
-/// The commits among these objects, and the others, each in their order.
+/// Returns the commits among these objects, and the other objects, each in their order.
 pub(crate) fn part(
     alloc: Global,
     objects: &[(Digest, ObjKind)],

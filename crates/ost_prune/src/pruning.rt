@@ -1,4 +1,4 @@
-//! A store that keeps what some commits use.
+//! Pruning a store.
 ghost use Rattle.std.specs.Prelude.{◌≡◌, IfOk, IsErrOf, None, Ok};
 ghost use Rattle.fp_host.specs.OverHost.{AtEachMoment, AtReturn, ChangesNothing, FailsOnly};
 ghost use Rattle.fp_small.specs.Unsynced.{MakesNoFile};
@@ -12,28 +12,29 @@ use fp_host::{Host, HostEnd, Path};
 use fp_name::Digest;
 use std::alloc::Global;
 
-/// Takes away each object of the store in this folder that no commit to keep uses, and answers how
-/// many there were. Other names stay, also those below `objects` that no object has. All that is to
-/// go is known before the first is taken away, and commits go first: a process that is killed
-/// within it leaves no commit of which something went. Where the order of a commit to keep has a
-/// fault in this store, nothing is taken away, and the answer is None: what a damaged object names
-/// is not to be trusted. Nothing is synced. It is for paths of at most 128 elements.
+/// Removes each object of the store at `root` that no commit of `keep` uses, and returns the number
+/// of removed objects. Other names stay, also names below `objects` that aren't those of objects.
+/// Finds all objects before it removes the first. Removes commits first, so that a process that is
+/// killed meanwhile leaves no commit that lacks an object. If the order of a commit of `keep` has a
+/// fault in this store, removes nothing and returns `None`: the objects that a damaged object names
+/// can't be relied on. Syncs nothing. Condition: no path below `objects` has more than 128
+/// elements.
 pub fn prune<H: Host>(
     alloc: Global,
     host: &mut H,
     root: &Path,
     keep: &[Digest],
 ) -> Result<Option<u64>, HostEnd>
-    // A stop at any moment leaves at the name of an object that no commit uses what some stop
-    // before would have left, or nothing, and all else as it was.
+    // A crash at any moment may leave nothing at the name of an unused object. Elsewhere, it leaves
+    // only what a crash before could have left.
     ensures any_moment { AtEachMoment H.Host host.old host.new (Prunes root.now keep.now) }
-    // Of those objects no other goes before each commit is gone.
+    // No other unused object is removed before all unused commits are.
     ensures order { AtEachMoment H.Host host.old host.new (CommitsFirst root.now keep.now) }
     ensures on_success { IfOk result (λ pruned. AtReturn H.Host host.old host.new
         (λ u w. UnlessFaulty root.now keep.now u
         (λ number. WasPruned root.now keep.now number u w) pruned)) }
     ensures left { result ≡ Ok None → ChangesNothing H.Host host.old host.new }
-    // What was unsettled stays so.
+    // Nothing is synced, and no file is created.
     ensures unsynced { AtReturn H.Host host.old host.new MakesNoFile }
     ensures fault_has_cause { FailsOnly H.Host host.old host.new
         (CanList root.now) (IsErrOf result HostEnd.Fault) }

@@ -1,4 +1,4 @@
-//! Objects that are taken away, commits before the others.
+//! Removing objects, commits before the others.
 ghost use Rattle.std.specs.Prelude.{OnOk, IsErrOf};
 ghost use Rattle.fp_host.specs.OverHost.{AtEachMoment, AtReturn, FailsOnly};
 ghost use Rattle.fp_host.specs.Frame.{Frame, NoPath};
@@ -12,8 +12,8 @@ use fp_name::Digest;
 use ost_store::remove;
 use std::alloc::Global;
 
-/// Takes these objects away, one after another. Nothing is synced. It is for different objects that
-/// are there.
+/// Removes these objects one after another. Syncs nothing. Condition: the store has each of the
+/// objects, and they are in ascending order of the texts of their paths.
 fn remove_each<H: Host>(
     alloc: Global,
     host: &mut H,
@@ -34,8 +34,9 @@ fn remove_each<H: Host>(
     Ok(())
 }
 
-/// Takes these objects away, the commits first, so that a process that is killed leaves no commit
-/// of which something went. Nothing is synced. It is for different objects that are there.
+/// Removes these objects, the commits first, so that a process that is killed meanwhile leaves no
+/// commit that lacks an object. Syncs nothing. Condition: the store has each of the objects, and
+/// they are in ascending order of the texts of their paths.
 pub(crate) fn remove_all<H: Host>(
     alloc: Global,
     host: &mut H,

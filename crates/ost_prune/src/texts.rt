@@ -1,4 +1,4 @@
-//! The objects that commits use, by the texts of their paths.
+//! Gathering the texts of the paths of the objects that commits use.
 ghost use Rattle.std.specs.Prelude.{◌≡◌, None, IfOk, OnOk, IsErrOf, string_bytes};
 ghost use Rattle.std.specs.HashSet.{contains_text};
 ghost use Rattle.fp_host.specs.OverHost.{AtReturn, ChangesNothing, FailsAlone};
@@ -17,7 +17,7 @@ use ost_walk::{Places, WalkEnd, order};
 use std::alloc::{AllocError, Global};
 use std::collections::HashSet;
 
-/// The text of the object's path in the store in this folder.
+/// Returns the text of the object's path in the store at `root`.
 fn text_of(alloc: Global, root: &Path, digest: &Digest, kind: ObjKind) -> Result<String, AllocError>
     ensures { IfOk result (λ text. IsTextOf root.now (digest.now, kind) (string_bytes text)) }
 {
@@ -26,7 +26,7 @@ fn text_of(alloc: Global, root: &Path, digest: &Digest, kind: ObjKind) -> Result
     String::from_str(alloc, path.text())
 }
 
-/// Adds the texts of the paths of these objects in the store in this folder.
+/// Adds the texts of the paths of these objects in the store at `root`.
 fn add_texts(
     alloc: Global,
     root: &Path,
@@ -43,7 +43,8 @@ fn add_texts(
     Ok(())
 }
 
-/// Adds the texts of the paths of all objects that the commit uses.
+/// Adds the texts of the paths of all objects that a commit uses. `Refused` with the first fault of
+/// the commit.
 fn add_order<H: Host>(
     alloc: Global,
     host: &mut H,
@@ -70,7 +71,8 @@ fn add_order<H: Host>(
     }
 }
 
-/// The texts of the paths of all objects that the commits use.
+/// Returns the texts of the paths of all objects that the commits use. `Refused` with the first
+/// fault of the first commit that has one.
 fn gather<H: Host>(
     alloc: Global,
     host: &mut H,
@@ -96,7 +98,7 @@ fn gather<H: Host>(
     Ok(texts)
 }
 
-/// The store in this folder alone.
+/// Returns the places of objects that are only in the store at `root`, without a remote.
 fn store_alone(root: &Path) -> Result<Places, AllocError>
     ensures { IfOk result (λ places. (places.root ≡ root.now) × (places.url ≡ None)) }
 {
@@ -106,8 +108,8 @@ fn store_alone(root: &Path) -> Result<Places, AllocError>
     })
 }
 
-/// The texts of the paths of all objects that the commits use in the store in this folder, or None
-/// where the order of one of them has a fault there.
+/// Returns the texts of the paths of all objects that the commits use in the store at `root`, or
+/// `None` if the order of one of them has a fault there. Changes nothing.
 pub(crate) fn used_texts<H: Host>(
     alloc: Global,
     host: &mut H,

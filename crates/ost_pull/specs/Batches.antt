@@ -1,4 +1,5 @@
--- Small objects of a remote that are read whole, a batch at a time, before their digests are taken.
+-- Small objects of a remote that are read whole, a batch at a time, before their digests are
+-- computed.
 use Rattle.std.specs.Prelude.{◌≡◌, ◌≤◌, ◌<◌, ℕ, List, ◌∷◌, ◌++◌, [], length, get_or, Option}
 use Rattle.fp_host.specs.Paths.{Elements}
 use Rattle.fp_host.specs.Moments.{Moments}
@@ -17,24 +18,24 @@ use Rattle.ost_pull.specs.declared.forms.Form.TheVariants as forms
 use Rattle.ost_pull.specs.declared.batches.Turn.{Turn}
 use Rattle.ost_pull.specs.declared.batches.Turn.TheVariants as turns
 
--- the object of this form whose bytes are the item's body
+-- The object of this form, whose bytes are the body of the item
 abbrev pub object_in : Form → Item → Object
 object_in forms.Meta item = objects.Meta item.body
 object_in (forms.File mode) item = objects.File mode item.body
 object_in (forms.Link text) item = objects.Link text
 
--- an object is there as a form and an item, of which its digest is taken
+-- The form and the item are those of the object, and the item has its digest
 pub record IsParted (object : Object) (form : Form) (item : Item) : Type 0 where
   pub whole : object_in form item ≡ object
   pub digest : item_digest item ≡ digest_of object
 
--- the object has at most 256 KiB
+-- The object has at most 256 KiB
 abbrev pub IsSmall : Object → Type 0
 IsSmall (objects.Meta bytes) = length bytes ≤ MOST_SMALL_BYTES
 IsSmall (objects.File mode bytes) = length bytes ≤ MOST_SMALL_BYTES
 IsSmall (objects.Link text) = length text ≤ MOST_SMALL_BYTES
 
--- the remote's object, which is small and which the store lacks, was read whole
+-- The item is that of a small object of the remote, which the store lacks
 pub record IsBatched (root : Elements) (url : List ℕ) (told : Option Moments)
     (holds : Option Holdings) (o : List ℕ × ObjKind) (form : Form) (item : Item) : Type 0 where
   pub fit : IsFit o.1 (object_in form item)
@@ -42,7 +43,7 @@ pub record IsBatched (root : Elements) (url : List ℕ) (told : Option Moments)
   pub new : IsNew root url told holds o.0 o.1 (object_in form item)
   pub digest : item_digest item ≡ digest_of (object_in form item)
 
--- so was that of the item at this place
+-- The item at this index is that of a small object of the remote, which the store lacks
 pub record IsBatchedAt (root : Elements) (url : List ℕ) (told : Option Moments)
     (holds : Option Holdings) (o : List ℕ × ObjKind) (form : Form) (items : List Item)
     (place : ℕ) : Type 0 where
@@ -51,14 +52,14 @@ pub record IsBatchedAt (root : Elements) (url : List ℕ) (told : Option Moments
   pub at : item ≡ get_or items place item
   pub batched : IsBatched root url told holds o form item
 
--- an object is ready for its turn; nothing is known of one that is taken by itself
+-- The object is ready for its turn; nothing is known of one that is taken by itself
 abbrev pub IsReady : Elements → List ℕ → Option Moments → Option Holdings → List ℕ × ObjKind
     → List Item → Turn → Type 0
 IsReady root url told holds o items turns.Alone = Unit {0}
 IsReady root url told holds o items (turns.Batched form place) =
     IsBatchedAt root url told holds o form items place
 
--- so are the first n of these, each for the turn at its place
+-- The first `n` of these objects are ready, each for the turn at its index
 pub record AreReady (root : Elements) (url : List ℕ) (told : Option Moments)
     (holds : Option Holdings) (n : ℕ) (objects : List (List ℕ × ObjKind)) (turns : List Turn)
     (items : List Item) : Type 0 where
@@ -66,7 +67,7 @@ pub record AreReady (root : Elements) (url : List ℕ) (told : Option Moments)
   pub each : (i : ℕ) (o : List ℕ × ObjKind) (turn : Turn) → i < n → o ≡ get_or objects i o
       → turn ≡ get_or turns i turn → IsReady root url told holds o items turn
 
--- one turn more, and at most one item
+-- One turn was appended, for which the object is ready, with its item if it was read
 pub record AddsTurn (root : Elements) (url : List ℕ) (told : Option Moments)
     (holds : Option Holdings) (o : List ℕ × ObjKind) (turns turns' : List Turn)
     (items items' : List Item) : Type 0 where

@@ -1,4 +1,4 @@
--- What a pull does to a host, and what it promises.
+-- The changes and the promises of a pull.
 use Rattle.std.specs.Prelude.{◌≡◌, ◌≢◌, ◌⊎◌, ℕ, List, ◌≤◌, ◌+◌, length, map, true, Option, Some, None, Result, Ok, Err, IsErrOf, OnOk, option_map}
 use Rattle.fp_host.specs.Causes.{IsCaused}
 use Rattle.fp_host.specs.Paths.{Elements, Slot, absent, dir, IsAbove}
@@ -30,21 +30,22 @@ use Rattle.ost_walk.specs.declared.pull_end.PullEnd.TheVariants as ends
 use Rattle.ost_store.specs.ObjectNames.{IsAboveObject, AreOpen}
 use Rattle.ost_pull.specs.Work.{WorksAt, WorksName}
 
--- the work folder has nothing to do with the objects of the store
+-- The work directory `t` is apart from `objects` of the store: neither is at, above or below the
+-- other
 pub record IsApart (root t : Elements) : Type 0 where
   pub below : (q : Elements) → IsWithin (objects_folder root) q → IsWithin t q → ⊥
   pub above : (q : Elements) → IsWithin (objects_folder root) q → IsAbove q t → ⊥
 
--- each file and link that the store has is the one of its name's digest
+-- Each file and symlink of the store matches its digest
 pub record HasTrueFiles (root : Elements) (v : View) : Type 0 where
   pub each : (d : List ℕ) (object : Object) → is_digest d ≡ true
       → store root (shows v) d kinds.File ≡ Some object → digest_fault d object ≡ None
 
--- so where the host tells what it holds
+-- On a host that reports its content, each file and symlink of the store matches its digest
 pub record HasTrueFilesNow (root : Elements) (told : Option Moments) : Type 0 where
   pub are : (m : Moments) → told ≡ Some m → HasTrueFiles root m.now
 
--- an object of the store comes to its name, at which nothing stood at the entry
+-- The node is an object of the store, at its path, where nothing was at the start
 pub record IsNewObject (root : Elements) (u : View) (q : Elements) (spot : Spot) : Type 0 where
   pub digest : List ℕ
   pub kind : ObjKind
@@ -53,7 +54,7 @@ pub record IsNewObject (root : Elements) (u : View) (q : Elements) (spot : Spot)
   pub named : Named digest kind spot
   pub free : u.names q ≡ absent
 
--- a name at which nothing stood at the entry comes to hold an object
+-- The path is that of an object of the store, where nothing was at the start
 pub record IsNewName (root : Elements) (u : View) (q : Elements) : Type 0 where
   pub digest : List ℕ
   pub kind : ObjKind
@@ -61,34 +62,38 @@ pub record IsNewName (root : Elements) (u : View) (q : Elements) : Type 0 where
   pub at : q ≡ object_path root digest kind
   pub free : u.names q ≡ absent
 
--- What may stand where: work in the folder t, new objects of the store, and folders above them.
+-- A pull may leave this node at a path: work in the directory `t`, new objects of the store, and
+-- directories above these
 abbrev pub PullsAt : Elements → Elements → View → Elements → Spot → Type 0
 PullsAt root t u q spot =
     WorksAt t q spot ⊎ (IsNewObject root u q spot ⊎ (IsAboveObject root q × (spot ≡ folder)))
 
+-- A pull may give a name this entry: work in the directory `t`, new objects of the store, and
+-- directories above these
 abbrev pub PullsName : Elements → Elements → View → Elements → Slot → Type 0
 PullsName root t u q e = WorksName t q e ⊎ (IsNewName root u q ⊎ (IsAboveObject root q × (e ≡ dir)))
 
--- So a pull into the store at root goes on, whose work folder is t. Only new files get bytes.
+-- A pull into the store at `root` with the work directory `t`, at each moment. Only new files get
+-- bytes.
 pub record Pulls (root t : Elements) (u w : View) : Type 0 where
   pub keeps : Keeps (PullsAt root t u) (PullsName root t u) (IsWithin t) u w
   pub files : KeepsFiles u w
 
--- the same, where every stop at the entry leaves a store whose names are true
+-- If every crash left a store whose objects match their names at the start, a pull at each moment
 abbrev pub PullsSoundly : Elements → Elements → View → View → Type 0
 PullsSoundly root t u w = LeavesStore root u → Pulls root t u w
 
--- the commit has no fault, and every stop leaves all objects of its order in the store, as they
--- were supplied
+-- The commit has no fault, and every crash leaves all objects of its order in the store, as the
+-- store and the remote supplied them
 pub record HasPulled (root : Elements) (have : Have) (commit : List ℕ) (w : View) : Type 0 where
   pub clean : first_fault have commit ≡ None
   pub stored : (disk : Disk) → Leaves w disk → Agree have (store root disk) (order have commit)
 
--- the object is none of the commit's
+-- The object isn't in the commit's order
 abbrev pub IsNoneOf : Have → List ℕ → List ℕ × ObjKind → Type 0
 IsNoneOf have commit o = In (map place_name (order have commit)) o → ⊥
 
--- the name of an object of the commit's order that the store lacked
+-- The path is that of an object of the commit's order that the store lacked
 pub record IsLackedName (root : Elements) (have : Have) (commit : List ℕ) (u : View)
     (q : Elements) : Type 0 where
   pub digest : List ℕ
@@ -98,17 +103,17 @@ pub record IsLackedName (root : Elements) (have : Have) (commit : List ℕ) (u :
   pub ordered : In (map place_name (order have commit)) (digest, kind)
   pub lacked : store root (shows u) digest kind ≡ None
 
--- the object is one of the commit's order that the store lacked
+-- The object is one of the commit's order that the store lacked
 pub record IsLacked (root : Elements) (have : Have) (commit : List ℕ) (u : View)
     (o : List ℕ × ObjKind) : Type 0 where
   pub digits : is_digest o.0 ≡ true
   pub ordered : In (map place_name (order have commit)) o
   pub lacked : store root (shows u) o.0 o.1 ≡ None
 
--- On Ok: it has pulled, each object that stood in the store stands as before, so does what stands
--- at the names of objects that aren't the commit's, nothing is left of the work, and every stop
--- leaves what stands. Each file that it made and that has a byte was put at the name of an object
--- of the commit that the store lacked, and just these objects were made.
+-- The pull succeeded. The commit is in the store, each object that was there is as before, and so
+-- are the paths of objects that aren't the commit's. Nothing is left of the work, and every crash
+-- leaves exactly the present content. Each new file with bytes was put at the path of an object of
+-- the commit that the store lacked, and exactly these objects were made.
 pub record WasPulled (root t : Elements) (have : Have) (commit : List ℕ) (u w : View) : Type 0 where
   pub pulled : HasPulled root have commit w
   pub stood : (d : List ℕ) (kind : ObjKind) → is_digest d ≡ true
@@ -121,26 +126,26 @@ pub record WasPulled (root t : Elements) (have : Have) (commit : List ℕ) (u w 
   pub shares : Shares (IsLackedName root have commit u) u w
   pub creates : Creates root (IsLacked root have commit u) u w
 
--- Where it is refused: nothing is left of the work, and names are as before, but for folders above
--- it.
+-- The pull was refused: nothing is left of the work, and names have the entries that they had,
+-- except that directories above the work may have been made
 pub record WasRefused (t : Elements) (u w : View) : Type 0 where
   pub gone : (q : Elements) → IsWithin t q → w.names q ≡ absent
   pub names : (q : Elements) → (w.names q ≡ u.names q)
       ⊎ (IsWithin t q ⊎ (IsAbove q t × (w.names q ≡ dir)))
 
--- the refusal of the commit's first fault
+-- The refusal of the commit's first fault
 abbrev pub first_refusal : Have → List ℕ → Option Refusal
 first_refusal have commit =
     option_map (λ f. refusal_of f.0.digest f.0.kind f.1) (first_fault have commit)
 
--- exactly this is refused
+-- The result is exactly this refusal, or none
 abbrev pub Refuses : {A : Type 0} → Option Refusal → Result A PullEnd → Type 0
 Refuses first (Ok a) = first ≡ None
 Refuses first (Err end) = RefusesBy (λ r. first ≡ Some r) end
 
--- Where a pull may be done: every stop leaves a store whose names are true, the work folder isn't
--- the root and not too deep, nor is what stands below it, and what is above it and above the
--- objects' names is absent or a folder.
+-- A pull can be done: every crash leaves a store whose objects match their names, the work
+-- directory isn't the root, neither a path below it nor an object's path in it has more than 128
+-- elements, and the paths above it and above the store's objects are absent or directories
 pub record CanPull (root t : Elements) (v : View) : Type 0 where
   pub true_names : LeavesStore root v
   pub low : length t + 3 ≤ MOST_ELEMENTS
@@ -150,12 +155,13 @@ pub record CanPull (root t : Elements) (v : View) : Type 0 where
 
 -- ---- the contract
 
--- A pull of the commit from the remote at the url into the store at root, by way of the work folder
--- t. Where the names of the store are true at every stop before, a stop at any moment leaves a store
--- whose names are true, with each object that was there. On Ok all was pulled, and exactly the first
--- fault is refused, of what store and remote supply, where Trusted holds at the entry. Where it is
--- refused, and where a remote is at fault, nothing is left of it. A fault of the host or the remotes
--- has a cause, and the remotes stay as they are.
+-- A pull of the commit from the remote at the URL into the store at `root`, by way of the work
+-- directory `t`. If every crash left a store whose objects match their names at the start, a crash
+-- at any moment leaves such a store, with each object that was there. If the host and the remotes
+-- report their content and `Trusted` holds at the start, then on success the whole commit was
+-- pulled, and exactly the first fault in the objects of store and remote together is refused. After
+-- a refusal, or a fault of the remote, nothing is left of the pull. A fault of the host or the
+-- remotes has a cause, and the remotes stay as they are.
 pub record PullsCommit (root t : Elements) (url commit : List ℕ) (Trusted : Type 0)
     (result : Result (Unit {0}) PullEnd) (u w : Outside) : Type 0 where
   pub same : w.holdings ≡ u.holdings

@@ -1,4 +1,4 @@
--- Files and links of the store whose names are trusted.
+-- Files and symlinks of the store that are trusted to match their digests.
 use Rattle.std.specs.Prelude.{◌≡◌, ℕ, List, Option, Some, None}
 use Rattle.fp_host.specs.Paths.{Elements}
 use Rattle.fp_host.specs.Moments.{Moments}
@@ -9,12 +9,12 @@ use Rattle.ost_pull.specs.declared.trusting.Trust.{Trust}
 use Rattle.ost_pull.specs.declared.trusting.Trust.TheVariants as trusts
 use Rattle.ost_pull.specs.Pulls.{HasTrueFilesNow}
 
--- an object is there, which has no fault where its digest is its name's
+-- There is an object, which has no fault if it matches its digest
 pub record IsGoodIfTrue (d : List ℕ) (there : Option Object) : Type 0 where
   pub object : Object
   pub is : there ≡ Some object
   pub good : digest_fault d object ≡ None → object_fault d kinds.File (Some object) ≡ None
 
--- names are trusted only where they are true
+-- Names are trusted only if the store's files and symlinks match their digests
 pub record MayTrust (trust : Trust) (root : Elements) (told : Option Moments) : Type 0 where
   pub names : trust ≡ trusts.Names → HasTrueFilesNow root told

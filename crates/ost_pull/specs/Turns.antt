@@ -1,5 +1,5 @@
--- What each step of a pull promises: what holds at each moment, on success, where it is refused,
--- and the cause of a fault. The remotes stay as they are.
+-- The promise of each step of a pull: at each moment, on success, of a refusal, and of the cause of
+-- a fault. The remotes stay as they are.
 use Rattle.std.specs.Prelude.{◌≡◌, ℕ, List, Some, None, Result, IsErrOf, OnOk}
 use Rattle.fp_base.specs.declared.object.ObjKind.{ObjKind}
 use Rattle.fp_host.specs.Causes.{IsCaused}
@@ -22,9 +22,10 @@ use Rattle.ost_pull.specs.Takes.{AddsAmong, AreTaken, AreTakenNow, CoversOrder, 
 use Rattle.ost_pull.specs.Trusts.{MayTrust}
 use Rattle.ost_pull.specs.Work.{Adds, GathersAnew, Works}
 
--- How a step ends, by the objects that store and remote have between them: it is right to succeed,
--- or the refusal is the right one. These were taken into the work folder t before, and the names of
--- files and links in the store are trusted only where they are true.
+-- The result of a step is right by the objects that store and remote have together: success only if
+-- `good` holds, and a refusal only if it is the right one. The objects of `before` were taken into
+-- the work directory `t` before, and names are trusted only if the store's files and symlinks match
+-- their digests.
 abbrev pub EndsTold : {A : Type 0} → (root t : Elements) → List ℕ → Trust
     → List (List ℕ × ObjKind) → Outside → (Have → Type 0) → (Have → WalkFault → Type 0)
     → Result A WalkEnd → Type 0
@@ -33,7 +34,8 @@ EndsTold root t url trust before u good refused result =
     → AreTakenNow root t url u.holdings before u.told → MayTrust trust root u.told
     → EndsBy (λ _. good have) (refused have) result
 
--- One object is taken into the work folder t, or is the store's. It is refused for its own fault.
+-- One object is taken into the work directory `t`, or the store has it. It is refused for its own
+-- fault.
 pub record TakesObject (root t : Elements) (url : List ℕ) (trust : Trust) (o : List ℕ × ObjKind)
     (before after : List (List ℕ × ObjKind)) (result : Result (Unit {0}) WalkEnd)
     (u w : Outside) : Type 0 where
@@ -48,7 +50,7 @@ pub record TakesObject (root t : Elements) (url : List ℕ) (trust : Trust) (o :
   pub remote_fault_has_cause : IsRemotes (IsErrOf result ends.RemoteFault)
       u.remote_faults w.remote_faults
 
--- So are these objects, one after another. The first bad one of them is refused.
+-- These objects are taken one after another. The first of them with a fault is refused.
 pub record TakesObjects (root t : Elements) (url : List ℕ) (trust : Trust)
     (objects before after : List (List ℕ × ObjKind)) (result : Result (Unit {0}) WalkEnd)
     (u w : Outside) : Type 0 where
@@ -65,8 +67,10 @@ pub record TakesObjects (root t : Elements) (url : List ℕ) (trust : Trust)
   pub remote_fault_has_cause : IsRemotes (IsErrOf result ends.RemoteFault)
       u.remote_faults w.remote_faults
 
--- All that the store lacks of the commit is gathered in the work folder t, which is cleared first,
--- and is noted. The commit's first fault is refused.
+-- Gathering the commit's objects in the work directory `t`, which is cleared first. If the host and
+-- the remotes report their content, then on success exactly the objects that the store lacks are in
+-- `t` and in the list; and if the trust in the store is right (`MayTrust`), exactly the commit's
+-- first fault is refused. A fault of the host or the remotes has a cause.
 pub record GathersCommit (root t : Elements) (url : List ℕ) (trust : Trust) (commit : List ℕ)
     (kept : List (List ℕ × ObjKind)) (result : Result (Unit {0}) WalkEnd)
     (u w : Outside) : Type 0 where

@@ -1,5 +1,5 @@
--- Objects that are kept in a work folder, laid out as those of a store, until all of them are
--- judged.
+-- Keeping objects in a work directory, at the paths that they have in a store, until all of them
+-- are checked.
 use Rattle.std.specs.Prelude.{◌≡◌, ◌⊎◌, ℕ, List, [], ◌∷◌, ◌++◌, true, Option, Some, None}
 use Rattle.fp_host.specs.Paths.{Elements, Slot, absent, dir, file}
 use Rattle.fp_host.specs.View.{View}
@@ -19,32 +19,35 @@ use Rattle.ost_store.specs.ObjectNames.{IsObjectName, IsAboveObject}
 use Rattle.ost_store.specs.Stage.{IsHeld, IsKeepable}
 use Rattle.ost_head.specs.Found.{RemoteHas}
 
--- What may stand where: anything at the objects' names below the folder t, folders above these, and
--- nothing at t and below.
+-- Work may leave this node at a path: anything at the paths of objects in the directory `t`,
+-- directories above these, and nothing at `t` and below it
 abbrev pub WorksAt : Elements → Elements → Spot → Type 0
 WorksAt t q spot = IsObjectName t q ⊎ ((IsAboveObject t q × (spot ≡ folder)) ⊎ GoneWithin t q spot)
 
+-- Work may give a name this entry: anything at the paths of objects in the directory `t`,
+-- directories above these, and none at `t` and below it
 abbrev pub WorksName : Elements → Elements → Slot → Type 0
 WorksName t q e = IsObjectName t q ⊎ ((IsAboveObject t q × (e ≡ dir)) ⊎ AbsentWithin t q e)
 
--- Work in the folder. Only new files get bytes.
+-- Work in the directory `t` at each moment. Only new files get bytes.
 pub record Works (t : Elements) (u w : View) : Type 0 where
   pub keeps : Keeps (WorksAt t) (WorksName t) (IsWithin t) u w
   pub files : KeepsFiles u w
 
--- Each file that is new since u and has a byte stands at an object's name in the folder, and what
--- stood at one stays there.
+-- Each file that is new since `u` and has bytes is at the path of an object in the directory `t`,
+-- and each file that was at one is still there
 pub record Gathered (t : Elements) (u w : View) : Type 0 where
   pub new : Gathers (IsObjectName t) u w
   pub stay : (q : Elements) (id : ℕ) → IsObjectName t q → u.names q ≡ file id → w.names q ≡ file id
 
--- Each file that is new since u and has a byte stands at an object's name in the folder, and each
--- file in the folder is new.
+-- Each file that is new since `u` and has bytes is at the path of an object in the directory `t`,
+-- and each file in that directory is new
 pub record GathersAnew (t : Elements) (u w : View) : Type 0 where
   pub gathers : Gathers (IsObjectName t) u w
   pub new : (q : Elements) (id : ℕ) → IsWithin t q → w.names q ≡ file id → u.files id ≡ None
 
--- the folder keeps the object, which is the one that its digest names and that the remote has
+-- The directory `t` has the object of this digest and kind, which matches its digest and is the
+-- remote's
 pub record IsKept (t : Elements) (url : List ℕ) (holds : Option Holdings) (o : List ℕ × ObjKind)
     (v : View) : Type 0 where
   pub object : Object
@@ -53,7 +56,7 @@ pub record IsKept (t : Elements) (url : List ℕ) (holds : Option Holdings) (o :
   pub named : name_fault o.0 o.1 (Some object) ≡ None
   pub there : RemoteHas url holds o.0 o.1 object
 
--- it keeps these objects, each once, and no other
+-- The directory `t` has exactly these objects, and each occurs once in the list
 pub record AreKept (t : Elements) (url : List ℕ) (holds : Option Holdings)
     (kept : List (List ℕ × ObjKind)) (v : View) : Type 0 where
   pub each : (o : List ℕ × ObjKind) → In kept o → IsKept t url holds o v
@@ -61,18 +64,19 @@ pub record AreKept (t : Elements) (url : List ℕ) (holds : Option Holdings)
   pub only : (d : List ℕ) (kind : ObjKind) → is_digest d ≡ true
       → (v.names (object_path t d kind) ≡ absent) ⊎ In kept (d, kind)
 
--- it goes on keeping what it keeps, and keeps this object; nothing else is written
+-- If the directory `t` had the objects of `before`, it has those of `after` now, among them the
+-- object `o`. Each new file with bytes is at the path of an object in `t`.
 pub record KeepsOne (t : Elements) (url : List ℕ) (holds : Option Holdings) (o : List ℕ × ObjKind)
     (before after : List (List ℕ × ObjKind)) (u w : View) : Type 0 where
   pub on : AreKept t url holds before u → AreKept t url holds after w × In after o
   pub gathers : Gathered t u w
 
--- the object was noted, or nothing was
+-- The object was appended, or nothing was
 abbrev pub Adds : List ℕ × ObjKind → List (List ℕ × ObjKind) → List (List ℕ × ObjKind) → Type 0
 Adds o before after = (after ≡ before) ⊎ (after ≡ before ++ o ∷ [])
 
--- where the object may be kept: it may stand in a store, and the folders above its name are there
--- or may be made
+-- The object can be stored, and the paths above its path in the directory `t` are absent or
+-- directories
 pub record CanKeep (t : Elements) (d : List ℕ) (kind : ObjKind) (object : Object)
     (v : View) : Type 0 where
   pub keepable : IsKeepable object

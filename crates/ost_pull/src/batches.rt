@@ -1,4 +1,4 @@
-//! Batches of objects: what is read of them before any is judged.
+//! Batches of objects, which are read before any of them is checked.
 ghost use Rattle.std.specs.Prelude.{◌≡◌, ◌≤◌, length, None, IfOk, IfSome, IsTrue, OnOk, IsErrOf};
 ghost use Rattle.fp_host.specs.OverHost.{ChangesNothing, FailsAlone};
 ghost use Rattle.ost_walk.specs.Ends.{IsRemotes};
@@ -18,27 +18,27 @@ use ost_walk::WalkEnd;
 use par_digest::{Item, MOST_IN_BATCH};
 use std::alloc::Global;
 
-/// How an object of a batch is taken when its turn comes.
+/// The turn of an object of a batch: whether the object was read with the batch.
 #[derive(Drop)]
 pub(crate) enum Turn {
-    /// By itself: it is the store's or kept already, it comes twice, it is large, or it is none
-    /// that a store may keep.
+    /// The object is taken by itself: the store has it, it is kept already, it occurs earlier in
+    /// the batch, it is large, or a store can't have it.
     Alone,
-    /// It is of this form, and its item is the one at this place.
+    /// The object was read with the batch: its form, and the index of its item.
     Batched(Form, usize),
 }
 
-/// What was read of the objects of a batch.
+/// The objects of a batch that were read, and the turn of each object.
 #[derive(Drop)]
 pub(crate) struct Batch {
-    /// One for each object, in order.
+    /// The turn of each object, in order.
     pub(crate) turns: Vec<Turn>,
-    /// The items of those that were read, in order.
+    /// The items of the objects that were read, in order.
     pub(crate) items: Vec<Item>,
 }
 
-/// Whether the object is to be read with the others: the store has none, it isn't kept in the work
-/// folder, and it isn't among those before it.
+/// Returns whether the object is to be read with the batch: the store lacks it, it isn't kept in
+/// the work directory, and it isn't among the objects before it in the batch.
 fn is_wanted<H: Host>(
     alloc: Global,
     host: &mut H,
@@ -66,7 +66,7 @@ fn is_wanted<H: Host>(
     }
 }
 
-/// The remote's object, where it is to be read with the others and is small.
+/// Reads the remote's object, if it is to be read with the batch and is small; else returns `None`.
 #[tactic(auto, using(crate::proofs::Batched::new_found))]
 fn read_wanted<H: Host, R: Remotes>(
     alloc: Global,
@@ -98,7 +98,8 @@ fn read_wanted<H: Host, R: Remotes>(
     }
 }
 
-/// Adds what is read of one object.
+/// Reads one object of a batch, if it is to be read with the batch, and appends its turn, and its
+/// item if it was read.
 #[tactic(auto, using(crate::proofs::Batched::batched_ready, crate::proofs::Batched::alone_ready))]
 fn add<H: Host, R: Remotes>(
     alloc: Global,
@@ -139,8 +140,8 @@ fn add<H: Host, R: Remotes>(
     }
 }
 
-/// What is read of these objects, 64 at most, before any is judged: of each that the store lacks and that isn't
-/// kept in the work folder, the remote's where it is small.
+/// Reads the objects of a batch, which are at most 64, before any is checked: each small object of
+/// the remote that the store lacks and that isn't kept in the work directory.
 pub(crate) fn read_batch<H: Host, R: Remotes>(
     alloc: Global,
     host: &mut H,

@@ -1,4 +1,4 @@
-//! Objects as the items that their digests are taken of.
+//! Objects as items, of which digests are computed.
 ghost use Rattle.std.specs.Prelude.{◌≡◌, None, Some, IfOk, IsTrue};
 ghost use Rattle.fp_base.specs.declared.object.ObjKind.TheVariants as kinds;
 ghost use Rattle.ost_model.specs.declared.object.Object.TheVariants as objects;
@@ -15,19 +15,19 @@ use ost_object::{commit_root, read_dirmeta, read_dirtree};
 use par_digest::Item;
 use std::alloc::{AllocError, Global};
 
-/// What an object is, but for the bytes that are its item's body.
+/// An object without the bytes that are the body of its item.
 #[derive(Drop)]
 pub(crate) enum Form {
     /// A metadata object.
     Meta,
     /// A file with these permission bits.
     File(u32),
-    /// A link with this text. Its item's body is empty.
+    /// A symlink with this text. The body of its item is empty.
     Link(Text),
 }
 
-/// The object's form, and the item that its digest is taken of. No bytes of a file or of a metadata
-/// object are copied.
+/// Splits an object into its form and the item of which its digest is computed. Copies no bytes of
+/// a file or a metadata object.
 #[tactic(auto, using(crate::proofs::Read::file_item, crate::proofs::Read::meta_item, ost_content::proofs::Links::link_item))]
 pub(crate) fn parted(alloc: Global, object: Object) -> Result<(Form, Item), AllocError>
     requires { IsKeepable object }
@@ -50,7 +50,7 @@ pub(crate) fn parted(alloc: Global, object: Object) -> Result<(Form, Item), Allo
     }
 }
 
-/// The object of this form and this item.
+/// Returns the object of this form and this item. Copies its bytes.
 pub(crate) fn whole(alloc: Global, form: &Form, item: &Item) -> Result<Object, AllocError>
     ensures { IfOk result (λ object. object ≡ object_in form.now item.now) }
 {
@@ -64,7 +64,8 @@ pub(crate) fn whole(alloc: Global, form: &Form, item: &Item) -> Result<Object, A
     }
 }
 
-/// Whether these bytes are a dirmeta whose permission bits are good.
+/// Returns whether the bytes are a dirmeta that breaks no rule and has good permission bits.
+/// Returns false also if memory runs out.
 fn is_dirmeta(alloc: Global, bytes: &[u8]) -> bool
     ensures { IsTrue result → rules_fault kinds.DirMeta (objects.Meta bytes.now) ≡ None }
 {
@@ -74,7 +75,8 @@ fn is_dirmeta(alloc: Global, bytes: &[u8]) -> bool
     }
 }
 
-/// Whether these bytes are a dirtree.
+/// Returns whether the bytes are a dirtree that breaks no rule. Returns false also if memory runs
+/// out.
 fn is_dirtree(alloc: Global, bytes: &[u8]) -> bool
     ensures { IsTrue result → rules_fault kinds.DirTree (objects.Meta bytes.now) ≡ None }
 {
@@ -84,7 +86,8 @@ fn is_dirtree(alloc: Global, bytes: &[u8]) -> bool
     }
 }
 
-/// Whether these bytes are a commit.
+/// Returns whether the bytes are a commit that breaks no rule. Returns false also if memory runs
+/// out.
 #[tactic(auto, using(crate::proofs::Read::commit_keeps))]
 fn is_commit(alloc: Global, bytes: &[u8]) -> bool
     ensures { IsTrue result → rules_fault kinds.Commit (objects.Meta bytes.now) ≡ None }
@@ -95,8 +98,7 @@ fn is_commit(alloc: Global, bytes: &[u8]) -> bool
     }
 }
 
-/// Whether the object was found to keep the rules of its kind. It is false too where memory ran
-/// out.
+/// Returns whether the object breaks no rule of its kind. Returns false also if memory runs out.
 fn keeps_rules(alloc: Global, kind: ObjKind, object: &Object) -> bool
     ensures { IsTrue result → rules_fault kind object.now ≡ None }
 {
@@ -111,8 +113,8 @@ fn keeps_rules(alloc: Global, kind: ObjKind, object: &Object) -> bool
     }
 }
 
-/// Whether the object, whose digest was found to be this, is seen to be the one that its name says.
-/// It is false too where memory ran out.
+/// Returns whether the object, whose digest is `got`, has no fault under the digest and kind that
+/// name it. Returns false also if memory runs out.
 #[tactic(auto, using(crate::proofs::Read::good_by_rules))]
 pub(crate) fn is_good(
     alloc: Global,

@@ -1,4 +1,4 @@
-//! All that a store lacks of a commit, gathered in the work folder.
+//! Gathering everything that a store lacks of a commit in the work directory.
 ghost use Rattle.std.specs.Prelude.{◌≡◌, None, Some, [], IfOk, OnOk, IsErrOf};
 ghost use Rattle.fp_host.specs.OverHost.{AtEachMoment, AtReturn, FailsOnly};
 ghost use Rattle.ost_model.specs.Objects.{Have};
@@ -24,7 +24,7 @@ use par_digest::Gate;
 use std::alloc::{AllocError, Global};
 use std::thread::Threads;
 
-/// The store in this folder, and the remote at the url.
+/// Returns the store at `root` and the remote at the URL as the places to read objects from.
 pub(crate) fn places_of(alloc: Global, root: &Path, url: &str) -> Result<Places, AllocError>
     ensures { IfOk result (λ places. (places.root ≡ root.now) × (places.url ≡ Some url.now)) }
 {
@@ -34,8 +34,8 @@ pub(crate) fn places_of(alloc: Global, root: &Path, url: &str) -> Result<Places,
     })
 }
 
-/// Takes the objects that a survey of the commit told. It is refused with the first that has a
-/// fault, or else with the fault that the survey told.
+/// Takes the objects that a survey of the commit reported. Refuses the first with a fault, or else
+/// the commit for the fault that the survey reported, if it did.
 fn take_surveyed<H: Host, R: Remotes, G: Gate + Sync>(
     rt: &(impl Threads + Sync),
     alloc: Global,
@@ -86,7 +86,7 @@ fn take_surveyed<H: Host, R: Remotes, G: Gate + Sync>(
     }
 }
 
-/// Takes the objects of the commit's order. It is refused with the first that has a fault.
+/// Takes the objects of the commit's order. Refuses the first with a fault.
 fn take_order<H: Host, R: Remotes, G: Gate + Sync>(
     rt: &(impl Threads + Sync),
     alloc: Global,
@@ -127,8 +127,8 @@ fn take_order<H: Host, R: Remotes, G: Gate + Sync>(
     }
 }
 
-/// Takes the objects of the commit's order into the work folder, in which nothing is left of what
-/// stood there before, and into the list, which is empty.
+/// Takes the objects of the commit's order into the work directory, which is cleared first, and
+/// into the list, which must be empty. Refuses the first with a fault.
 pub(crate) fn gather<H: Host, R: Remotes, G: Gate + Sync>(
     rt: &(impl Threads + Sync),
     alloc: Global,

@@ -1,4 +1,4 @@
-//! Objects that are kept in the work folder until all of a pull are judged.
+//! Keeping objects in the work directory until all objects of a pull are checked.
 ghost use Rattle.std.specs.Prelude.{◌≡◌, None, Some, Option, ℕ, List, [], ◌∷◌, ◌++◌, Ok, IfOk, OnOk, IsErrOf};
 ghost use Rattle.fp_base.specs.declared.object.ObjKind.TheVariants as kinds;
 ghost use Rattle.fp_host.specs.OverHost.{AtEachMoment, AtReturn, ChangesNothing, FailsAlone, FailsOnly};
@@ -21,8 +21,8 @@ use ost_store::{path_of, stage};
 use ost_walk::WalkEnd;
 use std::alloc::Global;
 
-/// Keeps an object that was checked in the work folder, as a store would, and notes it, unless it
-/// is kept there already. Nothing is synced.
+/// Stages an object, which was checked, at its path in the work directory, and appends it to the
+/// list. Does nothing if it is there already. Syncs nothing.
 pub(crate) fn keep<H: Host>(
     alloc: Global,
     host: &mut H,
@@ -56,7 +56,7 @@ pub(crate) fn keep<H: Host>(
     }
 }
 
-/// What stands at the path.
+/// Returns the status of the path.
 fn stat_of<H: Host>(host: &mut H, path: &Path) -> Result<Stat, HostEnd>
     ensures unchanged { ChangesNothing H.Host host.old host.new }
     ensures tells { IfOk result (λ s. Makes (StatOf path.now (Ok s)) (H.moments host.old)
@@ -66,7 +66,8 @@ fn stat_of<H: Host>(host: &mut H, path: &Path) -> Result<Stat, HostEnd>
     Ok(host.stat(path)?)
 }
 
-/// Makes the absent path hold the remote's file or link, checked, and notes it.
+/// Fetches the remote's file or symlink to the path, which is absent, checks it, and appends it to
+/// the list.
 fn keep_new<H: Host, R: Remotes>(
     alloc: Global,
     host: &mut H,
@@ -93,8 +94,8 @@ fn keep_new<H: Host, R: Remotes>(
     Ok(())
 }
 
-/// Keeps the remote's file or link in the work folder, checked, and notes it, unless it is kept
-/// there already. It is refused for its fault. Nothing is synced.
+/// Fetches the remote's file or symlink to its path in the work directory, checks it, and appends
+/// it to the list. Does nothing if it is there already. Refuses it for its fault. Syncs nothing.
 pub(crate) fn keep_content<H: Host, R: Remotes>(
     alloc: Global,
     host: &mut H,

@@ -1,4 +1,4 @@
-//! Pulls a commit: takes the objects that a store lacks from a remote.
+//! Pulling a commit: fetching the objects that a store lacks from a remote.
 #![tactic(auto)]
 
 mod batches;

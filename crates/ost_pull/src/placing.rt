@@ -1,4 +1,4 @@
-//! Objects that come from the work folder to their names.
+//! Moving objects from the work directory to their paths in the store.
 ghost use Rattle.std.specs.Prelude.{OnOk, IsErrOf, ℕ, List, Option};
 ghost use Rattle.fp_host.specs.OverHost.{AtEachMoment, AtReturn, FailsOnly};
 ghost use Rattle.fp_host.specs.Remote.{Holdings};
@@ -13,8 +13,9 @@ use fp_small::clear;
 use ost_store::place_from;
 use std::alloc::Global;
 
-/// Gives these objects, which stand in the work folder, their names in the store, the last of them
-/// first. Nothing is synced. It is for different objects that the store lacks and that were synced.
+/// Moves these objects from the work directory to their paths in the store, the last one first, and
+/// empties the list. Syncs nothing. Condition: the objects are different and synced, and nothing is
+/// at their paths in the store.
 fn place_all<H: Host>(
     alloc: Global,
     host: &mut H,
@@ -25,7 +26,7 @@ fn place_all<H: Host>(
     requires { IsApart root.now work.now }
     ensures any_moment { AtEachMoment H.Host host.old host.new
         (PullsReady root.now work.now objects.old.items) }
-    // A commit is the first of its order, so it has its name only when all that it needs is there.
+    // A commit is the first of its order, so it is placed only after everything that it needs.
     ensures order { AtEachMoment H.Host host.old host.new
         (FirstComesLast root.now work.now objects.old.items) }
     ensures on_success { OnOk result (AtReturn H.Host host.old host.new
@@ -40,8 +41,8 @@ fn place_all<H: Host>(
     Ok(())
 }
 
-/// Stores the objects that are kept in the work folder, and leaves nothing of it. They are made
-/// last before the first of them has its name, and again when all have.
+/// Moves the objects that are kept in the work directory to their paths in the store, and clears
+/// the work directory. Syncs before the first object is moved, and after all are.
 pub(crate) fn store_kept<H: Host>(
     alloc: Global,
     host: &mut H,

@@ -1,4 +1,4 @@
-//! A commit that is pulled.
+//! Pulling a commit.
 ghost use Rattle.std.specs.Prelude.{⊤};
 ghost use Rattle.ost_walk.specs.Ends.{around};
 ghost use Rattle.ost_pull.specs.Pulls.{IsApart, PullsCommit, HasTrueFilesNow};
@@ -16,11 +16,14 @@ use par_digest::{Gate, NoGate};
 use std::alloc::Global;
 use std::thread::Threads;
 
-/// Pulls the commit: takes each object of its order that the store in the folder `root` lacks from
-/// the remote at the url. All are checked before the first is stored, those that the store has too,
-/// and it is refused with the first that has a fault. They are kept below the path `work` until
-/// then, as in a store; what stands there at the entry goes. There are two syncs, however many
-/// objects. It is for a work folder that has nothing to do with the objects of the store.
+/// Pulls the commit: fetches each object of its order that the store at `root` lacks from the
+/// remote at the URL. All objects are checked before the first is stored, also those that the store
+/// has, and the pull is refused with the first fault in the order. Until then objects are kept in
+/// the directory `work`, at the paths that they have in a store; what was there before is cleared.
+/// Syncs twice, however many objects there are. The directory `work` must be apart from the store's
+/// objects. Condition: every crash leaves a store whose objects match their names; `work` isn't the
+/// root, and no path below it, and no object's path in it, has more than 128 elements; the paths
+/// above it and above the store's objects are absent or directories.
 pub fn pull<H: Host, R: Remotes>(
     rt: &(impl Threads + Sync),
     alloc: Global,
@@ -39,11 +42,11 @@ pub fn pull<H: Host, R: Remotes>(
     pull_gated(rt, alloc, host, remotes, root, url, commit, work, &NoGate)
 }
 
-/// Pulls the commit as `pull` does, whatever the gate does. The digests of a batch, which is at
-/// most 64 objects in order, are taken by several threads: of each object of the remote that has at
-/// most 256 KiB. The gate is told as in `digests_gated`, once for each batch. What is larger is
-/// taken by itself, a file in pieces of 64 KiB. A batch is judged before any later refusal is
-/// answered. A fault of the remote may come before a refusal that the batch at hand would give.
+/// Pulls the commit as `pull` does, whatever the gate does. Objects are taken in batches of at most
+/// 64. In each batch, several threads compute the digests of the remote's objects of up to 256 KiB,
+/// and the gate is called as by `digests_gated`. A larger object is taken by itself, a file in
+/// pieces of 64 KiB. Each batch is checked before any later refusal is returned. A fault of the
+/// remote may be returned instead of a refusal that the current batch would give.
 pub fn pull_gated<H: Host, R: Remotes, G: Gate + Sync>(
     rt: &(impl Threads + Sync),
     alloc: Global,
@@ -74,10 +77,10 @@ pub fn pull_gated<H: Host, R: Remotes, G: Gate + Sync>(
     )
 }
 
-/// Pulls the commit as `pull` does into a store each of whose files and links is the one of its
-/// name's digest. Such a file that the store has is judged by its permission bits and its size: its
-/// bytes aren't read. Metadata objects are read and checked as ever. Where a name isn't true, the
-/// object that stands there passes for the one that is named.
+/// Pulls the commit as `pull` does, into a store whose files and symlinks all match their digests.
+/// Of a file that the store has, only the permission bits and the size are checked, and its bytes
+/// aren't read. Metadata objects are read and checked. If a file doesn't match its digest, it is
+/// taken for the object all the same.
 pub fn pull_trusting<H: Host, R: Remotes>(
     rt: &(impl Threads + Sync),
     alloc: Global,
@@ -108,8 +111,8 @@ pub fn pull_trusting<H: Host, R: Remotes>(
     )
 }
 
-/// Pulls the commit as `pull_gated` does. Where names of the store are trusted, it is for a store
-/// in which they are true.
+/// Pulls the commit as `pull_gated` does. If the names of the store are trusted, its files and
+/// symlinks must match their digests.
 fn pull_by<H: Host, R: Remotes, G: Gate + Sync>(
     rt: &(impl Threads + Sync),
     alloc: Global,

@@ -1,4 +1,4 @@
-//! Small objects of a remote, which are read whole. Their digests aren't taken here.
+//! Small objects of a remote, which are read whole. Their digests aren't checked here.
 ghost use Rattle.std.specs.Prelude.{◌≡◌, ℕ, false, IfOk, IfSome, IsErrOf, Some};
 ghost use Rattle.fp_base.specs.declared.object.ObjKind.TheVariants as kinds;
 ghost use Rattle.fp_host.specs.Outcome.{points};
@@ -21,7 +21,8 @@ use ost_walk::{WalkEnd, read_remote};
 use par_digest::MOST_SMALL_BYTES;
 use std::alloc::Global;
 
-/// The file with these permission bits and of this size, where it is small and its bits are taken.
+/// Reads the file with these permission bits and this size in bytes. Returns `None` if it has more
+/// than 256 KiB or its permission bits aren't within 0775.
 #[tactic(auto, using(crate::proofs::Read::fit_file, crate::proofs::Read::file_there))]
 fn small_file<R: Remotes>(
     alloc: Global,
@@ -50,7 +51,7 @@ fn small_file<R: Remotes>(
     Ok(Some(Object::File { mode, bytes }))
 }
 
-/// The link with this text, where the text may be a link's.
+/// Returns the symlink with this text, or `None` if the text isn't valid for a symlink.
 #[tactic(auto, using(ost_head::proofs::Fetched::fit_link, crate::proofs::Read::short_link, ost_model::proofs::Spots::link_there))]
 fn small_link(text: Text) -> Option<Object>
     ensures fit { IfSome result (IsFit kinds.File) }
@@ -64,7 +65,8 @@ fn small_link(text: Text) -> Option<Object>
     }
 }
 
-/// The file or link of the remote at the path, where it is small and may be a store's.
+/// Reads the remote's file or symlink at the path. Returns `None` if it is large or a store can't
+/// have it.
 #[tactic(auto, using(crate::proofs::Read::link_there))]
 fn small_content<R: Remotes>(
     alloc: Global,
@@ -91,7 +93,8 @@ fn small_content<R: Remotes>(
     }
 }
 
-/// The metadata object that is a file of this size, where it is small.
+/// Reads the metadata object that is a file of this size in bytes. Returns `None` if it has more
+/// than 256 KiB.
 #[tactic(auto, using(crate::proofs::Read::fit_meta, crate::proofs::Read::meta_there))]
 fn small_bytes<R: Remotes>(
     alloc: Global,
@@ -121,7 +124,7 @@ fn small_bytes<R: Remotes>(
     Ok(Some(Object::Meta(bytes)))
 }
 
-/// The metadata object of the remote at the path, where it is small.
+/// Reads the remote's metadata object at the path. Returns `None` if it is large or isn't a file.
 fn small_meta<R: Remotes>(
     alloc: Global,
     remotes: &mut R,
@@ -147,8 +150,8 @@ fn small_meta<R: Remotes>(
     }
 }
 
-/// The object of the remote at the url, where it has at most 256 KiB and is one that a store may
-/// keep. Nothing is refused here.
+/// Reads the object of the remote at the URL. Returns `None` if it has more than 256 KiB or a store
+/// can't have it; nothing is refused here.
 pub(crate) fn small_object<R: Remotes>(
     alloc: Global,
     remotes: &mut R,

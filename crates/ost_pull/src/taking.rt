@@ -1,4 +1,4 @@
-//! Objects of an order that are found, checked, and kept where they are new.
+//! Taking objects of an order: finding them, checking them, and keeping those that are new.
 ghost use Rattle.std.specs.Prelude.{◌≡◌, Some, OnOk, IsErrOf};
 ghost use Rattle.fp_base.specs.declared.object.ObjKind.TheVariants as kinds;
 ghost use Rattle.fp_host.specs.OverHost.{AtEachMoment, AtReturn, FailsOnly};
@@ -22,7 +22,7 @@ use ost_model::Object;
 use ost_walk::{ObjectFault, WalkEnd, WalkFault};
 use std::alloc::Global;
 
-/// How a walk ends where a call of the host does.
+/// Returns the `WalkEnd` that a `HostEnd` is converted to.
 pub(crate) fn walk_end(end: HostEnd) -> WalkEnd
     ensures { result ≡ of_host end }
 {
@@ -32,9 +32,8 @@ pub(crate) fn walk_end(end: HostEnd) -> WalkEnd
     }
 }
 
-/// Takes one object, which stands whole in memory: the store's where it has one, else the remote's,
-/// which is kept in the work folder and noted. It is refused for its fault. It is for a work folder
-/// that has nothing to do with the objects of the store.
+/// Takes one object that is read whole into memory: the store's if it has one, else the remote's,
+/// which is kept in the work directory and appended to the list. Refuses it for its fault.
 fn take_whole<H: Host, R: Remotes>(
     alloc: Global,
     host: &mut H,
@@ -73,9 +72,10 @@ fn take_whole<H: Host, R: Remotes>(
     }
 }
 
-/// Takes a file or link: the store's where it has one, else the remote's, which is kept in the work
-/// folder and noted. A file is read piece by piece. It is refused for its fault. It is for a work
-/// folder that has nothing to do with the objects of the store.
+/// Takes a file or symlink: the store's if it has one, which is checked as far as it isn't trusted,
+/// else the remote's, which is kept in the work directory and appended to the list. Reads a file
+/// piece by piece. Refuses it for its fault. The objects on the list must be kept in the work
+/// directory.
 fn take_content<H: Host, R: Remotes>(
     alloc: Global,
     host: &mut H,
@@ -110,9 +110,9 @@ fn take_content<H: Host, R: Remotes>(
     }
 }
 
-/// Takes one object: the store's where it has one, else the remote's, which is kept in the work
-/// folder and noted. It is refused for its fault, where what was noted before is kept. It is for a
-/// work folder that has nothing to do with the objects of the store.
+/// Takes one object: the store's if it has one, else the remote's, which is kept in the work
+/// directory and appended to the list. Refuses it for its fault. The objects on the list must be
+/// kept in the work directory.
 pub(crate) fn take<H: Host, R: Remotes>(
     alloc: Global,
     host: &mut H,

@@ -1,4 +1,4 @@
-//! Files and links of the store that are checked, or whose names are taken for true.
+//! Files and symlinks of the store that are checked, or trusted to match their digests.
 ghost use Rattle.std.specs.Prelude.{◌≡◌, List, ℕ, Option, Some, IfOk, IsErrOf, IsTrue, is_some};
 ghost use Rattle.fp_base.specs.declared.object.ObjKind.TheVariants as kinds;
 ghost use Rattle.fp_host.specs.Moments.{Moments};
@@ -22,16 +22,16 @@ use ost_store::{Got, get};
 use ost_walk::WalkEnd;
 use std::alloc::Global;
 
-/// What is trusted of the files and links that the store has.
+/// The trust in the store's files and symlinks.
 #[derive(Clone, Copy)]
 pub(crate) enum Trust {
-    /// Nothing: each is read, and its digest taken.
+    /// No trust: each file and symlink is read, and its digest is checked.
     Nothing,
-    /// That each is the one of its name's digest: no file is read.
+    /// Trust that files and symlinks match their digests, so no bytes of a good file are read.
     Names,
 }
 
-/// Whether what the store has at a file's or link's name has no fault where the name is true.
+/// Returns whether the store's file or symlink has no fault if it matches its digest.
 fn is_good_if_true(got: &Got) -> bool
     ensures { IsTrue result → (d : List ℕ) (there : Option Object)
         → got.now ≡ got_of MOST_FILE_BYTES there → IsGoodIfTrue d there }
@@ -43,8 +43,9 @@ fn is_good_if_true(got: &Got) -> bool
     }
 }
 
-/// Whether the store in this folder has the file or link, which is checked but for its digest where
-/// nothing else is wrong: then no bytes of a file are read.
+/// Returns whether the store at `root` has the file or symlink, which is trusted to match its
+/// digest. If its permission bits and its size are good, no bytes of a file are read; else it is
+/// checked as one that isn't trusted.
 fn check_named<H: Host>(
     alloc: Global,
     host: &mut H,
@@ -68,8 +69,8 @@ fn check_named<H: Host>(
     check_stored(alloc, host, root, digest)
 }
 
-/// Whether the store in this folder has the file or link, which is checked as far as it isn't
-/// trusted.
+/// Returns whether the store at `root` has the file or symlink, after checking it as far as it
+/// isn't trusted.
 pub(crate) fn check_content<H: Host>(
     alloc: Global,
     host: &mut H,

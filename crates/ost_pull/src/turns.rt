@@ -1,5 +1,5 @@
-//! Objects of an order that are taken a batch at a time: read whole where they are small, hashed
-//! together, then judged in order.
+//! Taking the objects of an order in batches: small ones are read whole and hashed together, and
+//! then each object is taken in order.
 ghost use Rattle.std.specs.Prelude.{◌≡◌, ◌+◌, ◌<◌, ◌≤◌, length, None, Some, OnOk, IsErrOf};
 ghost use Rattle.fp_host.specs.OverHost.{AtEachMoment, AtReturn, FailsOnly};
 ghost use Rattle.par_digest.specs.Digests.{item_digest, item_digests};
@@ -25,8 +25,8 @@ use par_digest::{Gate, Item, MOST_IN_BATCH, digests_gated};
 use std::alloc::Global;
 use std::thread::Threads;
 
-/// Takes an object of the remote that was read whole and whose digest was taken. One that isn't
-/// seen to be good is taken by itself, which refuses it for its fault.
+/// Takes an object of the remote that was read whole and whose digest was computed. If it isn't
+/// found to be good, calls `take`, which refuses it if it has a fault.
 fn take_read<H: Host, R: Remotes>(
     alloc: Global,
     host: &mut H,
@@ -65,7 +65,7 @@ fn take_read<H: Host, R: Remotes>(
     }
 }
 
-/// Takes an object whose turn has come.
+/// Takes an object in its turn.
 fn take_turn<H: Host, R: Remotes>(
     alloc: Global,
     host: &mut H,
@@ -112,8 +112,8 @@ fn take_turn<H: Host, R: Remotes>(
     }
 }
 
-/// Takes these objects one after another, each in its turn. It is refused with the first that has a
-/// fault, where what was noted before is kept.
+/// Takes these objects one after another, each in its turn. Refuses the first with a fault. The
+/// objects on the list must be kept in the work directory.
 fn take_turns<H: Host, R: Remotes>(
     alloc: Global,
     host: &mut H,
@@ -149,9 +149,9 @@ fn take_turns<H: Host, R: Remotes>(
     Ok(())
 }
 
-/// Takes the objects of a batch, 64 at most: reads those of the remote that are small, takes the digests of
-/// these, then takes each object in order. It is refused with the first that has a fault, where
-/// what was noted before is kept.
+/// Takes the objects of a batch, which are at most 64: reads the remote's small ones, computes
+/// their digests, and then takes each object in order. Refuses the first with a fault. The objects
+/// on the list must be kept in the work directory.
 fn take_batch<H: Host, R: Remotes, G: Gate + Sync>(
     rt: &(impl Threads + Sync),
     alloc: Global,
@@ -194,7 +194,7 @@ fn take_batch<H: Host, R: Remotes, G: Gate + Sync>(
     }
 }
 
-/// Where the batch ends that begins at this object, of `count` objects.
+/// Returns the index after the batch that begins at index `at`, of `count` objects.
 fn batch_end(at: usize, count: usize) -> usize
     requires { at < count }
     ensures later { at < result }
@@ -204,8 +204,8 @@ fn batch_end(at: usize, count: usize) -> usize
     at + (count - at).min(MOST_IN_BATCH)
 }
 
-/// Takes these objects in order, a batch at a time. It is refused with the first that has a fault,
-/// where what was noted before is kept.
+/// Takes these objects in order, one batch after another. Refuses the first with a fault. The
+/// objects on the list must be kept in the work directory.
 pub(crate) fn take_all<H: Host, R: Remotes, G: Gate + Sync>(
     rt: &(impl Threads + Sync),
     alloc: Global,

@@ -1,4 +1,4 @@
-//! Heads whose file `metadata` is as long as its limit lets it be, or longer.
+//! Heads with a file `metadata` that is as long as its limit, or longer.
 
 use crate::offers::{FEW, URL, app, commit_of, offered};
 use crate::pulls::end_line;
@@ -14,10 +14,10 @@ use std::panic::Expect;
 use std::process::Abort;
 use std::thread::Threads;
 
-/// What comes before the content in the row of a file `metadata`.
+/// The text before the content in the row of a file `metadata`.
 const START: &str = "644 metadata ";
 
-/// The row of a file `metadata` of this many bytes, of which most are a comment.
+/// Returns the row of a file `metadata` of this many bytes, most of which are a comment.
 fn row_of(rt: &impl Abort, alloc: Global, count: usize) -> String {
     let lines = FEW.lines().next().unwrap_or("");
     let more = count
@@ -27,8 +27,9 @@ fn row_of(rt: &impl Abort, alloc: Global, count: usize) -> String {
     [lines, comment.as_str()].concat(alloc).expect(rt, "memory")
 }
 
-/// The head of the commit: how many bytes its file `metadata` has, or the line of why it isn't read.
-/// The remote has what the row says in the place of objects, and this call of it fails.
+/// Reads the head of the commit, and returns a line with the number of bytes of its file
+/// `metadata`, or the line of the refusal. The remote has what the row says in place of objects,
+/// and this call of the remote fails.
 fn head_line(rt: &impl Abort, alloc: Global, built: &Built, harm: &str, call: u64) -> Text {
     let mut host = MemHost::new(alloc).expect(rt, "memory");
     let mut remotes = offered(rt, alloc, URL, built, harm);
@@ -52,10 +53,10 @@ fn head_line(rt: &impl Abort, alloc: Global, built: &Built, harm: &str, call: u6
 /// A number that no call has.
 const NONE: u64 = 1_000;
 
-/// What the remote of a commit whose `metadata` is one byte too long has in the place of objects,
-/// the call of the remote that fails, and what comes of it. The first six calls are for the commit
-/// and for the dirtree and the dirmeta of its root, and the next asks what `metadata` is. Then come
-/// 17 pieces.
+/// What the remote of a commit with a `metadata` that is one byte too long has in place of objects,
+/// the call of the remote that fails, counted from 0, and the wanted line. The first six calls are
+/// for the commit and for the dirtree and the dirmeta of its root, and the next one asks for the
+/// kind of `metadata`. Then come 17 pieces.
 const LONGER: &[(&str, u64, &str)] = &[
     ("", NONE, "error: limit metadata-file 1048577\n"),
     (
@@ -68,7 +69,7 @@ const LONGER: &[(&str, u64, &str)] = &[
     ("", 24, "error: limit metadata-file 1048577\n"),
 ];
 
-/// A commit of one file, `metadata` of this many bytes.
+/// Builds the commit of one file, a `metadata` of this many bytes.
 fn commit_with(rt: &(impl Abort + Threads + Sync), alloc: Global, count: usize) -> Built {
     commit_of(rt, alloc, &row_of(rt, alloc, count))
 }

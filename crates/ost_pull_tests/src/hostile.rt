@@ -1,4 +1,4 @@
-//! Commits of a remote that are too deep, or have too many places.
+//! Commits of a remote that are too deep or have too many places.
 
 use crate::offers::{URL, place, put, text};
 use crate::pulls::pulled;
@@ -14,7 +14,7 @@ use std::alloc::Global;
 use std::panic::Expect;
 use std::process::Abort;
 
-/// Puts an object there, which is a metadata object or the empty file, and answers its digest.
+/// Puts an object, a metadata object or the empty file, on the remote, and returns its digest.
 fn put_object(
     rt: &impl Abort,
     alloc: Global,
@@ -31,8 +31,8 @@ fn put_object(
     digest
 }
 
-/// A folder of this number of files, each of which is this one, and in which each name is this
-/// folder.
+/// Returns the bytes of a dirtree with this number of files, each with this digest, and with a
+/// directory of each name, all with this dirtree and dirmeta.
 fn folder_of(
     rt: &impl Abort,
     alloc: Global,
@@ -57,7 +57,7 @@ fn folder_of(
     write_dirtree(alloc, &DirTree { files, dirs }).expect(rt, "a dirtree")
 }
 
-/// The commit with this root.
+/// Returns the bytes of the commit with this root.
 fn commit_at(rt: &impl Abort, alloc: Global, tree: Digest, meta: Digest) -> Blob {
     let commit = Commit {
         metadata: Blob::from_vec(Vec::new(alloc)),
@@ -72,8 +72,8 @@ fn commit_at(rt: &impl Abort, alloc: Global, tree: Digest, meta: Digest) -> Blob
     write_commit(alloc, &commit).expect(rt, "a commit")
 }
 
-/// Puts a commit of this number of levels below the root, in each of which each name is the same
-/// folder. The last has the files.
+/// Puts a commit with this number of levels below the root on the remote, and returns its digest.
+/// In each level all names are the same directory, and the last level has the files.
 fn put_levels(
     rt: &impl Abort,
     alloc: Global,
@@ -96,9 +96,9 @@ fn put_levels(
     put_object(rt, alloc, remotes, ObjKind::Commit, commit)
 }
 
-/// The names in each folder, the levels, the files in the last one, the refusal of a pull, and how
-/// many lines it and the objects that are stored make. Ten levels of two names, with 1,024 files in each of the
-/// last, make 2^20 places.
+/// The names in each directory, the number of levels, the number of files in the last one, the
+/// refusal of a pull, and the number of lines of the refusal and the stored objects. Ten levels of
+/// two names, with 1,024 files in each directory of the last one, are 2^20 places.
 const LEVELS: &[(&[&str], u32, u32, &str, usize)] = &[
     (&["a"], 64, 1, "", 68),
     (&["a"], 65, 1, "error: limit depth 65\n", 1),

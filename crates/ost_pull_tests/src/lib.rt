@@ -1,5 +1,5 @@
-//! Tests of pulls: what a store has after them, what is refused, and remotes that offer what must
-//! not be taken.
+//! Tests of pulls: what a store has afterwards, what is refused, and remotes that offer what must
+//! be refused.
 #![tactic(auto)]
 
 #[cfg(test)]

@@ -1,23 +1,23 @@
-//! A remote that says too much of a file, or changes its answers.
+//! A remote that reports a wrong size of a file, or changes its answers.
 ghost use Rattle.std.specs.Prelude.{None};
 
 use fp_host::{Node, Path, RemoteError, Remotes};
 use fp_memhost::MemRemotes;
 use std::alloc::Global;
 
-/// A byte more than an object may have.
+/// One byte more than an object may have: 1 GiB and one byte.
 const SIZE: u64 = 1_073_741_825;
 
-/// A remote that holds what another one does, but for a file that it says to have that size. The
-/// bits of a number say of the reads in turn, and from the 65th on again from the first, which of
-/// them give another first byte. It tells nothing.
+/// A remote that has the content of another one, but reports the size `SIZE` of one file. The bits
+/// of `changed` stand for the reads in turn, starting again with the first bit after 64 reads: a
+/// read with the bit 1 gives another first byte. The remote doesn't tell what it holds.
 #[derive(Drop)]
 pub struct Odd {
-    /// The other one.
+    /// The other remote.
     pub held: MemRemotes,
-    /// The path of the file, at every url.
+    /// The path of the file, at every URL.
     pub large: Path,
-    /// The bits, that of the next read lowest.
+    /// The bits of the reads: that of the next read is the lowest.
     pub changed: u64,
 }
 

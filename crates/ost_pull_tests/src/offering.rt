@@ -1,4 +1,4 @@
-//! What a remote offers under a ref.
+//! The commit that a remote offers under a ref.
 
 use crate::offers::{URL, app, path, put};
 use crate::pulls::end_line;
@@ -12,15 +12,15 @@ use std::alloc::Global;
 use std::panic::Expect;
 use std::process::Abort;
 
-/// Puts a file of this text there.
+/// Puts a file with this text on the remote.
 fn put_file(rt: &impl Abort, alloc: Global, remotes: &mut MemRemotes, at: &str, text: &str) {
     let bytes = Blob::from_slice(alloc, text.as_bytes()).expect(rt, "memory");
     let at = path(rt, alloc, at);
     put(rt, remotes, URL, &at, MemNode::File { mode: 0o644, bytes });
 }
 
-/// What a remote offers whose `config` is this, and the file of whose ref: a commit in digits, or
-/// the refusal.
+/// Returns the commit that a remote offers with this `config` and this file of the ref, as
+/// hexadecimal digits, or the line of the refusal.
 fn offer_of(rt: &impl Abort, alloc: Global, config: &str, file: &str) -> Text {
     let mut remotes = MemRemotes::new(alloc).expect(rt, "memory");
     put_file(rt, alloc, &mut remotes, "config", config);
@@ -36,10 +36,10 @@ fn offer_of(rt: &impl Abort, alloc: Global, config: &str, file: &str) -> Text {
     }
 }
 
-/// The `config` of a repository that is pulled from.
+/// The `config` of a repository from which fpk pulls.
 const CONFIG: &str = "[core]\nrepo_version=1\nmode=bare-user-only\n";
 
-/// The `config` of a remote, the file of a ref there, and what is offered.
+/// The `config` of a remote, the file of a ref there, and the wanted commit or refusal.
 const OFFERS: &[(&str, &str, &str)] = &[
     (
         CONFIG,

@@ -1,4 +1,4 @@
-//! Commits of a few files and of many at a remote. `scripts/ostree_pulls.py` makes the same ones
+//! Commits of a few files and of many on a remote. `scripts/ostree_pulls.py` makes the same commits
 //! with the `ostree` command.
 
 use fp_base::{Blob, ObjKind, Text};
@@ -13,20 +13,20 @@ use std::panic::Expect;
 use std::process::Abort;
 use std::thread::Threads;
 
-/// Where the remote is.
+/// The URL of the remote.
 pub const URL: &str = "file:///srv/lab";
 
-/// The path of the text.
+/// Returns the path of a text.
 pub fn path(rt: &impl Abort, alloc: Global, text: &str) -> Path {
     Path::parse(alloc, text).expect(rt, "a path")
 }
 
-/// The text.
+/// Makes a text.
 pub fn text(rt: &impl Abort, alloc: Global, text: &str) -> Text {
     Text::from_str(alloc, text).expect(rt, "memory")
 }
 
-/// The bytes of a text in which `|` ends a line; `zeros:N` is so many zero bytes.
+/// Returns the bytes of a text in which `|` stands for a newline; `zeros:N` is N zero bytes.
 fn bytes_of(rt: &impl Abort, alloc: Global, content: &str) -> Blob {
     let bytes = match content.strip_prefix("zeros:") {
         Some(count) => vec![in alloc; 0u8; count.parse::<usize>().unwrap_or(0)],
@@ -38,8 +38,8 @@ fn bytes_of(rt: &impl Abort, alloc: Global, content: &str) -> Blob {
     Blob::from_vec(bytes.expect(rt, "memory"))
 }
 
-/// A row of a tree: `dir PATH`, `link PATH TEXT`, or the permission bits of a file, its path and its
-/// bytes.
+/// Parses a row of a tree: `dir PATH`, `link PATH TEXT`, or the permission bits of a file, its path
+/// and its content as in `bytes_of`.
 fn tree_row(rt: &impl Abort, alloc: Global, row: &str) -> TreeRow {
     let (kind, rest) = row.split_once(' ').unwrap_or((row, ""));
     let (place, content) = rest.split_once(' ').unwrap_or((rest, ""));
@@ -58,7 +58,7 @@ fn tree_row(rt: &impl Abort, alloc: Global, row: &str) -> TreeRow {
     }
 }
 
-/// The commit of a tree of these rows.
+/// Builds the commit of a tree with these rows.
 pub fn commit_of(rt: &(impl Abort + Threads + Sync), alloc: Global, rows: &str) -> Built {
     let mut tree = Vec::new(alloc);
     for row in rows.lines() {
@@ -68,12 +68,12 @@ pub fn commit_of(rt: &(impl Abort + Threads + Sync), alloc: Global, rows: &str) 
     commit_tree(rt, alloc, &tree, &name, "subject", 1_700_000_000).expect(rt, "a commit")
 }
 
-/// The ref to which the commits are bound.
+/// Returns the ref to which the commits are bound.
 pub fn app(rt: &impl Abort, alloc: Global) -> RefName {
     RefName::parse(alloc, b"app/org.example.App/x86_64/stable").expect(rt, "a ref")
 }
 
-/// Two files of one content, a link, an empty folder, and `metadata`.
+/// The rows of two files with the same content, a symlink, an empty directory, and `metadata`.
 pub const FEW: &str = "\
 644 metadata [Application]|name=org.example.App|runtime=org.example.Platform/x86_64/1|
 755 files/bin/run #!/bin/sh|
@@ -82,7 +82,7 @@ link files/link bin/run
 dir empty
 ";
 
-/// 300 files and links in 40 folders, and `metadata`.
+/// Returns the rows of 300 files and symlinks in 40 directories, and of `metadata`.
 pub fn many(rt: &impl Abort, alloc: Global) -> String {
     let metadata = FEW.lines().next().unwrap_or("");
     let mut rows = [metadata, "\n"].concat(alloc).expect(rt, "memory");
@@ -100,18 +100,18 @@ pub fn many(rt: &impl Abort, alloc: Global) -> String {
     rows
 }
 
-/// Puts the node at the path of the remote with this url.
+/// Puts a node at the path of the remote with this URL.
 pub fn put(rt: &impl Abort, remotes: &mut MemRemotes, url: &str, place: &Path, node: MemNode) {
     assert!(rt; remotes.can_put(url, place, &node));
     remotes.put(url, place, node).expect(rt, "memory");
 }
 
-/// The path of an object at the remote.
+/// Returns the path of an object on the remote.
 pub fn place(rt: &impl Abort, alloc: Global, digest: &Digest, kind: ObjKind) -> Path {
     path_of(alloc, &Path::root(alloc), digest, kind).expect(rt, "a path")
 }
 
-/// The object, as it stands at a remote.
+/// Returns the node of an object on a remote.
 fn node_of(rt: &impl Abort, object: &Object) -> MemNode {
     match object {
         Object::Meta(bytes) => MemNode::File {
@@ -126,11 +126,11 @@ fn node_of(rt: &impl Abort, object: &Object) -> MemNode {
     }
 }
 
-/// What a row has in the place of this object, if it does.
+/// Returns what a row has in place of this object, if anything.
 ///
-/// A row has `OBJECT=WHAT` for each such object: `nothing` is there, `link:TEXT`, or a file by its
-/// permission bits and bytes, as `644:00ff` or `644:zeros:N`. After `in/` it is not there but below
-/// a folder there.
+/// A row is a list of words `OBJECT=WHAT`, one for each such object. WHAT is `nothing`,
+/// `link:TEXT`, or a file by its permission bits and its bytes, such as `644:00ff` or
+/// `644:zeros:N`. After `in/`, the object's path is a directory, and the node is below it.
 fn instead_of<'a>(row: &'a str, digest: &Digest) -> Option<&'a str> {
     let digits = digest.digits();
     for word in row.split(' ') {
@@ -142,7 +142,7 @@ fn instead_of<'a>(row: &'a str, digest: &Digest) -> Option<&'a str> {
     None
 }
 
-/// A link, or a file with its permission bits.
+/// Parses a node: a symlink, or a file with its permission bits.
 fn node_by(rt: &impl Abort, alloc: Global, what: &str) -> MemNode {
     let (kind, content) = what.split_once(':').unwrap_or((what, ""));
     if kind == "link" {
@@ -157,7 +157,7 @@ fn node_by(rt: &impl Abort, alloc: Global, what: &str) -> MemNode {
     MemNode::File { mode, bytes }
 }
 
-/// Puts that in the place of an object.
+/// Puts what a row has in place of an object on the remote.
 fn put_instead(
     rt: &impl Abort,
     alloc: Global,
@@ -176,7 +176,8 @@ fn put_instead(
     }
 }
 
-/// A remote with this url and the commit, but for what the row has in the place of objects.
+/// Makes a remote with this URL that has the commit, except for what the row has in place of
+/// objects.
 pub fn offered(rt: &impl Abort, alloc: Global, url: &str, built: &Built, row: &str) -> MemRemotes {
     let mut remotes = MemRemotes::new(alloc).expect(rt, "memory");
     for object in built.objects.as_slice() {

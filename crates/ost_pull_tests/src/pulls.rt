@@ -33,10 +33,10 @@ repo/objects/99/a024be1d26a754338667712506aec165851fcef90b2793d8e540034c02a72f.f
 repo/objects/9a/66a8ed7bf66427f5f2716c2f1fae391371f0d9939557f33ade986c45844bef.file
 ";
 
-/// The SHA-256 digest of the same of the many files, 267 lines.
+/// The SHA-256 digest of the list of the many files' objects, which has 267 lines.
 const MANY_OBJECTS: &[u8; 64] = b"71ceec0db1d292fcb5a5000d2525d209252885618c75d03f06bdf29b363730f8";
 
-/// The line that is printed of an end.
+/// Returns the line that is printed for an end.
 pub fn end_line(rt: &impl Abort, alloc: Global, end: PullEnd) -> Text {
     let line = match end {
         PullEnd::Refused(refusal) => refusal_line(alloc, &refusal),
@@ -47,8 +47,8 @@ pub fn end_line(rt: &impl Abort, alloc: Global, end: PullEnd) -> Text {
     line.expect(rt, "memory")
 }
 
-/// Pulls the commit from this url. The line says why that wasn't done, or nothing. The folder of
-/// the pull has to be gone.
+/// Pulls the commit from this URL, and returns the line of the end, or nothing if the pull was
+/// done. Checks that the work directory of the pull is absent again.
 fn pull_end<R: Remotes>(
     rt: &(impl Abort + Threads + Sync),
     alloc: Global,
@@ -69,8 +69,8 @@ fn pull_end<R: Remotes>(
     }
 }
 
-/// Pulls the commit from this url. The lines say why that wasn't done, if it wasn't, and which files
-/// and links the store has below `objects` then.
+/// Pulls the commit from this URL, and returns the line of the end, if the pull wasn't done, and a
+/// line for each file and symlink that the store then has below `objects`.
 pub fn pulled<R: Remotes>(
     rt: &(impl Abort + Threads + Sync),
     alloc: Global,
@@ -88,8 +88,8 @@ pub fn pulled<R: Remotes>(
     lines
 }
 
-/// The same of a pull into an empty host from a remote of this url, which has the commit of a tree
-/// of these rows, but for what another row has in the place of objects.
+/// Pulls the commit of a tree with these rows into an empty host, from a remote with this URL which
+/// has the commit, except for what `harms` has in place of objects. Returns lines as `pulled` does.
 pub fn pulled_from(
     rt: &(impl Abort + Threads + Sync),
     alloc: Global,
@@ -103,8 +103,8 @@ pub fn pulled_from(
     pulled(rt, alloc, &mut host, &mut remotes, url, &built.commit)
 }
 
-/// From a url of 1,100 bytes come the few files, and a file in pieces with the three objects above
-/// it.
+/// Pulls from a URL of 1,100 bytes: the few files, and a file in pieces together with the three
+/// objects that it needs.
 #[test]
 fn a_long_url_is_pulled_from(rt: HostRuntime) {
     let alloc = rt.alloc();
@@ -136,11 +136,11 @@ fn a_store_has_what_a_repository_has(rt: HostRuntime) {
     );
 }
 
-/// What a remote has in the place of objects of the few files, and the refusal. The objects are the
-/// file `metadata` (99a0..), the link (9a66..), the file `files/bin/run` (6059..), and the dirtree of
-/// the folder `files` (8212..), in the order of the commit but for the last one, which is before the
-/// link; the dirmeta (446a..), which is the third object, and the dirtree of the empty folder
-/// (6e34..), which is the fifth.
+/// What a remote has in place of objects of the few files, and the refusal. The objects are the
+/// file `metadata` (99a0..), the symlink (9a66..), the file `files/bin/run` (6059..), and the
+/// dirtree of the directory `files` (8212..). This is their order in the commit, except that the
+/// dirtree of `files` comes before the symlink. The dirmeta (446a..) is the third object of the
+/// commit, and the dirtree of the empty directory (6e34..) is the fifth.
 const HARMS: &str = "\
 99a024be1d26a754338667712506aec165851fcef90b2793d8e540034c02a72f=in/644:77697468696e => \
     error: missing object 99a024be1d26a754338667712506aec165851fcef90b2793d8e540034c02a72f.file
@@ -160,14 +160,14 @@ const HARMS: &str = "\
     error: corrupt object 9a66a8ed7bf66427f5f2716c2f1fae391371f0d9939557f33ade986c45844bef.file 7980e3dd3c9b09cd95740ad7c9b7c19c0a28da67c56e9b2e6f7927f11eccf96c
 ";
 
-/// A link of one letter whose text is cut, and the refusal.
+/// A symlink of one letter whose text is cut, and the refusal.
 const CUT_LETTER: &str = "\
 43f338adeb68637b721d7ba4c39b7677a4fbb87e3adf4a363a3d50c9de9a35ed=link: => \
     error: missing object 43f338adeb68637b721d7ba4c39b7677a4fbb87e3adf4a363a3d50c9de9a35ed.file
 ";
 
-/// Ends the test at a row with what a remote has in the place of objects of a tree, where the pull
-/// isn't refused with the line of the row alone.
+/// Pulls a tree once for each row, with what the row has in place of objects. Ends the test at the
+/// first row whose pull isn't refused with exactly the row's line.
 fn agree_on_harms(rt: &(impl Abort + Threads + Sync), alloc: Global, tree: &str, rows: &str) {
     for row in rows.lines() {
         let (harms, line) = row.split_once(" => ").unwrap_or((row, ""));
@@ -183,8 +183,8 @@ fn what_is_harmed_is_refused(rt: HostRuntime) {
     agree_on_harms(&rt, rt.alloc(), "link l f", CUT_LETTER);
 }
 
-/// Files of three pieces and of five, what a remote has where the last byte is missing, and the
-/// refusals.
+/// Files of three pieces and of five, what a remote has in their place without the last byte, and
+/// the refusals.
 const CUT: &[(&str, &str, &str)] = &[
     (
         "644 big zeros:196608",
@@ -206,8 +206,8 @@ fn a_file_of_several_pieces_that_is_cut_is_refused(rt: HostRuntime) {
     }
 }
 
-/// What a pull of a commit comes to from a remote that says of the file at a path that it is too
-/// large, and whose reads change so.
+/// Pulls the commit from a remote that reports the file at a path as too large, and whose reads
+/// change as the bits of `changed` say. Returns lines as `pulled` does.
 fn pulled_oddly(
     rt: &(impl Abort + Threads + Sync),
     alloc: Global,
@@ -224,7 +224,7 @@ fn pulled_oddly(
     pulled(rt, alloc, host, &mut remotes, URL, &built.commit)
 }
 
-/// The place of the file `metadata` among the few files.
+/// The path of the file `metadata` of the few files.
 const METADATA: &str =
     "objects/99/a024be1d26a754338667712506aec165851fcef90b2793d8e540034c02a72f.file";
 
@@ -237,8 +237,8 @@ fn a_file_that_is_said_to_have_a_byte_more_than_a_gibibyte_is_refused(rt: HostRu
     assert!(rt; lines.as_str() == "error: limit object 1073741825\n");
 }
 
-/// Whether a pull from a remote whose reads change so stores all of the few files, each true, or is
-/// refused and stores nothing.
+/// Returns whether a pull from a remote whose reads change either stores all of the few files, and
+/// each matches its digest, or is refused and stores nothing.
 fn does_no_harm(
     rt: &(impl Abort + Threads + Sync),
     alloc: Global,
@@ -250,7 +250,7 @@ fn does_no_harm(
     if lines.starts_with("error: corrupt object ") {
         return lines.lines().count() == 1;
     }
-    // Each object that is stored is judged here: the remote has none.
+    // A second pull checks each stored object, since its remote has none.
     let mut none = MemRemotes::new(alloc).expect(rt, "memory");
     let again = pulled(rt, alloc, &mut host, &mut none, URL, &built.commit);
     lines.as_str() == FEW_OBJECTS && again.as_str() == FEW_OBJECTS
@@ -268,8 +268,8 @@ fn a_remote_that_changes_its_answers_does_no_harm(rt: HostRuntime) {
     }
 }
 
-/// What two pulls come to: of the commit of no file, then of another one, in which this call of the
-/// remote fails.
+/// Pulls the commit of no file and then another one, during which this call of the remote fails.
+/// Returns lines as `pulled` does.
 fn pulled_with_fault(
     rt: &(impl Abort + Threads + Sync),
     alloc: Global,
@@ -286,9 +286,9 @@ fn pulled_with_fault(
     pulled(rt, alloc, &mut host, &mut remotes, URL, &built.commit)
 }
 
-/// Each call that fails, from the first on, ends a pull and leaves the store as it was, with three
-/// objects; where it is none of the pull's, there are ten, since two are among the nine of the few
-/// files.
+/// Checks that each call of the remote that fails, from the first one on, ends the pull and leaves
+/// the store with its three objects. If the call isn't one of the pull, the store has ten objects,
+/// since two of the nine of the few files were there already.
 #[test]
 fn each_call_of_the_remote_that_fails_ends_a_pull(rt: HostRuntime) {
     let alloc = rt.alloc();

@@ -1,4 +1,4 @@
-//! Walks over commits: their order, what stands at a path, and what they use.
+//! Walks over commits: their order, what is at a path, and the objects that they use.
 
 use crate::offers::{FEW, URL, commit_of, offered, path, place, text};
 use crate::pulls::{end_line, pulled};
@@ -22,7 +22,8 @@ objects/6e/340b9cffb37a989ca544e6bb780a2c78901d3fb33738768511a30617afa01d.dirtre
 objects/44/6a0ef11b7cc167f3b603e585c7eeeeb675faa412d5ec73f62988eb0b6c5488.dirmeta
 ";
 
-/// That of the commit of a few files, as `ostree ls` lists them. Each folder has its dirmeta.
+/// The order of the commit of a few files, as `ostree ls` lists them. Each directory has its
+/// dirmeta.
 const FEW_ORDER: &str = "\
 objects/27/087435aa0e61882d62d6ff85ecabf67a078e17662b4542ba9fa777e0daf792.commit
 objects/64/12d82eda03520124dc6fe3354925c66cd12bc42c4a4f67c874b252859800d8.dirtree
@@ -39,14 +40,15 @@ objects/60/599fdf7cf9cb8925354cd74476b5ded7850eca9b6a120998125a578b6a4d4c.file
 objects/60/599fdf7cf9cb8925354cd74476b5ded7850eca9b6a120998125a578b6a4d4c.file
 ";
 
-/// What the commit of no file uses.
+/// The objects that the commit of no file uses.
 const BARE_USED: &str = "\
 objects/44/6a0ef11b7cc167f3b603e585c7eeeeb675faa412d5ec73f62988eb0b6c5488.dirmeta
 objects/4b/43e027542fd8edb531495544d85d31b4688e08dfb2fab6db04967d810ea9ff.commit
 objects/6e/340b9cffb37a989ca544e6bb780a2c78901d3fb33738768511a30617afa01d.dirtree
 ";
 
-/// What a walk answered: the objects as their paths at a remote, one a line, or the refusal.
+/// Returns the result of a walk: the paths of the objects on a remote, one on each line, or the
+/// line of the refusal.
 fn told(rt: &impl Abort, alloc: Global, walked: Result<Items<(Digest, ObjKind)>, WalkEnd>) -> Text {
     let objects = match walked {
         Ok(objects) => objects,
@@ -61,7 +63,7 @@ fn told(rt: &impl Abort, alloc: Global, walked: Result<Items<(Digest, ObjKind)>,
     Text::from_string(lines)
 }
 
-/// A file's digest in digits, or a word for what is none.
+/// Returns a file's digest as hexadecimal digits, or a word for a directory or nothing.
 fn named(rt: &impl Abort, alloc: Global, found: &Found) -> Text {
     match found {
         Found::Dir => text(rt, alloc, "a folder"),
@@ -70,7 +72,7 @@ fn named(rt: &impl Abort, alloc: Global, found: &Found) -> Text {
     }
 }
 
-/// What a look answered, as `named` says it, or the refusal.
+/// Returns the result of a look at a path, as `named` prints it, or the line of the refusal.
 fn seen(rt: &impl Abort, alloc: Global, looked: Result<Found, WalkEnd>) -> Text {
     match looked {
         Ok(found) => named(rt, alloc, &found),
@@ -78,8 +80,8 @@ fn seen(rt: &impl Abort, alloc: Global, looked: Result<Found, WalkEnd>) -> Text 
     }
 }
 
-/// The order of a commit over an empty store, where a remote has all of it, or what stands at a path
-/// of it. The empty path is the root's.
+/// Returns the order of a commit that a remote has, with an empty store, or what is at a path of
+/// it. The empty path is that of the root.
 fn walked(rt: &(impl Abort + Threads + Sync), alloc: Global, rows: &str, at: Option<&str>) -> Text {
     let built = commit_of(rt, alloc, rows);
     let mut host = MemHost::new(alloc).expect(rt, "memory");
@@ -100,10 +102,10 @@ fn walked(rt: &(impl Abort + Threads + Sync), alloc: Global, rows: &str, at: Opt
     seen(rt, alloc, found)
 }
 
-/// Paths of the commit of no file, and what stands there.
+/// Paths in the commit of no file, and what is there.
 const BARE_PATHS: &[(&str, &str)] = &[("", "a folder"), ("a", "nothing")];
 
-/// The same of the commit of a few files.
+/// Paths in the commit of a few files, and what is there.
 const FEW_PATHS: &[(&str, &str)] = &[
     ("", "a folder"),
     ("empty", "a folder"),
@@ -144,15 +146,16 @@ fn orders_and_looks_follow_a_commit(rt: HostRuntime) {
     }
 }
 
-/// Takes the dirtree of an empty folder away.
+/// Removes the dirtree of an empty directory from the store.
 fn take_root(rt: &impl Abort, alloc: Global, host: &mut MemHost, root: &Path) {
     let digits = b"6e340b9cffb37a989ca544e6bb780a2c78901d3fb33738768511a30617afa01d";
     let digest = Digest::parse(digits).expect(rt, "a digest");
     remove(alloc, host, root, &digest, ObjKind::DirTree).expect(rt, "an object");
 }
 
-/// What the commit of no file, named so often, uses in a store that has it, or in one that lacks the
-/// dirtree of its root. No object goes where it is kept, named so often.
+/// Returns the objects that the commit of no file uses, named this many times, in a store that has
+/// the commit, or in one that lacks the dirtree of its root. Checks that pruning with the commit
+/// kept, named this many times, removes no object.
 fn used_by(
     rt: &(impl Abort + Threads + Sync),
     alloc: Global,
@@ -172,7 +175,7 @@ fn used_by(
     told(rt, alloc, used(alloc, &mut host, &root, &commits))
 }
 
-/// The refusal where the root's dirtree is absent.
+/// The refusal if the dirtree of the root is absent.
 const NO_ROOT: &str =
     "error: missing object 6e340b9cffb37a989ca544e6bb780a2c78901d3fb33738768511a30617afa01d.dirtree\n";
 

@@ -1,4 +1,4 @@
-//! Refs that are written and dropped.
+//! Writing and removing refs.
 ghost use Rattle.std.specs.Prelude.{◌≡◌, IfOk, OnOk, IsErrOf};
 ghost use Rattle.fp_host.specs.OverHost.{AtEachMoment, AtReturn, FailsOnly};
 ghost use Rattle.fp_host.specs.Frame.{Frame, NoPath};
@@ -14,10 +14,10 @@ use fp_name::Digest;
 use fp_small::{replace, take_away};
 use std::alloc::{AllocError, Global};
 
-/// Gives the ref this commit: its file is written anew, and synced. The folders above it, `repo`
-/// and `repo/tmp` are made where they are absent. All memory is taken before the first change. It
-/// is for a place at which nothing stands, or a file, where none of those folders is something
-/// else, and for a store that is neither `repo/tmp` nor below it.
+/// Sets a ref to this commit: replaces its file and syncs it. Makes the directories above it,
+/// `repo` and `repo/tmp` if they are missing. Allocates all memory before the first change.
+/// Condition: nothing or a file is at the place, each of those directories is absent or a
+/// directory, and the store is neither `repo/tmp` nor below it.
 pub fn write_ref<H: Host>(
     alloc: Global,
     host: &mut H,
@@ -25,11 +25,11 @@ pub fn write_ref<H: Host>(
     place: &RefPlace,
     digest: &Digest,
 ) -> Result<(), HostEnd>
-    // A stop at any moment leaves at the place what some stop before would have left, or the whole
+    // A crash at any moment leaves at the place what a crash before could have left, or the whole
     // new file.
     ensures any_moment { AtEachMoment H.Host host.old host.new
         (Replaces (place_path root.now place.now) (ref_bytes digest.now)) }
-    // After it every stop leaves the new file.
+    // Afterwards every crash leaves the new file, and exactly the present content.
     ensures on_success { OnOk result (AtReturn H.Host host.old host.new
         (WasReplaced (place_path root.now place.now)
         (ref_bytes digest.now))) }
@@ -43,7 +43,7 @@ pub fn write_ref<H: Host>(
     replace(alloc, host, &path, &bytes)
 }
 
-/// What the file of a ref says.
+/// Returns the content of a ref's file: the 64 digits of the digest and a newline.
 fn ref_bytes(alloc: Global, digest: &Digest) -> Result<Vec<u8>, AllocError>
     ensures { IfOk result (λ bytes. bytes.items ≡ ref_bytes digest.now) }
 {
@@ -52,20 +52,20 @@ fn ref_bytes(alloc: Global, digest: &Digest) -> Result<Vec<u8>, AllocError>
     Ok(bytes)
 }
 
-/// Takes the ref away, and syncs. Where it is absent, no name changes. It is for a place at which
-/// nothing stands, or a file.
+/// Removes a ref and syncs. If it is absent, no name changes. Condition: nothing or a file is at
+/// the place.
 pub fn drop_ref<H: Host>(
     alloc: Global,
     host: &mut H,
     root: &Path,
     place: &RefPlace,
 ) -> Result<(), HostEnd>
-    // A stop at any moment leaves at the place what some stop before would have left, or nothing,
-    // and all else as it was.
+    // A crash at any moment leaves at the place what a crash before could have left, or nothing.
+    // Nothing else changes.
     ensures frame { Frame (GoneAt (place_path root.now place.now))
         (AbsentAt (place_path root.now place.now)) NoPath
         (H.moments host.old) (H.moments host.new) }
-    // After it no stop leaves anything there.
+    // Afterwards nothing is at the place, and every crash leaves exactly the present content.
     ensures on_success { OnOk result (AtReturn H.Host host.old host.new
         (λ u w. WasDropped (place_path root.now place.now) w)) }
     ensures fault_has_cause { FailsOnly H.Host host.old host.new

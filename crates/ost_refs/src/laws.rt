@@ -1,5 +1,5 @@
-//! Laws of the words that the contracts use, for crates that build on them. Each is the contract of
-//! a function that does nothing.
+//! Laws of the definitions that the contracts use, for crates that build on them. Each is the
+//! contract of a function that does nothing.
 
 ghost use Rattle.std.specs.Prelude.{◌≡◌, ℕ, List, true};
 ghost use Rattle.fp_host.specs.Paths.{Elements};
@@ -16,14 +16,15 @@ ghost use Rattle.ost_refs.specs.declared.listing.TheConstants.{HEAD_DEPTH, REMOT
 ghost use Rattle.ost_refs.specs.declared.place.RefPlace.{RefPlace};
 ghost use Rattle.ost_refs.specs.declared.place.RefFile.TheVariants.{Digest, Absent};
 
-/// The file of a ref reads back as it was written, and no other file says the same.
+/// The file of a ref reads as the digest that was written, and no other content reads as this
+/// digest.
 pub fn ref_files_read_back()
     ensures written { (d : List ℕ) → is_digest d ≡ true → ref_file (ref_bytes d) ≡ Digest d }
     ensures read { (bytes d : List ℕ) → ref_file bytes ≡ Digest d → (bytes ≡ ref_bytes d) ×
         (is_digest d ≡ true) }
 {}
 
-/// After a write the ref reads as what was written, and after a drop as absent.
+/// After a write the ref reads as the written commit, and after a removal as absent.
 pub fn changed_refs_are_read()
     ensures written { (root : Elements) (place : RefPlace) (d : List ℕ) (u w : View) → is_digest d
         ≡ true → WasReplaced (place_path root place) (ref_bytes d) u w
@@ -33,20 +34,20 @@ pub fn changed_refs_are_read()
         → ref_in (shows w (place_path root place)) ≡ Absent }
 {}
 
-/// Two places of one store have two paths.
+/// Different places of a store have different paths.
 pub fn places_have_paths_of_their_own()
     ensures { (root : Elements) (a b : RefPlace) → place_path root a ≡ place_path root b → a ≡ b }
 {}
 
-/// How long a ref's file is, and how deep refs stand below `refs/heads` and `refs/remotes`, as
-/// numbers.
+/// The file of a ref has 65 bytes. The paths of refs have 4 elements below `refs/heads` and 5 below
+/// `refs/remotes`.
 pub fn places_as_numbers()
     ensures bytes { REF_FILE_BYTES ≡ 65 }
     ensures heads { HEAD_DEPTH ≡ 4 }
     ensures remotes { REMOTE_DEPTH ≡ 5 }
 {}
 
-/// The most bytes of a store's `config` and of the mode that it says, as numbers.
+/// The `config` of a store has at most 1,048,576 bytes, and the mode in it at most 32.
 pub fn limits_as_numbers()
     ensures config { MOST_STORE_CONFIG_BYTES ≡ 1048576 }
     ensures mode { MOST_MODE_BYTES ≡ 32 }

@@ -1,4 +1,5 @@
-//! The refs of a store: each in a file of its own below the store's folder.
+//! Reads, writes, lists and removes the refs of a store. Each ref has its own file below the
+//! directory `refs`.
 #![tactic(auto)]
 
 mod changing;

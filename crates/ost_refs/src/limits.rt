@@ -1,7 +1,7 @@
-//! What a store's small files may have.
+//! The limits of a store's small files.
 
-/// The most bytes of a store's `config`: 1 MiB.
+/// The maximum size of a store's `config` in bytes: 1 MiB.
 pub const MOST_STORE_CONFIG_BYTES: u64 = 1024 * 1024;
 
-/// The most bytes of the mode that a store's `config` says.
+/// The maximum number of bytes of the mode in a store's `config`.
 pub const MOST_MODE_BYTES: usize = 32;

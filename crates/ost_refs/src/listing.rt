@@ -1,4 +1,4 @@
-//! The refs of a store in a list.
+//! Listing the refs of a store.
 ghost use Rattle.std.specs.Prelude.{IfOk, OnOk, IsErrOf};
 ghost use Rattle.fp_host.specs.OverHost.{AtReturn, ChangesNothing, FailsAlone};
 ghost use Rattle.ost_refs.specs.Lists.{ListsRefs, ListsReached};
@@ -13,14 +13,15 @@ use fp_small::values_in_order;
 use std::alloc::{AllocError, Global};
 use std::collections::BTreeMap;
 
-/// How many elements a ref's path has below `refs/heads`.
+/// The number of elements of a ref's path below `refs/heads`.
 const HEAD_DEPTH: usize = 4;
 
-/// How many elements a ref's path has below `refs/remotes`.
+/// The number of elements of a ref's path below `refs/remotes`.
 const REMOTE_DEPTH: usize = 5;
 
-/// The places at which a file stands in the store in this folder, ascending by the bytes of their
-/// paths. What the file says isn't read, and what stands elsewhere below `refs` is passed over.
+/// Returns the places of the store at `root` at which there is a file, in ascending order of the
+/// bytes of their paths. Doesn't read the files, and ignores everything else below `refs`. Changes
+/// nothing.
 pub fn list_refs<H: Host>(
     alloc: Global,
     host: &mut H,
@@ -29,8 +30,8 @@ pub fn list_refs<H: Host>(
     ensures unchanged { ChangesNothing H.Host host.old host.new }
     ensures tells { IfOk result (λ places. AtReturn H.Host host.old host.new
         (λ u w. ListsRefs root.now u places)) }
-    // It looks four names below `refs/heads` and five below `refs/remotes`: what stands deeper
-    // makes no difference.
+    // The result depends only on the paths with four elements below `refs/heads` or five below
+    // `refs/remotes`.
     ensures reach { IfOk result (λ places. AtReturn H.Host host.old host.new
         (λ u w. ListsReached root.now u places)) }
     ensures fault_has_cause { FailsAlone H.Host host.old host.new (IsErrOf result HostEnd.Fault) }
@@ -40,7 +41,7 @@ pub fn list_refs<H: Host>(
     Ok(Items::from_vec(values_in_order(alloc, found)?))
 }
 
-/// The paths at which refs may stand.
+/// Returns the paths at which refs can be.
 fn paths_of<H: Host>(alloc: Global, host: &mut H, root: &Path) -> Result<Vec<Path>, HostEnd>
     ensures unchanged { ChangesNothing H.Host host.old host.new }
     ensures tells { IfOk result (λ paths. AtReturn H.Host host.old host.new
@@ -56,7 +57,7 @@ fn paths_of<H: Host>(alloc: Global, host: &mut H, root: &Path) -> Result<Vec<Pat
     Ok(paths)
 }
 
-/// The places at which a file stands among these paths, by the texts of the paths.
+/// Returns the places among these paths at which there is a file, by the texts of their paths.
 fn places_among<H: Host>(
     alloc: Global,
     host: &mut H,
@@ -74,7 +75,7 @@ fn places_among<H: Host>(
     Ok(found)
 }
 
-/// Adds the place of the path, where a file stands there.
+/// Adds the place with this path, if there is a file.
 fn add_place<H: Host>(
     alloc: Global,
     host: &mut H,
@@ -92,7 +93,7 @@ fn add_place<H: Host>(
     }
 }
 
-/// Puts the place of the path among the others, where the path names one.
+/// Adds the place with this path, if the path is that of a place.
 fn put_place(
     alloc: Global,
     path: &Path,

@@ -1,4 +1,4 @@
-//! The place that a path names.
+//! Reading the place of a ref from its path.
 ghost use Rattle.std.specs.Prelude.{◌≡◌, ◌≢◌, ◌∷◌, ◌≤◌, [], length, drop, true, None, IfOk, OnErr};
 ghost use Rattle.fp_name.specs.Grammar.{is_remote_name};
 ghost use Rattle.ost_refs.specs.Found.{ref_named, remote_named, place_named};
@@ -8,10 +8,10 @@ use fp_host::Path;
 use fp_name::{NameError, RefKind, RefName, RemoteName};
 use std::alloc::{AllocError, Global};
 
-/// How many elements the path of a ref has at least: KIND/ID/ARCH/BRANCH after `refs/heads`.
+/// The minimum number of elements of a ref's path: `refs`, `heads`, KIND, ID, ARCH and BRANCH.
 const FEWEST_ELEMENTS: usize = 6;
 
-/// The innermost element.
+/// Returns the last element of a path, which isn't the root.
 fn last(path: &Path) -> &str
     requires { path.now ≢ [] }
     ensures { path.now ≡ result.now ∷ drop 1 path.now }
@@ -19,7 +19,7 @@ fn last(path: &Path) -> &str
     path.name().unwrap()
 }
 
-/// The ref of four names, where they make one.
+/// Returns the ref with these four parts, or `None` if one of them isn't valid.
 fn ref_named(
     alloc: Global,
     kind: &str,
@@ -28,7 +28,7 @@ fn ref_named(
     branch: &str,
 ) -> Result<Option<RefName>, AllocError>
     ensures named { IfOk result (λ name. name ≡ ref_named kind.now id.now arch.now branch.now) }
-    // What is no ref takes no memory.
+    // Needs no memory if the parts make no ref.
     ensures error { OnErr result (ref_named kind.now id.now arch.now branch.now ≢ None) }
 {
     let Some(kind) = RefKind::of_word(kind) else {
@@ -41,7 +41,7 @@ fn ref_named(
     }
 }
 
-/// A remote's ref, where the name is one of a remote.
+/// Returns the place of a remote's ref, or `None` if `origin` isn't a valid name of a remote.
 fn remote_named(
     alloc: Global,
     origin: &str,
@@ -60,10 +60,11 @@ fn remote_named(
     }
 }
 
-/// The place whose file has this path in some store, as far as its last six elements say.
+/// Returns the place whose file has this path in some store, or `None` if there is none. Reads only
+/// the last six elements.
 pub(crate) fn place_named(alloc: Global, path: &Path) -> Result<Option<RefPlace>, AllocError>
     ensures named { IfOk result (λ place. place ≡ place_named path.now) }
-    // A path with fewer elements takes no memory.
+    // Needs no memory for a path with fewer elements.
     ensures error { OnErr result (6 ≤ length path.now) }
 {
     if path.len() < FEWEST_ELEMENTS {

@@ -1,4 +1,4 @@
-//! Where a ref has its file, and what the file says.
+//! The places of refs, and the contents of their files.
 ghost use Rattle.std.specs.Prelude.{◌≡◌, IfOk};
 ghost use Rattle.ost_refs.specs.Places.{place_path, ref_below};
 
@@ -6,27 +6,27 @@ use fp_host::Path;
 use fp_name::{Digest, RefName, RemoteName};
 use std::alloc::AllocError;
 
-/// A place for a ref in a store.
+/// The place of a ref in a store (OSTree, "Refs").
 #[derive(Debug, Drop)]
 pub enum RefPlace {
     /// A ref of the store itself, in `refs/heads/REF`.
     Head(RefName),
-    /// What a remote had under the ref, in `refs/remotes/ORIGIN/REF`.
+    /// A remote's ref as it was last fetched, in `refs/remotes/ORIGIN/REF`.
     Remote(RemoteName, RefName),
 }
 
-/// What stands at a ref's place.
+/// The content at a ref's place.
 #[derive(Clone, Copy, Debug, PartialEq, Eq)]
 pub enum RefFile {
-    /// The ref has this commit.
+    /// The digest of the ref's commit.
     Digest(Digest),
     /// Nothing is there.
     Absent,
-    /// Something is there that is no file of 64 digits and a newline.
+    /// Something else than a file of 64 lower-case hexadecimal digits and a newline is there.
     Bad,
 }
 
-/// The path of the place's file in the store in this folder: `refs/heads/REF`, or
+/// Returns the path of a ref's file in the store at `root`: `refs/heads/REF` or
 /// `refs/remotes/ORIGIN/REF`.
 #[tactic(auto, using(crate::proofs::Elements::element_remote))]
 pub fn path_of(root: &Path, place: &RefPlace) -> Result<Path, AllocError>
@@ -41,7 +41,7 @@ pub fn path_of(root: &Path, place: &RefPlace) -> Result<Path, AllocError>
     }
 }
 
-/// The path of KIND/ID/ARCH/BRANCH in the folder.
+/// Returns the path KIND/ID/ARCH/BRANCH below the directory.
 #[tactic(auto, using(fp_small::proofs::Elements::element_kind, fp_small::proofs::Elements::element_id, fp_small::proofs::Elements::element_arch, fp_small::proofs::Elements::element_branch))]
 fn path_below(folder: &Path, name: &RefName) -> Result<Path, AllocError>
     ensures { IfOk result (λ path. path ≡ ref_below folder.now name.now) }

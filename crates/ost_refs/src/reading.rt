@@ -1,4 +1,4 @@
-//! A ref that is read.
+//! Reading refs.
 ghost use Rattle.std.specs.Prelude.{◌≡◌, IfOk, IsErrOf};
 ghost use Rattle.fp_host.specs.OverHost.{AtReturn, ChangesNothing, FailsAlone};
 ghost use Rattle.ost_refs.specs.Places.{place_path};
@@ -10,12 +10,12 @@ use fp_name::{DIGEST_DIGITS, Digest};
 use fp_small::{Loaded, load};
 use std::alloc::Global;
 
-/// How many bytes the file of a ref has: its digits and a newline.
+/// The size in bytes of a ref's file: 64 digits and a newline.
 pub const REF_FILE_BYTES: u64 = DIGEST_DIGITS as u64 + 1;
 
-/// Reads the ref of the store in this folder. `Absent` comes exactly where nothing stands at its
-/// place, and `Bad` exactly where something stands there that is no file of 64 digits and a
-/// newline.
+/// Reads a ref of the store at `root`. Returns `Absent` if nothing is at its place, and `Bad` if
+/// something else than a file of 64 lower-case hexadecimal digits and a newline is there. Changes
+/// nothing.
 pub fn read_ref<H: Host>(
     alloc: Global,
     host: &mut H,
@@ -36,7 +36,8 @@ pub fn read_ref<H: Host>(
     }
 }
 
-/// What a ref's file of these bytes says: `Bad` where they are no 64 digits and a newline.
+/// Returns the content of a ref's file with these bytes: `Bad` unless they are 64 lower-case
+/// hexadecimal digits and a newline.
 #[tactic(auto, using(crate::proofs::Files::too_short))]
 pub fn ref_file(bytes: &[u8]) -> RefFile
     ensures { result ≡ ref_file bytes.now }

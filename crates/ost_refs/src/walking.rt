@@ -1,4 +1,4 @@
-//! The paths at one depth below a folder.
+//! Finding the paths at one depth below a directory.
 ghost use Rattle.std.specs.Prelude.{IfOk, IsErrOf};
 ghost use Rattle.fp_host.specs.OverHost.{AtReturn, ChangesNothing, FailsAlone};
 ghost use Rattle.ost_refs.specs.Walks.{AreBelow, AreLevel};
@@ -7,7 +7,7 @@ use fp_host::{Host, HostEnd, Path};
 use fp_small::{add_names, list_of_one, names_in};
 use std::alloc::Global;
 
-/// The paths directly below these folders.
+/// Returns the paths directly in these directories.
 fn children<H: Host>(alloc: Global, host: &mut H, folders: &[Path]) -> Result<Vec<Path>, HostEnd>
     ensures unchanged { ChangesNothing H.Host host.old host.new }
     ensures tells { IfOk result (λ paths. AtReturn H.Host host.old host.new
@@ -22,8 +22,8 @@ fn children<H: Host>(alloc: Global, host: &mut H, folders: &[Path]) -> Result<Ve
     Ok(paths)
 }
 
-/// The paths that are longer than that of the folder by this number of elements: what stands there,
-/// whatever it is.
+/// Returns the existing paths that have `depth` more elements than that of the directory, whatever
+/// is at them. Changes nothing.
 pub fn paths_below<H: Host>(
     alloc: Global,
     host: &mut H,

@@ -1,4 +1,4 @@
--- Objects on their way to their names.
+-- Objects at the paths from which they are placed.
 use Rattle.std.specs.Prelude.{◌≡◌, ◌⊎◌, ℕ, List, ◌++◌, Some, true}
 use Rattle.fp_host.specs.Paths.{Elements, Slot, absent, file, link, is_link_text}
 use Rattle.fp_host.specs.View.{View}
@@ -13,88 +13,92 @@ use Rattle.ost_model.specs.declared.object.Object.TheVariants as objects
 use Rattle.ost_model.specs.Contents.{is_permission}
 use Rattle.ost_store.specs.Gathers.{Gathers}
 
--- the permission bits of the file that keeps a metadata object: 0644
+-- The permission bits of a metadata object's file: 0644
 abbrev pub meta_mode : ℕ
 meta_mode = FILE_MODE
 
--- a file with these permission bits, and any bytes
+-- The node is a file with these permission bits and any bytes
 abbrev pub IsOfMode : ℕ → Spot → Type 0
 IsOfMode mode spot = (id : ℕ) × (bytes : List ℕ) × (spot ≡ holds id mode bytes)
 
--- what a stop may leave of an object that isn't synced yet
+-- A crash may leave this node of an object that isn't synced: a file with its permission bits and
+-- any bytes, or its symlink
 abbrev pub MayBeStaged : Object → Spot → Type 0
 MayBeStaged (objects.Meta bytes) spot = IsOfMode meta_mode spot
 MayBeStaged (objects.File mode bytes) spot = IsOfMode mode spot
 MayBeStaged (objects.Link text) spot = spot ≡ points text
 
--- what its name may come to hold
+-- A name may get this entry for an object: a file, or its symlink
 abbrev pub MayBeHeld : Object → Slot → Type 0
 MayBeHeld (objects.Meta bytes) e = IsFile e
 MayBeHeld (objects.File mode bytes) e = IsFile e
 MayBeHeld (objects.Link text) e = e ≡ link text
 
--- the object may come to the path, and the folders above may be made
+-- Staging an object at `t` may leave this node at a path: the object at `t`, and directories above
+-- `t`
 abbrev pub StagesAt : Elements → Object → Elements → Spot → Type 0
 StagesAt t object q spot = ((q ≡ t) × MayBeStaged object spot) ⊎ FoldersAt (ancestors t) q spot
 
+-- Staging an object at `t` may give a name this entry: `t` the object's, and the names above `t` a
+-- directory
 abbrev pub StagesName : Elements → Object → Elements → Slot → Type 0
 StagesName t object q e = ((q ≡ t) × MayBeHeld object e) ⊎ DirsAt (ancestors t) q e
 
--- The object may come to t. Only a new file gets bytes: each file that was there keeps its mode and
--- its bytes, also one that stood at t.
+-- The object may be written to `t`, and nothing else changes, except for directories above `t`.
+-- Only a new file gets bytes: each file that existed keeps its mode and its bytes, also one that
+-- was at `t`.
 pub record Stages (t : Elements) (object : Object) (u w : View) : Type 0 where
   pub keeps : Keeps (StagesAt t object) (StagesName t object) (Only t) u w
   pub files : KeepsFiles u w
 
--- the path is a file with these permission bits and these bytes, created since the last sync
+-- The path is a file with these permission bits and these bytes, created since the last sync
 pub record IsOpen (t : Elements) (mode : ℕ) (bytes : List ℕ) (v : View) : Type 0 where
   pub id : ℕ
   pub name : v.names t ≡ file id
   pub row : v.files id ≡ Some (record { mode = mode; bytes = bytes })
   pub dirty : v.dirty id ≡ true
 
--- the path holds the object
+-- The object is at the path; if it is a file, it was created since the last sync
 abbrev pub IsStaged : Elements → Object → View → Type 0
 IsStaged t (objects.Meta bytes) v = IsOpen t meta_mode bytes v
 IsStaged t (objects.File mode bytes) v = IsOpen t mode bytes v
 IsStaged t (objects.Link text) v = v.names t ≡ link text
 
--- the path is a file with these permission bits and these bytes, whether or not it was synced
+-- The path is a file with these permission bits and these bytes, whether or not it was synced
 pub record IsFileOf (t : Elements) (mode : ℕ) (bytes : List ℕ) (v : View) : Type 0 where
   pub id : ℕ
   pub name : v.names t ≡ file id
   pub row : v.files id ≡ Some (record { mode = mode; bytes = bytes })
 
--- the path holds the object, whether or not it was synced
+-- The object is at the path, whether or not it was synced
 abbrev pub IsHeld : Elements → Object → View → Type 0
 IsHeld t (objects.Meta bytes) v = IsFileOf t meta_mode bytes v
 IsHeld t (objects.File mode bytes) v = IsFileOf t mode bytes v
 IsHeld t (objects.Link text) v = v.names t ≡ link text
 
--- where nothing stood before, and no other new file has bytes
+-- The object was written to `t`, which was absent, and every other new file is empty
 pub record WasStaged (t : Elements) (object : Object) (u w : View) : Type 0 where
   pub free : u.names t ≡ absent
   pub there : IsStaged t object w
   pub gathers : Gathers (Only t) u w
 
--- these bytes came to the end of a file that was created since the last sync
+-- The piece was appended to the file at `t`, which was created since the last sync
 pub record Grows (t : Elements) (piece : List ℕ) (u w : View) : Type 0 where
   pub was : IsDirty u (u.names t)
   pub grown : (mode : ℕ) (bytes : List ℕ) → IsOpen t mode bytes u → IsOpen t mode (bytes ++ piece) w
 
--- a file's permission bits are good, and a link's text is one
+-- The permission bits of a file are within 0775 (octal), and the text of a symlink is valid
 abbrev pub IsKeepable : Object → Type 0
 IsKeepable (objects.Meta bytes) = Unit {0}
 IsKeepable (objects.File mode bytes) = is_permission mode ≡ true
 IsKeepable (objects.Link text) = is_link_text text ≡ true
 
--- where the object may be staged: nothing stands at the path, and what is above it is absent or a
--- folder
+-- The path is absent, each path above it is absent or a directory, and the object can be stored
 pub record CanStage (t : Elements) (object : Object) (v : View) : Type 0 where
   pub keepable : IsKeepable object
   pub free : v.names t ≡ absent
   pub folders : AreFree (ancestors t) v
 
--- the file at the path was created since the last sync
+-- The file at the path was created since the last sync
 abbrev pub CanGrow : Elements → View → Type 0
 CanGrow t v = IsDirty v (v.names t)

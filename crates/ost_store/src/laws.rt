@@ -1,5 +1,5 @@
-//! Laws of the words that the contracts use, for crates that build on them. Each is the contract of
-//! a function that does nothing.
+//! Laws of the definitions in the contracts, for crates that build on them. Each is the contract of
+//! a function with an empty body.
 
 ghost use Rattle.std.specs.Prelude.{◌≡◌, ◌≢◌, ℕ, List, [], ◌∷◌, ◌++◌, true, Some, None, Contains};
 ghost use Rattle.fp_host.specs.Paths.{Elements, absent, file, link, IsAbove};
@@ -26,7 +26,8 @@ ghost use Rattle.ost_store.specs.Stage.{IsStaged, IsHeld, Stages};
 ghost use Rattle.ost_store.specs.Stays.{Stays};
 ghost use Rattle.ost_store.specs.Place.{Places, TakesAway, WasPlaced, IsReadyAs, LeavesObject, LeavesStore, with_new_file};
 
-/// After a sync, an object that the digest names is ready to be placed, and what is staged is held.
+/// States that an object that was staged and then synced is ready to be placed, if it matches its
+/// digest. A staged object is at its path.
 pub fn staged_objects_are_ready()
     ensures ready { (t : Elements) (object : Object) (d : List ℕ) (kind : ObjKind) (v w : View) →
         IsHeld t object v → w ≡ done syncs v → IsTree w
@@ -35,9 +36,9 @@ pub fn staged_objects_are_ready()
         object v }
 {}
 
-/// A name stays as it is where an object is staged neither there nor below, where another file
-/// grows, where an object is placed neither there nor below and from elsewhere, and where another
-/// name is taken away.
+/// States that a name keeps its entry and its file's content while an object is staged neither
+/// there nor below it, while another file is appended to, while an object is placed from another
+/// path, neither there nor below it, and while another name is removed.
 pub fn names_elsewhere_stay()
     ensures staged { (q t : Elements) (object : Object) (u w : View) → Stages t object u w →
         (IsWithin q t → ⊥) → Stays q u w }
@@ -48,8 +49,8 @@ pub fn names_elsewhere_stay()
     ensures removed { (q p : Elements) (u w : View) → TakesAway p u w → q ≢ p → Stays q u w }
 {}
 
-/// What a name that stays holds and shows stays too; and where nothing is synced, what is staged
-/// there, and what is ready.
+/// States that a name that stays keeps its object and its node; and if nothing is synced, what is
+/// staged there stays staged, and what is ready stays ready.
 pub fn what_stays_is_kept()
     ensures held { (q : Elements) (object : Object) (u w : View) → Stays q u w → IsHeld q object u
         → IsHeld q object w }
@@ -62,9 +63,9 @@ pub fn what_stays_is_kept()
         shows u q }
 {}
 
-/// The one file that is made stands at its path, and where nothing stands only if it is empty.
-/// Where new files that have bytes stand at one name alone, and what stands there is placed, they
-/// came to the object's name.
+/// States where new files with bytes are. The only file that is made is at its path. A file that
+/// isn't empty can't be at an absent path. If new files with bytes are at one path alone, and what
+/// is there is placed, they were put at the path where it is placed.
 pub fn gathered_files()
     ensures made { (p : Elements) (bytes : List ℕ) (u w : View) → MakesFile p bytes u w
         → Gathers (Only p) u w }
@@ -74,8 +75,8 @@ pub fn gathered_files()
         → WasPlaced t p v w → Shares (Only p) u w }
 {}
 
-/// An object that was placed is there, and the other objects of the store are as before; so they
-/// are where one is taken away.
+/// States that an object that was placed is in the store, and that the store's other objects stay
+/// as they were. They also stay if an object is removed.
 pub fn placed_objects_are_there()
     ensures there { (root t : Elements) (d : List ℕ) (kind : ObjKind) (u w : View) → Places t
         (object_path root d kind) u w
@@ -91,10 +92,10 @@ pub fn placed_objects_are_there()
         → store root (shows w) e m ≡ store root (shows u) e m }
 {}
 
-/// Where an object is staged at a path that isn't below `objects`, an object's name goes on to be
-/// true or absent at every stop, and a store whose names are true stays one: the folders that are
-/// made above the path aren't below `objects` either. A piece changes no store, wherever its file
-/// is.
+/// States that staging an object at a path that isn't below `objects` leaves stores intact: at the
+/// path of each object every crash still leaves that object or nothing, and a store whose objects
+/// match their names stays one. The directories made above the path aren't below `objects` either.
+/// Appending to a staged file changes no store, wherever the file is.
 pub fn staged_names_are_true()
     ensures name { (root t : Elements) (object : Object) (d : List ℕ) (kind : ObjKind) (u w : View)
         → Stages t object u w → (IsAbove (objects_folder root) t → ⊥)
@@ -105,8 +106,9 @@ pub fn staged_names_are_true()
         LeavesStore root u → LeavesStore root w }
 {}
 
-/// Where an object that its digest names is placed, every stop goes on to leave at its name that
-/// object or nothing, if every stop did before; and a store whose names are true stays one.
+/// States that placing an object that matches its digest leaves stores intact: at its path every
+/// crash still leaves that object or nothing, and a store whose objects match their names stays
+/// one.
 pub fn placed_names_are_true()
     ensures name { (root t : Elements) (d : List ℕ) (kind : ObjKind) (u w : View) → Places t
         (object_path root d kind) u w → IsReadyAs d kind t u
@@ -116,7 +118,8 @@ pub fn placed_names_are_true()
         → LeavesStore root u → LeavesStore root w }
 {}
 
-/// The same where a name is taken away.
+/// States that removing a name leaves stores intact: at the path of each object every crash still
+/// leaves that object or nothing, and a store whose objects match their names stays one.
 pub fn names_left_are_true()
     ensures name { (root p : Elements) (d : List ℕ) (kind : ObjKind) (u w : View)
         → TakesAway p u w → LeavesObject root d kind u → LeavesObject root d kind w }
@@ -124,10 +127,10 @@ pub fn names_left_are_true()
         → LeavesStore root u → LeavesStore root w }
 {}
 
-/// What is asked of views can be met. Where nothing stands below `objects` and all is settled,
-/// every stop leaves a store whose names are true; and where every stop does, each object's name
-/// leaves that object or nothing. There is a dirmeta that is ready to be placed once it is created,
-/// written and synced.
+/// States that the conditions on views can be met. If nothing is below `objects` and all is synced,
+/// every crash leaves a store whose objects match their names. If every crash does, it leaves at
+/// the path of each object that object or nothing. There is a dirmeta that is ready to be placed
+/// once its file is created, written and synced.
 pub fn views_can_have_stores()
     ensures empty { (root : Elements) (v : View) → IsTree v → IsSettled v
         → ((rest : Elements) (xx : List ℕ) → v.names (rest ++ (xx ∷ objects_folder root)) ≡ absent)
@@ -139,10 +142,10 @@ pub fn views_can_have_stores()
         → IsReadyAs d kinds.DirMeta t (with_new_file t id bytes v)) }
 {}
 
-/// Where nothing happens no object is made. Where objects are made and then, or before, nothing is
-/// made, just these are. A created file is put at its name. A file that was put below the store's
-/// objects since then is an object that was made, and no two were put at the name of one object. No
-/// object is made where nothing happens, unless a link was put at its name before.
+/// States how objects are made. If nothing happens, none is made, unless a symlink was put at its
+/// path before. If some are made, and none before or after, then these are made in all. A file that
+/// is created is put at its name. A file put below `objects` since then is an object that was made,
+/// and no two files were put at the path of one object.
 pub fn made_objects()
     ensures none { (root : Elements) (v : View) → Creates root NoObject v v }
     ensures on { (root : Elements) (os : List (List ℕ × ObjKind)) (u v w : View)
@@ -165,7 +168,7 @@ pub fn made_objects()
         → Creates root (λ x. x ≡ o) v v → ⊥ }
 {}
 
-/// How many digits of its digest an object's name has in its folder, as a number.
+/// States as a number how many digits of its digest are in an object's file name.
 pub fn digits_as_number()
     ensures { REST_DIGITS ≡ 62 }
 {}

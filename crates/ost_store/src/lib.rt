@@ -1,5 +1,5 @@
-//! The objects of a store: each at the name that its digest and its kind give it, below the store's
-//! folder.
+//! The objects of a store: each is at the path that its digest and its kind give it, below the
+//! store's directory.
 #![tactic(auto)]
 
 pub mod laws;

@@ -1,4 +1,4 @@
-//! The names of a store in a list.
+//! The listing of a store's files.
 ghost use Rattle.std.specs.Prelude.{◌≡◌, ◌-◌, map, IfOk, IsErrOf};
 ghost use Rattle.std.specs.Ordering.{is_lt, nat_cmp};
 ghost use Rattle.std.specs.Cmp.Lexicographic.{slice_cmp};
@@ -18,14 +18,14 @@ use fp_small::values_in_order;
 use std::alloc::{AllocError, Global};
 use std::collections::BTreeMap;
 
-/// The files and links below `objects` in the store in this folder, at any depth, ascending by the
-/// bytes of their paths, whether or not they are objects. It isn't for paths of more than 128
-/// elements.
+/// Lists the files and symlinks below `objects` in the store at `root`, at any depth, ascending by
+/// the bytes of their paths, whether or not they are objects. Changes nothing. Condition: no path
+/// below `objects` has more than 128 elements.
 pub fn names<H: Host>(alloc: Global, host: &mut H, root: &Path) -> Result<Items<Path>, HostEnd>
     ensures unchanged { ChangesNothing H.Host host.old host.new }
     ensures tells { IfOk result (λ paths. AtReturn H.Host host.old host.new
         (λ u w. ListsNames root.now u paths)) }
-    // No path below `objects` is longer.
+    // Everything below `objects` is at most 127 levels below it.
     ensures reach { IfOk result (λ _. AtReturn H.Host host.old host.new
         (λ u w. Reaches (objects_folder root.now)
         (MOST_ELEMENTS - 1) u)) }
@@ -37,14 +37,14 @@ pub fn names<H: Host>(alloc: Global, host: &mut H, root: &Path) -> Result<Items<
     Ok(in_order(alloc, found)?)
 }
 
-/// Whether the text of the one path comes before that of the other.
+/// Returns whether the text of the first path is less than that of the second, by its bytes.
 fn is_before(a: &Path, b: &Path) -> bool
     ensures { result ≡ is_lt (slice_cmp nat_cmp (path_text a.now) (path_text b.now)) }
 {
     a.text() < b.text()
 }
 
-/// Whether the texts of the paths ascend.
+/// Returns whether the texts of the paths ascend strictly.
 fn are_ascending(paths: &[Path]) -> bool
     ensures { result ≡ is_ascending (map path_text paths.now) }
 {
@@ -56,7 +56,8 @@ fn are_ascending(paths: &[Path]) -> bool
     true
 }
 
-/// The paths, ascending by their texts. A host lists names in order, so most often they are.
+/// Returns the paths in ascending order of their texts. Sorts them only if needed: a host lists
+/// names in order, so they mostly ascend already.
 fn in_order(alloc: Global, paths: Vec<Path>) -> Result<Items<Path>, AllocError>
     ensures { IfOk result (IsInOrder paths.items) }
 {
@@ -67,7 +68,7 @@ fn in_order(alloc: Global, paths: Vec<Path>) -> Result<Items<Path>, AllocError>
     Ok(Items::from_vec(values_in_order(alloc, keyed)?))
 }
 
-/// The paths by their texts.
+/// Returns a map from the texts of the paths to the paths.
 fn by_text(alloc: Global, paths: Vec<Path>) -> Result<BTreeMap<String, Path>, AllocError>
     ensures { IfOk result (λ keyed. AreKeyed paths.items keyed.entries) }
 {

@@ -1,4 +1,4 @@
-//! The name that an object has in a store.
+//! The path of an object in a store.
 ghost use Rattle.std.specs.Prelude.{◌≡◌, ◌++◌, codes, take, drop, true, IfOk, string_bytes};
 ghost use Rattle.fp_host.specs.Paths.{is_element, path_eq};
 ghost use Rattle.fp_name.specs.Hex.{hex, unhex, is_digest};
@@ -11,7 +11,7 @@ use fp_host::Path;
 use fp_name::{DIGEST_DIGITS, Digest};
 use std::alloc::{AllocError, Global};
 
-/// The name of the object's folder in `objects`: the first two digits.
+/// Returns the name of the object's directory in `objects`: the first two digits of its digest.
 #[tactic(auto, using(crate::proofs::Elements::prefix_is, crate::proofs::Elements::prefix_element))]
 fn folder_name(alloc: Global, digest: &Digest) -> Result<String, AllocError>
     ensures text { IfOk result (λ name. string_bytes name ≡ take 2 (hex digest.now)) }
@@ -21,7 +21,7 @@ fn folder_name(alloc: Global, digest: &Digest) -> Result<String, AllocError>
     hex::encode(alloc, first)
 }
 
-/// The object's name in that folder: the other digits, and the kind.
+/// Returns the object's name in its directory: the other digits, a dot, and the kind.
 fn file_name(alloc: Global, digest: &Digest, kind: ObjKind) -> Result<String, AllocError>
     ensures text { IfOk result (λ name. string_bytes name ≡ drop 2 (hex digest.now) ++
         (codes "." ++ kind_text kind)) }
@@ -34,8 +34,8 @@ fn file_name(alloc: Global, digest: &Digest, kind: ObjKind) -> Result<String, Al
     Ok(name)
 }
 
-/// The path of the object in the store in this folder: `objects/XX/REST.KIND`, XX the first two
-/// digits of the digest.
+/// Returns the path of an object in the store at `root`: `objects/XX/REST.KIND`, where XX is the
+/// first two digits of the digest (OSTree, "Anatomy of an OSTree repository").
 pub fn path_of(
     alloc: Global,
     root: &Path,
@@ -49,10 +49,10 @@ pub fn path_of(
     root.child("objects")?.child(&folder)?.child(&name)
 }
 
-/// How many digits an object's name has in its folder: all but the first two.
+/// The number of digits in an object's file name: all of its digest's but the first two.
 const REST_DIGITS: usize = DIGEST_DIGITS - 2;
 
-/// The kind whose objects' names end so.
+/// Returns the kind whose objects' names have this ending, from the dot on.
 fn kind_said(end: &[u8]) -> Option<ObjKind>
     ensures { result ≡ kind_said end.now }
 {
@@ -71,7 +71,8 @@ fn kind_said(end: &[u8]) -> Option<ObjKind>
     None
 }
 
-/// The digest of these digits, in two parts.
+/// Returns the digest with these hexadecimal digits, which are given in two parts. Returns `None`
+/// if they are no digest.
 fn digest_said(alloc: Global, first: &[u8], rest: &[u8]) -> Result<Option<Digest>, AllocError>
     ensures { IfOk result (λ digest. digest ≡ unhex (first.now ++ rest.now)) }
 {
@@ -80,7 +81,8 @@ fn digest_said(alloc: Global, first: &[u8], rest: &[u8]) -> Result<Option<Digest
     Ok(Digest::parse(&digits).ok())
 }
 
-/// The object that the names of its folder and of its file say.
+/// Returns the object that the names of its directory and its file denote. Returns `None` if they
+/// denote none.
 #[tactic(auto, using(crate::proofs::Said::too_short, crate::proofs::Said::no_kind, crate::proofs::Said::both_known))]
 fn object_said(
     alloc: Global,
@@ -102,7 +104,7 @@ fn object_said(
     }
 }
 
-/// Whether this is the path of the object in the store in this folder.
+/// Returns whether the path is that of the object in the store at `root`.
 fn is_path_of(
     alloc: Global,
     root: &Path,
@@ -117,7 +119,8 @@ fn is_path_of(
     Ok(path_of(alloc, root, digest, kind)?.is(path))
 }
 
-/// The object whose path this is in the store in this folder; None where it is the path of none.
+/// Returns the object whose path this is in the store at `root`, or `None` if it is the path of
+/// none.
 pub fn object_named(
     alloc: Global,
     root: &Path,

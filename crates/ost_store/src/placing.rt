@@ -1,4 +1,4 @@
-//! Objects that come to their names, and go.
+//! Moving objects to their paths, and removing them.
 ghost use Rattle.std.specs.Prelude.{◌≡◌, OnOk, IsErrOf};
 ghost use Rattle.fp_host.specs.OverHost.{AtEachMoment, AtReturn, FailsOnly};
 ghost use Rattle.fp_host.specs.Frame.{Frame, NoPath};
@@ -14,11 +14,10 @@ use fp_name::Digest;
 use fp_small::make_above;
 use std::alloc::Global;
 
-/// Gives what stands at the path the object's name in the store in this folder. The folders above
-/// the name are made where they are absent. Nothing is synced. It is for a path that holds the
-/// object that the digest names, and was synced if it is a file, and for a name at which nothing
-/// stands and above which each name is absent or a folder. All memory is taken before the first
-/// change.
+/// Moves the file or symlink at `tmp` to the object's path in the store at `root`, and makes the
+/// missing directories above that path. Syncs nothing. All memory is allocated before the first
+/// change. Condition: the object that the digest and the kind name is at `tmp`, synced if it is a
+/// file; its path in the store is absent, and each path above that is absent or a directory.
 pub fn place<H: Host>(
     alloc: Global,
     host: &mut H,
@@ -27,14 +26,14 @@ pub fn place<H: Host>(
     digest: &Digest,
     kind: ObjKind,
 ) -> Result<(), HostEnd>
-    // A stop at any moment leaves at the name what some stop before would have left, or what the
-    // path held; and all else as it was, but that the path may be gone and folders above the name
-    // made.
+    // A crash at any moment leaves at the object's path what some crash before would have left, or
+    // what was at `tmp`. Nothing else changes, except that `tmp` may be absent and directories
+    // above the object's path may be made.
     ensures any_moment { AtEachMoment H.Host host.old host.new
         (Places tmp.now (object_path root.now digest.now kind)) }
     ensures on_success { OnOk result (AtReturn H.Host host.old host.new (WasPlaced tmp.now
         (object_path root.now digest.now kind))) }
-    // What was unsettled stays so.
+    // Nothing is synced, and no file is created.
     ensures unsynced { AtReturn H.Host host.old host.new MakesNoFile }
     ensures fault_has_cause { FailsOnly H.Host host.old host.new
         (CanPlace root.now tmp.now digest.now kind) (IsErrOf result HostEnd.Fault) }
@@ -46,8 +45,8 @@ pub fn place<H: Host>(
     Ok(host.rename(tmp, &path)?)
 }
 
-/// Gives an object that stands in a work folder, laid out as a store, its name in the store.
-/// Nothing is synced. It is for an object that may be placed so.
+/// Moves an object from a work directory with the paths of a store to its path in the store at
+/// `root`. Syncs nothing. Condition: that of `place`, with the object's path in `work` as `tmp`.
 pub fn place_from<H: Host>(
     alloc: Global,
     host: &mut H,
@@ -69,8 +68,8 @@ pub fn place_from<H: Host>(
     place(alloc, host, root, &path, digest, kind)
 }
 
-/// Takes the object's name in the store in this folder away. Nothing is synced. It is for an object
-/// that is there.
+/// Removes the object's name from the store at `root`. Syncs nothing. All memory is allocated
+/// before the first change. Condition: the store has the object.
 pub fn remove<H: Host>(
     alloc: Global,
     host: &mut H,
@@ -78,14 +77,14 @@ pub fn remove<H: Host>(
     digest: &Digest,
     kind: ObjKind,
 ) -> Result<(), HostEnd>
-    // A stop at any moment leaves at the name what some stop before would have left, or nothing,
-    // and all else as it was.
+    // A crash at any moment leaves at the object's path what some crash before would have left, or
+    // nothing. Nothing else changes.
     ensures frame { Frame (GoneAt (object_path root.now digest.now kind))
         (AbsentAt (object_path root.now digest.now kind)) NoPath
         (H.moments host.old) (H.moments host.new) }
     ensures on_success { OnOk result (AtReturn H.Host host.old host.new
         (WasRemoved (object_path root.now digest.now kind))) }
-    // What was unsettled stays so.
+    // Nothing is synced, and no file is created.
     ensures unsynced { AtReturn H.Host host.old host.new MakesNoFile }
     ensures fault_has_cause { FailsOnly H.Host host.old host.new
         (HasObject root.now digest.now kind) (IsErrOf result HostEnd.Fault) }

@@ -1,4 +1,4 @@
-//! Objects that are looked up and read.
+//! Looking up objects and reading them. No function checks whether an object matches its digest.
 ghost use Rattle.std.specs.Prelude.{◌≡◌, ◌≤◌, ℕ, List, length, Some, IfOk, IsErrOf};
 ghost use Rattle.fp_host.specs.OverHost.{AtReturn, ChangesNothing, FailsAlone, FailsOnly};
 ghost use Rattle.fp_host.specs.Moments.{Moments};
@@ -16,22 +16,22 @@ use fp_name::Digest;
 use fp_small::{Loaded, load};
 use std::alloc::Global;
 
-/// What a store has of an object.
+/// The result of looking up an object in a store.
 #[derive(Debug, Drop)]
 pub enum Got {
     /// The bytes of a metadata object.
     Meta(Blob),
-    /// A file's permission bits and the number of its bytes.
+    /// A regular file: its permission bits and its size in bytes.
     File { mode: u32, size: u64 },
-    /// A link's text.
+    /// The text of a symlink.
     Link(Text),
-    /// There is no such object.
+    /// No object: the store lacks the object of this digest and kind.
     Absent,
-    /// The number of bytes of the file that keeps it, more than were allowed.
+    /// The size in bytes of the object's file, which is more than the maximum.
     TooLong(u64),
 }
 
-/// Whether a link may keep an object of the kind.
+/// Returns whether an object of the kind may be a symlink.
 fn may_be_link(kind: ObjKind) -> bool
     ensures { result ≡ may_be_link kind }
 {
@@ -41,8 +41,8 @@ fn may_be_link(kind: ObjKind) -> bool
     }
 }
 
-/// Whether the store in this folder has the object: whether a file has its name, or a link for the
-/// kind `File`. Whether the name is true isn't looked at.
+/// Returns whether the store at `root` has the object: a file is at its path, or for the kind
+/// `File` a symlink. Doesn't check whether the object matches its digest. Changes nothing.
 pub fn has<H: Host>(
     alloc: Global,
     host: &mut H,
@@ -63,9 +63,10 @@ pub fn has<H: Host>(
     }
 }
 
-/// The object as the store in this folder has it, where it has at most `max` bytes: a metadata
-/// object's bytes, a file's permission bits and size, a link's text. Whether its name is true isn't
-/// looked at. `Absent` comes exactly where `has` is false.
+/// Looks up the object in the store at `root`. Returns a metadata object's bytes, a file's
+/// permission bits and size, or a symlink's text; `TooLong` if the object's file has more than
+/// `max` bytes; and `Absent` if and only if `has` returns false. Doesn't check whether the object
+/// matches its digest. Changes nothing.
 pub fn get<H: Host>(
     alloc: Global,
     host: &mut H,
@@ -87,7 +88,7 @@ pub fn get<H: Host>(
     }
 }
 
-/// The file or link at the path, as an object.
+/// Looks up the file or symlink at the path, as an object of the kind `File`.
 fn get_content<H: Host>(alloc: Global, host: &mut H, path: &Path, max: u64) -> Result<Got, HostEnd>
     ensures unchanged { ChangesNothing H.Host host.old host.new }
     ensures tells { IfOk result (λ got. AtReturn H.Host host.old host.new
@@ -103,7 +104,7 @@ fn get_content<H: Host>(alloc: Global, host: &mut H, path: &Path, max: u64) -> R
     }
 }
 
-/// The metadata object at the path.
+/// Reads the file at the path, as a metadata object.
 fn get_meta<H: Host>(alloc: Global, host: &mut H, path: &Path, max: u64) -> Result<Got, HostEnd>
     ensures unchanged { ChangesNothing H.Host host.old host.new }
     ensures tells { IfOk result (λ got. AtReturn H.Host host.old host.new
@@ -118,8 +119,9 @@ fn get_meta<H: Host>(alloc: Global, host: &mut H, path: &Path, max: u64) -> Resu
     }
 }
 
-/// Bytes of a `file` object that is there as a file, from a place on: as many as the buffer has
-/// room for, or as are left. It is for an object that is there so.
+/// Reads bytes of a `file` object that is a regular file, from the byte offset `at` on, as many as
+/// fit into the buffer or are left. Returns their number. Changes nothing. Condition: the store at
+/// `root` has the object as a regular file.
 pub fn read_piece<H: Host>(
     alloc: Global,
     host: &mut H,
@@ -139,8 +141,9 @@ pub fn read_piece<H: Host>(
     Ok(host.read_at(&path, at, into)?)
 }
 
-/// The content of a `file` object that is there as a file of this size. It is for a size within a
-/// limit, since as much memory is taken.
+/// Returns the content of a `file` object that is a regular file of this size in bytes. Allocates
+/// that many bytes, so the size should have been checked against a limit. Changes nothing.
+/// Condition: the store at `root` has the object as a regular file.
 pub fn read_sized<H: Host>(
     alloc: Global,
     host: &mut H,
@@ -163,8 +166,9 @@ pub fn read_sized<H: Host>(
     Ok(Blob::from_vec(bytes))
 }
 
-/// The content of a `file` object of the store in this folder, where it is a file of at most `most`
-/// bytes. Whether its name is true isn't looked at.
+/// Returns the content of a `file` object of the store at `root`, or `None` if it isn't a regular
+/// file of at most `most` bytes. Doesn't check whether the object matches its digest. Changes
+/// nothing.
 pub fn read_within<H: Host>(
     alloc: Global,
     host: &mut H,

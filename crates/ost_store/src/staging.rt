@@ -1,4 +1,4 @@
-//! Objects that are written on their way to their names.
+//! Writing objects at the paths from which they are placed.
 ghost use Rattle.std.specs.Prelude.{◌≡◌, [], OnOk, IsErrOf};
 ghost use Rattle.fp_host.specs.OverHost.{AtEachMoment, AtReturn, FailsOnly};
 ghost use Rattle.fp_host.specs.Outcome.{Nothing};
@@ -12,24 +12,24 @@ use fp_small::{FILE_MODE, make_above};
 use ost_model::Object;
 use std::alloc::Global;
 
-/// Makes the absent path hold the object, and the folders above it where they are absent. A
-/// metadata object's file has the permission bits 0644. Nothing is synced: that is done before the
-/// object is placed. It is for a path above which each name is absent or a folder, and for a file
-/// whose permission bits are good, or a link whose text may be a link's. All memory is taken
-/// before the first change.
+/// Writes the object to the path, and makes the missing directories above it. The file of a
+/// metadata object has the permission bits 0644. Syncs nothing, so the caller has to sync before it
+/// places the object. All memory is allocated before the first change. Condition: the path is
+/// absent, each path above it is absent or a directory, and a file's permission bits are within
+/// 0775, or a symlink's text is valid.
 pub fn stage<H: Host>(
     alloc: Global,
     host: &mut H,
     tmp: &Path,
     object: &Object,
 ) -> Result<(), HostEnd>
-    // A stop at any moment leaves at the path what some stop before would have left, or such a file
-    // or link, and all else as it was, but for folders above. Each file that was there keeps its
-    // bytes.
+    // A crash at any moment leaves at the path what some crash before would have left, or a file
+    // with the object's permission bits and any bytes, or its symlink. Nothing else changes, except
+    // that directories above the path may be made. Each file that existed keeps its bytes.
     ensures any_moment { AtEachMoment H.Host host.old host.new (Stages tmp.now object.now) }
     ensures on_success { OnOk result (AtReturn H.Host host.old host.new
         (WasStaged tmp.now object.now)) }
-    // What was unsettled stays so.
+    // Nothing is synced, and at most one file is created.
     ensures unsynced { AtReturn H.Host host.old host.new MakesOneFile }
     ensures fault_has_cause { FailsOnly H.Host host.old host.new
         (CanStage tmp.now object.now) (IsErrOf result HostEnd.Fault) }
@@ -43,7 +43,7 @@ pub fn stage<H: Host>(
     }
 }
 
-/// Makes the absent path a file with these permission bits and these bytes.
+/// Creates a file with these permission bits and these bytes at the path.
 fn stage_bytes<H: Host>(
     alloc: Global,
     host: &mut H,
@@ -65,7 +65,7 @@ fn stage_bytes<H: Host>(
     stage_piece(host, tmp, bytes)
 }
 
-/// Makes the absent path a link with this text.
+/// Makes a symlink with this text at the path.
 fn stage_link<H: Host>(alloc: Global, host: &mut H, tmp: &Path, text: &str) -> Result<(), HostEnd>
     ensures any_moment { AtEachMoment H.Host host.old host.new
         (Stages tmp.now (objects.Link text.now)) }
@@ -81,10 +81,10 @@ fn stage_link<H: Host>(alloc: Global, host: &mut H, tmp: &Path, text: &str) -> R
     Ok(host.symlink(text, tmp)?)
 }
 
-/// Makes the absent path an empty file with these permission bits, and the folders above it where
-/// they are absent, for a content that comes in pieces. It is for a path above which each name is
-/// absent or a folder, and for good permission bits. All memory is taken before the first
-/// change.
+/// Creates an empty file with these permission bits at the path, for content that comes in pieces,
+/// and makes the missing directories above it. Syncs nothing. All memory is allocated before the
+/// first change. Condition: the path is absent, each path above it is absent or a directory, and
+/// the permission bits are within 0775.
 pub fn stage_file<H: Host>(
     alloc: Global,
     host: &mut H,
@@ -95,7 +95,7 @@ pub fn stage_file<H: Host>(
         (Stages tmp.now (objects.File mode [])) }
     ensures on_success { OnOk result (AtReturn H.Host host.old host.new
         (WasStaged tmp.now (objects.File mode []))) }
-    // What was unsettled stays so.
+    // Nothing is synced, and at most one file is created.
     ensures unsynced { AtReturn H.Host host.old host.new MakesOneFile }
     ensures fault_has_cause { FailsOnly H.Host host.old host.new
         (CanStage tmp.now (objects.File mode [])) (IsErrOf result HostEnd.Fault) }
@@ -106,9 +106,10 @@ pub fn stage_file<H: Host>(
     Ok(host.create(tmp, mode)?)
 }
 
-/// Adds the piece at the end of the file, which was created since the last sync.
+/// Appends a piece to the file. Needs no memory. Condition: the file was created since the last
+/// sync.
 pub fn stage_piece<H: Host>(host: &mut H, tmp: &Path, piece: &[u8]) -> Result<(), HostEnd>
-    // No name changes, and no file but this.
+    // No name changes, and no other file.
     ensures frame { Frame Nothing NoName (Only tmp.now) (H.moments host.old) (H.moments host.new) }
     ensures on_success { OnOk result (AtReturn H.Host host.old host.new (Grows tmp.now piece.now)) }
     ensures unsynced { AtReturn H.Host host.old host.new MakesNoFile }

@@ -1,4 +1,4 @@
-//! The files and links below a folder.
+//! The files and symlinks below a directory.
 ghost use Rattle.std.specs.Prelude.{◌≡◌, ◌++◌, ◌-◌, ◌∷◌, [], IfOk, OnOk, IsErrOf};
 ghost use Rattle.fp_host.specs.OverHost.{AtReturn, ChangesNothing, FailsAlone, FailsOnly};
 ghost use Rattle.fp_small.specs.Clear.{Reaches};
@@ -8,7 +8,7 @@ use fp_host::{Host, HostEnd, Path, Stat};
 use fp_small::{MOST_ELEMENTS, add_names, list_of_one};
 use std::alloc::{AllocError, Global};
 
-/// Adds the path.
+/// Appends a copy of the path to a list.
 fn add_path(path: &Path, paths: &mut Vec<Path>) -> Result<(), AllocError>
     ensures { OnOk result (paths.new.items ≡ paths.old.items ++ path.now ∷ []) }
 {
@@ -16,8 +16,8 @@ fn add_path(path: &Path, paths: &mut Vec<Path>) -> Result<(), AllocError>
     Ok(())
 }
 
-/// Adds the path to those that were found, where a file or link stands there, and what is in it to
-/// the next ones, where it is a folder.
+/// Appends the path to `found` if it is a file or symlink, or the paths directly in it to `next` if
+/// it is a directory.
 fn visit<H: Host>(
     alloc: Global,
     host: &mut H,
@@ -41,7 +41,8 @@ fn visit<H: Host>(
     }
 }
 
-/// Does so with each of these paths, and gives the next ones.
+/// Visits each of the paths: appends the files and symlinks to `found`, and returns the paths
+/// directly in the directories.
 fn visit_all<H: Host>(
     alloc: Global,
     host: &mut H,
@@ -61,7 +62,8 @@ fn visit_all<H: Host>(
     Ok(next)
 }
 
-/// The files and links at the path and below. It isn't for what is 128 folders deep.
+/// Lists the files and symlinks at the path and below it. Errs with `Fault` if anything is 128 or
+/// more levels below it.
 fn leaves_within<H: Host>(alloc: Global, host: &mut H, folder: Path) -> Result<Vec<Path>, HostEnd>
     ensures unchanged { ChangesNothing H.Host host.old host.new }
     ensures tells { IfOk result (λ found. AtReturn H.Host host.old host.new
@@ -83,7 +85,8 @@ fn leaves_within<H: Host>(alloc: Global, host: &mut H, folder: Path) -> Result<V
     }
 }
 
-/// The files and links below the path; none where it is no folder.
+/// Lists the files and symlinks below the path; none if it is no directory. Errs with `Fault` if
+/// anything is 128 or more levels below it.
 pub(crate) fn leaves_below<H: Host>(
     alloc: Global,
     host: &mut H,

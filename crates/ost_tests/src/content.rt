@@ -1,4 +1,5 @@
-//! What no contract says: the names that OSTree itself gave to objects, and worked headers.
+//! Tests of what no contract says: the digests that OSTree itself gives to objects, and the bytes
+//! of headers.
 
 ghost use Rattle.std.specs.Prelude.{◌≡◌, ◌<◌, true};
 ghost use Rattle.ost_model.specs.Contents.{file_digest as digest_of_file, is_permission as may_be_mode};
@@ -15,7 +16,7 @@ use std::alloc::Global;
 use std::panic::Expect;
 use std::process::Abort;
 
-/// Whether the header of a link with this text is these bytes.
+/// Returns whether the header of a symlink with this text is these bytes.
 fn is_link_header(rt: &impl Abort, alloc: Global, text: &str, want: &[u8]) -> bool {
     if !is_link_text(text) {
         return false;
@@ -31,7 +32,7 @@ fn headers(rt: HostRuntime) {
     assert!(rt; is_link_header(&rt, rt.alloc(), "f0", link));
 }
 
-/// The digest of a file whose content comes in pieces of this many bytes. The contracts of the
+/// Returns the digest of a file whose content comes in pieces of `size` bytes. The contracts of the
 /// hasher prove that it is the file's.
 fn digest_in_pieces(mode: u32, bytes: &[u8], size: usize) -> Digest
     requires permission { may_be_mode mode ≡ true }
@@ -48,10 +49,10 @@ fn digest_in_pieces(mode: u32, bytes: &[u8], size: usize) -> Digest
     hasher.finish()
 }
 
-/// The sizes of pieces.
+/// The sizes of pieces, in bytes.
 const SIZES: &[usize] = &[1, 7, 32, 38, 64, 255];
 
-/// Whether a file has this digest, and has it too where its content comes in pieces of these sizes.
+/// Returns whether a file has this digest, also if its content comes in pieces of these sizes.
 fn has_digest(mode: u32, bytes: &[u8], want: &Digest) -> bool {
     if !is_permission(mode) || file_digest(mode, bytes) != *want {
         return false;
@@ -64,7 +65,7 @@ fn has_digest(mode: u32, bytes: &[u8], want: &Digest) -> bool {
     true
 }
 
-/// Whether a link has this digest.
+/// Returns whether a symlink has this digest.
 fn is_link_named(rt: &impl Abort, alloc: Global, text: &str, want: &Digest) -> bool {
     if !is_link_text(text) {
         return false;
@@ -72,13 +73,13 @@ fn is_link_named(rt: &impl Abort, alloc: Global, text: &str, want: &Digest) -> b
     link_digest(alloc, text).expect(rt, "memory") == *want
 }
 
-/// Whether a link of this many letters has.
+/// Returns whether a symlink with a text of this many letters `n` has this digest.
 fn is_long_link_named(rt: &impl Abort, alloc: Global, count: usize, want: &Digest) -> bool {
     let text = "n".repeat(alloc, count).expect(rt, "memory");
     is_link_named(rt, alloc, &text, want)
 }
 
-/// Whether an object has a name.
+/// Returns whether an object has this digest.
 fn is_named(rt: &impl Abort, alloc: Global, named: &Named, name: &str) -> bool {
     let want = digest_of(rt, name);
     match named {
@@ -89,15 +90,15 @@ fn is_named(rt: &impl Abort, alloc: Global, named: &Named, name: &str) -> bool {
     }
 }
 
-/// Ends the test where an object hasn't its name.
+/// Ends the test at the first object that doesn't have its digest.
 fn agree_all(rt: &impl Abort, alloc: Global, names: &[(Named, &str)]) {
     for (named, name) in names {
         agree(rt, name, is_named(rt, alloc, named, name));
     }
 }
 
-/// The bytes of an empty directory, which are one zero byte, and no bytes, with the digests that
-/// `sha256sum` writes.
+/// The bytes of the dirtree of an empty directory, which are one zero byte, and no bytes, with the
+/// digests that `sha256sum` prints.
 const EMPTY: &[(Named, &str)] = &[
     (
         Named::Meta("00"),
@@ -115,7 +116,7 @@ fn objects_of_a_repository(rt: HostRuntime) {
     agree_all(&rt, rt.alloc(), EMPTY);
 }
 
-/// Permission bits, and whether files have them.
+/// Permission bits, and whether a file of a store may have them.
 const MODES: &[(u32, bool)] = &[
     (0, true),
     (0o644, true),

@@ -1,5 +1,5 @@
-//! What no contract says: digests that `sha256sum` gives, and that both halves are at work at one
-//! time.
+//! Tests of what no contract says: the digests that `sha256sum` prints, and that both halves work
+//! at the same time.
 
 use crate::holding::HoldingGate;
 use crate::parsed::digest_of;
@@ -14,7 +14,7 @@ use std::panic::Expect;
 use std::process::Abort;
 use std::thread::Threads;
 
-/// The item whose text is `item` and this number.
+/// Makes the item with the text `item` and this number.
 fn numbered_item(rt: &impl Abort, alloc: Global, number: usize) -> Item {
     let digits = format!(in alloc; "{number}").expect(rt, "memory");
     Item {
@@ -23,7 +23,7 @@ fn numbered_item(rt: &impl Abort, alloc: Global, number: usize) -> Item {
     }
 }
 
-/// This many items, from `item 0` on.
+/// Makes this many items, from `item 0` on.
 fn many_items(rt: &impl Abort, alloc: Global, count: usize) -> Vec<Item> {
     let mut items = Vec::new(alloc);
     for number in 0..count {
@@ -34,7 +34,7 @@ fn many_items(rt: &impl Abort, alloc: Global, count: usize) -> Vec<Item> {
     items
 }
 
-/// The digest of all digests, one after another.
+/// Returns the digest of all digests, one after another.
 fn digest_of_all(all: &[Digest]) -> Digest {
     let mut hasher = Sha256::new();
     for digest in all {
@@ -43,8 +43,8 @@ fn digest_of_all(all: &[Digest]) -> Digest {
     Digest::from_bytes(hasher.finalize())
 }
 
-/// Counts of items, and the digest of their digests, one after another, as one thread of another
-/// program gives it.
+/// Numbers of items, and the digest of their digests, one after another, as another program
+/// computes it with one thread.
 const COUNTS: &[(usize, &str)] = &[
     (
         0,
@@ -80,12 +80,12 @@ const COUNTS: &[(usize, &str)] = &[
     ),
 ];
 
-/// Whether this is the digest of all digests, and there are this many of them.
+/// Returns whether there are this many digests, and this is the digest of them, one after another.
 fn are_counted(rt: &impl Abort, all: &[Digest], count: usize, name: &str) -> bool {
     all.len() == count && digest_of_all(all) == digest_of(rt, name)
 }
 
-/// Items, head and body, and their digests as `sha256sum` writes them.
+/// The head and the body of items, and their digests as `sha256sum` prints them.
 const ITEMS: &[(Content, Content, &str)] = &[
     (
         Content::Bytes(b""),
@@ -124,7 +124,7 @@ const ITEMS: &[(Content, Content, &str)] = &[
     ),
 ];
 
-/// Whether an item alone has this digest.
+/// Returns whether an item alone has this digest.
 fn is_digest_of(
     rt: &(impl Abort + Threads + Sync),
     alloc: Global,
@@ -145,8 +145,8 @@ fn digests_of_items(rt: HostRuntime) {
     }
 }
 
-/// Whether the digests of this many items, and those that come where this half is held until the
-/// other one is done, have this digest, and both halves are at work.
+/// Returns whether the digests of this many items are right, both without a gate and with one half
+/// stopped until the other is done, and both halves were at work.
 fn are_at_work(
     rt: &(impl Abort + Threads + Sync),
     alloc: Global,
@@ -162,8 +162,8 @@ fn are_at_work(
     is_wanted && are_counted(rt, all.as_slice(), count, name) && gate.is_as_due(count)
 }
 
-/// The second half is held until the first one is done, and then the other way round, so neither
-/// waits for the other's thread. Only the first cut is told.
+/// Stops the second half until the first one is done, and then the other way round, so neither half
+/// is done by the other's thread. Only the first split calls the gate.
 #[test]
 fn both_halves_are_at_work(rt: HostRuntime) {
     let alloc = rt.alloc();

@@ -1,14 +1,14 @@
-//! A gate that holds one half of the work until the other half is done.
+//! A gate that stops one half of the work until the other half is done.
 
 use fp_base::Items;
 use fp_name::Digest;
 use par_digest::Gate;
 use std::sync::atomic::{AtomicBool, AtomicU64, Ordering};
 
-/// How often the half that is held looks whether the other one is done.
+/// The maximum number of times that the stopped half looks whether the other one is done.
 const TURNS: u64 = 1_000_000_000;
 
-/// Whether no digest is found yet.
+/// Returns whether no digest is computed yet: all of them are zero.
 fn are_zeros(digests: &[Digest]) -> bool {
     for digest in digests {
         if *digest.as_bytes() != [0; 32] {
@@ -18,12 +18,12 @@ fn are_zeros(digests: &[Digest]) -> bool {
     true
 }
 
-/// What one half told the gate.
+/// The calls of the gate for one half.
 #[derive(Drop)]
 struct Side {
     reached: AtomicU64,
     watched: AtomicU64,
-    // a call too many, or other digests than those that were due
+    // Whether there was a call too many, or one with wrong digests.
     is_wrong: AtomicBool,
 }
 
@@ -36,7 +36,7 @@ impl Side {
         }
     }
 
-    /// First there are zeros alone, then all of the digests.
+    /// Counts a call: the first one must have only zeros, the second one all wanted digests.
     fn watch(&self, digests: &[Digest], wanted: &[Digest]) {
         let is_due = match self.watched.fetch_add(1, Ordering::SeqCst) {
             0 => digests.len() == wanted.len() && are_zeros(digests),
@@ -48,7 +48,7 @@ impl Side {
         }
     }
 
-    /// Whether it began and showed what was due this many times.
+    /// Returns whether there were this many calls of each kind, and none was wrong.
     fn has_told(&self, reached: u64, watched: u64) -> bool {
         self.reached.load(Ordering::SeqCst) == reached
             && self.watched.load(Ordering::SeqCst) == watched
@@ -56,8 +56,8 @@ impl Side {
     }
 }
 
-/// A gate that holds one half as it begins, until the other half has shown all of its digests: a
-/// thousand million looks at most. It counts the calls for what is neither half.
+/// A gate that stops one half as it begins, until the other half has shown all of its digests, for
+/// at most `TURNS` looks. It counts the calls for anything but a half.
 #[derive(Drop)]
 pub struct HoldingGate {
     held: u32,
@@ -69,7 +69,8 @@ pub struct HoldingGate {
 }
 
 impl HoldingGate {
-    /// A gate that holds this half (0 or 1). The digests are those that the halves have to show.
+    /// Makes a gate that stops this half (0 or 1). The digests are those that both halves have to
+    /// show.
     pub fn new(held: u32, wanted: Items<Digest>) -> Self {
         HoldingGate {
             held,
@@ -81,8 +82,8 @@ impl HoldingGate {
         }
     }
 
-    /// Whether each half began and showed what was due this many times, nothing else was told, and
-    /// the held half saw the other one done.
+    /// Returns whether each half had this many calls of each kind, no call was wrong, and the
+    /// stopped half saw the other one done.
     fn have_told(&self, reached: u64, watched: u64) -> bool {
         self.first.has_told(reached, watched)
             && self.second.has_told(reached, watched)
@@ -90,8 +91,8 @@ impl HoldingGate {
             && self.strays.load(Ordering::SeqCst) == 0
     }
 
-    /// Whether both halves of this many items were at work, first with zeros alone and then with
-    /// their digests; or nothing was told where the items aren't cut.
+    /// Returns whether both halves of this many items were at work, each with only zeros first and
+    /// then with its digests; for up to 16 items, which aren't split, whether there was no call.
     pub fn is_as_due(&self, count: usize) -> bool {
         if count > 16 {
             self.have_told(1, 2)
@@ -100,7 +101,7 @@ impl HoldingGate {
         }
     }
 
-    /// Waits until the other half is done.
+    /// Waits until the other half is done, for at most `TURNS` looks.
     fn hold(&self, other: &Side) {
         for _ in 0..TURNS {
             if other.watched.load(Ordering::SeqCst) >= 2 {
@@ -110,7 +111,7 @@ impl HoldingGate {
         self.gave_up.store(true, Ordering::SeqCst);
     }
 
-    /// A half begins, beside the other one.
+    /// Counts the start of a half, and stops it if it is the one to be stopped.
     fn begin(&self, half: u32, this: &Side, other: &Side) {
         this.reached.fetch_add(1, Ordering::SeqCst);
         if half == self.held {
@@ -118,6 +119,7 @@ impl HoldingGate {
         }
     }
 
+    /// Counts a call for anything but a half.
     fn stray(&self) {
         self.strays.fetch_add(1, Ordering::SeqCst);
     }

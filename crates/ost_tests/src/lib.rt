@@ -1,5 +1,5 @@
-//! Tests of the store: objects that the `ostree` command made, their digests, refs and the calls of
-//! a store.
+//! Tests of the store: objects that the `ostree` command made, their digests, refs, and the calls
+//! of a store.
 #![tactic(auto)]
 
 #[cfg(test)]

@@ -1,4 +1,4 @@
-//! Long metadata objects, byte for byte as GLib spells them.
+//! Long metadata objects, byte for byte as GLib encodes them.
 
 use std::alloc::Global;
 use std::panic::Expect;
@@ -8,33 +8,33 @@ use std::process::Abort;
 pub enum Piece {
     /// These bytes.
     Bytes(&'static [u8]),
-    /// A byte, and how often it comes.
+    /// A byte, and the number of its copies.
     Times(u8, usize),
-    /// Rows: each a letter, its number in four digits, and these bytes.
+    /// `ROWS` rows: each is the letter, the row's number in four digits, and these bytes.
     Rows(&'static str, &'static [u8]),
-    /// These bytes, and how often they come.
+    /// These bytes, and the number of their copies.
     Alike(&'static [u8], usize),
-    /// Where rows end: how many there are, how many bytes each has, and how many bytes the number
-    /// of an end has, the lowest first.
+    /// The framing offsets of rows: the number of rows, the number of bytes of each row, and the
+    /// number of bytes of each offset, which is little endian.
     Ends(u32, u32, usize),
 }
 
-/// How many rows there are.
+/// The number of rows.
 pub const ROWS: u32 = 1_100;
 
-/// The digest and the kind of a commit with metadata, texts and related objects that are all long:
-/// 100 KiB of the byte 7 and a binding to the rows' refs, the rows' objects, and 100 KiB of the
-/// letter t twice.
+/// The digest and the kind of a commit with long metadata, texts and related objects: 100 KiB of
+/// the byte 7 and a binding to the rows' refs, the rows' objects, and twice 100 KiB of the letter
+/// `t`.
 pub const COMMIT: &str = "3eaabaf16a1bab4a65de8ab73503cdb23689fdcde8e33bd7fdd9291e9e51d15e.commit";
 
-/// What the commit is made of.
+/// The pieces of the commit.
 pub const COMMIT_PIECES: &[Piece] = &[
     Piece::Bytes(b"a\0\0\0\0\0\0\0"),
     Piece::Times(7, 100 << 10),
     Piece::Bytes(b"\0ay\x02\0\0\0\0ostree.ref-binding\0\0\0\0\0\0"),
     Piece::Rows("r", b"\0"),
     Piece::Ends(ROWS, 6, 2),
-    // the lengths of both keys, and where both entries end
+    // The lengths of both keys, and the ends of both entries.
     Piece::Bytes(b"\0as\x13\0\x0f\x90\x01\0\x8d\xb2\x01\0"),
     Piece::Times(2, 32),
     Piece::Rows("o", ONE_DIGEST),
@@ -45,24 +45,25 @@ pub const COMMIT_PIECES: &[Piece] = &[
     Piece::Bytes(b"\0\0\0\0\0\0\x01\0\0\0\0\0\0\0"),
     Piece::Times(3, 32),
     Piece::Times(4, 32),
-    // where the other parts end, the last one first
+    // The ends of the other parts, the last one first.
     Piece::Bytes(
         b"\x10\x83\x05\0\xe3\x82\x05\0\xe2\xf2\x03\0\xe1\x62\x02\0\xb5\xb2\x01\0\x95\xb2\x01\0",
     ),
 ];
 
-/// A digest of which each byte is 1, after a name of five letters.
+/// The rest of a row with one digest, after a name of five letters: a zero byte, 32 bytes 1, and
+/// the offset.
 const ONE_DIGEST: &[u8] =
     b"\0\x01\x01\x01\x01\x01\x01\x01\x01\x01\x01\x01\x01\x01\x01\x01\x01\x01\x01\x01\x01\x01\x01\x01\x01\x01\x01\x01\x01\x01\x01\x01\x01\x06";
 
-/// Two of them.
+/// The rest of a row with two digests, after a name of five letters.
 const TWO_DIGESTS: &[u8] =
     b"\0\x01\x01\x01\x01\x01\x01\x01\x01\x01\x01\x01\x01\x01\x01\x01\x01\x01\x01\x01\x01\x01\x01\x01\x01\x01\x01\x01\x01\x01\x01\x01\x01\x01\x01\x01\x01\x01\x01\x01\x01\x01\x01\x01\x01\x01\x01\x01\x01\x01\x01\x01\x01\x01\x01\x01\x01\x01\x01\x01\x01\x01\x01\x01\x01\x26\x06";
 
-/// The same of a dirtree with the rows' files and the rows' directories.
+/// The digest and the kind of a dirtree with the rows' files and the rows' directories.
 pub const TREE: &str = "e7e48ebee378fd66087e8333d4611cdcd3cd4307c180900e28f10878182f41a7.dirtree";
 
-/// What the dirtree is made of.
+/// The pieces of the dirtree.
 pub const TREE_PIECES: &[Piece] = &[
     Piece::Rows("f", ONE_DIGEST),
     Piece::Ends(ROWS, 39, 2),
@@ -71,15 +72,15 @@ pub const TREE_PIECES: &[Piece] = &[
     Piece::Bytes(b"\x2c\xb0\0\0"),
 ];
 
-/// A dirtree of 100,000 files that have neither names nor digests.
+/// The pieces of a dirtree of 100,000 files that have neither names nor digests.
 pub const EMPTY_FILES: &[Piece] = &[
     Piece::Alike(b"\0\x01", 100_000),
     Piece::Ends(100_000, 2, 4),
     Piece::Bytes(b"\xc0\x27\x09\0"),
 ];
 
-/// A dirmeta of user and group 0, with 100,000 extended attributes that have neither names nor
-/// values.
+/// The pieces of a dirmeta of user and group 0, with 100,000 extended attributes that have neither
+/// names nor values.
 pub const EMPTY_ATTRIBUTES: &[Piece] = &[
     Piece::Times(0, 12),
     Piece::Alike(b"\0", 100_000),
@@ -128,7 +129,7 @@ fn push_piece(rt: &impl Abort, alloc: Global, bytes: &mut Vec<u8>, piece: &Piece
     }
 }
 
-/// The bytes of the pieces.
+/// Returns the bytes of the pieces.
 pub fn bytes_of_pieces(rt: &impl Abort, alloc: Global, pieces: &[Piece]) -> Vec<u8> {
     let mut bytes = Vec::new(alloc);
     for piece in pieces {

@@ -1,19 +1,19 @@
-//! Objects of a repository that OSTree made, with their names. `scripts/ostree_contents.py` printed
-//! them.
+//! Objects of a repository that OSTree made, with their digests, as `scripts/ostree_contents.py`
+//! printed them.
 
-/// What an object is made of.
+/// The content of an object.
 pub enum Named {
     /// A file's permission bits, and its content in hexadecimal digits.
     File(u32, &'static str),
-    /// A link's text.
+    /// A symlink's text.
     Link(&'static str),
-    /// How many letters n a link's text is.
+    /// The number of letters `n` in a symlink's text.
     LongLink(usize),
     /// The bytes of a metadata object in hexadecimal digits.
     Meta(&'static str),
 }
 
-/// Objects, and their names.
+/// Objects, and their digests.
 pub const NAMES: &[(Named, &str)] = &[
     (
         Named::File(

@@ -1,6 +1,6 @@
 //! Metadata objects of a repository that the `ostree` command made (`scripts/ostree_objects.sh`).
 
-/// Their names, and their bytes in hexadecimal digits.
+/// The name of each object, and its bytes in hexadecimal digits.
 pub const OBJECTS: [(&str, &str); 12] = [
     (
         "3874f3b10ad36229ae7ba262e07f774b923af38c83a4f0e170776793e4428d33.commit",

@@ -1,5 +1,4 @@
-//! Metadata objects: what they are read as, the first rule that they break, and how they are
-//! written.
+//! Metadata objects: reading, the first rule that they break, and writing.
 
 use crate::long_objects;
 use crate::long_objects::{
@@ -20,7 +19,7 @@ use std::alloc::Global;
 use std::panic::Expect;
 use std::process::Abort;
 
-/// The rule that a call named; None where it didn't fail.
+/// Returns the rule with which a call erred, or `None` if it succeeded.
 fn rule_of<T: Drop>(rt: &impl Abort, done: Result<T, ObjectError>) -> Option<Rule> {
     match done {
         Ok(_object) => None,
@@ -29,19 +28,19 @@ fn rule_of<T: Drop>(rt: &impl Abort, done: Result<T, ObjectError>) -> Option<Rul
     }
 }
 
-/// What is read or written.
+/// A call that is tried.
 enum Tried {
-    /// An object of the kind is read, in hexadecimal digits as GLib spelled it.
+    /// Reading an object of this kind, given in hexadecimal digits as GLib encodes it.
     Read(ObjKind, &'static str),
-    /// A dirtree with files of these names and the directory `d` is written.
+    /// Writing a dirtree with files of these names and the directory `d`.
     Names(&'static [&'static str]),
-    /// A dirmeta of this mode is.
+    /// Writing a dirmeta with this mode.
     Mode(u32),
-    /// A commit is with this subject, and nothing else.
+    /// Writing a commit with this subject and nothing else.
     Subject(&'static str),
 }
 
-/// The first rule that it breaks.
+/// Calls, and the first rule that is broken, if any.
 const RULES: &[(Tried, Option<Rule>)] = &[
     (
         Tried::Read(
@@ -78,7 +77,7 @@ const RULES: &[(Tried, Option<Rule>)] = &[
         ),
         Some(Rule::Meta),
     ),
-    // no bytes
+    // No bytes.
     (Tried::Read(ObjKind::DirTree, ""), Some(Rule::Value)),
     (
         Tried::Read(
@@ -169,7 +168,7 @@ const RULES: &[(Tried, Option<Rule>)] = &[
     (Tried::Subject("a\0b"), Some(Rule::Value)),
 ];
 
-/// The rule that an object of this kind breaks as it is read.
+/// Returns the rule that bytes break as an object of this kind, if any.
 fn rule_of_bytes(rt: &impl Abort, alloc: Global, kind: ObjKind, bytes: &[u8]) -> Option<Rule> {
     match kind {
         ObjKind::Commit => rule_of(rt, read_commit(alloc, bytes)),
@@ -178,7 +177,7 @@ fn rule_of_bytes(rt: &impl Abort, alloc: Global, kind: ObjKind, bytes: &[u8]) ->
     }
 }
 
-/// The rule that is broken.
+/// Returns the rule that a call finds broken, if any.
 fn broken_rule(rt: &impl Abort, alloc: Global, tried: &Tried) -> Option<Rule> {
     match tried {
         Tried::Read(kind, digits) => rule_of_bytes(
@@ -200,14 +199,14 @@ fn objects_break_rules(rt: HostRuntime) {
     }
 }
 
-/// Whether the commit has this timestamp, and a subject and a body of these lengths.
+/// Returns whether the commit has this timestamp, and a subject and a body of these lengths.
 fn has_lengths(commit: &Commit, lengths: (u64, usize, usize)) -> bool {
     commit.timestamp == lengths.0
         && commit.subject.as_str().len() == lengths.1
         && commit.body.as_str().len() == lengths.2
 }
 
-/// The texts, each with a newline.
+/// Returns the texts, each with a newline.
 fn lines_of(rt: &impl Abort, alloc: Global, texts: &[Text]) -> String {
     let mut lines = String::new(alloc);
     for text in texts {
@@ -217,7 +216,7 @@ fn lines_of(rt: &impl Abort, alloc: Global, texts: &[Text]) -> String {
     lines
 }
 
-/// The refs that a commit is bound to, each with a newline.
+/// Returns the refs that a commit is bound to, each with a newline.
 fn refs_of(rt: &impl Abort, alloc: Global, commit: &Commit) -> String {
     match binding(alloc, commit).expect(rt, "memory") {
         Some(texts) => lines_of(rt, alloc, texts.as_slice()),
@@ -225,8 +224,8 @@ fn refs_of(rt: &impl Abort, alloc: Global, commit: &Commit) -> String {
     }
 }
 
-/// Whether the commit of the digits has this timestamp and these lengths, and is bound to these
-/// refs.
+/// Returns whether the digits are those of a commit with this timestamp and these lengths, bound to
+/// these refs.
 fn is_read_as(
     rt: &impl Abort,
     alloc: Global,
@@ -238,8 +237,8 @@ fn is_read_as(
     has_lengths(&commit, lengths) && refs_of(rt, alloc, &commit).as_str() == refs
 }
 
-/// Commits that GLib spelled with two bindings, and the refs that each is bound to: the last
-/// binding decides, and one of type `s` is none.
+/// Commits that GLib encoded with two bindings, and the refs that each is bound to: the last
+/// binding decides, and one of type `s` binds to nothing.
 const BOUND: &[(&str, &str)] = &[
     (
         "6f73747265652e7265662d62696e64696e6700000000000061000200617313006f73747265652e7265662d62696e64696e67000000000000620002006173131f3f00000000000000000000000000000001010101010101010101010101010101010101010101010101010101010101010101010101010101010101010101010101010101010101010101010101010101704342414141",
@@ -266,7 +265,7 @@ fn the_last_binding_decides(rt: HostRuntime) {
     }
 }
 
-/// What the two commits of the repository are bound to.
+/// The ref to which the two commits of the repository are bound.
 const APP: &str = "app/org.x.App/x86_64/stable\n";
 
 #[test]
@@ -278,13 +277,13 @@ fn reads_real_commits(rt: HostRuntime) {
     );
 }
 
-/// Whether the bytes are a dirtree of this many files and directories.
+/// Returns whether the bytes are a dirtree with these numbers of files and directories.
 fn has_counts(rt: &impl Abort, alloc: Global, bytes: &[u8], files: usize, dirs: usize) -> bool {
     let tree = read_dirtree(alloc, bytes).expect(rt, "a dirtree");
     tree.files.len() == files && tree.dirs.len() == dirs
 }
 
-/// The mode of the dirmeta of the bytes.
+/// Returns the mode of the dirmeta with these bytes.
 fn mode_of(rt: &impl Abort, alloc: Global, bytes: &[u8]) -> u32 {
     read_dirmeta(alloc, bytes).expect(rt, "a dirmeta").mode
 }
@@ -298,25 +297,25 @@ fn reads_small_objects(rt: HostRuntime) {
     );
 }
 
-/// A commit as it is written after it was read.
+/// Reads a commit and writes it again.
 fn commit_again(rt: &impl Abort, alloc: Global, bytes: &[u8]) -> Blob {
     let commit = read_commit(alloc, bytes).expect(rt, "a commit");
     write_commit(alloc, &commit).expect(rt, "written")
 }
 
-/// The same of a dirtree.
+/// Reads a dirtree and writes it again.
 fn tree_again(rt: &impl Abort, alloc: Global, bytes: &[u8]) -> Blob {
     let tree = read_dirtree(alloc, bytes).expect(rt, "a dirtree");
     write_dirtree(alloc, &tree).expect(rt, "written")
 }
 
-/// The same of a dirmeta.
+/// Reads a dirmeta and writes it again.
 fn meta_again(rt: &impl Abort, alloc: Global, bytes: &[u8]) -> Blob {
     let meta = read_dirmeta(alloc, bytes).expect(rt, "a dirmeta");
     write_dirmeta(alloc, &meta).expect(rt, "written")
 }
 
-/// Whether an object is written as it was read.
+/// Returns whether an object is written as it was read.
 fn is_written_back(rt: &impl Abort, alloc: Global, kind: ObjKind, bytes: &[u8]) -> bool {
     let again = match kind {
         ObjKind::Commit => commit_again(rt, alloc, bytes),
@@ -326,13 +325,14 @@ fn is_written_back(rt: &impl Abort, alloc: Global, kind: ObjKind, bytes: &[u8]) 
     again.as_slice() == bytes
 }
 
-/// Whether the bytes have this name, and are written as they were read.
+/// Returns whether the bytes have the digest in this name, and are written as they were read.
 fn has_name(rt: &impl Abort, alloc: Global, name: &str, bytes: &[u8]) -> bool {
     let (digits, _) = name.split_once('.').unwrap_or((name, ""));
     meta_digest(bytes) == digest_of(rt, digits) && is_written_back(rt, alloc, kind_of(name), bytes)
 }
 
-/// The same of digits.
+/// Returns whether the bytes in these digits have the digest in this name, and are written as they
+/// were read.
 fn is_unchanged(rt: &impl Abort, alloc: Global, name: &str, digits: &str) -> bool {
     has_name(rt, alloc, name, &bytes_of_digits(rt, alloc, digits))
 }
@@ -347,17 +347,17 @@ fn writes_objects_back(rt: HostRuntime) {
     }
 }
 
-/// The text.
+/// Makes a text.
 fn text_of(rt: &impl Abort, alloc: Global, text: &str) -> Text {
     Text::from_str(alloc, text).expect(rt, "memory")
 }
 
-/// The digest of objects that are named and not looked at.
+/// Returns the digest of objects that are only named.
 fn some_digest() -> Digest {
     Digest::from_bytes([1; 32])
 }
 
-/// The file of this name.
+/// Makes the entry of a file with this name.
 fn file_entry(name: Text) -> FileEntry {
     FileEntry {
         name,
@@ -365,7 +365,7 @@ fn file_entry(name: Text) -> FileEntry {
     }
 }
 
-/// The directory of this name.
+/// Makes the entry of a directory with this name.
 fn dir_entry(name: Text) -> DirEntry {
     DirEntry {
         name,
@@ -374,7 +374,7 @@ fn dir_entry(name: Text) -> DirEntry {
     }
 }
 
-/// Files of these names.
+/// Makes the entries of files with these names.
 fn files_named(rt: &impl Abort, alloc: Global, names: &[&str]) -> Items<FileEntry> {
     let mut files = Items::new(alloc);
     for name in names {
@@ -384,20 +384,20 @@ fn files_named(rt: &impl Abort, alloc: Global, names: &[&str]) -> Items<FileEntr
     files
 }
 
-/// One directory `d`.
+/// Makes the entries with just one directory, `d`.
 fn one_dir(rt: &impl Abort, alloc: Global) -> Items<DirEntry> {
     let dirs = vec![in alloc; dir_entry(text_of(rt, alloc, "d"))];
     Items::from_vec(dirs.expect(rt, "memory"))
 }
 
-/// A dirtree of these files and the directory, as it is written.
+/// Writes a dirtree of files with these names and the directory `d`.
 fn written_tree(rt: &impl Abort, alloc: Global, names: &[&str]) -> Result<Blob, ObjectError> {
     let files = files_named(rt, alloc, names);
     let dirs = one_dir(rt, alloc);
     write_dirtree(alloc, &DirTree { files, dirs })
 }
 
-/// A commit with nothing in it but its subject.
+/// Makes a commit with nothing but its subject.
 fn bare_commit(rt: &impl Abort, alloc: Global, subject: &str) -> Commit {
     Commit {
         metadata: Blob::from_vec(Vec::new(alloc)),
@@ -411,19 +411,19 @@ fn bare_commit(rt: &impl Abort, alloc: Global, subject: &str) -> Commit {
     }
 }
 
-/// It, as it is written.
+/// Writes a commit with nothing but its subject.
 fn written_commit(rt: &impl Abort, alloc: Global, subject: &str) -> Result<Blob, ObjectError> {
     let commit = bare_commit(rt, alloc, subject);
     write_commit(alloc, &commit)
 }
 
-/// Whether a commit without a subject is written in these digits.
+/// Returns whether a commit without a subject is written as these digits.
 fn is_bare(rt: &impl Abort, alloc: Global, digits: &str) -> bool {
     let written = written_commit(rt, alloc, "").expect(rt, "written");
     written.as_slice() == bytes_of_digits(rt, alloc, digits).as_slice()
 }
 
-/// What GLib spells of it.
+/// The bytes of that commit in hexadecimal digits, as GLib encodes it.
 const BARE: &str =
     "0000000000000000000000000000000001010101010101010101010101010101010101010101010101010101010101010101010101010101010101010101010101010101010101010101010101010101300201000000";
 
@@ -432,15 +432,16 @@ fn writes_a_bare_commit(rt: HostRuntime) {
     assert!(rt; is_bare(&rt, rt.alloc(), BARE));
 }
 
-/// Whether a commit that is bound to all rows has its name, and is written as it was read.
+/// Returns whether the bytes are a commit that is bound to as many refs as there are rows, has its
+/// digest, and is written as it was read.
 fn is_long_commit(rt: &impl Abort, alloc: Global, bytes: &[u8]) -> bool {
     let commit = read_commit(alloc, bytes).expect(rt, "a commit");
     refs_of(rt, alloc, &commit).lines().count() == ROWS as usize
         && has_name(rt, alloc, long_objects::COMMIT, bytes)
 }
 
-/// Whether the root of a commit has the dirtree whose digest is of the byte 3, and the dirmeta
-/// whose digest is of the byte 4.
+/// Returns whether a commit's root has the dirtree whose digest is 32 bytes 3, and the dirmeta
+/// whose digest is 32 bytes 4.
 fn has_root(rt: &impl Abort, alloc: Global, bytes: &[u8]) -> bool {
     let root = commit_root(alloc, bytes).expect(rt, "a commit");
     root.tree == Digest::from_bytes([3; 32]) && root.meta == Digest::from_bytes([4; 32])
@@ -452,7 +453,8 @@ fn a_long_commit_is_written_back(rt: HostRuntime) {
     assert!(rt; is_long_commit(&rt, rt.alloc(), &bytes) && has_root(&rt, rt.alloc(), &bytes));
 }
 
-/// The same of a dirtree that has all rows, as files and as directories.
+/// Returns whether the bytes are a dirtree with as many files and directories as there are rows,
+/// has its digest, and is written as it was read.
 fn is_long_tree(rt: &impl Abort, alloc: Global, bytes: &[u8]) -> bool {
     has_counts(rt, alloc, bytes, ROWS as usize, ROWS as usize)
         && has_name(rt, alloc, long_objects::TREE, bytes)
@@ -464,20 +466,21 @@ fn a_long_dirtree_is_written_back(rt: HostRuntime) {
     assert!(rt; is_long_tree(&rt, rt.alloc(), &bytes));
 }
 
-/// 100 KiB of zero bytes are no dirmeta, whose mode would be that of no folder.
+/// Checks that 100 KiB of zero bytes are refused as a dirmeta: the mode wouldn't be that of a
+/// directory.
 #[test]
 fn a_long_dirmeta_is_refused(rt: HostRuntime) {
     let bytes = vec![in rt.alloc(); b'\0'; 100 << 10].expect(&rt, "memory");
     assert!(rt; rule_of(&rt, read_dirmeta(rt.alloc(), &bytes)).is_some());
 }
 
-/// Whether an object of these pieces breaks the rule first.
+/// Returns whether an object of these pieces breaks this rule first.
 fn breaks(rt: &impl Abort, alloc: Global, kind: ObjKind, pieces: &[Piece], rule: Rule) -> bool {
     let bytes = bytes_of_pieces(rt, alloc, pieces);
     rule_of_bytes(rt, alloc, kind, &bytes) == Some(rule)
 }
 
-/// 100,000 rows without a byte of a name are refused by the first rule after `Value`.
+/// Checks that 100,000 rows without a byte of a name are refused by the first rule after `Value`.
 #[test]
 fn a_hundred_thousand_empty_rows_are_refused(rt: HostRuntime) {
     let alloc = rt.alloc();

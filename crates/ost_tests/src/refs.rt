@@ -2,14 +2,16 @@
 
 use crate::steps::{Content, Place, Said, Step, calls_after, tell_all};
 
-/// A ref of the store, and one of the remote `lab`.
+/// A ref of the store itself.
 const HEAD: Place = ("", "app/org.x.Editor/x86_64/stable");
 
+/// A ref of the remote `lab`.
 const REMOTE: Place = ("lab", "app/org.x.Editor/x86_64/stable");
 
-/// The file of the store's ref.
+/// The path of the file of the store's own ref.
 const FILE: &str = "repo/refs/heads/app/org.x.Editor/x86_64/stable";
 
+/// The first paths that are listed, ascending.
 const LISTED: &[&str] = &[
     "repo/refs/heads/app/org.x.Editor-2/x86_64/stable",
     "repo/refs/heads/app/org.x.Editor/x86_64/stable",
@@ -18,7 +20,7 @@ const LISTED: &[&str] = &[
     "repo/refs/remotes/lab/runtime/org.x.Platform/x86_64/1",
 ];
 
-/// What is shown, and the steps.
+/// The name of each story, and its steps.
 const STORIES: &[(&str, &[Step])] = &[
     (
         "a ref reads as it is written, and its file is its digest and a newline",
@@ -198,7 +200,8 @@ fn refs_of_a_store(rt: HostRuntime) {
     tell_all(&rt, rt.alloc(), STORIES);
 }
 
-/// A store's ref and a remote's, and beside each a branch that is an empty folder.
+/// Steps that write a ref of the store and one of the remote, and make an empty directory as a
+/// branch beside each.
 const FLAT: &[Step] = &[
     Step::RefWrite(HEAD),
     Step::RefWrite(REMOTE),
@@ -206,7 +209,8 @@ const FLAT: &[Step] = &[
     Step::Folder("repo/refs/remotes/lab/app/org.x.Editor/x86_64/beta"),
 ];
 
-/// The same where three folders and a file stand in each of these branches.
+/// Steps that write a ref of the store and one of the remote, and make a branch beside each with
+/// three directories and a file below.
 const DEEP: &[Step] = &[
     Step::RefWrite(HEAD),
     Step::RefWrite(REMOTE),
@@ -222,7 +226,8 @@ const DEEP: &[Step] = &[
     ),
 ];
 
-/// The same where these branches are files.
+/// Steps that write a ref of the store and one of the remote, and make a file as a branch beside
+/// each.
 const FILES: &[Step] = &[
     Step::RefWrite(HEAD),
     Step::RefWrite(REMOTE),
@@ -238,8 +243,8 @@ const FILES: &[Step] = &[
     ),
 ];
 
-/// Below a branch nothing is looked for: what stands there takes no call, and a folder takes no
-/// more of them than a file.
+/// Checks that a list doesn't look below a branch: what is there needs no call, and a branch that
+/// is a directory needs no more calls than one that is a file.
 #[test]
 fn what_is_below_a_branch_takes_no_call(rt: HostRuntime) {
     let calls = calls_after(&rt, rt.alloc(), FLAT);

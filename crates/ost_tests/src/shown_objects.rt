@@ -1,7 +1,7 @@
-//! Metadata objects of another repository that the `ostree` command made: those of
-//! `scripts/ostree_shows.py`.
+//! Metadata objects of another repository that the `ostree` command made
+//! (`scripts/ostree_shows.py`).
 
-/// Their names, and their bytes in hexadecimal digits.
+/// The name of each object, and its bytes in hexadecimal digits.
 pub const SHOWN: &[(&str, &str)] = &[
     (
         "1073a1efca2c2eff2e6bb26993c2aae78ce970cba384c9f1eb2d693c286b430a.commit",

@@ -1,4 +1,4 @@
-//! What is done with a store in `repo` in the host in memory, step by step.
+//! Steps of a test with a store at `repo` on the host in memory.
 
 use crate::parsed::{digest_of, path_of};
 use fp_base::{Blob, ObjKind, Text};
@@ -12,109 +12,108 @@ use std::alloc::Global;
 use std::panic::Expect;
 use std::process::Abort;
 
-/// How a step ends that changes something.
+/// The end of a step that changes something.
 pub type Done = Result<(), HostEnd>;
 
-/// It is done.
+/// The step succeeds.
 pub const DONE: Done = Ok(());
 
 /// A call of the host fails.
 pub const FAULT: Done = Err(HostEnd::Fault);
 
-/// Bytes as they are, or one that comes this many times.
+/// The content of a file or text.
 pub enum Content {
     /// These bytes.
     Bytes(&'static [u8]),
-    /// The byte, and how often it comes.
+    /// A byte, and the number of its copies.
     Times(u8, usize),
 }
 
-/// What an object is made of.
+/// An object.
 pub enum Made {
     /// The bytes of a metadata object.
     Meta(Content),
     /// A file's permission bits and its content.
     File(u32, Content),
-    /// The content is the text.
+    /// A symlink's text.
     Link(Content),
 }
 
-/// What the store has of an object.
+/// The wanted result of getting an object.
 pub enum Want {
-    /// Nothing.
+    /// The store doesn't have the object.
     Absent,
-    /// It has this number of bytes, more than were allowed.
+    /// The object has this number of bytes, more than were allowed.
     TooLong(u64),
     /// The whole object.
     Made(Made),
 }
 
-/// An object's kind, and its digest in digits.
+/// An object's kind, and its digest as hexadecimal digits.
 pub type Name = (ObjKind, &'static str);
 
-/// The remote whose ref it is, or nothing, and the ref.
+/// The remote of a ref, empty for a ref of the store itself, and the ref.
 pub type Place = (&'static str, &'static str);
 
-/// What a ref says.
+/// The wanted content of a ref's file.
 pub enum Said {
-    /// Nothing stands at its place.
+    /// The file is absent.
     Absent,
-    /// What stands there is no digest.
+    /// The file isn't a digest.
     Bad,
-    /// The digest that is written.
+    /// The digest `WRITTEN`.
     Written,
 }
 
-/// A step, and what has to come of it.
+/// A step, and its wanted result.
 pub enum Step {
-    /// The object is staged at `repo/tmp/new0`.
+    /// Stages an object at `repo/tmp/new0`.
     Stage(Made, Done),
-    /// A file is staged at the path, with these permission bits and this content.
+    /// Stages a file at the path, with these permission bits and this content.
     File(&'static str, u32, Content),
-    /// What is staged at `repo/tmp/new0` gets these bytes, too.
+    /// Appends bytes to the file at `repo/tmp/new0`.
     Piece(Content),
-    /// What is staged there gets the name.
+    /// Places the file at `repo/tmp/new0` as the object with this name.
     Place(Name, Done),
-    /// The object goes away.
+    /// Removes an object.
     Remove(Name, Done),
-    /// What was done lasts.
+    /// Syncs the host.
     Sync,
-    /// A folder is made.
+    /// Makes a directory.
     Folder(&'static str),
-    /// Whether the store has the object.
+    /// Checks whether the store has the object.
     Has(Name, bool),
-    /// What it has of the object, of which at most this number of bytes is wanted.
+    /// Gets an object, with this number as the maximum of its bytes.
     Get(Name, u64, Want),
-    /// What is read of a file from a place on, of which at most the second number of bytes is
-    /// wanted.
+    /// Reads a file's content from this offset on, with the second number as the maximum of bytes.
     Read(Name, u64, usize, Content),
-    /// What has the name is no file that can be read.
+    /// Checks that an object can't be read as a file.
     NoFile(Name),
-    /// How many paths are listed, and the first of them.
+    /// Lists the names below `objects`, and checks their number and the first of their paths.
     Listed(Result<usize, HostEnd>, &'static [&'static str]),
-    /// The same of the store in the root.
+    /// Lists the names below `objects` of the store at the root, and checks their number.
     ListedInRoot(Result<usize, HostEnd>),
-    /// The bytes of the file at a path.
+    /// Checks the content of the file at a path.
     Bytes(&'static str, &'static [u8]),
-    /// Its permission bits.
+    /// Checks the permission bits of the file at a path.
     Mode(&'static str, u32),
-    /// Nothing is at the path.
+    /// Checks that nothing is at the path.
     Gone(&'static str),
-    /// Whether a stop leaves what stands there, and nothing else.
+    /// Checks whether a crash leaves exactly the present content.
     Settled(bool),
-    /// This many empty files are staged, with numbers between these two texts.
+    /// Stages this many empty files, with numbers between these two texts.
     Many(&'static str, usize, &'static str),
-    /// The digest is written at the ref's place.
+    /// Writes the digest `WRITTEN` to a ref.
     RefWrite(Place),
-    /// The ref goes away.
+    /// Removes a ref.
     RefDrop(Place),
-    /// What the ref says.
+    /// Reads a ref.
     Ref(Place, Said),
-    /// How many places are listed, and where the first of them have their files.
+    /// Lists the refs, and checks their number and the paths of the first ones' files.
     RefsListed(usize, &'static [&'static str]),
 }
 
-/// The digest that refs get.
+/// The digest that is written to refs.
 pub const WRITTEN: &str = "0123456789abcdef0123456789abcdef0123456789abcdef0123456789abcdef";
 
 fn bytes_of(rt: &impl Abort, alloc: Global, content: &Content) -> Vec<u8> {
@@ -124,7 +123,7 @@ fn bytes_of(rt: &impl Abort, alloc: Global, content: &Content) -> Vec<u8> {
     }
 }
 
-/// The bytes of the content.
+/// Makes the content's bytes.
 pub fn blob_of(rt: &impl Abort, alloc: Global, content: &Content) -> Blob {
     Blob::from_vec(bytes_of(rt, alloc, content))
 }
@@ -157,7 +156,7 @@ fn is_staged(
     stage(alloc, host, tmp, &object) == want
 }
 
-/// Adds bytes to the file at the path.
+/// Appends bytes to the file at the path, and returns whether that succeeded.
 fn is_grown(
     rt: &impl Abort,
     alloc: Global,
@@ -218,7 +217,7 @@ fn has_object(
     has(alloc, host, root, &digest_of(rt, name.1), name.0) == Ok(want)
 }
 
-/// Whether this is the object.
+/// Returns whether this is the object; of a file only its mode and size are compared.
 fn is_same(got: &Got, want: &Object) -> bool {
     match (got, want) {
         (Got::Meta(bytes), Object::Meta(want)) => bytes.as_slice() == want.as_slice(),
@@ -230,7 +229,7 @@ fn is_same(got: &Got, want: &Object) -> bool {
     }
 }
 
-/// Whether this is what is wanted.
+/// Returns whether this is the wanted result.
 fn is_wanted(rt: &impl Abort, alloc: Global, got: &Got, want: &Want) -> bool {
     match want {
         Want::Absent => matches!(got, Got::Absent),
@@ -254,7 +253,7 @@ fn is_got(
     }
 }
 
-/// What is read of a file from a place on.
+/// Reads a file's content from an offset on.
 fn read(
     rt: &impl Abort,
     alloc: Global,
@@ -289,7 +288,7 @@ fn is_no_file(rt: &impl Abort, alloc: Global, host: &mut MemHost, root: &Path, n
     read(rt, alloc, host, root, name, 0, &mut into) == Err(HostEnd::Fault)
 }
 
-/// Whether paths begin with these.
+/// Returns whether the first paths are these.
 fn begin_with(paths: &[Path], first: &[&str]) -> bool {
     for (path, want) in paths.iter().zip(first) {
         if path.text() != *want {
@@ -383,7 +382,7 @@ fn is_written(
     write_ref(alloc, host, root, place, &digest_of(rt, WRITTEN)) == DONE
 }
 
-/// Whether a ref says this.
+/// Returns whether a ref's file has the wanted content.
 fn is_said(rt: &impl Abort, said: RefFile, want: &Said) -> bool {
     match want {
         Said::Absent => said == RefFile::Absent,
@@ -406,13 +405,13 @@ fn says(
     }
 }
 
-/// Whether the place has its file at this path.
+/// Returns whether the ref has its file at this path.
 fn is_at(rt: &impl Abort, root: &Path, place: &RefPlace, want: &str) -> bool {
     let path = ost_refs::path_of(root, place).expect(rt, "memory");
     path.text() == want
 }
 
-/// Whether places begin with those at these paths.
+/// Returns whether the first refs have their files at these paths.
 fn are_at(rt: &impl Abort, root: &Path, places: &[RefPlace], first: &[&str]) -> bool {
     for (place, want) in places.iter().zip(first) {
         if !is_at(rt, root, place, want) {
@@ -436,7 +435,7 @@ fn are_refs_listed(
     }
 }
 
-/// Whether a step is as it has to be.
+/// Does a step, and returns whether its result is the wanted one.
 fn is_so(
     rt: &impl Abort,
     alloc: Global,
@@ -473,12 +472,12 @@ fn is_so(
     }
 }
 
-/// Ends the test where a step isn't so, and prints its number.
+/// Ends the test and prints the step's number, unless the step is right.
 fn agree(rt: &impl Abort, name: &str, step: usize, is_so: bool) {
     assert!(rt; is_so, "{name}: step {step}");
 }
 
-/// Takes the steps on an empty host, one after another.
+/// Does the steps on an empty host, one after another.
 fn host_after(
     rt: &impl Abort,
     alloc: Global,
@@ -494,7 +493,7 @@ fn host_after(
     host
 }
 
-/// How many calls of the host a list of the store's refs takes.
+/// Returns the number of the host's calls for listing the refs of the store.
 fn calls_of(rt: &impl Abort, alloc: Global, host: &mut MemHost, root: &Path) -> u64 {
     let before = host.calls();
     let refs = list_refs(alloc, host, root).expect(rt, "a list");
@@ -502,7 +501,8 @@ fn calls_of(rt: &impl Abort, alloc: Global, host: &mut MemHost, root: &Path) -> 
     host.calls().saturating_sub(before)
 }
 
-/// The same after these steps.
+/// Does the steps on an empty host, and returns the number of the host's calls for listing the refs
+/// of the store.
 pub fn calls_after(rt: &impl Abort, alloc: Global, steps: &[Step]) -> u64 {
     let root = path_of(rt, alloc, "repo");
     let tmp = path_of(rt, alloc, "repo/tmp/new0");
@@ -512,7 +512,7 @@ pub fn calls_after(rt: &impl Abort, alloc: Global, steps: &[Step]) -> u64 {
     calls
 }
 
-/// Tells stories: what is shown, and the steps. Ends the test at the first step that isn't so.
+/// Does the steps of each story on an empty host. Ends the test at the first step that is wrong.
 pub fn tell_all(rt: &impl Abort, alloc: Global, stories: &[(&str, &[Step])]) {
     let root = path_of(rt, alloc, "repo");
     let tmp = path_of(rt, alloc, "repo/tmp/new0");

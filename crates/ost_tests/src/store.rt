@@ -1,28 +1,29 @@
-//! Objects of a store. Their names are those that the `ostree` command gave them
+//! Objects of a store, with the digests that the `ostree` command gave them
 //! (`scripts/ostree_objects.sh`).
 
 use crate::steps::{Content, DONE, FAULT, Made, Step, Want, tell_all};
 use fp_base::ObjKind;
 use fp_host::HostEnd;
 
-/// The dirtree of an empty folder, which is one zero byte.
+/// The digest of the dirtree of an empty directory, which is one zero byte.
 const TREE: &str = "6e340b9cffb37a989ca544e6bb780a2c78901d3fb33738768511a30617afa01d";
 
-/// The dirmeta of a folder of mode 0755.
+/// The digest of the dirmeta of a directory with the mode 0755.
 const META: &str = "446a0ef11b7cc167f3b603e585c7eeeeb675faa412d5ec73f62988eb0b6c5488";
 
-/// A file of mode 0755 that says `hello`, with a newline.
+/// The digest of a file with the permission bits 0755 and the content `hello`, with a newline.
 const HELLO: &str = "d6f58149fd47ec2be3fafef4fe767915f195e7ae67b9a0c090b842b156cd07f3";
 
-/// A link with the text `bin/hello`.
+/// The digest of a symlink with the text `bin/hello`.
 const LINK: &str = "bf7bf926bc1720359e8bf6b1bce135704d4dddc84c7fc84a029b24a8b75a36ef";
 
+/// The bytes of the dirmeta of a directory with the mode 0755.
 const META_BYTES: &[u8] = b"\0\0\0\0\0\0\0\0\0\0\x41\xed";
 
-/// Where objects are staged.
+/// The staging path of objects.
 const TMP: &str = "repo/tmp/new0";
 
-/// The paths of the four.
+/// The paths of the objects `META`, `TREE`, `LINK` and `HELLO`.
 const LISTED: &[&str] = &[
     "repo/objects/44/6a0ef11b7cc167f3b603e585c7eeeeb675faa412d5ec73f62988eb0b6c5488.dirmeta",
     "repo/objects/6e/340b9cffb37a989ca544e6bb780a2c78901d3fb33738768511a30617afa01d.dirtree",
@@ -30,7 +31,7 @@ const LISTED: &[&str] = &[
     "repo/objects/d6/f58149fd47ec2be3fafef4fe767915f195e7ae67b9a0c090b842b156cd07f3.file",
 ];
 
-/// What is no object, ascending.
+/// Paths that aren't those of objects, ascending.
 const STRAYS: &[&str] = &[
     "repo/objects/d6-",
     "repo/objects/d6/f5-",
@@ -38,34 +39,37 @@ const STRAYS: &[&str] = &[
     "repo/objects/d6/f5/deeper/still/one",
 ];
 
-/// Paths of 128 and 129 elements in the store in the root.
+/// A path of 128 elements in the store at the root.
 const ROOT_128: &str = "\
     objects/x/x/x/x/x/x/x/x/x/x/x/x/x/x/x/x/x/x/x/x/x/x/x/x/x/x/x/x/x/x/x/x/x/x/x/x/x/x/x/x/x/x/\
     x/x/x/x/x/x/x/x/x/x/x/x/x/x/x/x/x/x/x/x/x/x/x/x/x/x/x/x/x/x/x/x/x/x/x/x/x/x/x/x/x/x/x/x/x/x/\
     x/x/x/x/x/x/x/x/x/x/x/x/x/x/x/x/x/x/x/x/x/x/x/x/x/x/x/x/x/x/x/x/x/x/x/x/x/x/x";
 
+/// A path of 129 elements in the store at the root.
 const ROOT_129: &str = "\
     objects/x/x/x/x/x/x/x/x/x/x/x/x/x/x/x/x/x/x/x/x/x/x/x/x/x/x/x/x/x/x/x/x/x/x/x/x/x/x/x/x/x/x/\
     x/x/x/x/x/x/x/x/x/x/x/x/x/x/x/x/x/x/x/x/x/x/x/x/x/x/x/x/x/x/x/x/x/x/x/x/x/x/x/x/x/x/x/x/x/x/\
     x/x/x/x/x/x/x/x/x/x/x/x/x/x/x/x/x/x/x/x/x/x/x/x/x/x/x/x/x/x/x/x/x/x/x/x/x/x/x/x";
 
-/// Paths of 128, 129 and 130 elements in the store in `repo`.
+/// A path of 128 elements in the store at `repo`.
 const REPO_128: &str = "\
     repo/objects/x/x/x/x/x/x/x/x/x/x/x/x/x/x/x/x/x/x/x/x/x/x/x/x/x/x/x/x/x/x/x/x/x/x/x/x/x/x/x/x\
     /x/x/x/x/x/x/x/x/x/x/x/x/x/x/x/x/x/x/x/x/x/x/x/x/x/x/x/x/x/x/x/x/x/x/x/x/x/x/x/x/x/x/x/x/x/x\
     /x/x/x/x/x/x/x/x/x/x/x/x/x/x/x/x/x/x/x/x/x/x/x/x/x/x/x/x/x/x/x/x/x/x/x/x/x/x/x/x";
 
+/// A path of 129 elements in the store at `repo`.
 const REPO_129: &str = "\
     repo/objects/x/x/x/x/x/x/x/x/x/x/x/x/x/x/x/x/x/x/x/x/x/x/x/x/x/x/x/x/x/x/x/x/x/x/x/x/x/x/x/x\
     /x/x/x/x/x/x/x/x/x/x/x/x/x/x/x/x/x/x/x/x/x/x/x/x/x/x/x/x/x/x/x/x/x/x/x/x/x/x/x/x/x/x/x/x/x/x\
     /x/x/x/x/x/x/x/x/x/x/x/x/x/x/x/x/x/x/x/x/x/x/x/x/x/x/x/x/x/x/x/x/x/x/x/x/x/x/x/x/x";
 
+/// A path of 130 elements in the store at `repo`.
 const REPO_130: &str = "\
     repo/objects/x/x/x/x/x/x/x/x/x/x/x/x/x/x/x/x/x/x/x/x/x/x/x/x/x/x/x/x/x/x/x/x/x/x/x/x/x/x/x/x\
     /x/x/x/x/x/x/x/x/x/x/x/x/x/x/x/x/x/x/x/x/x/x/x/x/x/x/x/x/x/x/x/x/x/x/x/x/x/x/x/x/x/x/x/x/x/x\
     /x/x/x/x/x/x/x/x/x/x/x/x/x/x/x/x/x/x/x/x/x/x/x/x/x/x/x/x/x/x/x/x/x/x/x/x/x/x/x/x/x/x";
 
-/// What is shown, and the steps.
+/// The name of each story, and its steps.
 const STORIES: &[(&str, &[Step])] = &[
     (
         "objects have the names that ostree gives them, and are got as they were put",

@@ -1,4 +1,4 @@
-//! Metadata objects of directories, checked at their places.
+//! Fetching and checking the metadata objects of directories.
 ghost use Rattle.std.specs.Prelude.{◌≡◌, ◌+◌, None, OnOk};
 ghost use Rattle.fp_base.specs.declared.object.ObjKind.TheVariants as kinds;
 ghost use Rattle.ost_model.specs.Objects.{Have};
@@ -20,7 +20,7 @@ use fp_name::Digest;
 use ost_object::DirTree;
 use std::alloc::Global;
 
-/// The dirtree.
+/// Fetches and reads a dirtree. `Refused` with the object's fault.
 fn fetch_tree<H: Host, R: Remotes>(
     alloc: Global,
     host: &mut H,
@@ -41,7 +41,7 @@ fn fetch_tree<H: Host, R: Remotes>(
     }
 }
 
-/// The root directory of the commit.
+/// Fetches and reads a commit, and returns its root directory. `Refused` with the commit's fault.
 pub(crate) fn fetch_root<H: Host, R: Remotes>(
     alloc: Global,
     host: &mut H,
@@ -62,7 +62,7 @@ pub(crate) fn fetch_root<H: Host, R: Remotes>(
     }
 }
 
-/// Checks the dirmeta.
+/// Fetches and checks a dirmeta. `Refused` with the object's fault.
 fn fetch_meta<H: Host, R: Remotes>(
     alloc: Global,
     host: &mut H,
@@ -83,7 +83,8 @@ fn fetch_meta<H: Host, R: Remotes>(
     }
 }
 
-/// The dirtree of a directory, as the object that has this number of objects before it.
+/// Fetches and reads the dirtree of a directory. `count` is the number of objects that precede it
+/// in the order. `Refused` if it exceeds a limit, or with its own fault.
 pub(crate) fn open_tree<H: Host, R: Remotes>(
     alloc: Global,
     host: &mut H,
@@ -106,7 +107,8 @@ pub(crate) fn open_tree<H: Host, R: Remotes>(
     }
 }
 
-/// Checks the dirmeta of a directory, as the object that has this number of objects before it.
+/// Fetches and checks the dirmeta of a directory. `count` is the number of objects that precede it
+/// in the order. `Refused` if it exceeds a limit, or with its own fault.
 fn open_meta<H: Host, R: Remotes>(
     alloc: Global,
     host: &mut H,
@@ -129,8 +131,9 @@ fn open_meta<H: Host, R: Remotes>(
     }
 }
 
-/// The dirtree of a directory whose dirtree and dirmeta come next, with this number of objects
-/// before them.
+/// Fetches and checks the dirtree and the dirmeta of a directory, and returns the dirtree. `count`
+/// is the number of objects that precede the dirtree in the order. `Refused` with the first of the
+/// two that exceeds a limit or has a fault.
 pub(crate) fn open_dir<H: Host, R: Remotes>(
     alloc: Global,
     host: &mut H,

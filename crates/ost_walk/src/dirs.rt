@@ -10,15 +10,15 @@ use std::alloc::AllocError;
 /// A directory in a work list.
 #[derive(Clone, Copy)]
 pub struct Dir {
-    /// The digest of its dirtree.
+    /// The digest of the directory's dirtree.
     pub tree: Digest,
-    /// The digest of its dirmeta.
+    /// The digest of the directory's dirmeta.
     pub meta: Digest,
-    /// How far it is below the root.
+    /// The number of levels below the root, whose own depth is 0.
     pub depth: u32,
 }
 
-/// The directory of this entry, so far below the root.
+/// Returns the directory of an entry at this depth below the root.
 pub(crate) fn child(entry: &DirEntry, depth: u32) -> Dir
     ensures { result ≡ child depth (row_of entry.now) }
 {
@@ -29,7 +29,8 @@ pub(crate) fn child(entry: &DirEntry, depth: u32) -> Dir
     }
 }
 
-/// Adds the directories to a work list, the first of them last.
+/// Adds the directories of these entries to the end of a work list in reverse order, so that the
+/// first of them is walked next.
 pub(crate) fn add_dirs(
     entries: &[DirEntry],
     depth: u32,

@@ -1,4 +1,4 @@
-//! How a walk ends.
+//! The errors of a walk.
 ghost use Rattle.std.specs.Prelude.{◌≡◌};
 ghost use Rattle.ost_walk.specs.Ends.{refusal};
 
@@ -7,22 +7,22 @@ use fp_host::{HostEnd, RemoteError};
 use fp_name::Digest;
 use std::alloc::{AllocError, AllocFailed};
 
-/// What is wrong with an object.
+/// The fault of an object.
 #[derive(Clone, Copy)]
 pub enum ObjectFault {
-    /// It is the 200,001st of the order.
+    /// More than 200,000 objects: the object is preceded by that many in the order.
     TooMany,
-    /// It belongs to a directory more than 64 below the root.
+    /// The object belongs to a directory more than 64 levels below the root.
     TooDeep,
     /// There is no such object.
     Missing,
-    /// It has this number of bytes, which are too many.
+    /// The object has this number of bytes, which is more than the limit.
     TooLong(u64),
-    /// Its permission bits are not good.
+    /// The object has this mode, whose permission bits aren't within 0775.
     RefusedMode(u32),
-    /// This is its digest, and not its name.
+    /// The object has this digest, which is not the one in its name.
     Corrupt(Digest),
-    /// It breaks this rule.
+    /// The object breaks this rule.
     Malformed(Rule),
 }
 
@@ -33,11 +33,11 @@ pub struct WalkFault {
     pub digest: Digest,
     /// The kind of the object.
     pub kind: ObjKind,
-    /// What is wrong with it.
+    /// The fault of the object.
     pub fault: ObjectFault,
 }
 
-/// How a walk ends where it can't go on.
+/// The error of a walk.
 #[derive(Clone, Copy)]
 pub enum WalkEnd {
     /// An object has this fault.
@@ -46,7 +46,7 @@ pub enum WalkEnd {
     HostFault,
     /// A call of the remotes failed.
     RemoteFault,
-    /// There was no memory.
+    /// Memory ran out.
     NoMemory,
 }
 
@@ -100,7 +100,7 @@ impl From<RemoteError> for WalkEnd {
     }
 }
 
-/// The refusal of this object.
+/// Returns the error that refuses an object with a fault.
 pub fn refused(digest: &Digest, kind: ObjKind, fault: ObjectFault) -> WalkEnd
     ensures { result ≡ refusal digest.now kind fault }
 {

@@ -1,4 +1,4 @@
-//! One metadata object, from the store or from the remote.
+//! Fetching a metadata object from the store or from the remote.
 ghost use Rattle.std.specs.Prelude.{◌≡◌, false, Some, IsErrOf};
 ghost use Rattle.fp_host.specs.Remote.{Holdings};
 ghost use Rattle.ost_model.specs.Objects.{Have};
@@ -18,9 +18,9 @@ use ost_model::MOST_METADATA_OBJECT_BYTES;
 use ost_store::{Got, get};
 use std::alloc::Global;
 
-/// The bytes of a metadata object that its digest names: the store's where the store has it, else
-/// the remote's. It is refused where there is none, where it is too long, and where its digest
-/// isn't its name.
+/// Returns the bytes of a metadata object: the store's if the store has it, and otherwise the
+/// remote's. `Refused` with `Missing` if neither has it, with `TooLong` if it has more than 16 MiB,
+/// and with `Corrupt` if its digest isn't `digest`. The kind must not be `File`.
 pub fn fetch<H: Host, R: Remotes>(
     alloc: Global,
     host: &mut H,
@@ -50,7 +50,8 @@ pub fn fetch<H: Host, R: Remotes>(
     }
 }
 
-/// The bytes of a metadata object that the remote has.
+/// Returns the bytes of a metadata object of the remote. `Refused` with `Missing` if there is no
+/// remote or it doesn't have the object, with `TooLong` or with `Corrupt`.
 fn fetch_from<R: Remotes>(
     alloc: Global,
     remotes: &mut R,

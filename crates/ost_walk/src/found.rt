@@ -1,26 +1,26 @@
-//! What stands at a path of a commit.
+//! The results of looking up a path of a commit.
 
 use fp_name::Digest;
 use ost_object::DirTree;
 
-/// What stands at a path of a commit.
+/// The result of looking up a path of a commit.
 #[derive(Clone, Copy, Debug, PartialEq, Eq)]
 pub enum Found {
     /// A directory.
     Dir,
-    /// A file or a link, with the digest of its object.
+    /// A file or a symlink, by the digest of its object.
     File(Digest),
-    /// There is no such path.
+    /// The path doesn't exist.
     Nothing,
 }
 
-/// What was reached on the way.
+/// The result of following the first elements of a path.
 #[derive(Drop)]
 pub(crate) enum Here {
-    /// A directory so far below the root, with what is in it.
+    /// A directory, by its dirtree and its depth below the root.
     Dir(DirTree, u32),
-    /// A file or a link, with the digest of its object.
+    /// A file or a symlink, by the digest of its object.
     File(Digest),
-    /// There is no such path.
+    /// The path doesn't exist.
     Nothing,
 }

@@ -1,4 +1,4 @@
-//! The objects that commits use.
+//! Gathering the objects that commits use.
 ghost use Rattle.std.specs.Prelude.{◌≡◌, List, ℕ, None, IfOk, OnOk, IsErrOf};
 ghost use Rattle.std.specs.String.{string_cmp};
 ghost use Rattle.std.specs.BTreeMap.{IsOrdered, values};
@@ -20,7 +20,7 @@ use ost_store::path_of;
 use std::alloc::{AllocError, Global};
 use std::collections::BTreeMap;
 
-/// Puts the object among the others, by the text of its path.
+/// Adds an object to the map, under the text of its path.
 fn put_object(
     alloc: Global,
     digest: &Digest,
@@ -36,7 +36,7 @@ fn put_object(
     Ok(())
 }
 
-/// Puts these objects among the others.
+/// Adds objects to the map, each under the text of its path.
 fn put_objects(
     alloc: Global,
     objects: &[(Digest, ObjKind)],
@@ -50,7 +50,8 @@ fn put_objects(
     Ok(())
 }
 
-/// Puts what the commit uses among the others.
+/// Adds all objects that a commit uses to the map. Reads only the store. `Refused` with the first
+/// fault of the commit.
 fn put_order<H: Host>(
     alloc: Global,
     host: &mut H,
@@ -77,7 +78,7 @@ fn put_order<H: Host>(
     }
 }
 
-/// The objects in the order of the texts.
+/// Returns the objects of the map, in ascending order of the texts of their paths.
 fn in_order(
     alloc: Global,
     mut found: BTreeMap<String, (Digest, ObjKind)>,
@@ -92,7 +93,8 @@ fn in_order(
     Ok(objects)
 }
 
-/// What the commits use, by the texts of the paths.
+/// Returns all objects that the commits use, under the texts of their paths. Reads only the store.
+/// `Refused` with the first fault of the first commit that has one.
 fn gather<H: Host>(
     alloc: Global,
     host: &mut H,
@@ -118,7 +120,7 @@ fn gather<H: Host>(
     Ok(found)
 }
 
-/// The store in this folder alone.
+/// Returns the places of objects that are only in the store at `root`, without a remote.
 fn store_alone(root: &Path) -> Result<Places, AllocError>
     ensures { IfOk result (λ places. (places.root ≡ root.now) × (places.url ≡ None)) }
 {
@@ -128,9 +130,10 @@ fn store_alone(root: &Path) -> Result<Places, AllocError>
     })
 }
 
-/// The objects that the commits use in the store in this folder, each once, ascending by the text
-/// of its path, which is the order of the names of a store. Each metadata object is checked. It is
-/// refused with the first fault of the first commit that has one.
+/// Returns the objects that the commits use in the store at `root`: each once, in ascending order
+/// of the texts of their paths, as a store lists its objects. Checks each metadata object, and
+/// reads no content objects. `Refused` with the first fault of the first commit that has one.
+/// Changes nothing.
 pub fn used<H: Host>(
     alloc: Global,
     host: &mut H,

@@ -1,5 +1,5 @@
-//! Walks over the objects of a commit, in a store and at a remote: one path, the whole order, and
-//! what several commits use.
+//! Walks over the objects of commits in a store and at a remote: looks up a path, lists a commit's
+//! objects in order, and gathers the objects that several commits use.
 #![tactic(auto)]
 
 mod checking;

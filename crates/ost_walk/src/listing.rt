@@ -1,4 +1,4 @@
-//! The objects of one directory, put in order.
+//! Listing the objects of one directory in order.
 ghost use Rattle.std.specs.Prelude.{◌≡◌, ◌≤◌, ◌+◌, ◌++◌, ◌∷◌, [], map, length, None, OnOk, IsErrOf};
 ghost use Rattle.fp_base.specs.declared.object.ObjKind.TheVariants as kinds;
 ghost use Rattle.ost_model.specs.declared.limits.TheConstants.{MOST_OBJECTS};
@@ -18,7 +18,8 @@ use fp_name::Digest;
 use ost_object::{DirTree, FileEntry};
 use std::alloc::AllocError;
 
-/// Adds a file of a directory so far below the root.
+/// Adds a file of a directory at this depth to the order. `Refused` if it exceeds a limit; then
+/// nothing is added.
 #[tactic(auto, using(crate::proofs::Listed::limit_low))]
 fn add_file(digest: &Digest, depth: u32, done: &mut Vec<(Digest, ObjKind)>) -> Result<(), WalkEnd>
     ensures tells { EndsBy (λ _. limit_of (length done.old.items) depth ≡ None)
@@ -37,7 +38,8 @@ fn add_file(digest: &Digest, depth: u32, done: &mut Vec<(Digest, ObjKind)>) -> R
     Ok(())
 }
 
-/// Adds the files of a directory so far below the root.
+/// Adds the files of a directory at this depth to the order. `Refused` with the first of them that
+/// exceeds a limit.
 fn add_files(
     files: &[FileEntry],
     depth: u32,
@@ -61,7 +63,7 @@ fn add_files(
     Ok(())
 }
 
-/// Adds the dirtree and the dirmeta of a directory.
+/// Adds the dirtree and the dirmeta of a directory to the order.
 fn add_heads(dir: &Dir, done: &mut Vec<(Digest, ObjKind)>) -> Result<(), AllocError>
     ensures { OnOk result (done.new.items ≡ done.old.items ++ heads_of dir.now) }
 {
@@ -70,8 +72,9 @@ fn add_heads(dir: &Dir, done: &mut Vec<(Digest, ObjKind)>) -> Result<(), AllocEr
     Ok(())
 }
 
-/// Adds what is in the directory of this dirtree, once its dirtree and its dirmeta were checked:
-/// these two, its files, and to the work list its directories.
+/// Adds the objects of a directory to the order: its dirtree and its dirmeta, which must have been
+/// checked, and its files. Adds its directories to the work list. `Refused` with the first file
+/// that exceeds a limit.
 pub(crate) fn list_dir(
     tree: &DirTree,
     dir: &Dir,

@@ -1,4 +1,4 @@
-//! One path of a commit, followed name by name.
+//! Looking up a path of a commit, one name after another.
 ghost use Rattle.std.specs.Prelude.{◌≡◌, ◌≢◌, ◌≤◌, ◌∷◌, [], List, ℕ, drop, IfOk};
 ghost use Rattle.fp_host.specs.Paths.{Elements};
 ghost use Rattle.ost_model.specs.declared.limits.TheConstants.{MOST_LEVELS};
@@ -19,7 +19,7 @@ use fp_name::Digest;
 use ost_object::DirTree;
 use std::alloc::Global;
 
-/// The root directory of the commit.
+/// Returns the root directory of a commit.
 fn start<H: Host, R: Remotes>(
     alloc: Global,
     host: &mut H,
@@ -43,7 +43,7 @@ fn start<H: Host, R: Remotes>(
     }
 }
 
-/// What has this name in a directory so far below the root.
+/// Looks up a name in a directory at this depth below the root.
 fn enter<H: Host, R: Remotes>(
     alloc: Global,
     host: &mut H,
@@ -75,7 +75,7 @@ fn enter<H: Host, R: Remotes>(
     }
 }
 
-/// What stands one name further.
+/// Looks up a name in what was reached. Only a directory contains names.
 fn advance<H: Host, R: Remotes>(
     alloc: Global,
     host: &mut H,
@@ -100,7 +100,7 @@ fn advance<H: Host, R: Remotes>(
     }
 }
 
-/// What stands at this path above the one that is looked for, from what stands above it.
+/// Returns what is at this path, if `here` is what is at its parent.
 fn follow_one<H: Host, R: Remotes>(
     alloc: Global,
     host: &mut H,
@@ -125,7 +125,7 @@ fn follow_one<H: Host, R: Remotes>(
     }
 }
 
-/// What stands at the path, from what stands at the root.
+/// Returns what is at the path, if `root` is the root directory.
 fn follow<H: Host, R: Remotes>(
     alloc: Global,
     host: &mut H,
@@ -155,7 +155,7 @@ fn follow<H: Host, R: Remotes>(
     Ok(here)
 }
 
-/// What is said of what was reached.
+/// Returns the result of looking up a path, by what was reached.
 fn found_of(here: &Here) -> Found
     ensures tells { (have : Have) (commit : List ℕ) (path : Elements) → IsHere have commit path
         here.now → IsFound have commit path result }
@@ -167,9 +167,9 @@ fn found_of(here: &Here) -> Found
     }
 }
 
-/// What stands at a path of a commit. The commit is read, and the dirtree of each directory on the
-/// path, the last one too; each is checked. It is refused with the first of them that has a fault,
-/// or that is more than 64 below the root.
+/// Looks up a path of a commit. Reads and checks the commit and the dirtree of each directory on
+/// the path, also of the last one. `Refused` with the first of these objects that has a fault or
+/// belongs to a directory more than 64 levels below the root. Changes nothing.
 pub fn look<H: Host, R: Remotes>(
     alloc: Global,
     host: &mut H,
@@ -178,7 +178,7 @@ pub fn look<H: Host, R: Remotes>(
     commit: &Digest,
     path: &Path,
 ) -> Result<Found, WalkEnd>
-    // Nothing changes, and a fault comes only where the count of that outside rose.
+    // Nothing changes, and a fault occurs only if the host's or the remotes' count of faults rose.
     ensures looks { Observes result (around H.Host R.Remotes host.old remotes.old)
         (around H.Host R.Remotes host.new remotes.new) }
     ensures tells { (have : Have) → SuppliesAt places.now (H.moments host.old)

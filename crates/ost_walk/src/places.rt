@@ -1,12 +1,13 @@
-//! Where objects come from.
+//! The places that objects are read from.
 use fp_base::Text;
 use fp_host::Path;
 
-/// The store at `root`, where it has an object; else the remote at `url`, where there is one.
+/// The places that objects are read from: the store at `root`, and the remote at `url` for the
+/// objects that the store doesn't have.
 #[derive(Drop)]
 pub struct Places {
-    /// The folder of the store.
+    /// The directory of the store.
     pub root: Path,
-    /// Where the remote is, if there is one.
+    /// The URL of the remote, if there is one.
     pub url: Option<Text>,
 }

@@ -1,4 +1,4 @@
-//! How a pull ends.
+//! The errors of a pull.
 ghost use Rattle.std.specs.Prelude.{◌≡◌};
 
 use crate::ends::WalkEnd;
@@ -7,16 +7,16 @@ use fp_host::{HostEnd, RemoteError};
 use fp_small::Refusal;
 use std::alloc::{AllocError, AllocFailed};
 
-/// How a pull ends where it can't go on.
+/// The error of a pull.
 #[derive(Drop)]
 pub enum PullEnd {
-    /// What the remote or the store holds is refused.
+    /// An object or a file of the remote or of the store is refused.
     Refused(Refusal),
     /// A call of the host failed.
     HostFault,
     /// A call of the remotes failed.
     RemoteFault,
-    /// There was no memory.
+    /// Memory ran out.
     NoMemory,
 }
 

@@ -1,4 +1,4 @@
-//! The bytes of metadata objects, read.
+//! Reading metadata objects from their bytes.
 ghost use Rattle.std.specs.Prelude.{◌≡◌, Some, None, IsErrOf};
 ghost use Rattle.fp_base.specs.declared.object.ObjKind.TheVariants as kinds;
 ghost use Rattle.ost_model.specs.Objects.{Have, object_fault, dir_bits};
@@ -17,7 +17,7 @@ use ost_object::{
 };
 use std::alloc::Global;
 
-/// The end of a walk at an object that isn't read.
+/// Returns the error of a walk for an object that can't be read.
 pub fn unread(digest: &Digest, kind: ObjKind, error: ObjectError) -> WalkEnd
     ensures { result ≡ unread_end digest.now kind error }
 {
@@ -27,7 +27,7 @@ pub fn unread(digest: &Digest, kind: ObjKind, error: ObjectError) -> WalkEnd
     }
 }
 
-/// The dirtree of these bytes.
+/// Reads a dirtree from its bytes. `Refused` with `Malformed` if it breaks a rule.
 pub(crate) fn tree_in(alloc: Global, bytes: &Blob, digest: &Digest) -> Result<DirTree, WalkEnd>
     ensures tells { (have : Have) → IsNamed digest.now (have digest.now kinds.DirTree) bytes.now
         → EndsBy (λ t. IsTreeOf have digest.now (tree_view t))
@@ -41,7 +41,7 @@ pub(crate) fn tree_in(alloc: Global, bytes: &Blob, digest: &Digest) -> Result<Di
     }
 }
 
-/// The root directory that a commit names.
+/// Returns the root directory of a commit.
 fn root_of(root: CommitRoot) -> Dir
     ensures { result ≡ dir_of (root_view root) }
 {
@@ -52,7 +52,8 @@ fn root_of(root: CommitRoot) -> Dir
     }
 }
 
-/// The root directory of the commit of these bytes.
+/// Reads a commit from its bytes, and returns its root directory. `Refused` with `Malformed` if it
+/// breaks a rule.
 #[tactic(auto, using(crate::proofs::Read::root_unread))]
 pub(crate) fn root_in(alloc: Global, bytes: &Blob, digest: &Digest) -> Result<Dir, WalkEnd>
     ensures tells { (have : Have) → IsNamed digest.now (have digest.now kinds.Commit) bytes.now
@@ -67,7 +68,8 @@ pub(crate) fn root_in(alloc: Global, bytes: &Blob, digest: &Digest) -> Result<Di
     }
 }
 
-/// Checks the dirmeta of these bytes.
+/// Checks a dirmeta by its bytes. `Refused` with `Malformed` if it breaks a rule, and with
+/// `RefusedMode` if its permission bits aren't within 0775.
 pub(crate) fn check_meta(alloc: Global, bytes: &Blob, digest: &Digest) -> Result<(), WalkEnd>
     ensures tells { (have : Have) → IsNamed digest.now (have digest.now kinds.DirMeta) bytes.now
         → EndsBy (λ _. IsGood have digest.now kinds.DirMeta)
@@ -81,7 +83,8 @@ pub(crate) fn check_meta(alloc: Global, bytes: &Blob, digest: &Digest) -> Result
     }
 }
 
-/// Checks that the permission bits of a dirmeta are good.
+/// Checks that the permission bits of a dirmeta are within 0775. `Refused` with `RefusedMode` if
+/// they aren't.
 pub fn check_mode(meta: DirMeta, digest: &Digest) -> Result<(), WalkEnd>
     ensures tells { EndsBy (λ _. dir_bits (Some (meta_view meta)) ≡ None)
         (IsFaultOf digest.now kinds.DirMeta (dir_bits (Some (meta_view meta)))) result }

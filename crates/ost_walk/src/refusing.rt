@@ -8,13 +8,13 @@ use fp_base::{ObjKind, What};
 use fp_small::Refusal;
 use ost_model::{MOST_LEVELS, MOST_OBJECTS};
 
-/// The most objects of a commit, and one.
+/// The maximum number of a commit's objects, plus one.
 const TOO_MANY: u64 = MOST_OBJECTS as u64 + 1;
 
-/// The most directories below the root, and one.
+/// The maximum number of levels below the root, plus one.
 const TOO_DEEP: u64 = MOST_LEVELS as u64 + 1;
 
-/// What is too long where an object of the kind is.
+/// Returns the `What` in the refusal of an object of this kind that is too long.
 fn long_what(kind: ObjKind) -> What
     ensures { result ≡ long_what kind }
 {
@@ -24,7 +24,7 @@ fn long_what(kind: ObjKind) -> What
     }
 }
 
-/// The refusal of an object with a fault.
+/// Returns the refusal of an object with a fault.
 pub(crate) fn refuse_object(refused: &WalkFault) -> Refusal
     ensures { result ≡ refusal_of refused.now.digest refused.now.kind (fault_of refused.now.fault) }
 {

@@ -1,4 +1,4 @@
-//! Metadata objects of a remote.
+//! Reading metadata objects of a remote.
 ghost use Rattle.std.specs.Prelude.{◌≡◌, ◌≤◌, length, leb, true, false, IfOk, IsErrOf, Some, Ok};
 ghost use Rattle.fp_host.specs.Remote.{Holdings, bytes_of};
 ghost use Rattle.ost_model.specs.declared.object.Object.TheVariants as objects;
@@ -17,7 +17,8 @@ use ost_model::MOST_METADATA_OBJECT_BYTES;
 use ost_store::path_of;
 use std::alloc::Global;
 
-/// The bytes, where the digest names them. It is for at most 16 MiB.
+/// Returns the bytes, which must be at most 16 MiB, if they match the digest. `Refused` with
+/// `Corrupt` if they don't.
 pub(crate) fn named(bytes: Blob, digest: &Digest, kind: ObjKind) -> Result<Blob, WalkEnd>
     requires { may_be_link kind ≡ false }
     ensures tells { leb (length bytes) MOST_METADATA_OBJECT_BYTES ≡ true → Fetches digest.now kind
@@ -33,8 +34,8 @@ pub(crate) fn named(bytes: Blob, digest: &Digest, kind: ObjKind) -> Result<Blob,
     }
 }
 
-/// The bytes of a file of the remote that has this size. It is for a size within a limit, since as
-/// much memory is taken.
+/// Returns the content of a file of the remote at `url`, which has `size` bytes. Allocates that
+/// many bytes, so the size should have been checked against a limit.
 pub fn read_remote<R: Remotes>(
     alloc: Global,
     remotes: &mut R,
@@ -58,7 +59,8 @@ pub fn read_remote<R: Remotes>(
     Ok(Blob::from_vec(bytes))
 }
 
-/// The bytes of a metadata object of the remote at the url.
+/// Returns the bytes of a metadata object of the remote at `url`. `Refused` with `Missing`,
+/// `TooLong` or `Corrupt`.
 pub(crate) fn fetch_remote<R: Remotes>(
     alloc: Global,
     remotes: &mut R,

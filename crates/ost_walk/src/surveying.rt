@@ -1,4 +1,4 @@
-//! The order of a commit, and what can be told of it.
+//! The order of a commit, and its survey.
 ghost use Rattle.std.specs.Prelude.{◌≡◌, ◌∷◌, [], IfOk};
 ghost use Rattle.fp_base.specs.declared.object.ObjKind.TheVariants as kinds;
 ghost use Rattle.ost_model.specs.Objects.{Have};
@@ -19,7 +19,7 @@ use fp_host::{Host, Remotes};
 use fp_name::Digest;
 use std::alloc::{AllocError, Global};
 
-/// A list of the commit alone.
+/// Returns a list with the commit as its only object.
 fn commit_alone(alloc: Global, commit: &Digest) -> Result<Vec<(Digest, ObjKind)>, AllocError>
     ensures { IfOk result (λ done. done.items ≡ (commit.now, kinds.Commit) ∷ []) }
 {
@@ -28,7 +28,7 @@ fn commit_alone(alloc: Global, commit: &Digest) -> Result<Vec<(Digest, ObjKind)>
     Ok(done)
 }
 
-/// A work list of one directory.
+/// Returns a work list with one directory.
 fn dir_alone(alloc: Global, dir: Dir) -> Result<Vec<Dir>, AllocError>
     ensures { IfOk result (λ left. left.items ≡ dir ∷ []) }
 {
@@ -37,7 +37,8 @@ fn dir_alone(alloc: Global, dir: Dir) -> Result<Vec<Dir>, AllocError>
     Ok(left)
 }
 
-/// What is told where a walk ends, with these objects in order.
+/// Returns the survey with the objects `done` if the walk ended with a refusal. Returns any other
+/// error as it is.
 fn stopped(done: Vec<(Digest, ObjKind)>, end: WalkEnd) -> Result<Survey, WalkEnd>
     ensures { result ≡ stopped_at done.items end }
 {
@@ -52,7 +53,7 @@ fn stopped(done: Vec<(Digest, ObjKind)>, end: WalkEnd) -> Result<Survey, WalkEnd
     }
 }
 
-/// What can be told of the order of a commit with this root directory, once the commit was checked.
+/// Returns the survey of a commit that was checked, whose root directory is `root`.
 fn survey_from<H: Host, R: Remotes>(
     alloc: Global,
     host: &mut H,
@@ -78,9 +79,10 @@ fn survey_from<H: Host, R: Remotes>(
     }
 }
 
-/// What can be told of a commit's order where its content objects aren't read: the objects up to
-/// the first metadata object that has a fault, or object that passes a limit, and that fault. The
-/// dirtree of a directory whose dirmeta has the fault is left out.
+/// Returns the survey of a commit: the objects of its order up to the first metadata object that
+/// has a fault or the first object that exceeds a limit, and that fault. Reads no content objects.
+/// If the fault is that of a directory's dirmeta, the survey also lacks the directory's dirtree.
+/// Never returns `Refused`. Changes nothing.
 pub fn survey<H: Host, R: Remotes>(
     alloc: Global,
     host: &mut H,
@@ -100,7 +102,7 @@ pub fn survey<H: Host, R: Remotes>(
     }
 }
 
-/// The objects, where nothing has a fault.
+/// Returns the objects of a survey. `Refused` with its fault if it has one.
 fn whole(survey: Survey) -> Result<Items<(Digest, ObjKind)>, WalkEnd>
     ensures { result ≡ unless_faulty survey.objects survey.fault }
 {
@@ -111,10 +113,10 @@ fn whole(survey: Survey) -> Result<Items<(Digest, ObjKind)>, WalkEnd>
     }
 }
 
-/// The objects of a commit in order, with repeats: the commit, its root's dirtree and dirmeta, then
-/// the files of a directory, then its directories, each with its dirtree and its dirmeta first.
-/// Each metadata object is checked, and a content object isn't read. It is refused with the first
-/// metadata object that has a fault, or object that passes a limit.
+/// Returns the objects of a commit in order, with repeats: the commit, then the root directory. A
+/// directory's objects are its dirtree, its dirmeta, its files, and then those of each of its
+/// directories. Checks each metadata object, and reads no content objects. `Refused` with the first
+/// metadata object that has a fault or the first object that exceeds a limit. Changes nothing.
 pub fn order<H: Host, R: Remotes>(
     alloc: Global,
     host: &mut H,

@@ -1,4 +1,4 @@
-//! The directories of a commit, walked one after another.
+//! Walking the directories of a commit, one after another.
 ghost use Rattle.std.specs.Prelude.{◌≡◌, ◌≤◌, ◌+◌, [], List, ℕ, length, OnOk};
 ghost use Rattle.ost_model.specs.declared.limits.TheConstants.{MOST_OBJECTS};
 ghost use Rattle.ost_model.specs.Objects.{Have};
@@ -17,7 +17,8 @@ use fp_host::{Host, Remotes};
 use fp_name::Digest;
 use std::alloc::{AllocError, Global};
 
-/// Walks one directory, without those in it, which it puts on the work list.
+/// Walks one directory: adds its objects to the order `done`, and its directories to the work list
+/// `left`. `Refused` with the first of its objects that has a fault or exceeds a limit.
 fn visit<H: Host, R: Remotes>(
     alloc: Global,
     host: &mut H,
@@ -42,7 +43,8 @@ fn visit<H: Host, R: Remotes>(
     }
 }
 
-/// Walks what is left.
+/// Walks all directories of the work list, and those in them. `Refused` with the first object that
+/// has a fault or exceeds a limit.
 pub(crate) fn walk<H: Host, R: Remotes>(
     alloc: Global,
     host: &mut H,

@@ -1,19 +1,20 @@
-//! What is told of each half as its work begins, and when it is done.
+//! Hooks that are called when the work on each half begins and ends.
 
 use fp_name::Digest;
 
-/// Is told of each half of the items as its work begins, and when it is done. What it does changes
-/// no digest, so a test may stand in it and see that both halves are at work.
+/// Hooks that are called for each half of the items, when the work on it begins and ends. They
+/// can't change a digest. A test can wait in one, and so check that both halves are worked on at
+/// the same time.
 pub trait Gate {
-    /// The work on the first half (0) or the second (1) begins.
+    /// Observes the start of the work on the first half (0) or the second (1).
     fn reach(&self, half: u32);
 
-    /// Is shown the digests of that half: zeros after `reach`, and once more when all of them are
-    /// found.
+    /// Observes the digests of this half: zeros right after `reach`, and all of them once they are
+    /// computed.
     fn watch(&self, _half: u32, _digests: &[Digest]) {}
 }
 
-/// The gate that does nothing.
+/// Hooks that do nothing.
 #[derive(Clone, Copy, Debug)]
 pub struct NoGate;
 

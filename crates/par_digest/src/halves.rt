@@ -1,4 +1,4 @@
-//! Digests by halves: each half of the items is hashed by a thread of its own.
+//! Digests by halves: each half of the items is hashed on a thread of its own.
 
 ghost use Rattle.std.specs.Prelude.{◌≡◌, IfOk, length};
 ghost use Rattle.std.specs.Thread.{IsSync};
@@ -11,10 +11,10 @@ use fp_name::Digest;
 use std::alloc::{AllocError, Global};
 use std::thread::{Threads, join_mut};
 
-/// The most items that are hashed one after another. More are cut in halves.
+/// The most items that are hashed one after another. Longer lists are split.
 const MOST_IN_TURN: usize = 16;
 
-/// The digest of each item, in order, as one thread would give it.
+/// Returns the digest of each item, in order. Errs if memory runs out.
 pub fn digests(
     rt: &(impl Threads + Sync),
     alloc: Global,
@@ -25,9 +25,8 @@ pub fn digests(
     digests_gated(rt, alloc, items, &NoGate)
 }
 
-/// The digest of each item, in order, as one thread would give it, whatever the gate does. Where
-/// there are more than 16 items the gate is told by each half as its work begins, and when it is
-/// done.
+/// Returns the digest of each item, in order, whatever the gate does. With more than 16 items, each
+/// half calls the gate when its work begins and ends. Errs if memory runs out.
 pub fn digests_gated<G: Gate + Sync>(
     rt: &(impl Threads + Sync),
     alloc: Global,
@@ -41,8 +40,7 @@ pub fn digests_gated<G: Gate + Sync>(
     Ok(Items::from_vec(all))
 }
 
-/// Puts the digest of each item at its place, and tells the gate of each half where the items are
-/// cut.
+/// Writes the digest of each item to `all`. If the items are split, each half calls the gate.
 fn hash_gated<R: Threads + Sync, G: Gate + Sync>(
     rt: &R,
     items: &[Item],
@@ -71,8 +69,8 @@ fn hash_gated<R: Threads + Sync, G: Gate + Sync>(
     );
 }
 
-/// Puts the digest of each item of this half at its place. The gate is told as the work begins, and
-/// when it is done.
+/// Writes the digest of each item of this half to `all`, and calls the gate when the work begins
+/// and ends.
 fn hash_half<R: Threads + Sync, G: Gate + Sync>(
     rt: &R,
     half: u32,
@@ -89,7 +87,7 @@ fn hash_half<R: Threads + Sync, G: Gate + Sync>(
     gate.watch(half, all);
 }
 
-/// Puts the digest of each item at its place, by halves of halves.
+/// Writes the digest of each item to `all`, by halves of halves.
 fn hash<R: Threads + Sync>(rt: &R, items: &[Item], all: &mut [Digest])
     requires { length all.old ≡ length items.now }
     ensures { all.new ≡ item_digests items.now }
@@ -113,7 +111,7 @@ fn hash<R: Threads + Sync>(rt: &R, items: &[Item], all: &mut [Digest])
     );
 }
 
-/// Puts the digest of each item at its place, one after another.
+/// Writes the digest of each item to `all`, one after another.
 fn hash_in_turn(items: &[Item], all: &mut [Digest])
     requires { length all.old ≡ length items.now }
     ensures { all.new ≡ item_digests items.now }

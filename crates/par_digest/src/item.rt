@@ -1,4 +1,4 @@
-//! What a digest is taken of.
+//! The input of a digest.
 
 ghost use Rattle.std.specs.Prelude.{◌≡◌};
 ghost use Rattle.par_digest.specs.Digests.{item_digest};
@@ -10,14 +10,14 @@ use sha2::{Digest as Hash, Sha256};
 /// An object, in two parts: its digest is SHA-256 of its head followed by its body.
 #[derive(Debug, Drop)]
 pub struct Item {
-    /// What stands before the content: the header of a file or a link. A metadata object has none.
+    /// The bytes before the content: the header of a file or a symlink. A metadata object has none.
     pub head: Blob,
     /// The content.
     pub body: Blob,
 }
 
 impl Item {
-    /// The digest of the item.
+    /// Returns the digest of the item.
     pub(crate) fn digest(&self) -> Digest
         ensures { result ≡ item_digest self.now }
     {

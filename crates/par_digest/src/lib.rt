@@ -1,4 +1,4 @@
-//! The digests of many objects, found by several threads: those that one thread finds.
+//! SHA-256 digests of many objects, computed by several threads.
 #![tactic(auto)]
 
 mod gate;
