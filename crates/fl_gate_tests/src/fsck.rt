@@ -1,4 +1,5 @@
-//! A pull, and `fsck` over the store that it filled: two threads hash the objects of a batch.
+//! A pull, and `fsck` over the store that it filled: the objects of a batch are hashed by
+//! several threads, of which the test sees two at once.
 
 use crate::meeting::MeetingGate;
 use fl_top::run_gated;

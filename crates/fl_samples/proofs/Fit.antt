@@ -20,7 +20,7 @@ use Rattle.fl_words.specs.declared.command.Command.{Command}
 use Rattle.fl_words.specs.declared.command.Command.TheVariants.{Export as Exporting}
 use Rattle.fl_words.proofs.ReadBack.{read_back}
 use Rattle.fl_make.specs.Making.{CanMake}
-use Rattle.fl_top.specs.Runs.{IsFreeAs, IsFreeFor}
+use Rattle.fl_top.specs.Told.{IsFreeAs, IsFreeFor}
 use Rattle.fl_top.specs.Whole.{IsFit, StartsFit}
 
 -- nothing is in the way of a remote that is made

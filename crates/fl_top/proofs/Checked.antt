@@ -40,19 +40,21 @@ use Rattle.fl_top.specs.Answer.{Given, shown_answer, checked, IsOver}
 use Rattle.fl_top.specs.Fsck.{report_text, Finds, HasReport, IsListable, IsReportText}
 use Rattle.fl_top.specs.Status.{checks_store}
 use Rattle.fl_top.specs.Ends.{end_of_run}
-use Rattle.fl_top.specs.Runs.{Runs, Told, IsGivenTo, Checks}
-use Rattle.fl_top.specs.RunsOver.{Ended, Closed, ChecksOver, CheckedOver, RunsOn, EndedOn, IsGivenBy, IsClosedBy}
+use Rattle.fl_top.specs.Moment.{Runs, RunsCheck, RunsCommand}
+use Rattle.fl_top.specs.Told.{Told, IsGivenTo, Checks}
+use Rattle.fl_top.specs.Return.{Ended, Closed, CheckHasEnded, CommandHasEnded, IsGivenBy, IsClosedBy}
 use Rattle.fl_top.specs.declared.command_end.CommandEnd.{CommandEnd}
-use Rattle.fl_top.proofs.Starting.{look_not_open, halted_look}
+use Rattle.fl_top.proofs.Starting.{begun, look_not_open, halted_look}
 use Rattle.fl_top.proofs.Over.{over_is, counts_shown, not_shown}
-use Rattle.fl_top.proofs.Listed.{reads_opened, keeping, looks, telling, tells}
+use Rattle.fl_top.proofs.Listed.{reads_opened, keeping, telling, tells}
+use Rattle.fl_top.proofs.Looking.{still_check}
 use Rattle.fl_top.proofs.Finishing.{is_end, closed, given_by, made_where}
 use Rattle.fp_host.specs.Remote.{Holdings}
 
 -- ---- the state is read first
 
-nothing_checked : {u w : View} → w ≡ u → ChecksOver u w
-nothing_checked same = record { runs = λ report finds. (looks (checked report) same).runs; untouched = same_untouched same }
+nothing_checked : {u w : View} → w ≡ u → RunsCheck u w
+nothing_checked same = still_check (λ report finds shown counts. begun (shown_answer (checked report) shown) (keeping same) (λ why. same_untouched same)) (same_untouched same)
 
 -- a store that isn't looked at has each report
 unread_found : (e : OpenEnd) (u : View) → Reads u (Err e) → IsGivenBy (Err (end_of_open e)) → HasReport (shows u)
@@ -60,36 +62,36 @@ unread_found (open_end.Damaged path) u is by = (record { findings = []; objects 
 unread_found open_end.Fault u is by = absurd by
 unread_found open_end.NoMemory u is by = absurd by
 
-unread : (e : OpenEnd) {u w : View} → w ≡ u → Reads u (Err e) → CheckedOver (Err (end_of_open e)) u w
+unread : (e : OpenEnd) {u w : View} → w ≡ u → Reads u (Err e) → CheckHasEnded (Err (end_of_open e)) u w
 unread e {u = u} {w = w} same is = record {
   ended = λ report finds. (look_not_open (checked report) e (keeping same) (reads_opened e u w is)).ended;
-  given = λ report. (look_not_open (checked report) e (keeping same) (reads_opened e u w is)).given;
-  found = unread_found e u is;
+  given = λ by. record { found = unread_found e u is by; counts = λ report. (look_not_open (checked report) e (keeping same) (reads_opened e u w is)).given by };
+  made = tt;
 }
 
-pub goes_unread : {a b : Option Moments} (e : OpenEnd) (r : Result (Unit {0}) RunEnd) → IsTold a → Unchanged a b → AtEnd (λ u w. Reads u (Err e)) a b → IsErrAnd r (λ end. end ≡ end_of_open e) → Goes a b ChecksOver (CheckedOver r)
+pub goes_unread : {a b : Option Moments} (e : OpenEnd) (r : Result (Unit {0}) RunEnd) → IsTold a → Unchanged a b → AtEnd (λ u w. Reads u (Err e)) a b → IsErrAnd r (λ end. end ≡ end_of_open e) → Goes a b RunsCheck (CheckHasEnded r)
 goes_unread {a = a} {b = b} e r known still tell is =
-    subst (λ (x : Result (Unit {0}) RunEnd). Goes a b ChecksOver (CheckedOver x)) (sym (is_err r (end_of_open e) is))
+    subst (λ (x : Result (Unit {0}) RunEnd). Goes a b RunsCheck (CheckHasEnded x)) (sym (is_err r (end_of_open e) is))
     (begins known (goes_known still.goes tell) (λ u w t same. nothing_checked same) (λ u w t same q. unread e q.0.0 q.1))
 
 -- ---- then the store
 
 module _ (s : State) where
-  opened : {a b : Option Moments} → IsTold a → Unchanged a b → AtEnd (λ u w. Reads u (Ok s)) a b → Goes a b ChecksOver (λ u w. (w ≡ u) × Shows (shows u) s)
+  opened : {a b : Option Moments} → IsTold a → Unchanged a b → AtEnd (λ u w. Reads u (Ok s)) a b → Goes a b RunsCheck (λ u w. (w ≡ u) × Shows (shows u) s)
   opened known still tell = begins known (goes_known still.goes tell) (λ u w t same. nothing_checked same) (λ u w t same q. (q.0.0, q.1))
 
   -- the host failed, or there was no memory
-  no_report : (e : HostEnd) {u w : View} → w ≡ u → CheckedOver (Err (end_of_host e)) u w
-  no_report host.Fault same = record { ended = λ report finds shown counts held. tt; given = λ report by. absurd by; found = λ by. absurd by }
+  no_report : (e : HostEnd) {u w : View} → w ≡ u → CheckHasEnded (Err (end_of_host e)) u w
+  no_report host.Fault same = record { ended = λ report finds shown counts held. tt; given = λ by. absurd by; made = tt }
   no_report host.NoMemory same = record {
     ended = λ report finds. (halted_look (checked report) (keeping same)).ended;
-    given = λ report. (halted_look (checked report) (keeping same)).given;
-    found = λ by. absurd by;
+    given = λ by. absurd by;
+    made = tt;
   }
 
-  pub goes_not_checked : {a b c : Option Moments} (e : HostEnd) (r : Result (Unit {0}) RunEnd) → IsTold a → IsTold b → Unchanged a b → AtEnd (λ u w. Reads u (Ok s)) a b → Unchanged b c → IsErrAnd r (λ end. end ≡ end_of_host e) → Goes a c ChecksOver (CheckedOver r)
+  pub goes_not_checked : {a b c : Option Moments} (e : HostEnd) (r : Result (Unit {0}) RunEnd) → IsTold a → IsTold b → Unchanged a b → AtEnd (λ u w. Reads u (Ok s)) a b → Unchanged b c → IsErrAnd r (λ end. end ≡ end_of_host e) → Goes a c RunsCheck (CheckHasEnded r)
   goes_not_checked {a = a} {c = c} e r known known_b still tell quiet is =
-      subst (λ (x : Result (Unit {0}) RunEnd). Goes a c ChecksOver (CheckedOver x)) (sym (is_err r (end_of_host e) is))
+      subst (λ (x : Result (Unit {0}) RunEnd). Goes a c RunsCheck (CheckHasEnded x)) (sym (is_err r (end_of_host e) is))
       (goes_on known_b (opened known still tell) quiet.goes (λ u v w t p q n. nothing_checked (n ∙ q.0)) (λ u v w t p q n l. no_report e (l.0 ∙ q.0)))
 
   -- ---- and it is printed
@@ -100,7 +102,7 @@ module _ (s : State) where
       shown : Shows (shows u) s
       read : IsReportText (shows u) text
 
-    all_checked : {a b c : Option Moments} → IsTold a → IsTold b → Unchanged a b → AtEnd (λ u w. Reads u (Ok s)) a b → Unchanged b c → AtEnd (λ u w. IsReportText (shows u) text) b c → Goes a c ChecksOver HasChecked
+    all_checked : {a b c : Option Moments} → IsTold a → IsTold b → Unchanged a b → AtEnd (λ u w. Reads u (Ok s)) a b → Unchanged b c → AtEnd (λ u w. IsReportText (shows u) text) b c → Goes a c RunsCheck HasChecked
     all_checked known known_b still tell quiet tells =
         goes_on known_b (opened known still tell) (goes_known quiet.goes tells)
         (λ u v w t p q n. nothing_checked (n ∙ q.0))
@@ -116,34 +118,31 @@ module _ (s : State) where
     answer_is : {u v : View} → HasChecked u v → (report : Report) → Finds (shows u) report → (shown : Result World Elements) → IsOver (shown_answer (checked report)) (shows u) shown → text_answer text ≡ shown_answer (checked report) shown
     answer_is {u = u} q report finds shown counts = ap text_answer (text_is q report finds) ∙ sym (over_is (checked report) (shows u) shown s q.shown counts)
 
-    is_told : {u v w : View} → HasChecked u v → Says text v w → ChecksOver u w
+    is_told : {u v w : View} → HasChecked u v → Says text v w → RunsCheck u w
     is_told {u = u} {w = w} q says_it =
         let from : Says text u w = subst (λ (x : View). Says text x w) q.same says_it in
-        record {
-          runs = λ report finds shown counts. subst (λ (a : Answer). Runs a u w) (answer_is q report finds shown counts) (telling text from);
-          untouched = from.untouched;
-        }
+        still_check (λ report finds shown counts. subst (λ (a : Answer). Runs a u w) (answer_is q report finds shown counts) (telling text from)) from.untouched
 
-    was_told : {u v w : View} → HasChecked u v → WasSaid text v w → CheckedOver (Ok tt) u w
+    was_told : {u v w : View} → HasChecked u v → WasSaid text v w → CheckHasEnded (Ok tt) u w
     was_told {u = u} {w = w} q said_it = record {
       ended = λ report finds shown counts held. subst (λ (a : Answer). Ended held a (Ok tt) u w) (answer_is q report finds shown counts) (refl, tells held text (subst (λ (x : View). WasSaid text x w) q.same said_it));
-      given = λ report by. counts_shown (shown_answer (checked report)) (shows u) s q.shown;
-      found = λ by. (q.read.report, inl q.read.reports);
+      given = λ by. record { found = (q.read.report, inl q.read.reports); counts = λ report. counts_shown (shown_answer (checked report)) (shows u) s q.shown };
+      made = tt;
     }
 
-    not_told : (e : HostError) (u v w : View) → Step (says text) (Err e) v w → CheckedOver (Err (end_of_host (end_of e))) u w
-    not_told error.Failed u v w step = record { ended = λ report finds shown counts held. tt; given = λ report by. absurd by; found = λ by. absurd by }
-    not_told error.Clash u v w step = record { ended = λ report finds shown counts held. tt; given = λ report by. absurd by; found = λ by. absurd by }
+    not_told : (e : HostError) (u v w : View) → Step (says text) (Err e) v w → CheckHasEnded (Err (end_of_host (end_of e))) u w
+    not_told error.Failed u v w step = record { ended = λ report finds shown counts held. tt; given = λ by. absurd by; made = tt }
+    not_told error.Clash u v w step = record { ended = λ report finds shown counts held. tt; given = λ by. absurd by; made = tt }
     not_told error.NoMemory u v w step = absurd step.how
 
     pub goes_not_told : {a b c d : Option Moments} (e : HostError) (r : Result (Unit {0}) RunEnd) → IsTold a → IsTold b → IsTold c → Unchanged a b → AtEnd (λ u w. Reads u (Ok s)) a b → Unchanged b c → AtEnd (λ u w. IsReportText (shows u) text) b c
-        → Makes (Step (says text) (Err e)) c d → IsErrAnd r (λ end. end ≡ end_of_host (end_of e)) → Goes a d ChecksOver (CheckedOver r)
+        → Makes (Step (says text) (Err e)) c d → IsErrAnd r (λ end. end ≡ end_of_host (end_of e)) → Goes a d RunsCheck (CheckHasEnded r)
     goes_not_told {a = a} {d = d} e r known known_b known_c still tell quiet tells call err =
-        subst (λ (x : Result (Unit {0}) RunEnd). Goes a d ChecksOver (CheckedOver x)) (sym (is_err r (end_of_host (end_of e)) err))
+        subst (λ (x : Result (Unit {0}) RunEnd). Goes a d RunsCheck (CheckHasEnded x)) (sym (is_err r (end_of_host (end_of e)) err))
         (goes_on known_c (all_checked known known_b still tell quiet tells) (makes_goes call) (λ u v w t p q step. is_told q (says_step step)) (λ u v w t p q step last. not_told e u v w last))
 
     pub goes_told : {a b c d : Option Moments} → IsTold a → IsTold b → IsTold c → Unchanged a b → AtEnd (λ u w. Reads u (Ok s)) a b → Unchanged b c → AtEnd (λ u w. IsReportText (shows u) text) b c
-        → Makes (Step (says text) (Ok tt)) c d → Goes a d ChecksOver (CheckedOver (Ok tt))
+        → Makes (Step (says text) (Ok tt)) c d → Goes a d RunsCheck (CheckHasEnded (Ok tt))
     goes_told known known_b known_c still tell quiet tells call =
         goes_on known_c (all_checked known known_b still tell quiet tells) (makes_goes call) (λ u v w t p q step. is_told q (says_step step)) (λ u v w t p q step last. was_told q (was_said last))
 
@@ -159,29 +158,29 @@ found_in t m is given gave = elim gave.report [
   | inr found ↦ found m is
 ]
 
-runs_checked : (t : Told) (u w : View) → IsFoundIn t u → ChecksOver u w → RunsOn Fsck t u w
+runs_checked : (t : Told) (u w : View) → IsFoundIn t u → RunsCheck u w → RunsCommand Fsck t u w
 runs_checked t u w found p = record {
-  runs = λ given gave shown counts may. p.runs given.report (found given gave) shown counts;
-  changes = λ known. alter_untouched p.untouched;
+  runs = λ given gave shown counts may. p.runs given.report (found given gave) shown counts given.held;
+  changes = λ known. alter_untouched (p.untouched tt);
   rests = λ change. absurd (cc change);
-  untouched = λ why. p.untouched;
+  untouched = λ why. p.untouched tt;
 }
 
-ended_checked : (t : Told) (r : Result (Unit {0}) RunEnd) (s : Result (Unit {0}) CommandEnd) (u w : View) → ((held : Holdings) (a : Answer) → Ended held a r u w → Closed held a s u w) → (IsClosedBy s → IsGivenBy r) → IsFoundIn t u → CheckedOver r u w → EndedOn Fsck t s u w
+ended_checked : (t : Told) (r : Result (Unit {0}) RunEnd) (s : Result (Unit {0}) CommandEnd) (u w : View) → ((held : Holdings) (a : Answer) → Ended held a r u w → Closed held a s u w) → (IsClosedBy s → IsGivenBy r) → IsFoundIn t u → CheckHasEnded r u w → CommandHasEnded Fsck t s u w
 ended_checked t r s u w close give found q = record {
   ended = λ given gave shown counts may. close given.held (shown_answer (checked given.report) shown) (q.ended given.report (found given gave) shown counts given.held);
-  given = λ given gave by. q.given given.report (give by);
+  given = λ by given gave. (q.given (give by)).counts given.report;
   made = made_where s Fsck t.left u w tt;
 }
 
-pub goes_check : {a b : Option Moments} (t : Told) → t.moments ≡ a → Goes a b ChecksOver (CheckedOver (Ok tt)) → Goes a b (RunsOn Fsck t) (EndedOn Fsck t (Ok tt))
+pub goes_check : {a b : Option Moments} (t : Told) → t.moments ≡ a → Goes a b RunsCheck (CheckHasEnded (Ok tt)) → Goes a b (RunsCommand Fsck t) (CommandHasEnded Fsck t (Ok tt))
 goes_check {a = a} t at goes = knowing {P = IsFoundIn t} (λ m is. found_in t m (at ∙ is)) goes
     (λ u w found p. runs_checked t u w found p)
     (λ u w found q. ended_checked t (Ok tt) (Ok tt) u w (λ held x e. e) (λ by. by) found q)
 
-pub goes_not_check : {a b : Option Moments} (t : Told) (e : RunEnd) (r : Result (Unit {0}) CommandEnd) → t.moments ≡ a → Goes a b ChecksOver (CheckedOver (Err e)) → IsErrAnd r (λ end. end ≡ end_of_run e) → Goes a b (RunsOn Fsck t) (EndedOn Fsck t r)
+pub goes_not_check : {a b : Option Moments} (t : Told) (e : RunEnd) (r : Result (Unit {0}) CommandEnd) → t.moments ≡ a → Goes a b RunsCheck (CheckHasEnded (Err e)) → IsErrAnd r (λ end. end ≡ end_of_run e) → Goes a b (RunsCommand Fsck t) (CommandHasEnded Fsck t r)
 goes_not_check {a = a} {b = b} t e r at goes err =
-    subst (λ (x : Result (Unit {0}) CommandEnd). Goes a b (RunsOn Fsck t) (EndedOn Fsck t x)) (sym (is_end r (end_of_run e) err))
+    subst (λ (x : Result (Unit {0}) CommandEnd). Goes a b (RunsCommand Fsck t) (CommandHasEnded Fsck t x)) (sym (is_end r (end_of_run e) err))
     (knowing {P = IsFoundIn t} (λ m is. found_in t m (at ∙ is)) goes
     (λ u w found p. runs_checked t u w found p)
     (λ u w found q. ended_checked t (Err e) (Err (end_of_run e)) u w (λ held x k. closed held x e u w k) (given_by e) found q))

@@ -56,9 +56,9 @@ use Rattle.fp_base.specs.declared.rule.Rule.{Rule}
 use Rattle.ost_model.specs.Contents.{meta_digest}
 use Rattle.ost_model.specs.Readers.{commit_read, tree_read, meta_read}
 use Rattle.fl_top.specs.Input.{input_most}
-use Rattle.fl_top.specs.Runs.{ShowsAfter, IsPrefix, IsJust, Runs, Stands, Answers, Ran}
+use Rattle.fl_top.specs.Moment.{ShowsAfter, IsPrefix, IsJust, Runs}
+use Rattle.fl_top.specs.Return.{Stands, Answers, WasRun, Completes, Finishes, Ended}
 use Rattle.fl_change.specs.Performs.{Printed}
-use Rattle.fl_top.specs.RunsOver.{Completes, Finishes, Ended}
 use Rattle.fl_change.specs.Says.{Says, WasSaid, Refuses}
 use Rattle.fl_change.specs.Changes.{IsUntouched}
 use Rattle.dep_states.specs.Names.{config}
@@ -190,7 +190,7 @@ answers_all held a r status {u = u} {v = v} {w = w} is status_is finished said =
     done : Completes held a u v
     done = finished.completes
 
-pub ran_done : (held : Holdings) (a : Answer) {u w : View} → Runs a u w → Ended held a (Ok tt) u w → Ran held a 0 u w
+pub ran_done : (held : Holdings) (a : Answer) {u w : View} → Runs a u w → Ended held a (Ok tt) u w → WasRun held a 0 u w
 ran_done held a {u = u} runs ended = record {
   answers = λ answered. record {
     status_is = ap status_by (sym ended.0);
@@ -212,27 +212,27 @@ not_answered n high answered = elim answered [
   | inr more ↦ elim more [ inl is ↦ omega (arith, high, is) | inr is ↦ omega (arith, high, is) ]
 ]
 
-pub ran_fault : (held : Holdings) (a : Answer) {u w : View} → Runs a u w → Ran held a 3 u w
+pub ran_fault : (held : Holdings) (a : Answer) {u w : View} → Runs a u w → WasRun held a 3 u w
 ran_fault held a runs = record { answers = λ answered. absurd (not_answered 3 (omega arith) answered); stands = λ three. absurd (three refl); sound = runs_sound runs }
 
 -- the input failed, and nothing was done
-pub ran_input : (held : Holdings) (a : Answer) {u w : View} → Runs a u w → w ≡ u → Ran held a 5 u w
+pub ran_input : (held : Holdings) (a : Answer) {u w : View} → Runs a u w → w ≡ u → WasRun held a 5 u w
 ran_input held a {u = u} runs same = record { answers = λ answered. absurd (not_answered 5 (omega arith) answered); stands = λ three. subst (λ (x : View). Stands a u x) (sym same) (stood a unchanged); sound = runs_sound runs }
 
 -- the remotes failed, or there was no memory
-pub ran_halted : (held : Holdings) (a : Answer) (status : ℕ) {u w : View} → 4 ≤ status → Runs a u w → Stands a u w → Ran held a status u w
+pub ran_halted : (held : Holdings) (a : Answer) (status : ℕ) {u w : View} → 4 ≤ status → Runs a u w → Stands a u w → WasRun held a status u w
 ran_halted held a status high runs stands = record { answers = λ answered. absurd (not_answered status (omega (arith, high)) answered); stands = λ three. stands; sound = runs_sound runs }
 
-pub ran_refused : (held : Holdings) (a : Answer) (r : Refusal) (status result : ℕ) {u v w : View} → a.refusal ≡ Some r → status ≡ status_of r → Finishes held a u v → Runs a u w → Refuses (refusal_text r) status result v w → Ran held a result u w
+pub ran_refused : (held : Holdings) (a : Answer) (r : Refusal) (status result : ℕ) {u v w : View} → a.refusal ≡ Some r → status ≡ status_of r → Finishes held a u v → Runs a u w → Refuses (refusal_text r) status result v w → WasRun held a result u w
 ran_refused held a r status result {u = u} {w = w} is status_is done runs refuses = elim refuses [
-  | inl said ↦ subst (λ (n : ℕ). Ran held a n u w) (sym said.0) (record {
+  | inl said ↦ subst (λ (n : ℕ). WasRun held a n u w) (sym said.0) (record {
     answers = λ answered. answers_all held a r status is status_is done said.1;
     stands = λ three. stands_all held a r is done.completes said.1;
     sound = runs_sound runs;
   })
   | inr other ↦ elim other [
-    | inl three ↦ subst (λ (n : ℕ). Ran held a n u w) (sym three) (ran_fault held a runs)
-    | inr six ↦ subst (λ (n : ℕ). Ran held a n u w) (sym six.0) (ran_halted held a 6 (omega arith) runs (subst (λ (x : View). Stands a u x) (sym six.1) (stands_before held a done.completes)))
+    | inl three ↦ subst (λ (n : ℕ). WasRun held a n u w) (sym three) (ran_fault held a runs)
+    | inr six ↦ subst (λ (n : ℕ). WasRun held a n u w) (sym six.0) (ran_halted held a 6 (omega arith) runs (subst (λ (x : View). Stands a u x) (sym six.1) (stands_before held a done.completes)))
   ]
 ]
 

@@ -5,7 +5,6 @@ use Rattle.fp_host.specs.Frame.{AtEnd, Unchanged}
 use Rattle.fp_host.specs.Moments.{Moments, Goes}
 use Rattle.fp_host.specs.Outcome.{shows}
 use Rattle.fp_host.specs.Remote.{Holdings}
-use Rattle.fp_host.proofs.Ending.{ends_goes, goes_last}
 use Rattle.fp_host.proofs.Framed.{IsTold}
 use Rattle.fp_host.proofs.Goes.{stays}
 use Rattle.fp_small.specs.declared.op.Op.{Op}
@@ -17,8 +16,10 @@ use Rattle.fl_top.specs.Asked.{OpsBy, AsksFor, AsksRemotes}
 use Rattle.fl_change.specs.Performs.{AreToldFor}
 use Rattle.fl_top.specs.Exercises.{is_exercise, IsRunOver, IsUnmade, IsRun, IsExercised}
 use Rattle.fl_top.specs.Fsck.{HasReport}
-use Rattle.fl_top.specs.Runs.{RunsBy, RanBy, Checks, HasCauses, WasTaken, told_start}
-use Rattle.fl_top.specs.RunsOver.{RunsOn, RanOn}
+use Rattle.fl_top.specs.Moment.{RunsWords, RunsCommand}
+use Rattle.fl_top.specs.Return.{WordsWereRun, CommandWasRun}
+use Rattle.fl_top.specs.Told.{Checks, HasCauses, told_start}
+use Rattle.fl_top.specs.Taken.{WasTaken}
 use Rattle.fl_top.specs.Status.{IsOfCommand, IsOfWords, IsAnswered}
 use Rattle.fl_change.proofs.Working.{asks_to}
 use Rattle.fl_top.proofs.Asked.{asks_more}
@@ -43,10 +44,10 @@ asks_all (Exercising apps) left none op may = absurd (none apps refl)
 asks_all _ left none op may = may
 
 module _ (words : List (List ℕ)) (command : Command) (left : Option (List ℕ)) (holds : Option Holdings) (status : ℕ) (is : command_of words ≡ Some command) (none : IsNoExercise command) where
-  pub given_runs : {a b : Option Moments} → IsTold a → Goes a b (RunsOn command (told_start left holds a)) (RanOn command (told_start left holds a) status) → IsRun words left holds status a b
+  pub given_runs : {a b : Option Moments} → IsTold a → Goes a b (RunsCommand command (told_start left holds a)) (CommandWasRun command (told_start left holds a) status) → IsRun words left holds status a b
   given_runs {a = a} known goes =
       let runs = goes_command words (told_start left holds a) command status known is goes in
-      inl (holds, subst (λ (o : Option Command). IsRunOver o holds holds) (sym is) (given_is command holds none), record { any_moment = goes_last runs; at_return = ends_goes known runs })
+      inl (holds, subst (λ (o : Option Command). IsRunOver o holds holds) (sym is) (given_is command holds none), runs)
 
   told_all : AreToldFor (AsksFor (Some command) left) holds → AreToldFor (OpsBy command left) holds
   told_all tells = λ asks. tells (asks_to (asks_all command left none) asks)
@@ -67,9 +68,9 @@ module _ (words : List (List ℕ)) (command : Command) (left : Option (List ℕ)
 -- ---- an exercise
 
 -- it could be made, or there was no memory
-pub exercise_made : {a b : Option Moments} (apps : ℕ) (left : Option (List ℕ)) (holds : Option Holdings) (held : Holdings) (status : ℕ) → holds ≡ Some held → IsGenerated apps held → Goes a b (RunsOn (Exercising apps) (told_start left holds a)) (RanOn (Exercising apps) (told_start left holds a) status) → IsExercised apps left status a b
+pub exercise_made : {a b : Option Moments} (apps : ℕ) (left : Option (List ℕ)) (holds : Option Holdings) (held : Holdings) (status : ℕ) → holds ≡ Some held → IsGenerated apps held → Goes a b (RunsCommand (Exercising apps) (told_start left holds a)) (CommandWasRun (Exercising apps) (told_start left holds a) status) → IsExercised apps left status a b
 exercise_made {a = a} {b = b} apps left holds held status is generated goes =
-    inl (held, generated, subst (λ (h : Option Holdings). Goes a b (RunsOn (Exercising apps) (told_start left h a)) (RanOn (Exercising apps) (told_start left h a) status)) is goes)
+    inl (held, generated, subst (λ (h : Option Holdings). Goes a b (RunsCommand (Exercising apps) (told_start left h a)) (CommandWasRun (Exercising apps) (told_start left h a) status)) is goes)
 
 pub nothing_done : {a : Option Moments} → IsTold a → Unchanged a a
 nothing_done known = record { goes = stays known (λ u. refl) (λ u tree. (refl, tt)) }
@@ -98,7 +99,7 @@ module _ (words : List (List ℕ)) (apps : ℕ) (left : Option (List ℕ)) (give
   exercised_runs {a = a} {b = b} known exercised = elim exercised [
     | inl made ↦
         let runs = goes_command words (told_start left (Some made.0) a) (Exercising apps) status known is made.2 in
-        inl (Some made.0, subst (λ (o : Option Command). IsRunOver o given (Some made.0)) (sym is) (made.0, refl, made.1), record { any_moment = goes_last runs; at_return = ends_goes known runs })
+        inl (Some made.0, subst (λ (o : Option Command). IsRunOver o given (Some made.0)) (sym is) (made.0, refl, made.1), runs)
     | inr none ↦ inr (subst (λ (o : Option Command). IsUnmade o status a b) (sym is) none)
   ]
 
@@ -121,17 +122,17 @@ module _ (words : List (List ℕ)) (apps : ℕ) (left : Option (List ℕ)) (give
 
 -- ---- words that are no command, and words that weren't read
 
-pub no_command_runs : (words : List (List ℕ)) (left : Option (List ℕ)) (holds : Option Holdings) (status : ℕ) {a b : Option Moments} → command_of words ≡ None → IsTold a
-    → Goes a b (RunsBy words (told_start left holds a)) (RanBy words (told_start left holds a) status) → IsRun words left holds status a b
-no_command_runs words left holds status none known goes =
-    inl (holds, subst (λ (o : Option Command). IsRunOver o holds holds) (sym none) refl, record { any_moment = goes_last goes; at_return = ends_goes known goes })
+pub no_command_runs : (words : List (List ℕ)) (left : Option (List ℕ)) (holds : Option Holdings) (status : ℕ) {a b : Option Moments} → command_of words ≡ None
+    → Goes a b (RunsWords words (told_start left holds a)) (WordsWereRun words (told_start left holds a) status) → IsRun words left holds status a b
+no_command_runs words left holds status none goes =
+    inl (holds, subst (λ (o : Option Command). IsRunOver o holds holds) (sym none) refl, goes)
 
 -- out of memory for the words; an exercise among them wasn't made
 pub unread_runs : (words : List (List ℕ)) (left : Option (List ℕ)) (holds : Option Holdings) {a : Option Moments} → IsTold a → IsRun words left holds 6 a a
 unread_runs words left holds {a = a} known = by (command_of words) refl
   where
     over_given : IsRunOver (command_of words) holds holds → IsRun words left holds 6 a a
-    over_given is = let goes = goes_unread words (told_start left holds a) known in inl (holds, is, record { any_moment = goes_last goes; at_return = ends_goes known goes })
+    over_given is = let goes = goes_unread words (told_start left holds a) known in inl (holds, is, goes)
 
     unmade : (apps : ℕ) → command_of words ≡ Some (Exercising apps) → IsRun words left holds 6 a a
     unmade apps is = inr (subst (λ (o : Option Command). IsUnmade o 6 a a) (sym is) (refl, nothing_done known))

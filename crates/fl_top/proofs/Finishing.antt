@@ -30,8 +30,10 @@ use Rattle.fl_top.specs.Answer.{Given, answer, answer_to, answer_over, listing_a
 use Rattle.fl_change.specs.Turns.{changing, MayDo}
 use Rattle.fl_top.specs.Asked.{OpsBy, OpsFor}
 use Rattle.fp_small.specs.declared.op.Op.{Op}
-use Rattle.fl_top.specs.Runs.{Runs, Ran, Told, RunsBy, RanBy, IsGiven, IsGivenTo, Looks, MakesNone, IsChange, IsKnown, IsReady, Serves, HasCauses, MayAnswer, WasTaken, files_at}
-use Rattle.fl_top.specs.RunsOver.{RunsOver, LooksOver, EndedOver, LookedOver, RunsOn, EndedOn, RanOn, Ended, Closed, IsGivenBy, IsClosedBy, MadeWhere, Takes, TakenBy}
+use Rattle.fl_top.specs.Moment.{Runs, RunsWords, RunsChanges, RunsLook, RunsCommand}
+use Rattle.fl_top.specs.Return.{WasRun, WordsWereRun, ChangesHaveEnded, LookHasEnded, CommandHasEnded, CommandWasRun, Ended, Closed, IsGivenBy, IsClosedBy, MadeWhere}
+use Rattle.fl_top.specs.Told.{Told, IsGiven, IsGivenTo, Looks, MakesNone, IsChange, IsKnown, IsReady, Serves, HasCauses, MayAnswer, files_at}
+use Rattle.fl_top.specs.Taken.{WasTaken, Takes, TakenBy}
 use Rattle.fl_change.specs.Says.{Says, Refuses}
 use Rattle.fl_top.specs.Status.{only_looks, changes_state, reads_input, IsAnswered, IsOfWords}
 use Rattle.fl_change.specs.declared.end.RunEnd.{RunEnd}
@@ -145,7 +147,7 @@ pub record IsChanging (command : Command) (t : Told) (May : Op → Type 0) (f : 
   pub is : IsAnswer command t f
   pub may : (op : Op) → May op → OpsBy command t.left op
 
-runs_change : (command : Command) (t : Told) (May : Op → Type 0) (f : Holdings → World → Answer) (u w : View) → IsChanging command t May f → RunsOver t.holds May f u w → RunsOn command t u w
+runs_change : (command : Command) (t : Told) (May : Op → Type 0) (f : Holdings → World → Answer) (u w : View) → IsChanging command t May f → RunsChanges t.holds May f u w → RunsCommand command t u w
 runs_change command t May f u w known p = record {
   runs = λ given gave shown counts may.
       let is = known.is given gave in
@@ -155,32 +157,32 @@ runs_change command t May f u w known p = record {
   rests = λ change given gave shown counts may.
       let is = known.is given gave in
       subst (λ (x : Answer). StaysAtRest x u w) (is shown)
-      (p.rests (ready_for command (f given.held) given u shown known.changes (known.late given.held) (is shown) may) given.held (holds_told command t given known.changes gave) shown (counts_for command (f given.held) given u shown is counts));
+      (p.rests tt (ready_for command (f given.held) given u shown known.changes (known.late given.held) (is shown) may) given.held (holds_told command t given known.changes gave) shown (counts_for command (f given.held) given u shown is counts));
   untouched = λ why. elim why [ inl looks ↦ absurd (let both : true ≡ false = sym looks ∙ looks_not command known.changes in cc both) | inr none ↦ p.untouched none.1 ];
 }
 
 ended_change : (command : Command) (t : Told) (May : Op → Type 0) (f : Holdings → World → Answer) (r : Result (Unit {0}) RunEnd) (s : Result (Unit {0}) CommandEnd) (u w : View) → IsChanging command t May f
-    → ((held : Holdings) (a : Answer) → Ended held a r u w → Closed held a s u w) → (IsClosedBy s → IsGivenBy r) → EndedOver t.holds f r u w → EndedOn command t s u w
+    → ((held : Holdings) (a : Answer) → Ended held a r u w → Closed held a s u w) → (IsClosedBy s → IsGivenBy r) → ChangesHaveEnded t.holds f r u w → CommandHasEnded command t s u w
 ended_change command t May f r s u w known close give q = record {
   ended = λ given gave shown counts may.
       let is = known.is given gave in
       subst (λ (x : Answer). Closed given.held x s u w) (is shown) (close given.held (shown_answer (f given.held) shown)
       (q.ended (ready_for command (f given.held) given u shown known.changes (known.late given.held) (is shown) may) given.held (holds_told command t given known.changes gave) shown (counts_for command (f given.held) given u shown is counts)));
-  given = λ given gave by. counts_same (answer_over command given) (shown_answer (f given.held)) (shows u) (λ r. sym (known.is given gave r)) (q.given given.held (give by));
+  given = λ by given gave. counts_same (answer_over command given) (shown_answer (f given.held)) (shows u) (λ r. sym (known.is given gave r)) (q.given (give by) given.held);
   made = made_where s command t.left u w (made_none command t.left u w known.changes);
 }
 
 -- one that changes something
 pub goes_change : {a b : Option Moments} (command : Command) (t : Told) (May : Op → Type 0) (f : Holdings → World → Answer) → IsTold a → IsChanging command t May f
-    → Goes a b (RunsOver t.holds May f) (EndedOver t.holds f (Ok tt)) → Goes a b (RunsOn command t) (EndedOn command t (Ok tt))
+    → Goes a b (RunsChanges t.holds May f) (ChangesHaveEnded t.holds f (Ok tt)) → Goes a b (RunsCommand command t) (CommandHasEnded command t (Ok tt))
 goes_change command t May f known is goes = begins known goes
     (λ u w tree p. runs_change command t May f u w is p)
     (λ u w tree p q. ended_change command t May f (Ok tt) (Ok tt) u w is (λ held a e. e) (λ by. by) q)
 
 pub goes_not_changed : {a b : Option Moments} (command : Command) (t : Told) (May : Op → Type 0) (f : Holdings → World → Answer) (e : RunEnd) (r : Result (Unit {0}) CommandEnd) → IsTold a → IsChanging command t May f
-    → Goes a b (RunsOver t.holds May f) (EndedOver t.holds f (Err e)) → IsErrAnd r (λ end. end ≡ end_of_run e) → Goes a b (RunsOn command t) (EndedOn command t r)
+    → Goes a b (RunsChanges t.holds May f) (ChangesHaveEnded t.holds f (Err e)) → IsErrAnd r (λ end. end ≡ end_of_run e) → Goes a b (RunsCommand command t) (CommandHasEnded command t r)
 goes_not_changed {a = a} {b = b} command t May f e r known is goes err =
-    subst (λ (x : Result (Unit {0}) CommandEnd). Goes a b (RunsOn command t) (EndedOn command t x)) (sym (is_end r (end_of_run e) err))
+    subst (λ (x : Result (Unit {0}) CommandEnd). Goes a b (RunsCommand command t) (CommandHasEnded command t x)) (sym (is_end r (end_of_run e) err))
     (begins known goes (λ u w tree p. runs_change command t May f u w is p) (λ u w tree p q. ended_change command t May f (Err e) (Err (end_of_run e)) u w is (λ held a x. closed held a e u w x) (given_by e) q))
 
 -- the answer of a command that looks is this over the world
@@ -198,33 +200,33 @@ given_files command t given looks gave = elim gave.files [
 pub listing_look : (listing : Listing) (t : Told) → IsLook (Listed listing) t (listing_answer (files_at t.moments) listing)
 listing_look listing t given gave shown = sym (ap (λ (files : DeployedFiles). shown_answer (listing_answer files listing) shown) (given_files (Listed listing) t given refl gave))
 
-runs_look : (command : Command) (t : Told) (f : World → Answer) (u w : View) → IsLook command t f → LooksOver f u w → RunsOn command t u w
+runs_look : (command : Command) (t : Told) (f : World → Answer) (u w : View) → IsLook command t f → RunsLook (shown_answer f) u w → RunsCommand command t u w
 runs_look command t f u w is p = record {
-  runs = λ given gave shown counts may. subst (λ (x : Answer). Runs x u w) (is given gave shown) (p.runs shown (counts_for command f given u shown (is given gave) counts));
-  changes = λ known. alter_untouched p.untouched;
-  rests = λ change given gave shown counts may rest idle. still_untouched p.untouched;
-  untouched = λ why. p.untouched;
+  runs = λ given gave shown counts may. subst (λ (x : Answer). Runs x u w) (is given gave shown) (p.runs shown (counts_for command f given u shown (is given gave) counts) given.held);
+  changes = λ known. alter_untouched (p.untouched tt);
+  rests = λ change given gave shown counts may rest idle. still_untouched (p.untouched tt);
+  untouched = λ why. p.untouched tt;
 }
 
 ended_look : (command : Command) (t : Told) (f : World → Answer) (r : Result (Unit {0}) RunEnd) (s : Result (Unit {0}) CommandEnd) (u w : View) → only_looks command ≡ true → IsLook command t f
-    → ((held : Holdings) (a : Answer) → Ended held a r u w → Closed held a s u w) → (IsClosedBy s → IsGivenBy r) → LookedOver f r u w → EndedOn command t s u w
+    → ((held : Holdings) (a : Answer) → Ended held a r u w → Closed held a s u w) → (IsClosedBy s → IsGivenBy r) → LookHasEnded (shown_answer f) r u w → CommandHasEnded command t s u w
 ended_look command t f r s u w looks is close give q = record {
   ended = λ given gave shown counts may. subst (λ (x : Answer). Closed given.held x s u w) (is given gave shown) (close given.held (shown_answer f shown) (q.ended shown (counts_for command f given u shown (is given gave) counts) given.held));
-  given = λ given gave by. counts_same (answer_over command given) (shown_answer f) (shows u) (λ r. sym (is given gave r)) (q.given (give by));
+  given = λ by given gave. counts_same (answer_over command given) (shown_answer f) (shows u) (λ r. sym (is given gave r)) (q.given (give by));
   made = made_where s command t.left u w (look_made command t.left u w looks);
 }
 
 -- one that looks
 pub goes_look : {a b : Option Moments} (command : Command) (t : Told) (f : World → Answer) → IsTold a → only_looks command ≡ true → IsLook command t f
-    → Goes a b (LooksOver f) (LookedOver f (Ok tt)) → Goes a b (RunsOn command t) (EndedOn command t (Ok tt))
+    → Goes a b (RunsLook (shown_answer f)) (LookHasEnded (shown_answer f) (Ok tt)) → Goes a b (RunsCommand command t) (CommandHasEnded command t (Ok tt))
 goes_look command t f known looks is goes = begins known goes
     (λ u w tree p. runs_look command t f u w is p)
     (λ u w tree p q. ended_look command t f (Ok tt) (Ok tt) u w looks is (λ held a e. e) (λ by. by) q)
 
 pub goes_not_looked : {a b : Option Moments} (command : Command) (t : Told) (f : World → Answer) (e : RunEnd) (r : Result (Unit {0}) CommandEnd) → IsTold a → only_looks command ≡ true → IsLook command t f
-    → Goes a b (LooksOver f) (LookedOver f (Err e)) → IsErrAnd r (λ end. end ≡ end_of_run e) → Goes a b (RunsOn command t) (EndedOn command t r)
+    → Goes a b (RunsLook (shown_answer f)) (LookHasEnded (shown_answer f) (Err e)) → IsErrAnd r (λ end. end ≡ end_of_run e) → Goes a b (RunsCommand command t) (CommandHasEnded command t r)
 goes_not_looked {a = a} {b = b} command t f e r known looks is goes err =
-    subst (λ (x : Result (Unit {0}) CommandEnd). Goes a b (RunsOn command t) (EndedOn command t x)) (sym (is_end r (end_of_run e) err))
+    subst (λ (x : Result (Unit {0}) CommandEnd). Goes a b (RunsCommand command t) (CommandHasEnded command t x)) (sym (is_end r (end_of_run e) err))
     (begins known goes (λ u w tree p. runs_look command t f u w is p) (λ u w tree p q. ended_look command t f (Err e) (Err (end_of_run e)) u w looks is (λ held a x. closed held a e u w x) (given_by e) q))
 
 -- a fault of the command is one of the work
@@ -293,7 +295,7 @@ caused_after n m k le goes leads cause passes = record {
 }
 
 -- nothing was done
-pub not_begun : (command : Command) (t : Told) (u : View) → RunsOn command t u u
+pub not_begun : (command : Command) (t : Told) (u : View) → RunsCommand command t u u
 not_begun command t u = record {
   runs = λ given gave shown counts may. begun (answer_over command given shown) unchanged (λ why. not_touched);
   changes = λ known. alter_not;
@@ -307,11 +309,11 @@ pub record EndsEarly (command : Command) (given : Given) (e : CommandEnd) : Type
   pub same : IsClosedBy (Err e) → IsConstant (answer_over command given)
 
 pub goes_none : {a : Option Moments} (command : Command) (t : Told) (e : CommandEnd) (r : Result (Unit {0}) CommandEnd) → IsTold a → IsErrAnd r (λ end. end ≡ e)
-    → ((given : Given) → IsGivenTo command t given → EndsEarly command given e) → Goes a a (RunsOn command t) (EndedOn command t r)
+    → ((given : Given) → IsGivenTo command t given → EndsEarly command given e) → Goes a a (RunsCommand command t) (CommandHasEnded command t r)
 goes_none {a = a} command t e r known err ends =
-    subst (λ (x : Result (Unit {0}) CommandEnd). Goes a a (RunsOn command t) (EndedOn command t x)) (sym (is_end r e err)) (stays known (not_begun command t) (λ u tree. record {
+    subst (λ (x : Result (Unit {0}) CommandEnd). Goes a a (RunsCommand command t) (CommandHasEnded command t x)) (sym (is_end r e err)) (stays known (not_begun command t) (λ u tree. record {
       ended = λ given gave shown counts may. (ends given gave).closed shown u;
-      given = λ given gave by. counts_constant (answer_over command given) (shows u) ((ends given gave).same by);
+      given = λ by given gave. counts_constant (answer_over command given) (shows u) ((ends given gave).same by);
       made = tt;
     }))
 
@@ -438,38 +440,38 @@ taken_at command r status old new takes drained = (λ reads answered. drained (t
 
 -- ---- its status
 
-pub goes_done : {a b : Option Moments} (command : Command) (t : Told) → IsTold a → Goes a b (RunsOn command t) (EndedOn command t (Ok tt)) → Goes a b (RunsOn command t) (RanOn command t 0)
+pub goes_done : {a b : Option Moments} (command : Command) (t : Told) → IsTold a → Goes a b (RunsCommand command t) (CommandHasEnded command t (Ok tt)) → Goes a b (RunsCommand command t) (CommandWasRun command t 0)
 goes_done command t known goes = begins known goes (λ u w tree r. r) (λ u w tree r q. record {
-  ran = λ given gave shown counts may. ran_done given.held (answer_over command given shown) (r.runs given gave shown counts may) (q.ended given gave shown counts may);
-  given = λ given gave answered. q.given given gave tt;
+  ended = λ given gave shown counts may. ran_done given.held (answer_over command given shown) (r.runs given gave shown counts may) (q.ended given gave shown counts may);
+  given = λ answered given gave. q.given tt given gave;
   made = λ done. q.made;
 })
 
-pub goes_fault : {a b : Option Moments} (command : Command) (t : Told) → IsTold a → Goes a b (RunsOn command t) (EndedOn command t (Err Fault)) → Goes a b (RunsOn command t) (RanOn command t 3)
+pub goes_fault : {a b : Option Moments} (command : Command) (t : Told) → IsTold a → Goes a b (RunsCommand command t) (CommandHasEnded command t (Err Fault)) → Goes a b (RunsCommand command t) (CommandWasRun command t 3)
 goes_fault command t known goes = begins known goes (λ u w tree r. r) (λ u w tree r q. record {
-  ran = λ given gave shown counts may. ran_fault given.held (answer_over command given shown) (r.runs given gave shown counts may);
-  given = λ given gave answered. absurd (not_answered 3 (omega arith) answered);
+  ended = λ given gave shown counts may. ran_fault given.held (answer_over command given shown) (r.runs given gave shown counts may);
+  given = λ answered given gave. absurd (not_answered 3 (omega arith) answered);
   made = λ done. absurd (let is : 3 ≡ 0 = done in omega (arith, is));
 })
 
-pub goes_input : {a b : Option Moments} (command : Command) (t : Told) → IsTold a → Goes a b (RunsOn command t) (EndedOn command t (Err InputFault)) → Goes a b (RunsOn command t) (RanOn command t 5)
+pub goes_input : {a b : Option Moments} (command : Command) (t : Told) → IsTold a → Goes a b (RunsCommand command t) (CommandHasEnded command t (Err InputFault)) → Goes a b (RunsCommand command t) (CommandWasRun command t 5)
 goes_input command t known goes = begins known goes (λ u w tree r. r) (λ u w tree r q. record {
-  ran = λ given gave shown counts may. ran_input given.held (answer_over command given shown) (r.runs given gave shown counts may) (q.ended given gave shown counts may);
-  given = λ given gave answered. absurd (not_answered 5 (omega arith) answered);
+  ended = λ given gave shown counts may. ran_input given.held (answer_over command given shown) (r.runs given gave shown counts may) (q.ended given gave shown counts may);
+  given = λ answered given gave. absurd (not_answered 5 (omega arith) answered);
   made = λ done. absurd (let is : 5 ≡ 0 = done in omega (arith, is));
 })
 
-pub goes_remote : {a b : Option Moments} (command : Command) (t : Told) → IsTold a → Goes a b (RunsOn command t) (EndedOn command t (Err RemoteFault)) → Goes a b (RunsOn command t) (RanOn command t 4)
+pub goes_remote : {a b : Option Moments} (command : Command) (t : Told) → IsTold a → Goes a b (RunsCommand command t) (CommandHasEnded command t (Err RemoteFault)) → Goes a b (RunsCommand command t) (CommandWasRun command t 4)
 goes_remote command t known goes = begins known goes (λ u w tree r. r) (λ u w tree r q. record {
-  ran = λ given gave shown counts may. ran_halted given.held (answer_over command given shown) 4 (omega arith) (r.runs given gave shown counts may) (q.ended given gave shown counts may);
-  given = λ given gave answered. absurd (not_answered 4 (omega arith) answered);
+  ended = λ given gave shown counts may. ran_halted given.held (answer_over command given shown) 4 (omega arith) (r.runs given gave shown counts may) (q.ended given gave shown counts may);
+  given = λ answered given gave. absurd (not_answered 4 (omega arith) answered);
   made = λ done. absurd (let is : 4 ≡ 0 = done in omega (arith, is));
 })
 
-pub goes_memory : {a b : Option Moments} (command : Command) (t : Told) → IsTold a → Goes a b (RunsOn command t) (EndedOn command t (Err NoMemory)) → Goes a b (RunsOn command t) (RanOn command t 6)
+pub goes_memory : {a b : Option Moments} (command : Command) (t : Told) → IsTold a → Goes a b (RunsCommand command t) (CommandHasEnded command t (Err NoMemory)) → Goes a b (RunsCommand command t) (CommandWasRun command t 6)
 goes_memory command t known goes = begins known goes (λ u w tree r. r) (λ u w tree r q. record {
-  ran = λ given gave shown counts may. ran_halted given.held (answer_over command given shown) 6 (omega arith) (r.runs given gave shown counts may) (q.ended given gave shown counts may);
-  given = λ given gave answered. absurd (not_answered 6 (omega arith) answered);
+  ended = λ given gave shown counts may. ran_halted given.held (answer_over command given shown) 6 (omega arith) (r.runs given gave shown counts may) (q.ended given gave shown counts may);
+  given = λ answered given gave. absurd (not_answered 6 (omega arith) answered);
   made = λ done. absurd (let is : 6 ≡ 0 = done in omega (arith, is));
 })
 
@@ -480,8 +482,8 @@ not_refused text status result some v w refuses done = elim refuses [
   | inr other ↦ elim other [ inl three ↦ omega (arith, three, done) | inr six ↦ omega (arith, six.0, done) ]
 ]
 
-pub goes_refused : {a b c : Option Moments} (command : Command) (t : Told) (r : Refusal) (result : ℕ) → IsTold b → Goes a b (RunsOn command t) (EndedOn command t (Err (Refused r)))
-    → Goes b c (Says (refusal_text r)) (Refuses (refusal_text r) 1 result) → Goes a c (RunsOn command t) (RanOn command t result)
+pub goes_refused : {a b c : Option Moments} (command : Command) (t : Told) (r : Refusal) (result : ℕ) → IsTold b → Goes a b (RunsCommand command t) (CommandHasEnded command t (Err (Refused r)))
+    → Goes b c (Says (refusal_text r)) (Refuses (refusal_text r) 1 result) → Goes a c (RunsCommand command t) (CommandWasRun command t result)
 goes_refused command t r result known_b first second =
     goes_on known_b first second
     (λ u v w tree p q s. record {
@@ -491,11 +493,11 @@ goes_refused command t r result known_b first second =
       untouched = λ why. untouched_on (p.untouched why) s;
     })
     (λ u v w tree p q s last. record {
-      ran = λ given gave shown counts may.
+      ended = λ given gave shown counts may.
           let e = q.ended given gave shown counts may in
           let a = answer_over command given shown in
           ran_refused given.held a r 1 result e.0 (command_plain command given shown r e.0) e.1 (refusing given.held a r e.0 (p.runs given gave shown counts may) e.1.completes s) last;
-      given = λ given gave answered. q.given given gave tt;
+      given = λ answered given gave. q.given tt given gave;
       made = λ done. absurd (not_refused (refusal_text r) 1 result (omega arith) v w last done);
     })
 
@@ -514,7 +516,7 @@ may_answer : (words : List (List ℕ)) (command : Command) (u : View) (given : G
 may_answer words command u given shown is may =
     subst (λ (a : Answer). MayAnswer (Some command) u a) (sym (answer_is words command given is shown)) (subst (λ (o : Option Command). MayAnswer o u (answer words given shown)) is may)
 
-pub goes_command : {a b : Option Moments} (words : List (List ℕ)) (t : Told) (command : Command) (status : ℕ) → IsTold a → command_of words ≡ Some command → Goes a b (RunsOn command t) (RanOn command t status) → Goes a b (RunsBy words t) (RanBy words t status)
+pub goes_command : {a b : Option Moments} (words : List (List ℕ)) (t : Told) (command : Command) (status : ℕ) → IsTold a → command_of words ≡ Some command → Goes a b (RunsCommand command t) (CommandWasRun command t status) → Goes a b (RunsWords words t) (WordsWereRun words t status)
 goes_command words t command status known is goes = begins known goes
     (λ u w tree r. record {
       runs = λ given gave shown counts may. subst (λ (a : Answer). Runs a u w) (answer_is words command given is shown) (r.runs given (given_to words command t given is gave) shown (counted u given shown counts) (may_answer words command u given shown is may));
@@ -525,15 +527,15 @@ goes_command words t command status known is goes = begins known goes
       untouched = λ why. r.untouched (elim why [ inl looks ↦ inl (subst Looks is looks) | inr none ↦ inr (subst MakesNone is none.0, none.1) ]);
     })
     (λ u w tree r q. record {
-      ran = λ given gave shown counts may. subst (λ (a : Answer). Ran given.held a status u w) (answer_is words command given is shown) (q.ran given (given_to words command t given is gave) shown (counted u given shown counts) (may_answer words command u given shown is may));
-      given = λ given gave answered. counts_same (answer words given) (answer_over command given) (shows u) (λ r. sym (answer_is words command given is r)) (q.given given (given_to words command t given is gave) answered);
+      ended = λ given gave shown counts may. subst (λ (a : Answer). WasRun given.held a status u w) (answer_is words command given is shown) (q.ended given (given_to words command t given is gave) shown (counted u given shown counts) (may_answer words command u given shown is may));
+      given = λ answered given gave. counts_same (answer words given) (answer_over command given) (shows u) (λ r. sym (answer_is words command given is r)) (q.given answered given (given_to words command t given is gave));
       made = λ done. subst (λ (o : Option Command). MadeFor o t.left u w) (sym is) (q.made done);
     })
   where
     counted : (u : View) (given : Given) (shown : Result World Elements) → IsOver (answer words given) (shows u) shown → IsOver (answer_over command given) (shows u) shown
     counted u given shown counts = over_same (answer_over command given) (answer words given) (shows u) shown (answer_is words command given is) counts
 
-pub goes_no_command : {a b : Option Moments} (words : List (List ℕ)) (t : Told) (index result : ℕ) → IsTold a → command_of words ≡ None → index ≡ bad_index words → Goes a b (Says (refusal_text (BadWords index))) (Refuses (refusal_text (BadWords index)) 2 result) → Goes a b (RunsBy words t) (RanBy words t result)
+pub goes_no_command : {a b : Option Moments} (words : List (List ℕ)) (t : Told) (index result : ℕ) → IsTold a → command_of words ≡ None → index ≡ bad_index words → Goes a b (Says (refusal_text (BadWords index))) (Refuses (refusal_text (BadWords index)) 2 result) → Goes a b (RunsWords words t) (WordsWereRun words t result)
 goes_no_command words t index result known none is goes = begins known goes
     (λ u w tree s. record {
       runs = λ given gave shown counts may. subst (λ (a : Answer). Runs a u w) (no_answer words index given none is shown) (runs given.held u w s);
@@ -542,8 +544,8 @@ goes_no_command words t index result known none is goes = begins known goes
       untouched = λ why. s.untouched;
     })
     (λ u w tree s e. record {
-      ran = λ given gave shown counts may. subst (λ (a : Answer). Ran given.held a result u w) (no_answer words index given none is shown) (ran_refused given.held (refusal_answer (BadWords index)) (BadWords index) 2 result refl refl (refused_at_once given.held (BadWords index) u) (runs given.held u w s) e);
-      given = λ given gave answered. counts_constant (answer words given) (shows u) (λ shown other. sym (no_answer words index given none is other) ∙ no_answer words index given none is shown);
+      ended = λ given gave shown counts may. subst (λ (a : Answer). WasRun given.held a result u w) (no_answer words index given none is shown) (ran_refused given.held (refusal_answer (BadWords index)) (BadWords index) 2 result refl refl (refused_at_once given.held (BadWords index) u) (runs given.held u w s) e);
+      given = λ answered given gave. counts_constant (answer words given) (shows u) (λ shown other. sym (no_answer words index given none is other) ∙ no_answer words index given none is shown);
       made = λ done. subst (λ (o : Option Command). MadeFor o t.left u w) (sym none) tt;
     })
   where
@@ -551,7 +553,7 @@ goes_no_command words t index result known none is goes = begins known goes
     runs held u w s = refusing held (refusal_answer (BadWords index)) (BadWords index) refl (begun (refusal_answer (BadWords index)) unchanged (λ why. not_touched)) (refused_at_once held (BadWords index) u).completes s
 
 -- out of memory for the words
-pub goes_unread : {a : Option Moments} (words : List (List ℕ)) (t : Told) → IsTold a → Goes a a (RunsBy words t) (RanBy words t 6)
+pub goes_unread : {a : Option Moments} (words : List (List ℕ)) (t : Told) → IsTold a → Goes a a (RunsWords words t) (WordsWereRun words t 6)
 goes_unread words t known = stays known
     (λ u. record {
       runs = λ given gave shown counts may. begun (answer words given shown) unchanged (λ why. not_touched);
@@ -560,8 +562,8 @@ goes_unread words t known = stays known
       untouched = λ why. not_touched;
     })
     (λ u tree. record {
-      ran = λ given gave shown counts may. ran_halted given.held (answer words given shown) 6 (omega arith) (begun (answer words given shown) unchanged (λ why. not_touched)) (stood (answer words given shown) unchanged);
-      given = λ given gave answered. absurd (not_answered 6 (omega arith) answered);
+      ended = λ given gave shown counts may. ran_halted given.held (answer words given shown) 6 (omega arith) (begun (answer words given shown) unchanged (λ why. not_touched)) (stood (answer words given shown) unchanged);
+      given = λ answered given gave. absurd (not_answered 6 (omega arith) answered);
       made = λ done. absurd (let is : 6 ≡ 0 = done in omega (arith, is));
     })
 

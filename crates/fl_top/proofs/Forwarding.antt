@@ -40,12 +40,14 @@ use Rattle.fl_top.specs.Status.{only_looks}
 use Rattle.fl_top.specs.Answer.{Given, piece_of, forwarding, rules_over, by_rules, of_recording, filtered_by, filter_by, answer_over, IsOver}
 use Rattle.fl_top.specs.Ends.{end_of_run}
 use Rattle.fl_top.specs.Input.{IsWhole}
-use Rattle.fl_top.specs.Runs.{IsPrefix, IsJust, Runs, Stands, Told, IsGivenTo, files_at}
-use Rattle.fl_top.specs.RunsOver.{Completes, Ended, RunsOn, EndedOn, Closed, IsGivenBy, IsClosedBy, EndsAnyway}
-use Rattle.fl_top.specs.Telling.{Tells, IsRecording, IsFound, Finds, LooksBy, LookedBy, end_of_filter}
+use Rattle.fl_top.specs.Moment.{IsPrefix, IsJust, Runs, RunsCommand, RunsLook}
+use Rattle.fl_top.specs.Return.{Stands, Completes, Ended, CommandHasEnded, Closed, IsGivenBy, IsClosedBy, EndsAnyway, LookHasEnded}
+use Rattle.fl_top.specs.Told.{Told, IsGivenTo, files_at}
+use Rattle.fl_top.specs.Telling.{Tells, IsRecording, IsFound, Finds, end_of_filter}
 use Rattle.fl_top.specs.declared.command_end.CommandEnd.{CommandEnd}
 use Rattle.fl_top.proofs.Over.{Counts, counts_constant, over_given, over_same, counts_same}
 use Rattle.fl_top.proofs.Starting.{begun, unchanged, stood, finishes_none, refused_at_once, shows_before}
+use Rattle.fl_top.proofs.Looking.{still_look}
 use Rattle.fl_top.proofs.Finishing.{is_end, closed, given_by, ByInput, given_files, read_is, made_where, look_made}
 use Rattle.fp_host.specs.Remote.{Holdings}
 use Rattle.fl_change.proofs.Created.{none_created, no_ops_created}
@@ -154,19 +156,20 @@ found_counts by to found disk is = elim is [
 
 -- ---- nothing is printed yet
 
-looks_none : (by : Result World Elements → Answer) (u : View) → LooksBy by u u
-looks_none by u = record { runs = λ shown counts. begun (by shown) unchanged (λ why. same_untouched refl); untouched = same_untouched refl }
+looks_none : (by : Result World Elements → Answer) (u : View) → RunsLook by u u
+looks_none by u = still_look by (λ shown counts. begun (by shown) unchanged (λ why. same_untouched refl)) (same_untouched refl)
 
-looks_same : (by : Result World Elements → Answer) {u w : View} → w ≡ u → LooksBy by u w
-looks_same by {u = u} same = subst (LooksBy by u) (sym same) (looks_none by u)
+looks_same : (by : Result World Elements → Answer) {u w : View} → w ≡ u → RunsLook by u w
+looks_same by {u = u} same = subst (RunsLook by u) (sym same) (looks_none by u)
 
-halted : (by : Result World Elements → Answer) (u : View) → LookedBy by (Err run.NoMemory) u u
-halted by u = record { ended = λ shown counts held. stood (by shown) unchanged; given = λ why. absurd why }
+halted : (by : Result World Elements → Answer) (u : View) → LookHasEnded by (Err run.NoMemory) u u
+halted by u = record { ended = λ shown counts held. stood (by shown) unchanged; given = λ why. absurd why; made = tt }
 
-refused : (by : Result World Elements → Answer) (refusal : Refusal) (u : View) → ((shown : Result World Elements) → IsOver by (shows u) shown → by shown ≡ refusal_answer refusal) → Counts by (shows u) → LookedBy by (Err (run.Refused refusal)) u u
+refused : (by : Result World Elements → Answer) (refusal : Refusal) (u : View) → ((shown : Result World Elements) → IsOver by (shows u) shown → by shown ≡ refusal_answer refusal) → Counts by (shows u) → LookHasEnded by (Err (run.Refused refusal)) u u
 refused by refusal u is counts = record {
   ended = λ shown over held. subst (λ (x : Answer). Ended held x (Err (run.Refused refusal)) u u) (sym (is shown over)) (refl, refused_at_once held refusal u);
   given = λ why. counts;
+  made = tt;
 }
 
 -- ---- the recording isn't one
@@ -178,7 +181,7 @@ unread_is : (files : DeployedFiles) (source : PolicySource) (bytes : List ℕ) (
 unfolding filtered_by
 unread_is files source bytes refusal read shown = ap (of_recording (rules_over files source shown)) read.1 ∙ ap refusal_answer (sym read.2)
 
-unread : (files : DeployedFiles) (source : PolicySource) (bytes : List ℕ) (e : RunEnd) → IsRecording (recording_of bytes) (Err e) → (u : View) → LookedBy (answers files source bytes) (Err e) u u
+unread : (files : DeployedFiles) (source : PolicySource) (bytes : List ℕ) (e : RunEnd) → IsRecording (recording_of bytes) (Err e) → (u : View) → LookHasEnded (answers files source bytes) (Err e) u u
 unread files source bytes (run.Refused refusal) read u =
     let all = unread_is files source bytes refusal read in
     refused (answers files source bytes) refusal u (λ shown over. all shown) (counts_constant (answers files source bytes) (shows u) (λ shown other. all other ∙ sym (all shown)))
@@ -187,9 +190,9 @@ unread files source bytes run.RemoteFault read u = absurd read
 unread files source bytes run.NoMemory read u = halted (answers files source bytes) u
 
 pub goes_unread : {m : Option Moments} (files : DeployedFiles) (source : PolicySource) (bytes : List ℕ) (e : RunEnd) (r : Result (Unit {0}) RunEnd) → IsTold m → IsRecording (recording_of bytes) (Err e) → IsErrAnd r (λ x. x ≡ e)
-    → Goes m m (LooksBy (answers files source bytes)) (LookedBy (answers files source bytes) r)
+    → Goes m m (RunsLook (answers files source bytes)) (LookHasEnded (answers files source bytes) r)
 goes_unread {m = m} files source bytes e r told read err =
-    subst (λ (x : Result (Unit {0}) RunEnd). Goes m m (LooksBy (answers files source bytes)) (LookedBy (answers files source bytes) x)) (sym (is_err r e err))
+    subst (λ (x : Result (Unit {0}) RunEnd). Goes m m (RunsLook (answers files source bytes)) (LookHasEnded (answers files source bytes) x)) (sym (is_err r e err))
     (stays told (λ u. looks_none (answers files source bytes) u) (λ u t. unread files source bytes e read u))
 
 -- ---- it is one
@@ -206,17 +209,17 @@ module _ (files : DeployedFiles) (source : PolicySource) (bytes : List ℕ) (rec
   to_is rules = ap (of_recording rules) read
 
   -- the rules weren't found
-  no_rules : (e : RunEnd) {u w : View} → w ≡ u → Finds (rules_over files source) (Err e) (shows u) → LookedBy by (Err e) u w
+  no_rules : (e : RunEnd) {u w : View} → w ≡ u → Finds (rules_over files source) (Err e) (shows u) → LookHasEnded by (Err e) u w
   no_rules (run.Refused refusal) {u = u} same found =
-      subst (LookedBy by (Err (run.Refused refusal)) u) (sym same)
+      subst (LookHasEnded by (Err (run.Refused refusal)) u) (sym same)
       (refused by refusal u (λ shown over. found_is (rules_over files source) to (Err refusal) (shows u) shown found over ∙ to_is (Err refusal)) (found_counts (rules_over files source) to (Err refusal) (shows u) found))
-  no_rules run.Fault same found = record { ended = λ shown counts held. tt; given = λ why. absurd why }
+  no_rules run.Fault same found = record { ended = λ shown counts held. tt; given = λ why. absurd why; made = tt }
   no_rules run.RemoteFault same found = absurd found
-  no_rules run.NoMemory {u = u} same found = subst (LookedBy by (Err run.NoMemory) u) (sym same) (halted by u)
+  no_rules run.NoMemory {u = u} same found = subst (LookHasEnded by (Err run.NoMemory) u) (sym same) (halted by u)
 
-  pub goes_unfound : {a b : Option Moments} (e : RunEnd) (r : Result (Unit {0}) RunEnd) → IsTold a → Looking (rules_over files source) (Err e) a b → IsErrAnd r (λ x. x ≡ e) → Goes a b (LooksBy by) (LookedBy by r)
+  pub goes_unfound : {a b : Option Moments} (e : RunEnd) (r : Result (Unit {0}) RunEnd) → IsTold a → Looking (rules_over files source) (Err e) a b → IsErrAnd r (λ x. x ≡ e) → Goes a b (RunsLook by) (LookHasEnded by r)
   goes_unfound {a = a} {b = b} e r told looking err =
-      subst (λ (x : Result (Unit {0}) RunEnd). Goes a b (LooksBy by) (LookedBy by x)) (sym (is_err r e err))
+      subst (λ (x : Result (Unit {0}) RunEnd). Goes a b (RunsLook by) (LookHasEnded by x)) (sym (is_err r e err))
       (begins told looking.goes (λ u w t same. looks_same by same) (λ u w t same q. no_rules e q.0 q.1))
 
   -- they were
@@ -227,23 +230,21 @@ module _ (files : DeployedFiles) (source : PolicySource) (bytes : List ℕ) (rec
     answer_is : (u : View) (shown : Result World Elements) → IsFound (rules_over files source) (Ok rules) (shows u) → IsOver by (shows u) shown → by shown ≡ given
     answer_is u shown found counts = found_is (rules_over files source) to (Ok rules) (shows u) shown found counts ∙ to_is (Ok rules)
 
-    looks_on : {u v w : View} → v ≡ u → IsFound (rules_over files source) (Ok rules) (shows u) → Tells given v w → LooksBy by u w
+    looks_on : {u v w : View} → v ≡ u → IsFound (rules_over files source) (Ok rules) (shows u) → Tells given v w → RunsLook by u w
     looks_on {u = u} {w = w} same found told =
         let from : Tells given u w = subst (λ (x : View). Tells given x w) same told in
-        record {
-          runs = λ shown counts. subst (λ (x : Answer). Runs x u w) (sym (answer_is u shown found counts)) from.runs;
-          untouched = from.untouched;
-        }
+        still_look by (λ shown counts. subst (λ (x : Answer). Runs x u w) (sym (answer_is u shown found counts)) from.runs) from.untouched
 
-    looked_on : (r : Result (Unit {0}) RunEnd) {u v w : View} → v ≡ u → IsFound (rules_over files source) (Ok rules) (shows u) → EndsAnyway given r v w → LookedBy by r u w
+    looked_on : (r : Result (Unit {0}) RunEnd) {u v w : View} → v ≡ u → IsFound (rules_over files source) (Ok rules) (shows u) → EndsAnyway given r v w → LookHasEnded by r u w
     looked_on r {u = u} {w = w} same found ended =
         let from : EndsAnyway given r u w = subst (λ (x : View). EndsAnyway given r x w) same ended in
         record {
           ended = λ shown counts. subst (λ (x : Answer). EndsAnyway x r u w) (sym (answer_is u shown found counts)) from;
           given = λ why. found_counts (rules_over files source) to (Ok rules) (shows u) found;
+          made = tt;
         }
 
-    pub goes_found : {a b c : Option Moments} (r : Result (Unit {0}) RunEnd) → IsTold a → IsTold b → Looking (rules_over files source) (Ok rules) a b → Goes b c (Tells given) (EndsAnyway given r) → Goes a c (LooksBy by) (LookedBy by r)
+    pub goes_found : {a b c : Option Moments} (r : Result (Unit {0}) RunEnd) → IsTold a → IsTold b → Looking (rules_over files source) (Ok rules) a b → Goes b c (Tells given) (EndsAnyway given r) → Goes a c (RunsLook by) (LookHasEnded by r)
     goes_found r told told_b looking goes =
         goes_on told_b (begins told looking.goes (λ u w t same. looks_same by same) (λ u w t same q. q)) goes (λ u v w t p q s. looks_on q.0 q.1 s) (λ u v w t p q s last. looked_on r q.0 q.1 last)
 
@@ -277,27 +278,27 @@ source_answer source t bytes whole given gave shown =
     sym (ap (λ (files : DeployedFiles). filter_by files source shown bytes) (given_files (Filtering source) t given refl gave))
     ∙ read_is (Filtering source) (by_source source) (source_input source) t bytes whole given gave shown
 
-runs_told : (command : Command) (t : Told) (by : Result World Elements → Answer) → IsAnswerTo command t by → (u w : View) → LooksBy by u w → RunsOn command t u w
+runs_told : (command : Command) (t : Told) (by : Result World Elements → Answer) → IsAnswerTo command t by → (u w : View) → RunsLook by u w → RunsCommand command t u w
 runs_told command t by is u w looks = record {
-  runs = λ given gave shown counts may. subst (λ (x : Answer). Runs x u w) (is given gave shown) (looks.runs shown (over_same by (answer_over command given) (shows u) shown (is given gave) counts));
-  changes = λ known. alter_untouched looks.untouched;
-  rests = λ change given gave shown counts may rest idle. still_untouched looks.untouched;
-  untouched = λ why. looks.untouched;
+  runs = λ given gave shown counts may. subst (λ (x : Answer). Runs x u w) (is given gave shown) (looks.runs shown (over_same by (answer_over command given) (shows u) shown (is given gave) counts) given.held);
+  changes = λ known. alter_untouched (looks.untouched tt);
+  rests = λ change given gave shown counts may rest idle. still_untouched (looks.untouched tt);
+  untouched = λ why. looks.untouched tt;
 }
 
 ended_told : (command : Command) (t : Told) (by : Result World Elements → Answer) (r : Result (Unit {0}) RunEnd) (s : Result (Unit {0}) CommandEnd) → only_looks command ≡ true → IsAnswerTo command t by → (u w : View)
-    → ((held : Holdings) (x : Answer) → Ended held x r u w → Closed held x s u w) → (IsClosedBy s → IsGivenBy r) → LookedBy by r u w → EndedOn command t s u w
+    → ((held : Holdings) (x : Answer) → Ended held x r u w → Closed held x s u w) → (IsClosedBy s → IsGivenBy r) → LookHasEnded by r u w → CommandHasEnded command t s u w
 ended_told command t by r s quiet is u w turned give looked = record {
   ended = λ given gave shown counts may. subst (λ (x : Answer). Closed given.held x s u w) (is given gave shown) (turned given.held (by shown) (looked.ended shown (over_same by (answer_over command given) (shows u) shown (is given gave) counts) given.held));
-  given = λ given gave why. counts_same (answer_over command given) by (shows u) (λ x. sym (is given gave x)) (looked.given (give why));
+  given = λ why given gave. counts_same (answer_over command given) by (shows u) (λ x. sym (is given gave x)) (looked.given (give why));
   made = made_where s command t.left u w (look_made command t.left u w quiet);
 }
 
-pub goes_told : {m n : Option Moments} (command : Command) (t : Told) (by : Result World Elements → Answer) → IsTold m → only_looks command ≡ true → IsAnswerTo command t by → Goes m n (LooksBy by) (LookedBy by (Ok tt)) → Goes m n (RunsOn command t) (EndedOn command t (Ok tt))
+pub goes_told : {m n : Option Moments} (command : Command) (t : Told) (by : Result World Elements → Answer) → IsTold m → only_looks command ≡ true → IsAnswerTo command t by → Goes m n (RunsLook by) (LookHasEnded by (Ok tt)) → Goes m n (RunsCommand command t) (CommandHasEnded command t (Ok tt))
 goes_told command t by told quiet is goes = begins told goes (λ u w tree p. runs_told command t by is u w p) (λ u w tree p q. ended_told command t by (Ok tt) (Ok tt) quiet is u w (λ held x e. e) (λ why. why) q)
 
 pub goes_not_told : {m n : Option Moments} (command : Command) (t : Told) (by : Result World Elements → Answer) (e : RunEnd) (s : Result (Unit {0}) CommandEnd) → IsTold m → only_looks command ≡ true → IsAnswerTo command t by → IsErrAnd s (λ end. end ≡ end_of_run e)
-    → Goes m n (LooksBy by) (LookedBy by (Err e)) → Goes m n (RunsOn command t) (EndedOn command t s)
+    → Goes m n (RunsLook by) (LookHasEnded by (Err e)) → Goes m n (RunsCommand command t) (CommandHasEnded command t s)
 goes_not_told {m = m} {n = n} command t by e s told quiet is err goes =
-    subst (λ (x : Result (Unit {0}) CommandEnd). Goes m n (RunsOn command t) (EndedOn command t x)) (sym (is_end s (end_of_run e) err))
+    subst (λ (x : Result (Unit {0}) CommandEnd). Goes m n (RunsCommand command t) (CommandHasEnded command t x)) (sym (is_end s (end_of_run e) err))
     (begins told goes (λ u w tree p. runs_told command t by is u w p) (λ u w tree p q. ended_told command t by (Err e) (Err (end_of_run e)) quiet is u w (λ held x k. closed held x e u w k) (given_by e) q))

@@ -24,7 +24,9 @@ use Rattle.fl_change.specs.World.{World, world_in}
 use Rattle.fl_change.proofs.Updates.{second_is_idle}
 use Rattle.fl_top.specs.Answer.{Given, answer, answer_to, shown_answer, IsOver}
 use Rattle.fl_top.specs.Exports.{IsAtRest}
-use Rattle.fl_top.specs.Runs.{Answers, Ran, Told, IsGiven, IsGivenTo, IsChange, RunsBy, RanBy}
+use Rattle.fl_top.specs.Return.{Answers, WasRun, WordsWereRun}
+use Rattle.fl_top.specs.Told.{Told, IsGiven, IsGivenTo, IsChange}
+use Rattle.fl_top.specs.Moment.{RunsWords}
 use Rattle.fl_top.specs.Status.{status_of, status_by, status_at}
 use Rattle.fl_top.proofs.Ending.{command_plain}
 use Rattle.fl_top.proofs.Over.{over_is, over_same, gives_world}
@@ -60,7 +62,7 @@ left_at held a x t {v = v} good is none after shown sound =
     let idle = second_is_idle held x (world_in t (shows v)) good unrefused leads shown.refs_ascend in
     record { state = t; shown = shown; idle = idle.0; unrefused = idle.1; sound = sound }
 
-left_over : (held : Holdings) (a : Answer) (s : State) {u v : View} → IsSound u → Shows (shows u) s → a ≡ changing all held (world_in s (shows u)) → HasPlain a → Ran held a 0 u v → IsLeft held v
+left_over : (held : Holdings) (a : Answer) (s : State) {u v : View} → IsSound u → Shows (shows u) s → a ≡ changing all held (world_in s (shows u)) → HasPlain a → WasRun held a 0 u v → IsLeft held v
 left_over held a s {u = u} {v = v} sound at is plain ran =
     let done : Answers held a 0 u v = ran.answers (inl refl) in
     left_at held a (world_in s (shows u)) (after_all s (ops_of a)) (shown_good (shows u) s at) is (not_refused a plain done.status_is) refl (done.shown sound s at) (ran.sound sound)
@@ -87,15 +89,15 @@ module _ (words : List (List ℕ)) (is : command_of words ≡ Some (Changing Upd
   abbrev given_of : Holdings → Given
   given_of held = record { input = []; held = held; files = λ name commit. None; report = record { findings = []; objects = 0 }; commit = [] }
 
-  module _ (first : Told) (held : Holdings) {u v : View} (sound : IsSound u) (told : first.holds ≡ Some held) (ran : RanBy words first 0 u v) where
+  module _ (first : Told) (held : Holdings) {u v : View} (sound : IsSound u) (told : first.holds ≡ Some held) (ran : WordsWereRun words first 0 u v) where
     left : IsLeft held v
     left =
         let gave = is_given first (given_of held) told in
-        let found = ran.given (given_of held) gave (inl refl) in
+        let found = ran.given (inl refl) (given_of held) gave in
         let at = sound.shown (shows u) (now_left u) in
         left_over held (answer words (given_of held) found.0) at.state sound at.shows
         (answers_world (given_of held) (shows u) found.0 at.state at.shows found.1) (plainly (given_of held) found.0)
-        (ran.ran (given_of held) gave found.0 found.1 (inl (inr (inl sound))))
+        (ran.ended (given_of held) gave found.0 found.1 (inl (inr (inl sound))))
 
     pub second_answers : (given : Given) (shown : Result World Elements) → given.held ≡ held → IsOver (answer words given) (shows v) shown → (ops_of (answer words given shown) ≡ []) × ((answer words given shown).refusal ≡ None)
     second_answers given shown same counts =
@@ -103,7 +105,7 @@ module _ (words : List (List ℕ)) (is : command_of words ≡ Some (Changing Upd
         answers_world given (shows v) shown left.state left.shown counts ∙ ap (λ (h : Holdings). changing all h (world_in left.state (shows v))) same in
         (subst (λ (z : Answer). ops_of z ≡ []) (sym there) left.idle.0, subst (λ (z : Answer). z.refusal ≡ None) (sym there) left.unrefused)
 
-    pub second_writes_nothing : (second : Told) {w : View} → second.holds ≡ Some held → IsAtRest v → RunsBy words second v w → IsStill v w × KeepsFiles v w
+    pub second_writes_nothing : (second : Told) {w : View} → second.holds ≡ Some held → IsAtRest v → RunsWords words second v w → IsStill v w × KeepsFiles v w
     second_writes_nothing second again rest runs =
         let shown : Result World Elements = Ok (world_in left.state (shows v)) in
         let counts : IsOver (answer words (given_of held)) (shows v) shown = inl (gives_world (shows v) left.state left.shown) in

@@ -33,7 +33,7 @@ use Rattle.fl_change.specs.declared.end.RunEnd.{RunEnd}
 use Rattle.fl_change.specs.declared.end.RunEnd.TheVariants as run
 use Rattle.fl_change.proofs.Same.{same_opens}
 use Rattle.fl_top.specs.Exports.{RefreshesShown, RefreshedShown, IsHostEnd}
-use Rattle.fl_top.specs.RunsOver.{IsGivenBy}
+use Rattle.fl_top.specs.Return.{IsGivenBy}
 use Rattle.fl_top.proofs.Opening.{goes_keeping}
 use Rattle.fl_top.proofs.Over.{not_shown}
 use Rattle.fl_top.proofs.Starting.{Keeping}

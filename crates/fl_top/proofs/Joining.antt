@@ -13,7 +13,7 @@ use Rattle.dep_states.proofs.Single.{one_state}
 use Rattle.fl_change.specs.World.{World}
 use Rattle.fl_top.specs.Answer.{answer, Given}
 use Rattle.fl_change.specs.Answer.{ops_in, ops_of}
-use Rattle.fl_top.specs.Runs.{Runs, ShowsAfter}
+use Rattle.fl_top.specs.Moment.{Runs, ShowsAfter}
 use Rattle.fl_top.specs.History.{Stretch, Reopens, History, begins, runs, stops, IsReached}
 use Rattle.fl_change.proofs.Same.{same_shown, same_sound}
 use Rattle.fl_top.proofs.Ending.{runs_sound}

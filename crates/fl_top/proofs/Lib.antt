@@ -1,5 +1,6 @@
 pub mod Over
 pub mod Altering
+mod Looking
 pub mod Starting
 pub mod Opening
 pub mod Described
@@ -25,3 +26,4 @@ mod Idle
 pub mod Lines
 pub mod Followed
 mod Whole
+mod Contract

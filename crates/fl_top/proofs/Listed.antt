@@ -26,8 +26,8 @@ use Rattle.fl_change.specs.Answer.{Answer, text_answer, refusal_answer}
 use Rattle.fl_top.specs.Answer.{shown_answer, listing_answer}
 use Rattle.fl_top.specs.Ends.{PrintsOf}
 use Rattle.fl_change.specs.Ends.{end_of_host, end_of_open}
-use Rattle.fl_top.specs.Runs.{Runs}
-use Rattle.fl_top.specs.RunsOver.{LooksOver, Ended, LookedOver, Completes, Finishes}
+use Rattle.fl_top.specs.Moment.{Runs, RunsLook}
+use Rattle.fl_top.specs.Return.{Ended, LookHasEnded, Completes, Finishes}
 use Rattle.fl_change.specs.Says.{Says, WasSaid}
 use Rattle.fl_change.specs.declared.end.RunEnd.{RunEnd}
 use Rattle.fl_change.specs.declared.end.RunEnd.TheVariants as run
@@ -35,6 +35,7 @@ use Rattle.fl_change.proofs.Saying.{says_step, was_said}
 use Rattle.fl_change.proofs.Same.{same_shown, same_settled}
 use Rattle.fl_change.proofs.Changing.{keeps_files, none_made, same_untouched, still_untouched}
 use Rattle.fl_top.proofs.Altering.{rest_none}
+use Rattle.fl_top.proofs.Looking.{still_look}
 use Rattle.fl_top.proofs.Starting.{Keeping, begun, unchanged, look_not_open, halted_look, shows_before, finishes_none, refused_at_once}
 use Rattle.fl_top.proofs.Described.{listed_world}
 use Rattle.fl_top.proofs.Stored.{HasFiles}
@@ -84,12 +85,12 @@ pub keeping : {u w : View} → w ≡ u → Keeping u w
 keeping {u = u} same = subst (Keeping u) (sym same) unchanged
 
 -- nothing is done yet
-pub looks : (f : World → Answer) {u w : View} → w ≡ u → LooksOver f u w
-looks f same = record { runs = λ shown counts. begun (shown_answer f shown) (keeping same) (λ why. same_untouched same); untouched = same_untouched same }
+pub looks : (f : World → Answer) {u w : View} → w ≡ u → RunsLook (shown_answer f) u w
+looks f same = still_look (shown_answer f) (λ shown counts. begun (shown_answer f shown) (keeping same) (λ why. same_untouched same)) (same_untouched same)
 
-pub goes_not_read : {a b : Option Moments} (f : World → Answer) (e : OpenEnd) (r : Result (Unit {0}) RunEnd) → IsTold a → Unchanged a b → AtEnd (λ u w. Reads u (Err e)) a b → IsErrAnd r (λ end. end ≡ end_of_open e) → Goes a b (LooksOver f) (LookedOver f r)
+pub goes_not_read : {a b : Option Moments} (f : World → Answer) (e : OpenEnd) (r : Result (Unit {0}) RunEnd) → IsTold a → Unchanged a b → AtEnd (λ u w. Reads u (Err e)) a b → IsErrAnd r (λ end. end ≡ end_of_open e) → Goes a b (RunsLook (shown_answer f)) (LookHasEnded (shown_answer f) r)
 goes_not_read {a = a} {b = b} f e r known still tell is =
-    subst (λ (x : Result (Unit {0}) RunEnd). Goes a b (LooksOver f) (LookedOver f x)) (sym (is_err r (end_of_open e) is))
+    subst (λ (x : Result (Unit {0}) RunEnd). Goes a b (RunsLook (shown_answer f)) (LookHasEnded (shown_answer f) x)) (sym (is_err r (end_of_open e) is))
     (begins known (goes_known still.goes tell) (λ u w t same. looks f same) (λ u w t same q. look_not_open f e (keeping same) (reads_opened e u w q.1)))
 
 -- ---- what is listed of the state that was read
@@ -111,7 +112,7 @@ module _ (files : DeployedFiles) (listing : Listing) (s : State) where
   abbrev over_store : Result (List ℕ) RunEnd → View → Type 0
   over_store r v = PrintsOf (listing_answer (deployed_files (shows v)) listing (record { state = s; have = store repo (shows v) })) r
 
-  read : {a b : Option Moments} → HasFiles a files → Unchanged a b → AtEnd (λ u w. Reads u (Ok s)) a b → Goes a b (LooksOver f) (λ u w. (w ≡ u) × (Shows (shows u) s × (files ≡ deployed_files (shows u))))
+  read : {a b : Option Moments} → HasFiles a files → Unchanged a b → AtEnd (λ u w. Reads u (Ok s)) a b → Goes a b (RunsLook (shown_answer f)) (λ u w. (w ≡ u) × (Shows (shows u) s × (files ≡ deployed_files (shows u))))
   read has still tell = knowing {P = λ v. files ≡ deployed_files (shows v)} has (goes_known still.goes tell) (λ u w k same. looks f same) (λ u w k q. (q.0.0, (q.1, k)))
 
   text_of : {b c : Option Moments} (r : Result (List ℕ) RunEnd) → Unchanged b c → TellsOver listing s b r → Goes b c (λ v w. w ≡ v) (λ v w. (w ≡ v) × over_store r v)
@@ -124,55 +125,54 @@ module _ (files : DeployedFiles) (listing : Listing) (s : State) where
     tells = subst (λ (a : Answer). PrintsOf a r) (sym (ap (λ (x : DeployedFiles). listing_answer x listing (world_in s (shows u))) known ∙ listed_world (deployed_files (shows u)) listing s (shows u))) (subst (over_store r) first tells);
   }
 
-  read_told : {a b c : Option Moments} (r : Result (List ℕ) RunEnd) → HasFiles a files → IsTold b → Unchanged a b → AtEnd (λ u w. Reads u (Ok s)) a b → Unchanged b c → TellsOver listing s b r → Goes a c (LooksOver f) (HasTold files listing s r)
+  read_told : {a b c : Option Moments} (r : Result (List ℕ) RunEnd) → HasFiles a files → IsTold b → Unchanged a b → AtEnd (λ u w. Reads u (Ok s)) a b → Unchanged b c → TellsOver listing s b r → Goes a c (RunsLook (shown_answer f)) (HasTold files listing s r)
   read_told r has known_b still tell quiet tells =
       goes_on known_b (read has still tell) (text_of r quiet tells) (λ u v w t p q n. looks f (n ∙ q.0)) (λ u v w t p q n l. told r q.0 q.1.0 q.1.1 l.0 l.1)
 
   -- it is refused, or comes to no end
-  no_text : (e : RunEnd) {u w : View} → HasTold files listing s (Err e) u w → LookedOver f (Err e) u w
+  no_text : (e : RunEnd) {u w : View} → HasTold files listing s (Err e) u w → LookHasEnded (shown_answer f) (Err e) u w
   no_text (run.Refused refusal) {u = u} {w = w} q = record {
     ended = λ shown counts held. subst (λ (a : Answer). Ended held a (Err (run.Refused refusal)) u w) (sym q.tells ∙ sym (over_is f (shows u) shown s q.shown counts))
         (refl, subst (Finishes held (refusal_answer refusal) u) (sym q.same) (refused_at_once held refusal u));
     given = λ by. counts_shown (shown_answer f) (shows u) s q.shown;
+    made = tt;
   }
-  no_text run.Fault q = record { ended = λ shown counts held. tt; given = λ by. absurd by }
+  no_text run.Fault q = record { ended = λ shown counts held. tt; given = λ by. absurd by; made = tt }
   no_text run.RemoteFault q = absurd q.tells
   no_text run.NoMemory q = halted_look f (keeping q.same)
 
-  pub goes_not_listed : {a b c : Option Moments} (e : RunEnd) (r : Result (Unit {0}) RunEnd) → IsTold a → HasFiles a files → IsTold b → Unchanged a b → AtEnd (λ u w. Reads u (Ok s)) a b → Unchanged b c → TellsOver listing s b (Err e) → IsErrAnd r (λ end. end ≡ e) → Goes a c (LooksOver f) (LookedOver f r)
+  pub goes_not_listed : {a b c : Option Moments} (e : RunEnd) (r : Result (Unit {0}) RunEnd) → IsTold a → HasFiles a files → IsTold b → Unchanged a b → AtEnd (λ u w. Reads u (Ok s)) a b → Unchanged b c → TellsOver listing s b (Err e) → IsErrAnd r (λ end. end ≡ e) → Goes a c (RunsLook (shown_answer f)) (LookHasEnded (shown_answer f) r)
   goes_not_listed {a = a} {c = c} e r known has known_b still tell quiet tells is =
-      subst (λ (x : Result (Unit {0}) RunEnd). Goes a c (LooksOver f) (LookedOver f x)) (sym (is_err r e is))
+      subst (λ (x : Result (Unit {0}) RunEnd). Goes a c (RunsLook (shown_answer f)) (LookHasEnded (shown_answer f) x)) (sym (is_err r e is))
       (begins known (read_told (Err e) has known_b still tell quiet tells) (λ u w t p. p) (λ u w t p q. no_text e q))
 
   -- ---- and it is printed
 
   module _ (text : List ℕ) where
-    is_told : {u v w : View} → HasTold files listing s (Ok text) u v → Says text v w → LooksOver f u w
+    is_told : {u v w : View} → HasTold files listing s (Ok text) u v → Says text v w → RunsLook (shown_answer f) u w
     is_told {u = u} {w = w} q says_it =
         let from : Says text u w = subst (λ (x : View). Says text x w) q.same says_it in
-        record {
-          runs = λ shown counts. subst (λ (a : Answer). Runs a u w) (sym q.tells ∙ sym (over_is f (shows u) shown s q.shown counts)) (telling text from);
-          untouched = from.untouched;
-        }
+        still_look (shown_answer f) (λ shown counts. subst (λ (a : Answer). Runs a u w) (sym q.tells ∙ sym (over_is f (shows u) shown s q.shown counts)) (telling text from)) from.untouched
 
-    was_told : {u v w : View} → HasTold files listing s (Ok text) u v → WasSaid text v w → LookedOver f (Ok tt) u w
+    was_told : {u v w : View} → HasTold files listing s (Ok text) u v → WasSaid text v w → LookHasEnded (shown_answer f) (Ok tt) u w
     was_told {u = u} {w = w} q said_it = record {
       ended = λ shown counts held. subst (λ (a : Answer). Ended held a (Ok tt) u w) (sym q.tells ∙ sym (over_is f (shows u) shown s q.shown counts)) (refl, tells held text (subst (λ (x : View). WasSaid text x w) q.same said_it));
       given = λ by. counts_shown (shown_answer f) (shows u) s q.shown;
+      made = tt;
     }
 
-    not_told : (e : HostError) (u v w : View) → Step (says text) (Err e) v w → LookedOver f (Err (end_of_host (end_of e))) u w
-    not_told error.Failed u v w step = record { ended = λ shown counts held. tt; given = λ by. absurd by }
-    not_told error.Clash u v w step = record { ended = λ shown counts held. tt; given = λ by. absurd by }
+    not_told : (e : HostError) (u v w : View) → Step (says text) (Err e) v w → LookHasEnded (shown_answer f) (Err (end_of_host (end_of e))) u w
+    not_told error.Failed u v w step = record { ended = λ shown counts held. tt; given = λ by. absurd by; made = tt }
+    not_told error.Clash u v w step = record { ended = λ shown counts held. tt; given = λ by. absurd by; made = tt }
     not_told error.NoMemory u v w step = absurd step.how
 
     pub goes_not_told : {a b c d : Option Moments} (e : HostError) (r : Result (Unit {0}) RunEnd) → HasFiles a files → IsTold b → IsTold c → Unchanged a b → AtEnd (λ u w. Reads u (Ok s)) a b → Unchanged b c → TellsOver listing s b (Ok text)
-        → Makes (Step (says text) (Err e)) c d → IsErrAnd r (λ end. end ≡ end_of_host (end_of e)) → Goes a d (LooksOver f) (LookedOver f r)
+        → Makes (Step (says text) (Err e)) c d → IsErrAnd r (λ end. end ≡ end_of_host (end_of e)) → Goes a d (RunsLook (shown_answer f)) (LookHasEnded (shown_answer f) r)
     goes_not_told {a = a} {d = d} e r has known_b known_c still tell quiet tells call err =
-        subst (λ (x : Result (Unit {0}) RunEnd). Goes a d (LooksOver f) (LookedOver f x)) (sym (is_err r (end_of_host (end_of e)) err))
+        subst (λ (x : Result (Unit {0}) RunEnd). Goes a d (RunsLook (shown_answer f)) (LookHasEnded (shown_answer f) x)) (sym (is_err r (end_of_host (end_of e)) err))
         (goes_on known_c (read_told (Ok text) has known_b still tell quiet tells) (makes_goes call) (λ u v w t p q step. is_told q (says_step step)) (λ u v w t p q step last. not_told e u v w last))
 
     pub goes_told : {a b c d : Option Moments} → HasFiles a files → IsTold b → IsTold c → Unchanged a b → AtEnd (λ u w. Reads u (Ok s)) a b → Unchanged b c → TellsOver listing s b (Ok text)
-        → Makes (Step (says text) (Ok tt)) c d → Goes a d (LooksOver f) (LookedOver f (Ok tt))
+        → Makes (Step (says text) (Ok tt)) c d → Goes a d (RunsLook (shown_answer f)) (LookHasEnded (shown_answer f) (Ok tt))
     goes_told has known_b known_c still tell quiet tells call =
         goes_on known_c (read_told (Ok text) has known_b still tell quiet tells) (makes_goes call) (λ u v w t p q step. is_told q (says_step step)) (λ u v w t p q step last. was_told q (was_said last))

@@ -42,8 +42,9 @@ use Rattle.fl_top.specs.Ends.{end_of_run, end_of_make}
 use Rattle.fl_top.specs.Exports.{made_by, Alters, made_at, OnlyRests}
 use Rattle.fl_top.specs.Input.{IsWhole}
 use Rattle.fl_top.specs.Remotes.{MakesBy, MadeBy}
-use Rattle.fl_top.specs.Runs.{Runs, Stands, Told, IsGivenTo, IsJust}
-use Rattle.fl_top.specs.RunsOver.{RunsOn, EndedOn, Closed, Completes}
+use Rattle.fl_top.specs.Moment.{Runs, IsJust, RunsCommand}
+use Rattle.fl_top.specs.Return.{Stands, CommandHasEnded, Closed, Completes}
+use Rattle.fl_top.specs.Told.{Told, IsGivenTo}
 use Rattle.fl_top.specs.declared.command_end.CommandEnd.{CommandEnd}
 use Rattle.fl_top.specs.declared.command_end.CommandEnd.TheVariants.{Fault, RemoteFault, InputFault}
 use Rattle.dep_states.specs.Names.{repo_config}
@@ -145,7 +146,7 @@ module _ (remote : List ℕ) (r : Ref) (t : Told) (bytes : List ℕ) (whole : Is
     | inr read ↦ subst (λ (a : Answer). Runs a u w) (line_is given gave read shown) (runs_line given.commit makes)
   ]
 
-  made_on : {u w : View} → Makes remote r bytes u w → RunsOn (Exporting remote r) t u w
+  made_on : {u w : View} → Makes remote r bytes u w → RunsCommand (Exporting remote r) t u w
   made_on makes = record {
     runs = λ given gave shown counts may. runs_made makes given gave shown;
     changes = λ known. alter_made makes;
@@ -163,21 +164,21 @@ module _ (remote : List ℕ) (r : Ref) (t : Told) (bytes : List ℕ) (whole : Is
       subst (λ (v : View). Closed given.held (answer_over (Exporting remote r) given shown) (Err (end_of_make (make.BadRecord line))) u v) (sym same)
       (subst (λ (a : Answer). Closed given.held a (Err (end_of_make (make.BadRecord line))) u u) (bad_answer given.commit bytes line bad ∙ answer_is given gave shown) (refl, refused_at_once given.held (BadRecord line) u))
 
-  ended_not : (e : MakeEnd) → IsMakeFault bytes e → {u w : View} → ((line : ℕ) → e ≡ make.BadRecord line → w ≡ u) → Makes remote r bytes u w → EndedOn (Exporting remote r) t (Err (end_of_make e)) u w
+  ended_not : (e : MakeEnd) → IsMakeFault bytes e → {u w : View} → ((line : ℕ) → e ≡ make.BadRecord line → w ≡ u) → Makes remote r bytes u w → CommandHasEnded (Exporting remote r) t (Err (end_of_make e)) u w
   ended_not (make.BadRecord line) bad {u = u} same makes = record {
     ended = λ given gave shown counts may. bad_closed line bad (same line refl) given gave shown;
-    given = λ given gave by. counts_constant (answer_over (Exporting remote r) given) (shows u) (λ shown other. refl);
+    given = λ by given gave. counts_constant (answer_over (Exporting remote r) given) (shows u) (λ shown other. refl);
     made = tt;
   }
-  ended_not make.Fault bad same makes = record { ended = λ given gave shown counts may. tt; given = λ given gave by. absurd by; made = tt }
-  ended_not make.NoMemory bad same makes = record { ended = λ given gave shown counts may. stands_made (answer_over (Exporting remote r) given shown) makes; given = λ given gave by. absurd by; made = tt }
+  ended_not make.Fault bad same makes = record { ended = λ given gave shown counts may. tt; given = λ by given gave. absurd by; made = tt }
+  ended_not make.NoMemory bad same makes = record { ended = λ given gave shown counts may. stands_made (answer_over (Exporting remote r) given shown) makes; given = λ by given gave. absurd by; made = tt }
 
   pub goes_not_made : {a b : Option Moments} (e : MakeEnd) (result : Result (Unit {0}) CommandEnd) → IsTold a → Always (Makes remote r bytes) a b → IsMakeFault bytes e → ((line : ℕ) → e ≡ make.BadRecord line → Unchanged a b)
-      → IsErrAnd result (λ end. end ≡ end_of_make e) → Goes a b (RunsOn (Exporting remote r) t) (EndedOn (Exporting remote r) t result)
+      → IsErrAnd result (λ end. end ≡ end_of_make e) → Goes a b (RunsCommand (Exporting remote r) t) (CommandHasEnded (Exporting remote r) t result)
   goes_not_made {a = a} {b = b} e result known makes bad still err =
-      subst (λ (x : Result (Unit {0}) CommandEnd). Goes a b (RunsOn (Exporting remote r) t) (EndedOn (Exporting remote r) t x)) (sym (is_end result (end_of_make e) err)) (by_end e bad still)
+      subst (λ (x : Result (Unit {0}) CommandEnd). Goes a b (RunsCommand (Exporting remote r) t) (CommandHasEnded (Exporting remote r) t x)) (sym (is_end result (end_of_make e) err)) (by_end e bad still)
     where
-      by_end : (e : MakeEnd) → IsMakeFault bytes e → ((line : ℕ) → e ≡ make.BadRecord line → Unchanged a b) → Goes a b (RunsOn (Exporting remote r) t) (EndedOn (Exporting remote r) t (Err (end_of_make e)))
+      by_end : (e : MakeEnd) → IsMakeFault bytes e → ((line : ℕ) → e ≡ make.BadRecord line → Unchanged a b) → Goes a b (RunsCommand (Exporting remote r) t) (CommandHasEnded (Exporting remote r) t (Err (end_of_make e)))
       by_end (make.BadRecord line) bad still = begins known (goes_known makes (ends_looks known (still line refl))) (λ u w tree p. made_on p) (λ u w tree p q. ended_not (make.BadRecord line) bad (λ other is. q.1.0) q.0)
       by_end make.Fault bad still = begins known makes (λ u w tree p. made_on p) (λ u w tree p q. ended_not make.Fault bad (λ other is. absurd (cc is)) q)
       by_end make.NoMemory bad still = begins known makes (λ u w tree p. made_on p) (λ u w tree p q. ended_not make.NoMemory bad (λ other is. absurd (cc is)) q)
@@ -189,7 +190,7 @@ module _ (remote : List ℕ) (r : Ref) (t : Told) (bytes : List ℕ) (whole : Is
       makes : Makes remote r bytes u v
       was : WasMade remote r bytes line u v
 
-    first : {a b : Option Moments} → IsTold a → Always (Makes remote r bytes) a b → AtEnd (WasMade remote r bytes line) a b → Goes a b (RunsOn (Exporting remote r) t) HasMade
+    first : {a b : Option Moments} → IsTold a → Always (Makes remote r bytes) a b → AtEnd (WasMade remote r bytes line) a b → Goes a b (RunsCommand (Exporting remote r) t) HasMade
     first known makes was = begins known (goes_known makes was) (λ u w tree p. made_on p) (λ u w tree p q. record { makes = q.0; was = q.1 })
 
     line_given : {u v : View} → HasMade u v → (given : Given) → IsGivenTo (Exporting remote r) t given → line ≡ made_text given.commit
@@ -224,7 +225,7 @@ module _ (remote : List ℕ) (r : Ref) (t : Told) (bytes : List ℕ) (whole : Is
         rests : (s : State) → OnlyRests (text_answer line) s u w
         rests s = rest_on (subst (λ (x : List ℕ). OnlyRests (text_answer x) s u v) (sym h.was.line_is) (rest_made h.was.built.commit s h.makes)) (rest_none says.untouched.names)
 
-    said_on : {u v w : View} → HasMade u v → Says line v w → RunsOn (Exporting remote r) t u w
+    said_on : {u v w : View} → HasMade u v → Says line v w → RunsCommand (Exporting remote r) t u w
     said_on {u = u} {v = v} {w = w} h says = record {
       runs = λ given gave shown counts may. subst (λ (a : Answer). Runs a u w) (said_answer h given gave shown) (runs_said h says);
       changes = λ known. alter_on u v w (alter_made h.makes) (alter_untouched says.untouched);
@@ -265,29 +266,29 @@ module _ (remote : List ℕ) (r : Ref) (t : Told) (bytes : List ℕ) (whole : Is
         }
 
     pub goes_made : {a b c : Option Moments} → IsTold a → IsTold b → Always (Makes remote r bytes) a b → AtEnd (WasMade remote r bytes line) a b → Goes b c (Says line) (SaidBy line (Ok tt))
-        → Goes a c (RunsOn (Exporting remote r) t) (EndedOn (Exporting remote r) t (Ok tt))
+        → Goes a c (RunsCommand (Exporting remote r) t) (CommandHasEnded (Exporting remote r) t (Ok tt))
     goes_made known known_b makes was says = goes_on known_b (first known makes was) says
         (λ u v w tree p h s. said_on h s)
         (λ u v w tree p h s said. record {
           ended = λ given gave shown counts may. subst (λ (a : Answer). Closed given.held a (Ok tt) u w) (said_answer h given gave shown) (refl, finishes_none given.held (text_answer line) refl (completes_said given.held h said));
-          given = λ given gave by. counts_constant (answer_over (Exporting remote r) given) (shows u) (λ shown other. refl);
+          given = λ by given gave. counts_constant (answer_over (Exporting remote r) given) (shows u) (λ shown other. refl);
           made = leaves h said;
         })
 
-    not_said : (e : HostEnd) (s : Result (Unit {0}) HostEnd) → s ≡ Err e → {u v w : View} → HasMade u v → SaidBy line s v w → EndedOn (Exporting remote r) t (Err (end_of_run (end_of_host e))) u w
-    not_said host.Fault s was h said = record { ended = λ given gave shown counts may. tt; given = λ given gave by. absurd by; made = tt }
+    not_said : (e : HostEnd) (s : Result (Unit {0}) HostEnd) → s ≡ Err e → {u v w : View} → HasMade u v → SaidBy line s v w → CommandHasEnded (Exporting remote r) t (Err (end_of_run (end_of_host e))) u w
+    not_said host.Fault s was h said = record { ended = λ given gave shown counts may. tt; given = λ by given gave. absurd by; made = tt }
     not_said host.NoMemory s was {u = u} {v = v} {w = w} h said =
         let same : w ≡ v = subst (λ (x : Result (Unit {0}) HostEnd). SaidBy line x v w) was said in
         record {
           ended = λ given gave shown counts may. subst (λ (x : View). Stands (answer_over (Exporting remote r) given shown) u x) (sym same) (stands_made (answer_over (Exporting remote r) given shown) h.makes);
-          given = λ given gave by. absurd by;
+          given = λ by given gave. absurd by;
           made = tt;
         }
 
     pub goes_not_said : {a b c : Option Moments} (e : HostEnd) (s : Result (Unit {0}) HostEnd) (result : Result (Unit {0}) CommandEnd) → IsTold a → IsTold b → Always (Makes remote r bytes) a b → AtEnd (WasMade remote r bytes line) a b → s ≡ Err e
-        → Goes b c (Says line) (SaidBy line s) → IsErrAnd result (λ end. end ≡ end_of_run (end_of_host e)) → Goes a c (RunsOn (Exporting remote r) t) (EndedOn (Exporting remote r) t result)
+        → Goes b c (Says line) (SaidBy line s) → IsErrAnd result (λ end. end ≡ end_of_run (end_of_host e)) → Goes a c (RunsCommand (Exporting remote r) t) (CommandHasEnded (Exporting remote r) t result)
     goes_not_said {a = a} {c = c} e s result known known_b makes was is says err =
-        subst (λ (x : Result (Unit {0}) CommandEnd). Goes a c (RunsOn (Exporting remote r) t) (EndedOn (Exporting remote r) t x)) (sym (is_end result (end_of_run (end_of_host e)) err))
+        subst (λ (x : Result (Unit {0}) CommandEnd). Goes a c (RunsCommand (Exporting remote r) t) (CommandHasEnded (Exporting remote r) t x)) (sym (is_end result (end_of_run (end_of_host e)) err))
         (goes_on known_b (first known makes was) says (λ u v w tree p h q. said_on h q) (λ u v w tree p h q said. not_said e s is h said))
 
 -- ---- why it fails

@@ -31,8 +31,11 @@ use Rattle.fl_change.specs.declared.end.RunEnd.TheVariants as run
 use Rattle.fl_change.proofs.Both.{goes_both}
 use Rattle.fl_change.proofs.Same.{same_settled}
 use Rattle.fl_change.proofs.Working.{is_err}
-use Rattle.fl_top.specs.Runs.{IsReady}
-use Rattle.fl_top.specs.RunsOver.{OverView, RunsOver, Completes, EndedOver}
+use Rattle.fl_top.specs.Answer.{shown_answer}
+use Rattle.fl_top.specs.Told.{IsReady}
+use Rattle.fl_top.specs.Counting.{EachOver}
+use Rattle.fl_top.specs.Moment.{RunsChanges}
+use Rattle.fl_top.specs.Return.{Completes, ChangesHaveEnded}
 use Rattle.fl_top.proofs.Starting.{Keeping, kept, IsLate, IsNoRefusal, Begun, Working, begun_over, begun_seen, begun_world, ready_sound, runs_over, done_over, refused_over, failed_over, ended_open}
 use Rattle.fl_top.proofs.Over.{over_is}
 
@@ -43,12 +46,12 @@ Looked Q u w = IsTree u × Keeping u w × Q u w
 pub goes_keeping : {a b : Option Moments} → IsTold a → Frame Nothing NoName NoPath a b → Goes a b Keeping Keeping
 goes_keeping known frame = begins known frame.goes (λ u w t r. kept r) (λ u w t r q. kept q)
 
-opening : {a b : Option Moments} {Q : View → View → Type 0} (holds : Option Holdings) (May : Op → Type 0) (f : Holdings → World → Answer) → IsLate f → IsTold a → Frame Nothing NoName NoPath a b → Goes a b StaysUnread StaysUnread → AtEnd Q a b → Goes a b (RunsOver holds May f) (Looked Q)
+opening : {a b : Option Moments} {Q : View → View → Type 0} (holds : Option Holdings) (May : Op → Type 0) (f : Holdings → World → Answer) → IsLate f → IsTold a → Frame Nothing NoName NoPath a b → Goes a b StaysUnread StaysUnread → AtEnd Q a b → Goes a b (RunsChanges holds May f) (Looked Q)
 opening holds May f late known frame unread tells = begins known (goes_known (goes_both (goes_keeping known frame) unread) tells) (λ u w t r. begun_over holds May f late r.0 r.1) (λ u w t r q. (t, q.0.0, q.1))
 
-pub goes_not_opened : {a b : Option Moments} (holds : Option Holdings) (May : Op → Type 0) (f : Holdings → World → Answer) (e : OpenEnd) (r : Result (Unit {0}) RunEnd) → IsLate f → IsTold a → Frame Nothing NoName NoPath a b → Goes a b StaysUnread StaysUnread → AtEnd (Opened (Err e)) a b → IsErrAnd r (λ end. end ≡ end_of_open e) → Goes a b (RunsOver holds May f) (EndedOver holds f r)
+pub goes_not_opened : {a b : Option Moments} (holds : Option Holdings) (May : Op → Type 0) (f : Holdings → World → Answer) (e : OpenEnd) (r : Result (Unit {0}) RunEnd) → IsLate f → IsTold a → Frame Nothing NoName NoPath a b → Goes a b StaysUnread StaysUnread → AtEnd (Opened (Err e)) a b → IsErrAnd r (λ end. end ≡ end_of_open e) → Goes a b (RunsChanges holds May f) (ChangesHaveEnded holds f r)
 goes_not_opened {a = a} {b = b} holds May f e r late known frame unread tells is =
-    subst (λ (x : Result (Unit {0}) RunEnd). Goes a b (RunsOver holds May f) (EndedOver holds f x)) (sym (is_err r (end_of_open e) is))
+    subst (λ (x : Result (Unit {0}) RunEnd). Goes a b (RunsChanges holds May f) (ChangesHaveEnded holds f x)) (sym (is_err r (end_of_open e) is))
     (begins known (opening holds May f late known frame unread tells) (λ u w t p. p) (λ u w t p q. ended_open holds f e q.1 q.2))
 
 begun : {s : State} {u v : View} → Looked (IsOpened s) u v → Begun s u v
@@ -111,7 +114,7 @@ module _ (May : Op → Type 0) (f : Holdings → World → Answer) (s : State) {
       each_as x (v ∷ vs) all = (record { performs = all.0.0; changes = all.0.1 }, each_as x vs all.1)
 
 pub goes_failed : {a : Option Moments} (May : Op → Type 0) (f : Holdings → World → Answer) (s : State) (e : RunEnd) {before now : Bool} {u w : Outside} → IsNoRefusal e → IsLate f → IsTold a → IsTold u.told → Frame Nothing NoName NoPath a u.told → Goes a u.told StaysUnread StaysUnread → AtEnd (IsOpened s) a u.told
-    → Acts (Opens s) May f s before now (Err e) u w → Goes a w.told (RunsOver u.holdings May f) (EndedOver u.holdings f (Err e))
+    → Acts (Opens s) May f s before now (Err e) u w → Goes a w.told (RunsChanges u.holdings May f) (ChangesHaveEnded u.holdings f (Err e))
 goes_failed May f s e {u = u} other late known known_b frame unread tells works =
     goes_on known_b (opening u.holdings May f late known frame unread tells) (worked May f s works) (λ x y z t p q step. runs_over u.holdings May f s late (begun q) t step) (λ x y z t p q step last. failed_over u.holdings f s e z other (begun q) t last.0)
 
@@ -123,8 +126,8 @@ goes_failed May f s e {u = u} other late known known_b frame unread tells works 
 pub record Changed (spares : Bool) (holds : Option Holdings) (May : Op → Type 0) (f : Holdings → World → Answer) (t : State) (u w : View) : Type 0 where
   pub before : State
   pub at : Shows (shows u) before
-  pub done : IsReady u → (held : Holdings) → holds ≡ Some held → OverView (f held) u (λ a. (a.refusal ≡ None) × Completes held a u w)
-  pub after : IsReady u → (held : Holdings) → holds ≡ Some held → OverView (f held) u (λ a. t ≡ after_all before (ops_of a))
+  pub done : IsReady u → (held : Holdings) → holds ≡ Some held → EachOver (shown_answer (f held)) u (λ a. (a.refusal ≡ None) × Completes held a u w)
+  pub after : IsReady u → (held : Holdings) → holds ≡ Some held → EachOver (shown_answer (f held)) u (λ a. t ≡ after_all before (ops_of a))
   pub opens : AreToldFor May holds → IsSound u → Opens t w
   pub tree : IsTree u
   pub settled : IsReady u → (held : Holdings) → holds ≡ Some held → (spares ≡ true → Settled (shows u)) → Settled (shows w)
@@ -168,7 +171,7 @@ changed_over spares holds May f s t {u = u} {v = v} w begun tree work is opens s
 }
 
 pub goes_changed : {a : Option Moments} (spares : Bool) (May : Op → Type 0) (f : Holdings → World → Answer) (s t : State) {before now : Bool} {u w : Outside} → IsLate f → IsTold a → IsTold u.told → Frame Nothing NoName NoPath a u.told → Goes a u.told StaysUnread StaysUnread → AtEnd (IsOpened s) a u.told
-    → Acts (Opens s) May f s before now (Ok t) u w → (spares ≡ false → AtEnd (SettlesOver u.holdings s (Ok t)) u.told w.told) → Goes a w.told (RunsOver u.holdings May f) (Changed spares u.holdings May f t)
+    → Acts (Opens s) May f s before now (Ok t) u w → (spares ≡ false → AtEnd (SettlesOver u.holdings s (Ok t)) u.told w.told) → Goes a w.told (RunsChanges u.holdings May f) (Changed spares u.holdings May f t)
 goes_changed spares May f s t {u = u} late known known_b frame unread tells works settles =
     goes_on known_b (opening u.holdings May f late known frame unread tells) (ends_where (spares ≡ false) (ends_where (AreToldFor May u.holdings) (worked May f s works) works.opens) settles)
     (λ x y z tree p q step. runs_over u.holdings May f s late (begun q) tree step)
@@ -182,7 +185,7 @@ goes_changed spares May f s t {u = u} late known known_b frame unread tells work
 pub record WasRefused (holds : Option Holdings) (May : Op → Type 0) (f : Holdings → World → Answer) (refusal : Refusal) (acted : Bool) (u w : View) : Type 0 where
   pub before : State
   pub at : Shows (shows u) before
-  pub done : IsReady u → (held : Holdings) → holds ≡ Some held → OverView (f held) u (λ a. (a.refusal ≡ Some refusal) × Completes held a u w × Opens (after_all before (ops_of a)) w × (acted ≡ has_acted false (ops_of a)))
+  pub done : IsReady u → (held : Holdings) → holds ≡ Some held → EachOver (shown_answer (f held)) u (λ a. (a.refusal ≡ Some refusal) × Completes held a u w × Opens (after_all before (ops_of a)) w × (acted ≡ has_acted false (ops_of a)))
   pub opens : AreToldFor May holds → IsSound u → (t : State) × Opens t w
   pub tree : IsTree u
 
@@ -197,7 +200,7 @@ was_refused holds May f s refusal acted w begun tree work is opens = record {
 }
 
 pub goes_refused : {a : Option Moments} (May : Op → Type 0) (f : Holdings → World → Answer) (s : State) (refusal : Refusal) (acted : Bool) {u w : Outside} → IsLate f → IsTold a → IsTold u.told → Frame Nothing NoName NoPath a u.told → Goes a u.told StaysUnread StaysUnread → AtEnd (IsOpened s) a u.told
-    → Acts (Opens s) May f s false acted (Err (run.Refused refusal)) u w → Goes a w.told (RunsOver u.holdings May f) (WasRefused u.holdings May f refusal acted)
+    → Acts (Opens s) May f s false acted (Err (run.Refused refusal)) u w → Goes a w.told (RunsChanges u.holdings May f) (WasRefused u.holdings May f refusal acted)
 goes_refused May f s refusal acted {u = u} late known known_b frame unread tells works =
     goes_on known_b (opening u.holdings May f late known frame unread tells) (ends_where (AreToldFor May u.holdings) (worked May f s works) works.opens)
     (λ x y z tree p q step. runs_over u.holdings May f s late (begun q) tree step)

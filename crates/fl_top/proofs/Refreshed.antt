@@ -59,8 +59,9 @@ use Rattle.fl_change.proofs.Changing.{text_on, still_on}
 use Rattle.fl_change.proofs.Created.{created_on}
 use Rattle.fl_top.specs.Answer.{shown_answer, IsAtOnce}
 use Rattle.fl_top.specs.Exports.{HasExports, LeavesExports, IsInStep, RefreshesShown, RefreshedShown, StepsAfter, InStepAfter, StandsAfter, IsHostEnd, PassesOn}
-use Rattle.fl_top.specs.Runs.{IsJust, Runs, Stands, IsReady}
-use Rattle.fl_top.specs.RunsOver.{RunsOver, Completes, EndedOver, IsGivenBy}
+use Rattle.fl_top.specs.Moment.{IsJust, Runs, RunsChanges}
+use Rattle.fl_top.specs.Return.{Stands, Completes, ChangesHaveEnded, IsGivenBy}
+use Rattle.fl_top.specs.Told.{IsReady}
 use Rattle.fl_top.proofs.Altering.{alter_on, alter_refreshes, alter_refreshed, rest_on, rest_refreshes}
 use Rattle.fl_top.proofs.Ending.{prefix_all, before_last}
 use Rattle.fl_top.proofs.Opening.{Changed, WasRefused, goes_failed, goes_changed, goes_refused}
@@ -249,20 +250,20 @@ module _ {spares : Bool} (holds : Option Holdings) (May : Op → Type 0) (f : Ho
   not_at_once : (a : Answer) → a.refusal ≡ None → IsAtOnce a.refusal → ⊥
   not_at_once a none at_once = subst IsAtOnce none at_once
 
-  runs_on : IsTree v → RunsOver holds May f u v → RunsOver holds May f u w
+  runs_on : IsTree v → RunsChanges holds May f u v → RunsChanges holds May f u w
   runs_on tree runs = record {
     runs = λ ready held is shown counts.
         let e = changed.done ready held is shown counts in
         runs_left held (shown_answer (f held) shown) changed.before t changed.at (changed.after ready held is shown counts) (not_at_once (shown_answer (f held) shown) e.0) e.1 step (opened held is) (λ idle. e.0) (runs.runs ready held is shown counts);
     changes = λ known. alter_on u v w (runs.changes known) (alter_refreshes step);
-    rests = λ ready held is shown counts rest idle.
+    rests = λ change ready held is shown counts rest idle.
         let e = changed.done ready held is shown counts in
         let opens = changed.opens (λ asks. (held, is)) (ready_sound changed.at ready) in
-        still_refreshed changed.tree tree e.1.files (runs.rests ready held is shown counts rest idle) rest.exports opens step;
+        still_refreshed changed.tree tree e.1.files (runs.rests tt ready held is shown counts rest idle) rest.exports opens step;
     untouched = λ none. absurd (none changed.before changed.at);
   }
 
-  ended_on : IsTree v → IsTree w → WasRefreshed t v w → EndedOver holds f (Ok tt) u w
+  ended_on : IsTree v → IsTree w → WasRefreshed t v w → ChangesHaveEnded holds f (Ok tt) u w
   ended_on tree next was = record {
     ended = λ ready held is shown counts.
         let e = changed.done ready held is shown counts in (
@@ -272,17 +273,19 @@ module _ {spares : Bool} (holds : Option Holdings) (May : Op → Type 0) (f : Ho
             exports = λ some sound. exports_left next (opened held is sound) was;
           },
         );
-    given = λ held by. counts_shown (shown_answer (f held)) (shows u) changed.before changed.at;
+    given = λ by held. counts_shown (shown_answer (f held)) (shows u) changed.before changed.at;
+    made = tt;
   }
 
   -- the host failed, or there was no memory: all that was acknowledged stands
-  halted_on : (e : HostEnd) → EndedOver holds f (Err (end_of_host e)) u w
-  halted_on host.Fault = record { ended = λ ready held is shown counts. tt; given = λ held by. absurd by }
+  halted_on : (e : HostEnd) → ChangesHaveEnded holds f (Err (end_of_host e)) u w
+  halted_on host.Fault = record { ended = λ ready held is shown counts. tt; given = λ by. absurd by; made = tt }
   halted_on host.NoMemory = record {
     ended = λ ready held is shown counts.
         let e = changed.done ready held is shown counts in
         stands_left held (shown_answer (f held) shown) changed.before t changed.at (changed.after ready held is shown counts) (not_at_once (shown_answer (f held) shown) e.0) e.1 step (opened held is);
-    given = λ held by. absurd by;
+    given = λ by. absurd by;
+    made = tt;
   }
 
 -- ---- the same where one was refused after an operation, by the state that is shown
@@ -301,21 +304,21 @@ module _ (holds : Option Holdings) (May : Op → Type 0) (f : Holdings → World
   moves : (a : Answer) → Opens (after_all was.before (ops_of a)) v → Refreshes (after_all was.before (ops_of a)) v w
   moves a opens = step.refreshes _ (opens.shown (shows v) (now_left v))
 
-  runs_refused : IsTree v → RunsOver holds May f u v → RunsOver holds May f u w
+  runs_refused : IsTree v → RunsChanges holds May f u v → RunsChanges holds May f u w
   runs_refused tree runs = record {
     runs = λ ready held is shown counts.
         let a = shown_answer (f held) shown in
         let e = was.done ready held is shown counts in
         runs_left held a was.before (after_all was.before (ops_of a)) was.at refl (over_late (f held) (late held) shown) e.1 (moves a e.2) (λ sound. (moves a e.2).opens e.2) (λ idle. absurd (acted_some (ops_of a) e.3 idle.0)) (runs.runs ready held is shown counts);
     changes = λ known. alter_on u v w (runs.changes known) (alter_refreshed step);
-    rests = λ ready held is shown counts rest idle.
+    rests = λ change ready held is shown counts rest idle.
         let a = shown_answer (f held) shown in
         let e = was.done ready held is shown counts in
-        still_refreshed was.tree tree e.1.files (runs.rests ready held is shown counts rest idle) rest.exports e.2 (moves a e.2);
+        still_refreshed was.tree tree e.1.files (runs.rests tt ready held is shown counts rest idle) rest.exports e.2 (moves a e.2);
     untouched = λ none. absurd (none was.before was.at);
   }
 
-  ended_refused : IsTree v → IsTree w → RefreshedShown v w → EndedOver holds f (Err (run.Refused refusal)) u w
+  ended_refused : IsTree v → IsTree w → RefreshedShown v w → ChangesHaveEnded holds f (Err (run.Refused refusal)) u w
   ended_refused tree next end = record {
     ended = λ ready held is shown counts.
         let a = shown_answer (f held) shown in
@@ -328,31 +331,33 @@ module _ (holds : Option Holdings) (May : Op → Type 0) (f : Holdings → World
             exports = λ some sound. exports_left next opens refreshed;
           },
         );
-    given = λ held by. counts_shown (shown_answer (f held)) (shows u) was.before was.at;
+    given = λ by held. counts_shown (shown_answer (f held)) (shows u) was.before was.at;
+    made = tt;
   }
 
   -- the host failed, or there was no memory: all that was acknowledged stands
-  halted_refused : (e : HostEnd) → EndedOver holds f (Err (end_of_host e)) u w
-  halted_refused host.Fault = record { ended = λ ready held is shown counts. tt; given = λ held by. absurd by }
+  halted_refused : (e : HostEnd) → ChangesHaveEnded holds f (Err (end_of_host e)) u w
+  halted_refused host.Fault = record { ended = λ ready held is shown counts. tt; given = λ by. absurd by; made = tt }
   halted_refused host.NoMemory = record {
     ended = λ ready held is shown counts.
         let a = shown_answer (f held) shown in
         let e = was.done ready held is shown counts in
         stands_left held a was.before (after_all was.before (ops_of a)) was.at refl (over_late (f held) (late held) shown) e.1 (moves a e.2) (λ sound. (moves a e.2).opens e.2);
-    given = λ held by. absurd by;
+    given = λ by. absurd by;
+    made = tt;
   }
 
 module _ {a b c : Option Moments} (holds : Option Holdings) (May : Op → Type 0) (f : Holdings → World → Answer) (late : IsLate f) (refusal : Refusal) (known_b : IsTold b) (known_c : IsTold c)
-    (first : Goes a b (RunsOver holds May f) (WasRefused holds May f refusal true)) (second : Always RefreshesShown b c) where
+    (first : Goes a b (RunsChanges holds May f) (WasRefused holds May f refusal true)) (second : Always RefreshesShown b c) where
   seen_trees : AtEnd RefreshedShown b c → Goes b c RefreshesShown (λ v w. IsTree w × (RefreshesShown v w × RefreshedShown v w))
   seen_trees end = ends_tree known_c (goes_known second end) (λ v w tree q. (tree, q))
 
-  goes_refused_on : AtEnd RefreshedShown b c → Goes a c (RunsOver holds May f) (EndedOver holds f (Err (run.Refused refusal)))
+  goes_refused_on : AtEnd RefreshedShown b c → Goes a c (RunsChanges holds May f) (ChangesHaveEnded holds f (Err (run.Refused refusal)))
   goes_refused_on end = goes_on known_b first (seen_trees end)
       (λ u v w tree r q step. runs_refused holds May f late refusal q step tree r)
       (λ u v w tree r q step last. ended_refused holds May f late refusal q step tree last.0 last.1.1)
 
-  goes_refused_off : (e : HostEnd) → Goes a c (RunsOver holds May f) (EndedOver holds f (Err (end_of_host e)))
+  goes_refused_off : (e : HostEnd) → Goes a c (RunsChanges holds May f) (ChangesHaveEnded holds f (Err (end_of_host e)))
   goes_refused_off e = goes_on known_b first second (λ u v w tree r q step. runs_refused holds May f late refusal q step tree r) (λ u v w tree r q step last. halted_refused holds May f late refusal q step e)
 
 -- ---- where one was refused and no operation was done
@@ -361,43 +366,45 @@ stands_done : (held : Holdings) (a : Answer) {u v : View} → Completes held a u
 stands_done held a done = record { said = a.pieces; so_far = before_last a done.printed; just = done.just }
 
 module _ (holds : Option Holdings) (May : Op → Type 0) (f : Holdings → World → Answer) (refusal : Refusal) {u v : View} (was : WasRefused holds May f refusal false u v) where
-  ended_unacted : EndedOver holds f (Err (run.Refused refusal)) u v
+  ended_unacted : ChangesHaveEnded holds f (Err (run.Refused refusal)) u v
   ended_unacted = record {
     ended = λ ready held is shown counts. let e = was.done ready held is shown counts in (e.0, finishes_none held (shown_answer (f held) shown) (acted_none (ops_of (shown_answer (f held) shown)) e.3) e.1);
-    given = λ held by. counts_shown (shown_answer (f held)) (shows u) was.before was.at;
+    given = λ by held. counts_shown (shown_answer (f held)) (shows u) was.before was.at;
+    made = tt;
   }
 
-  halted_unacted : (e : HostEnd) → EndedOver holds f (Err (end_of_host e)) u v
-  halted_unacted host.Fault = record { ended = λ ready held is shown counts. tt; given = λ held by. absurd by }
+  halted_unacted : (e : HostEnd) → ChangesHaveEnded holds f (Err (end_of_host e)) u v
+  halted_unacted host.Fault = record { ended = λ ready held is shown counts. tt; given = λ by. absurd by; made = tt }
   halted_unacted host.NoMemory = record {
     ended = λ ready held is shown counts. stands_done held (shown_answer (f held) shown) (was.done ready held is shown counts).1;
-    given = λ held by. absurd by;
+    given = λ by. absurd by;
+    made = tt;
   }
 
 module _ {a b c : Option Moments} (holds : Option Holdings) (May : Op → Type 0) (f : Holdings → World → Answer) (refusal : Refusal) (known_b : IsTold b)
-    (first : Goes a b (RunsOver holds May f) (WasRefused holds May f refusal false)) (second : Always (λ v w. w ≡ v) b c) where
-  goes_unacted : (x : Result (Unit {0}) RunEnd) → ((u v : View) → WasRefused holds May f refusal false u v → EndedOver holds f x u v) → Goes a c (RunsOver holds May f) (EndedOver holds f x)
+    (first : Goes a b (RunsChanges holds May f) (WasRefused holds May f refusal false)) (second : Always (λ v w. w ≡ v) b c) where
+  goes_unacted : (x : Result (Unit {0}) RunEnd) → ((u v : View) → WasRefused holds May f refusal false u v → ChangesHaveEnded holds f x u v) → Goes a c (RunsChanges holds May f) (ChangesHaveEnded holds f x)
   goes_unacted x ended = goes_on known_b first second
-      (λ u v w tree r q same. subst (RunsOver holds May f u) (sym same) r)
-      (λ u v w tree r q same last. subst (EndedOver holds f x u) (sym last) (ended u v q))
+      (λ u v w tree r q same. subst (RunsChanges holds May f u) (sym same) r)
+      (λ u v w tree r q same last. subst (ChangesHaveEnded holds f x u) (sym last) (ended u v q))
 
-  goes_unacted_on : Goes a c (RunsOver holds May f) (EndedOver holds f (Err (run.Refused refusal)))
+  goes_unacted_on : Goes a c (RunsChanges holds May f) (ChangesHaveEnded holds f (Err (run.Refused refusal)))
   goes_unacted_on = goes_unacted (Err (run.Refused refusal)) (λ u v q. ended_unacted holds May f refusal q)
 
-  goes_unacted_off : (e : HostEnd) → Goes a c (RunsOver holds May f) (EndedOver holds f (Err (end_of_host e)))
+  goes_unacted_off : (e : HostEnd) → Goes a c (RunsChanges holds May f) (ChangesHaveEnded holds f (Err (end_of_host e)))
   goes_unacted_off e = goes_unacted (Err (end_of_host e)) (λ u v q. halted_unacted holds May f refusal q e)
 
 -- ---- the refresh as the last part of a change
 
 module _ {spares : Bool} {a b c : Option Moments} (holds : Option Holdings) (May : Op → Type 0) (f : Holdings → World → Answer) (t : State) (known_b : IsTold b) (known_c : IsTold c)
-    (first : Goes a b (RunsOver holds May f) (Changed spares holds May f t)) (second : Always (Refreshes t) b c) where
+    (first : Goes a b (RunsChanges holds May f) (Changed spares holds May f t)) (second : Always (Refreshes t) b c) where
   in_trees : AtEnd (WasRefreshed t) b c → Goes b c (Refreshes t) (λ v w. IsTree w × (Refreshes t v w × WasRefreshed t v w))
   in_trees end = ends_tree known_c (goes_known second end) (λ v w tree q. (tree, q))
 
-  goes_refreshed : AtEnd (WasRefreshed t) b c → Goes a c (RunsOver holds May f) (EndedOver holds f (Ok tt))
+  goes_refreshed : AtEnd (WasRefreshed t) b c → Goes a c (RunsChanges holds May f) (ChangesHaveEnded holds f (Ok tt))
   goes_refreshed end = goes_on known_b first (in_trees end) (λ u v w tree r q step. runs_on holds May f t q step tree r) (λ u v w tree r q step last. ended_on holds May f t q step tree last.0 last.1.1)
 
-  goes_not_refreshed : (e : HostEnd) → Goes a c (RunsOver holds May f) (EndedOver holds f (Err (end_of_host e)))
+  goes_not_refreshed : (e : HostEnd) → Goes a c (RunsChanges holds May f) (ChangesHaveEnded holds f (Err (end_of_host e)))
   goes_not_refreshed e = goes_on known_b first second (λ u v w tree q k step. runs_on holds May f t k step tree q) (λ u v w tree q k step last. halted_on holds May f t k step e)
 
   exports_stand : IsTold a → AtEnd (WasRefreshed t) b c → AreToldFor May holds → AtEnd (λ u w. IsSound u → IsInStep (spares ≡ true) holds u w) a c
@@ -408,7 +415,7 @@ module _ {spares : Bool} {a b c : Option Moments} (holds : Option Holdings) (May
 
 -- a change that ends so
 abbrev Whole : Option Moments → Option Moments → Option Holdings → (Op → Type 0) → (Holdings → World → Answer) → Result (Unit {0}) RunEnd → Type 0
-Whole a c holds May f x = Goes a c (RunsOver holds May f) (EndedOver holds f x)
+Whole a c holds May f x = Goes a c (RunsChanges holds May f) (ChangesHaveEnded holds f x)
 
 -- what is exported stands, where all was done
 abbrev Stand : Bool → Option Moments → Option Moments → Option Holdings → (Op → Type 0) → Result (Unit {0}) RunEnd → Type 0
@@ -419,8 +426,8 @@ module _ {a c : Option Moments} (May : Op → Type 0) (f : Holdings → World �
     (frame : Frame Nothing NoName NoPath a u.told) (unread : Goes a u.told StaysUnread StaysUnread) (tells : AtEnd (IsOpened s) a u.told) where
   goes_passed : (e : RunEnd) {before now : Bool} → IsNoRefusal e → Acts (Opens s) May f s before now (Err e) u w → Always (λ x y. y ≡ x) w.told c → Whole a c u.holdings May f (Err e)
   goes_passed e other works same = goes_on known_w (goes_failed May f s e other late known known_u frame unread tells works) same
-      (λ x y z tree p q is. subst (RunsOver u.holdings May f x) (sym is) p)
-      (λ x y z tree p q is last. subst (EndedOver u.holdings f (Err e) x) (sym last) q)
+      (λ x y z tree p q is. subst (RunsChanges u.holdings May f x) (sym is) p)
+      (λ x y z tree p q is last. subst (ChangesHaveEnded u.holdings f (Err e) x) (sym last) q)
 
   pub goes_in_step : (r : Result State RunEnd) (acted : Bool) → Acts (Opens s) May f s false acted r u w → (spares ≡ false → AtEnd (SettlesOver u.holdings s r) u.told w.told) → Always (StepsAfter r acted) w.told c → (IsGivenBy result → AtEnd (InStepAfter r acted) w.told c) → PassesOn r result → Whole a c u.holdings May f result
   goes_in_step (Ok t) acted works settles steps end passes =

@@ -13,8 +13,9 @@ use Rattle.fl_words.specs.declared.command.Command.{Command}
 use Rattle.fl_change.specs.World.{World}
 use Rattle.fl_change.specs.Answer.{Answer, text_answer}
 use Rattle.fl_top.specs.Answer.{Given, shown_by, answer_over}
-use Rattle.fl_top.specs.Runs.{Runs, Stands, Told, IsGivenTo, HasCauses}
-use Rattle.fl_top.specs.RunsOver.{RunsOn, EndedOn, Closed}
+use Rattle.fl_top.specs.Moment.{Runs, RunsCommand}
+use Rattle.fl_top.specs.Return.{Stands, CommandHasEnded, Closed}
+use Rattle.fl_top.specs.Told.{Told, IsGivenTo, HasCauses}
 use Rattle.fl_change.specs.Says.{Says, SaidBy}
 use Rattle.fl_words.specs.declared.command.Command.TheVariants.{Show as Showing}
 use Rattle.fl_words.specs.declared.command.Shown.{Shown}
@@ -65,7 +66,7 @@ no_fault thing bytes e r shown err fault = of_run e shown (let both : Err (end_o
 
 -- ---- what is printed
 
-runs_shown : (thing : Shown) (t : Told) (bytes text : List ℕ) → IsWhole t.left bytes → shown_by thing bytes ≡ text_answer text → (u w : View) → Says text u w → RunsOn (Showing thing) t u w
+runs_shown : (thing : Shown) (t : Told) (bytes text : List ℕ) → IsWhole t.left bytes → shown_by thing bytes ≡ text_answer text → (u w : View) → Says text u w → RunsCommand (Showing thing) t u w
 runs_shown thing t bytes text whole shown u w said = record {
   runs = λ given gave image counts may. subst (λ (a : Answer). Runs a u w) (sym shown ∙ shown_is thing t bytes whole given gave image) (telling text said);
   changes = λ known. alter_untouched said.untouched;
@@ -78,24 +79,24 @@ closed_said held text a r host.Fault u w is said = tt
 closed_said held text a r host.NoMemory u w is said = let same : w ≡ u = subst (λ (x : Result (Unit {0}) HostEnd). SaidBy text x u w) is said in subst (λ (x : View). Stands a u x) (sym same) (stood a unchanged)
 
 pub goes_shown : {a b : Option Moments} (thing : Shown) (t : Told) (bytes text : List ℕ) → IsTold a → IsWhole t.left bytes → shown_by thing bytes ≡ text_answer text
-    → Goes a b (Says text) (SaidBy text (Ok tt)) → Goes a b (RunsOn (Showing thing) t) (EndedOn (Showing thing) t (Ok tt))
+    → Goes a b (Says text) (SaidBy text (Ok tt)) → Goes a b (RunsCommand (Showing thing) t) (CommandHasEnded (Showing thing) t (Ok tt))
 goes_shown thing t bytes text known whole shown goes = begins known goes
     (λ u w tree says. runs_shown thing t bytes text whole shown u w says)
     (λ u w tree says said. record {
       ended = λ given gave image counts may. subst (λ (a : Answer). Closed given.held a (Ok tt) u w) (sym shown ∙ shown_is thing t bytes whole given gave image) (refl, tells given.held text said);
-      given = λ given gave by. counts_constant (answer_over (Showing thing) given) (shows u) (λ image other. refl);
+      given = λ by given gave. counts_constant (answer_over (Showing thing) given) (shows u) (λ image other. refl);
       made = tt;
     })
 
 pub goes_not_shown : {a b : Option Moments} (thing : Shown) (t : Told) (bytes text : List ℕ) (s : Result (Unit {0}) HostEnd) (e : HostEnd) (r : Result (Unit {0}) CommandEnd) → IsTold a → IsWhole t.left bytes → shown_by thing bytes ≡ text_answer text
-    → s ≡ Err e → Goes a b (Says text) (SaidBy text s) → IsErrAnd r (λ end. end ≡ end_of_run (end_of_host e)) → Goes a b (RunsOn (Showing thing) t) (EndedOn (Showing thing) t r)
+    → s ≡ Err e → Goes a b (Says text) (SaidBy text s) → IsErrAnd r (λ end. end ≡ end_of_run (end_of_host e)) → Goes a b (RunsCommand (Showing thing) t) (CommandHasEnded (Showing thing) t r)
 goes_not_shown {a = a} {b = b} thing t bytes text s e r known whole shown was goes err =
-    subst (λ (x : Result (Unit {0}) CommandEnd). Goes a b (RunsOn (Showing thing) t) (EndedOn (Showing thing) t x)) (sym (is_end r (end_of_run (end_of_host e)) err))
+    subst (λ (x : Result (Unit {0}) CommandEnd). Goes a b (RunsCommand (Showing thing) t) (CommandHasEnded (Showing thing) t x)) (sym (is_end r (end_of_run (end_of_host e)) err))
     (begins known goes
     (λ u w tree says. runs_shown thing t bytes text whole shown u w says)
     (λ u w tree says said. record {
       ended = λ given gave image counts may. closed_said given.held text (answer_over (Showing thing) given image) s e u w was said;
-      given = λ given gave by. counts_constant (answer_over (Showing thing) given) (shows u) (λ image other. refl);
+      given = λ by given gave. counts_constant (answer_over (Showing thing) given) (shows u) (λ image other. refl);
       made = tt;
     }))
 

@@ -31,8 +31,10 @@ use Rattle.fl_change.specs.Answer.{Answer, pieces_text, ops_in, ops_of, has_acte
 use Rattle.fl_top.specs.Answer.{shown_answer, IsAtOnce}
 use Rattle.fl_change.specs.Ends.{end_of_open}
 use Rattle.fl_change.specs.Performs.{AreToldFor, Performs, IsDone, IsHalted, Performed, PerformsOver, PerformedOver, ChangesFrom}
-use Rattle.fl_top.specs.Runs.{ShowsAfter, IsPrefix, IsJust, Runs, Stands, IsReady}
-use Rattle.fl_top.specs.RunsOver.{OverView, RunsOver, Completes, Finishes, Ended, EndedOver, LookedOver}
+use Rattle.fl_top.specs.Moment.{ShowsAfter, IsPrefix, IsJust, Runs, RunsChanges}
+use Rattle.fl_top.specs.Return.{Stands, Completes, Finishes, Ended, ChangesHaveEnded, LookHasEnded}
+use Rattle.fl_top.specs.Told.{IsReady}
+use Rattle.fl_top.specs.Counting.{EachOver}
 use Rattle.fl_change.specs.declared.end.RunEnd.{RunEnd}
 use Rattle.fl_change.specs.declared.end.RunEnd.TheVariants.{Refused, Fault, RemoteFault, NoMemory}
 use Rattle.fl_change.specs.Changes.{IsUntouched, HasText, OnlyTidied, IsStill}
@@ -96,11 +98,11 @@ pub over_late : (f : World → Answer) → ((x : World) → IsAtOnce (f x).refus
 over_late f late (Err path) at_once = at_once
 over_late f late (Ok x) at_once = late x at_once
 
-pub begun_over : (holds : Option Holdings) (May : Op → Type 0) (f : Holdings → World → Answer) → IsLate f → {u w : View} → Keeping u w → StaysUnread u w → RunsOver holds May f u w
+pub begun_over : (holds : Option Holdings) (May : Op → Type 0) (f : Holdings → World → Answer) → IsLate f → {u w : View} → Keeping u w → StaysUnread u w → RunsChanges holds May f u w
 begun_over holds May f late {u = u} keeping unread = record {
   runs = λ ready held is shown counts. begun (shown_answer (f held) shown) keeping (λ at_once. absurd (over_late (f held) (late held) shown at_once));
   changes = λ known. alter_none keeping.names keeping.files;
-  rests = λ ready held is shown counts rest idle. still_keeping keeping;
+  rests = λ change ready held is shown counts rest idle. still_keeping keeping;
   untouched = λ none. same_untouched (unread none);
 }
 
@@ -160,14 +162,14 @@ pub record Working (holds : Option Holdings) (May : Op → Type 0) (f : Holdings
   pub performs : PerformsOver (Opens s) holds f s v w
   pub changes : AreToldFor May holds → ChangesFrom May s v w
 
-pub runs_over : (holds : Option Holdings) (May : Op → Type 0) (f : Holdings → World → Answer) (s : State) {u v w : View} → IsLate f → Begun s u v → IsTree v → Working holds May f s v w → RunsOver holds May f u w
+pub runs_over : (holds : Option Holdings) (May : Op → Type 0) (f : Holdings → World → Answer) (s : State) {u v w : View} → IsLate f → Begun s u v → IsTree v → Working holds May f s v w → RunsChanges holds May f u w
 runs_over holds May f s {u = u} {v = v} {w = w} late begun tree work = record {
   runs = λ ready held is shown counts.
       let opens = begun.opened.opens (ready_sound begun.opened.shown ready) in
       subst (λ (a : Answer). Runs a u w) (ap (f held) (begun_world s begun tree) ∙ sym (over_is (f held) (shows u) shown s begun.opened.shown counts))
       (runs_opened (f held (world_at s v)) s (late held (world_at s v)) begun.opened begun.keeping (work.performs.performs held is opens));
   changes = λ known. alter_changes (change_on u v w (change_none begun.keeping.names begun.keeping.files) (work.changes known.0 (λ asks. begun.opened.opens (ready_sound begun.opened.shown (known.1 asks)))));
-  rests = λ ready held is shown counts.
+  rests = λ change ready held is shown counts.
       let opens = begun.opened.opens (ready_sound begun.opened.shown ready) in
       subst (λ (a : Answer). StaysAtRest a u w) (ap (f held) (begun_world s begun tree) ∙ sym (over_is (f held) (shows u) shown s begun.opened.shown counts))
       (stays_opened (f held (world_at s v)) s (begun_seen begun tree) begun.keeping (work.performs.performs held is opens));
@@ -213,18 +215,19 @@ ended held a s Fault w other begun is = tt
 ended held a s RemoteFault w other begun is = stands a s begun.opened begun.keeping is
 ended held a s NoMemory w other begun is = stands a s begun.opened begun.keeping is
 
-pub failed_over : (holds : Option Holdings) (f : Holdings → World → Answer) (s : State) (e : RunEnd) {before now : Bool} {u v : View} (w : View) → IsNoRefusal e → Begun s u v → IsTree v → PerformedOver (Opens s) holds f s before now (Err e) v w → EndedOver holds f (Err e) u w
+pub failed_over : (holds : Option Holdings) (f : Holdings → World → Answer) (s : State) (e : RunEnd) {before now : Bool} {u v : View} (w : View) → IsNoRefusal e → Begun s u v → IsTree v → PerformedOver (Opens s) holds f s before now (Err e) v w → ChangesHaveEnded holds f (Err e) u w
 failed_over holds f s e {u = u} {v = v} w other begun tree is = record {
   ended = λ ready held told shown counts.
       let opens = begun.opened.opens (ready_sound begun.opened.shown ready) in
       subst (λ (a : Answer). Ended held a (Err e) u w) (ap (f held) (begun_world s begun tree) ∙ sym (over_is (f held) (shows u) shown s begun.opened.shown counts))
       (ended held (f held (world_at s v)) s e w other begun (is.performed held told opens));
-  given = λ held by. counts_shown (shown_answer (f held)) (shows u) s begun.opened.shown;
+  given = λ by held. counts_shown (shown_answer (f held)) (shows u) s begun.opened.shown;
+  made = tt;
 }
 
 -- the changes were made
 pub done_over : (holds : Option Holdings) (f : Holdings → World → Answer) (s t : State) {before now : Bool} {u v : View} (w : View) → Begun s u v → IsTree v → PerformsOver (Opens s) holds f s v w → PerformedOver (Opens s) holds f s before now (Ok t) v w
-    → IsReady u → (held : Holdings) → holds ≡ Some held → OverView (f held) u (λ a. (a.refusal ≡ None) × Completes held a u w)
+    → IsReady u → (held : Holdings) → holds ≡ Some held → EachOver (shown_answer (f held)) u (λ a. (a.refusal ≡ None) × Completes held a u w)
 done_over holds f s t {u = u} {v = v} w begun tree work is ready held told shown counts =
     let opens = begun.opened.opens (ready_sound begun.opened.shown ready) in
     let done = is.performed held told opens in
@@ -233,7 +236,7 @@ done_over holds f s t {u = u} {v = v} w begun tree work is ready held told shown
 
 -- they were made up to a refusal
 pub refused_over : (holds : Option Holdings) (f : Holdings → World → Answer) (s : State) (refusal : Refusal) (acted : Bool) {u v : View} (w : View) → Begun s u v → IsTree v → PerformsOver (Opens s) holds f s v w → PerformedOver (Opens s) holds f s false acted (Err (Refused refusal)) v w
-    → IsReady u → (held : Holdings) → holds ≡ Some held → OverView (f held) u (λ a. (a.refusal ≡ Some refusal) × Completes held a u w × Opens (after_all s (ops_of a)) w × (acted ≡ has_acted false (ops_of a)))
+    → IsReady u → (held : Holdings) → holds ≡ Some held → EachOver (shown_answer (f held)) u (λ a. (a.refusal ≡ Some refusal) × Completes held a u w × Opens (after_all s (ops_of a)) w × (acted ≡ has_acted false (ops_of a)))
 refused_over holds f s refusal acted {u = u} {v = v} w begun tree work is ready held told shown counts =
     let opens = begun.opened.opens (ready_sound begun.opened.shown ready) in
     let done = is.performed held told opens in
@@ -264,22 +267,23 @@ damaged held path {u = u} keeping none = record {
 }
 
 -- out of memory before anything is done
-pub halted_look : (f : World → Answer) {u w : View} → Keeping u w → LookedOver f (Err NoMemory) u w
-halted_look f keeping = record { ended = λ shown counts held. stood (shown_answer f shown) keeping; given = λ by. absurd by }
+pub halted_look : (f : World → Answer) {u w : View} → Keeping u w → LookHasEnded (shown_answer f) (Err NoMemory) u w
+halted_look f keeping = record { ended = λ shown counts held. stood (shown_answer f shown) keeping; given = λ by. absurd by; made = tt }
 
-pub look_not_open : (f : World → Answer) (e : OpenEnd) {u w : View} → Keeping u w → Opened (Err e) u w → LookedOver f (Err (end_of_open e)) u w
+pub look_not_open : (f : World → Answer) (e : OpenEnd) {u w : View} → Keeping u w → Opened (Err e) u w → LookHasEnded (shown_answer f) (Err (end_of_open e)) u w
 look_not_open f (open_end.Damaged path) {u = u} {w = w} keeping is = record {
   ended = λ shown counts held. subst (λ (a : Answer). Ended held a (Err (Refused (Damaged path))) u w) (sym (over_damaged f (shows u) shown path is counts)) (refl, finishes_none held (refusal_answer (Damaged path)) refl (damaged held path keeping (not_shown is)));
   given = λ by. counts_damaged (shown_answer f) (shows u) path is;
+  made = tt;
 }
-look_not_open f open_end.Fault keeping is = record { ended = λ shown counts held. tt; given = λ by. absurd by }
+look_not_open f open_end.Fault keeping is = record { ended = λ shown counts held. tt; given = λ by. absurd by; made = tt }
 look_not_open f open_end.NoMemory keeping is = halted_look f keeping
 
 -- so it ends for a command that changes something
-pub looked_ends : (holds : Option Holdings) (f : Holdings → World → Answer) (r : Result (Unit {0}) RunEnd) {u w : View} → ((held : Holdings) → LookedOver (f held) r u w) → EndedOver holds f r u w
-looked_ends holds f r looked = record { ended = λ ready held is shown counts. (looked held).ended shown counts held; given = λ held. (looked held).given }
+pub looked_ends : (holds : Option Holdings) (f : Holdings → World → Answer) (r : Result (Unit {0}) RunEnd) {u w : View} → ((held : Holdings) → LookHasEnded (shown_answer (f held)) r u w) → ChangesHaveEnded holds f r u w
+looked_ends holds f r looked = record { ended = λ ready held is shown counts. (looked held).ended shown counts held; given = λ by held. (looked held).given by; made = tt }
 
-pub ended_open : (holds : Option Holdings) (f : Holdings → World → Answer) (e : OpenEnd) {u w : View} → Keeping u w → Opened (Err e) u w → EndedOver holds f (Err (end_of_open e)) u w
+pub ended_open : (holds : Option Holdings) (f : Holdings → World → Answer) (e : OpenEnd) {u w : View} → Keeping u w → Opened (Err e) u w → ChangesHaveEnded holds f (Err (end_of_open e)) u w
 ended_open holds f e keeping is = looked_ends holds f (Err (end_of_open e)) (λ held. look_not_open (f held) e keeping is)
 
 -- nothing changes

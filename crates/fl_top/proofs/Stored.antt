@@ -21,7 +21,7 @@ use Rattle.fl_installed.proofs.LocalPoints.{launch_is_local}
 use Rattle.fl_installed.proofs.Standing.{standing_is_stored}
 use Rattle.fl_change.specs.Answer.{Answer, refusal_answer}
 use Rattle.fl_top.specs.Answer.{told_of}
-use Rattle.fl_top.specs.Runs.{files_at}
+use Rattle.fl_top.specs.Told.{files_at}
 use Rattle.fl_top.specs.Stored.{FilesAreStored, KnownIsStored, LaunchIsStored}
 
 -- ---- what a host has

@@ -5,12 +5,15 @@ use Rattle.fp_host.specs.Causes.{IsCaused}
 use Rattle.fp_host.specs.Moments.{Moments, Rose}
 use Rattle.fp_host.specs.Frame.{AtEnd}
 use Rattle.fp_host.specs.Remote.{Holdings}
+use Rattle.fp_host.proofs.Ending.{ends_goes}
+use Rattle.fp_host.proofs.Framed.{IsTold}
 use Rattle.fl_words.specs.Forms.{command_of}
 use Rattle.fl_words.specs.declared.command.Command.{Command}
 use Rattle.fl_change.specs.Answer.{Answer}
 use Rattle.fl_top.specs.Answer.{answer}
 use Rattle.fl_top.specs.Exercises.{IsRun}
-use Rattle.fl_top.specs.Runs.{Ran, RanBy, Told, HasCauses, told_start}
+use Rattle.fl_top.specs.Return.{WasRun, WordsWereRun}
+use Rattle.fl_top.specs.Told.{Told, HasCauses, told_start}
 use Rattle.fl_top.specs.Status.{IsAnswered, IsOfWords}
 use Rattle.fl_top.specs.Whole.{IsFit, StartsFit, IsWhole, WasWhole, EndsWhole}
 use Rattle.fl_top.proofs.Over.{sound_counts}
@@ -45,7 +48,7 @@ not_three : (status : ℕ) → status ≡ 6 → status ≡ 3 → ⊥
 not_three status out three = omega (arith, out, three)
 
 -- what ran as an answer says, and had no fault, is whole
-whole_of : (held : Holdings) (a : Answer) (status : ℕ) (u w : View) → IsAnswered status ⊎ (status ≡ 6) → Ran held a status u w → IsWhole held a status u w
+whole_of : (held : Holdings) (a : Answer) (status : ℕ) (u w : View) → IsAnswered status ⊎ (status ≡ 6) → WasRun held a status u w → IsWhole held a status u w
 whole_of held a status u w ends ran = elim ends [
   | inl answered ↦ inl (ran.answers answered)
   | inr out ↦ inr (out, ran.stands (not_three status out))
@@ -55,14 +58,14 @@ whole_of held a status u w ends ran = elim ends [
 causes_of : (command : Option Command) (u : View) → IsFit command u → HasCauses command u
 causes_of command u fit = record { serves = inr (inl fit.sound); listable = fit.listable; free = fit.free }
 
-was_whole : (words : List (List ℕ)) (t : Told) (status : ℕ) (u w : View) → IsFit (command_of words) u → IsAnswered status ⊎ (status ≡ 6) → RanBy words t status u w → WasWhole words t status u w
+was_whole : (words : List (List ℕ)) (t : Told) (status : ℕ) (u w : View) → IsFit (command_of words) u → IsAnswered status ⊎ (status ≡ 6) → WordsWereRun words t status u w → WasWhole words t status u w
 was_whole words t status u w fit ends ran = record {
-  each = λ given is shown counts. whole_of given.held (answer words given shown) status u w ends (ran.ran given is shown counts (inl (inr (inl fit.sound))));
+  each = λ given is shown counts. whole_of given.held (answer words given shown) status u w ends (ran.ended given is shown counts (inl (inr (inl fit.sound))));
   one = λ given. sound_counts (answer words given) u fit.sound;
 }
 
 -- Where the host told its content at the start, a status has its cause there.
-ends_whole : (words : List (List ℕ)) (t : Told) (status : ℕ) (a b : Option Moments) → StartsFit (command_of words) a → ((m : Moments) → a ≡ Some m → IsAnswered status ⊎ (status ≡ 6)) → AtEnd (RanBy words t status) a b → AtEnd (WasWhole words t status) a b
+ends_whole : (words : List (List ℕ)) (t : Told) (status : ℕ) (a b : Option Moments) → StartsFit (command_of words) a → ((m : Moments) → a ≡ Some m → IsAnswered status ⊎ (status ≡ 6)) → AtEnd (WordsWereRun words t status) a b → AtEnd (WasWhole words t status) a b
 ends_whole words t status a b fit ends at = record {
   goes = record {
     untold = at.goes.untold;
@@ -70,9 +73,9 @@ ends_whole words t status a b fit ends at = record {
   };
 }
 
-pub whole_run : (words : List (List ℕ)) (left : Option (List ℕ)) (given : Option Holdings) (status : ℕ) (a b : Option Moments) → StartsFit (command_of words) a → ((m : Moments) → a ≡ Some m → IsAnswered status ⊎ (status ≡ 6)) → IsRun words left given status a b → EndsWhole words left given status a b
-whole_run words left given status a b fit ends run = elim run [
-  | inl made ↦ inl (made.0, made.1, ends_whole words (told_start left made.0 a) status a b fit ends made.2.at_return)
+pub whole_run : (words : List (List ℕ)) (left : Option (List ℕ)) (given : Option Holdings) (status : ℕ) (a b : Option Moments) → IsTold a → StartsFit (command_of words) a → ((m : Moments) → a ≡ Some m → IsAnswered status ⊎ (status ≡ 6)) → IsRun words left given status a b → EndsWhole words left given status a b
+whole_run words left given status a b known fit ends run = elim run [
+  | inl made ↦ inl (made.0, made.1, ends_whole words (told_start left made.0 a) status a b fit ends (ends_goes known made.2))
   | inr none ↦ inr none
 ]
 

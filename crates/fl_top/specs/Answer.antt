@@ -1,4 +1,4 @@
--- What a run answers: what it prints, and the operations that this acknowledges.
+-- The answer of a command: what it prints, and the operations that this acknowledges.
 use Rattle.std.specs.Prelude.{◌≡◌, ◌⊎◌, ℕ, ◌+◌, List, [], ◌∷◌, ◌++◌, map, length, nat_le, Option, Some, None, Result, Ok, Err, if◌then◌else◌}
 use Rattle.std.specs.Option.{option_map_or}
 use Rattle.fp_host.specs.Paths.{Elements}
@@ -62,9 +62,9 @@ use Rattle.fl_change.specs.Turns.{changing}
 use Rattle.fl_top.specs.Exercising.{exercising}
 use Rattle.fl_change.specs.Answer.{Answer, Piece, refusal_answer, text_answer}
 
--- What a run is given beside the installation's state: its input, what the remotes hold, the files
--- `metadata` in the folders of deployed commits, what is found in the installation's store, and the
--- digest of the commit that the input describes.
+-- Everything that a command is given beside the installation's state: its input, what the remotes
+-- hold, the `metadata` files in the directories of deployed commits, the report of the
+-- installation's store, and the digest of the commit that the input describes
 pub record Given : Type 0 where
   pub input : List ℕ
   pub held : Holdings
@@ -72,29 +72,30 @@ pub record Given : Type 0 where
   pub report : Report
   pub commit : List ℕ
 
--- ---- what is listed of a world
+-- ---- listings
 
--- the key file of an override, nothing where there is none
+-- The text of an override's key file; empty if there is no such override
 abbrev pub override_text : State → List ℕ → List ℕ
 override_text s name =
     option_map_or (λ row. text_of row.file) (at_name override_key s.overrides name) []
 
--- what is known of a deployed ref, or what is wrong with its metadata
+-- The answer of `info` for a deployed ref: its lines, or the refusal of its metadata
 abbrev pub told_of : RefRow → Result Info Refusal → Answer
 told_of row (Ok info) = text_answer (info_text row info.runtime info.extensions)
 told_of row (Err refusal) = refusal_answer refusal
 
--- The metadata is that of the file in the deployed commit's folder. (Over a sound installation it is
--- the one that the store's objects give.)
+-- The answer of `info` for a ref. It goes by the `metadata` file in the deployed commit's
+-- directory; in a sound installation, this is the one of the commit in the store.
 abbrev pub known_of : DeployedFiles → Ref → World → Answer
 known_of files name x = option_map_or (λ row. told_of row (info_in files name row.commit))
     (row_at x.state name) (refusal_answer (NotInstalled name))
 
--- the text of a launch, or the first thing that speaks against it
+-- The answer of `launch`: its text, or the refusal
 abbrev pub launched_of : Result LaunchText Refusal → Answer
 launched_of (Ok launch) = text_answer launch.text
 launched_of (Err refusal) = refusal_answer refusal
 
+-- The answer of a listing
 abbrev pub listing_answer : DeployedFiles → Listing → World → Answer
 listing_answer files listings.Refs x = text_answer (refs_text x.state.refs)
 listing_answer files listings.Pins x = text_answer (pins_text x.state.pins)
@@ -105,72 +106,83 @@ listing_answer files (listings.Launch name options) x =
     launched_of (launch_in files x.state name options)
 listing_answer files (listings.OverrideShow name) x = text_answer (override_text x.state name)
 
--- what is found in the store, whatever the world
+-- The answer of `fsck`: the text of the store's report, for any world
 abbrev pub checked : Report → World → Answer
 checked report x = text_answer (report_text report)
 
--- ---- what is shown of an input
+-- ---- `show`
 
--- what an object of this kind and digest says, or the first rule that it breaks
+-- The answer for an object of this digest and kind: its lines, or the refusal with the first rule
+-- that it breaks
 abbrev pub by_read : {A : Type 0} → List ℕ → ObjKind → (A → List ℕ) → Result A Rule → Answer
 by_read digest kind lines (Ok a) = text_answer (head digest (kind_text kind) ++ lines a)
 by_read digest kind lines (Err rule) = refusal_answer (MalformedObject digest kind rule)
 
+-- The answer of `show commit` for these bytes
 unfoldable pub commit_shown : List ℕ → Answer
 commit_shown bytes = by_read (meta_digest bytes) kinds.Commit commit_lines (commit_read bytes)
 
+-- The answer of `show dirtree` for these bytes
 unfoldable pub tree_shown : List ℕ → Answer
 tree_shown bytes = by_read (meta_digest bytes) kinds.DirTree tree_lines (tree_read bytes)
 
+-- The answer of `show dirmeta` for these bytes
 unfoldable pub meta_shown : List ℕ → Answer
 meta_shown bytes = by_read (meta_digest bytes) kinds.DirMeta meta_lines (meta_read bytes)
 
--- how many bytes a value's normal form has
+-- The answer for bytes and the value that they are read as: the number of bytes, or a refusal if
+-- they are no value in normal form
 abbrev pub by_value : List ℕ → Option Tree → Answer
 by_value bytes None = refusal_answer (MalformedValue (meta_digest bytes))
 by_value bytes (Some value) = text_answer (normal_line (length bytes))
 
+-- The answer for bytes and a type; a refusal if there is no type
 abbrev pub by_type : Option Shape → List ℕ → Answer
 by_type None bytes = by_value bytes None
 by_type (Some of) bytes = by_value bytes (value_of of bytes)
 
+-- The answer of `show value` for the text of a type and these bytes
 unfoldable pub value_shown : List ℕ → List ℕ → Answer
 value_shown text bytes = by_type (type_of text) bytes
 
--- by what is to be shown
+-- The answer of `show` for these bytes
 abbrev pub shown_by : Shown → List ℕ → Answer
 shown_by things.Commit bytes = commit_shown bytes
 shown_by things.DirTree bytes = tree_shown bytes
 shown_by things.DirMeta bytes = meta_shown bytes
 shown_by (things.Value of) bytes = value_shown of bytes
 
--- ---- what is forwarded of a recording
+-- ---- `filter`
 
+-- The piece with this text, which acknowledges no operation
 abbrev pub piece_of : List ℕ → Piece
 piece_of text = record { text = text; op = None }
 
--- the lines of messages, each a piece
+-- The answer with a piece for each forwarded message
 abbrev pub forwarding : Filtered → Answer
 forwarding f = record { pieces = map piece_of f.lines; refusal = f.refusal }
 
--- the launch of an application with no options over what the image gives, or what speaks against it
+-- The launch of an application without options, for what the image gives; else the refusal
 abbrev pub launch_over : DeployedFiles → Ref → Result World Elements → Result LaunchText Refusal
 launch_over files name (Err path) = Err (Damaged path)
 launch_over files name (Ok x) = launch_in files x.state name []
 
+-- The policy rules that `rules` makes of a launch, or the refusal of the launch
 abbrev pub of_launch : (LaunchText → List PolicyRule) → Result LaunchText Refusal
     → Result (List PolicyRule) Refusal
 of_launch rules (Err refusal) = Err refusal
 of_launch rules (Ok launch) = Ok (rules launch)
 
--- what a launch is granted on each bus
+-- The rules of an application's policy on the session bus
 abbrev pub on_session : Ref → LaunchText → List PolicyRule
 on_session name launch = session_rules name.id launch.grants
 
+-- The rules of an application's policy on the system bus
 abbrev pub on_system : LaunchText → List PolicyRule
 on_system launch = system_rules launch.grants
 
--- the rules of a source: those of the words, whatever the image; or those of the launch
+-- The rules of a source: those of the words, whatever the image gives, or those of an application's
+-- launch
 abbrev pub rules_over : DeployedFiles → PolicySource → Result World Elements
     → Result (List PolicyRule) Refusal
 rules_over files (sources.Rules words) shown = Ok (policy_of words)
@@ -178,35 +190,40 @@ rules_over files (sources.Session name) shown =
     of_launch (on_session name) (launch_over files name shown)
 rules_over files (sources.System name) shown = of_launch on_system (launch_over files name shown)
 
+-- The answer for a recording: the messages that these rules forward, or the refusal of the rules
 abbrev pub by_rules : Recording → Result (List PolicyRule) Refusal → Answer
 by_rules recording (Err refusal) = refusal_answer refusal
 by_rules recording (Ok rules) = forwarding (filtered rules recording)
 
--- the first bad line comes before what speaks against the rules
+-- The answer for a recording that was read: the refusal of its first bad line comes before a
+-- refusal of the rules
 abbrev pub of_recording : Result (List PolicyRule) Refusal → Result Recording ℕ → Answer
 of_recording rules (Err line) = refusal_answer (BadRecord line)
 of_recording rules (Ok recording) = by_rules recording rules
 
+-- The answer of `filter` for these rules and the bytes of a recording
 unfoldable pub filtered_by : Result (List PolicyRule) Refusal → List ℕ → Answer
 filtered_by rules bytes = of_recording rules (recording_of bytes)
 
--- by where the rules come from
+-- The answer of `filter` for a source of rules and the bytes of a recording
 abbrev pub filter_by : DeployedFiles → PolicySource → Result World Elements → List ℕ → Answer
 filter_by files source shown bytes = filtered_by (rules_over files source shown) bytes
 
--- ---- what is made of a description
+-- ---- `export`
 
--- the line of its commit, or its first bad line
+-- The answer for a description that was read: the line of its commit, or the refusal of its first
+-- bad line
 abbrev pub of_description : List ℕ → Result Description ℕ → Answer
 of_description commit (Err line) = refusal_answer (BadRecord line)
 of_description commit (Ok description) = text_answer (made_text commit)
 
+-- The answer of `export` for the digest of the commit and the bytes of the description
 unfoldable pub commit_made : List ℕ → List ℕ → Answer
 commit_made commit bytes = of_description commit (described bytes)
 
--- ---- what words answer over an input and what an image gives
+-- ---- the answer, by the input and by what the image gives
 
--- a refusal of the words or of the input, whatever the image
+-- The words or the input are refused, whatever the image gives
 abbrev pub IsAtOnce : Option Refusal → Type 0
 IsAtOnce None = ⊥
 IsAtOnce (Some (BadWords index)) = Unit {0}
@@ -214,23 +231,25 @@ IsAtOnce (Some (Limit Input number)) = Unit {0}
 IsAtOnce (Some (BadRecord line)) = Unit {0}
 IsAtOnce (Some _) = ⊥
 
--- by what the image gives: its world, or the first path that doesn't read
+-- The answer by what the image gives: a refusal if it shows no state, with the first damaged path
 abbrev pub shown_answer : (World → Answer) → Result World Elements → Answer
 shown_answer f (Err path) = refusal_answer (Damaged path)
 shown_answer f (Ok x) = f x
 
+-- The answer of a batch that was read: the refusal of its first bad line, or that of its changes
 abbrev pub of_batch : Result (List Change) ℕ → Holdings → Result World Elements → Answer
 of_batch (Err line) held shown = refusal_answer (BadRecord line)
 of_batch (Ok changes) held shown = shown_answer (changing changes held) shown
 
--- the whole input is read before anything is done
+-- The answer for the whole input, which is read before anything is done; a refusal if the input has
+-- more than 64 MiB
 abbrev pub over_input : (List ℕ → Answer) → List ℕ → Answer
 over_input f input = if nat_le (length input) input_most then f input
     else refusal_answer (Limit Input (input_most + 1))
 
--- How a command answers: by these changes, by those that the lines of the input ask for, by those of
--- an exercise of this number of applications, by the image's world, or by the whole input and by what
--- the image gives.
+-- The basis of a command's answer: these changes, the changes that are the lines of the input, the
+-- changes of an exercise with this number of applications, the world that the image gives, or the
+-- whole input together with what the image gives
 pub data How : Type 0 where
   by_changes : List Change → How
   by_batch : How
@@ -238,6 +257,7 @@ pub data How : Type 0 where
   by_world : (Given → World → Answer) → How
   by_input : (Given → Result World Elements → List ℕ → Answer) → How
 
+-- The basis of this command's answer
 abbrev pub how : Command → How
 how (Changing change) = by_changes (change ∷ [])
 how (Listed listing) = by_world (λ given. listing_answer given.files listing)
@@ -248,6 +268,7 @@ how Fsck = by_world (λ given. checked given.report)
 how (Exporting remote name) = by_input (λ given shown. commit_made given.commit)
 how (Exercising apps) = by_exercise apps
 
+-- The answer on this basis
 abbrev pub answer_by : How → Given → Result World Elements → Answer
 answer_by (by_changes changes) given shown = shown_answer (changing changes given.held) shown
 answer_by by_batch given shown =
@@ -256,27 +277,30 @@ answer_by (by_exercise apps) given shown = shown_answer (exercising apps given.h
 answer_by (by_world f) given shown = shown_answer (f given) shown
 answer_by (by_input f) given shown = over_input (f given shown) given.input
 
+-- The answer of this command
 abbrev pub answer_over : Command → Given → Result World Elements → Answer
 answer_over command given shown = answer_by (how command) given shown
 
+-- The answer of these words; a refusal if they are no command
 abbrev pub answer_to : List (List ℕ) → Option Command → Given → Result World Elements → Answer
 answer_to words None given shown = refusal_answer (BadWords (bad_index words))
 answer_to words (Some command) given shown = answer_over command given shown
 
--- The first refusal of these: the words; an input that is too long, and its first bad line; an
--- image that shows no state; and those of the commands.
+-- The answer of these words. Of several refusals the first of these counts: of the words; of an
+-- input that is too long, or of its first bad line; of an image that shows no state; of the
+-- command's work.
 abbrev pub answer : List (List ℕ) → Given → Result World Elements → Answer
 answer words given shown = answer_to words (command_of words) given shown
 
--- what an image gives: the state that it shows with the objects that its commits use, or the first
--- path that doesn't read
+-- The image gives this result: the state that it shows, with the objects that its commits use, or
+-- the first damaged path
 abbrev pub GivesWorld : Disk → Result World Elements → Type 0
 GivesWorld disk (Ok x) = Gives disk (Ok x.state) × (x.have ≡ used_of x.state (store repo disk))
 GivesWorld disk (Err path) = Gives disk (Err path)
 
 -- The answer over this result counts: the image gives the result, or the answer is the same over
--- every result. (So words that are no command, an input that is refused, and a command that reads
--- no installation are answered over each image, also one that gives no result.)
+-- every result. So words that are no command, an input that is refused and a command that reads no
+-- installation have an answer over each image, also over one that gives no result.
 abbrev pub IsOver : (Result World Elements → Answer) → Disk → Result World Elements → Type 0
 IsOver by disk shown =
     GivesWorld disk shown ⊎ ((other : Result World Elements) → by other ≡ by shown)

@@ -1,4 +1,5 @@
--- What is exported: as it is listed, as it stands, and which names a run changes for it.
+-- Exports: their listing, the files and symlinks below `exports`, and the names that a command may
+-- change for them.
 use Rattle.std.specs.Prelude.{◌≡◌, ◌≢◌, ◌⊎◌, ℕ, Bool, true, false, List, Option, Some, None, Result, Ok, Err, flat_map}
 use Rattle.fp_host.specs.Paths.{Elements, Slot, absent}
 use Rattle.fp_host.specs.View.{View}
@@ -29,44 +30,46 @@ use Rattle.fl_change.specs.declared.end.RunEnd.TheVariants as ends
 
 -- ---- what is listed
 
--- the path of a row, and the ref that it is of
+-- The line of a row: its path below `exports`, and the ref that exports it
 abbrev pub row_line : ExportRow → List ℕ
 row_line row = export_line row.path row.name
 
+-- The lines of rows, in their order
 abbrev pub exports_text : List ExportRow → List ℕ
 exports_text rows = flat_map row_line rows
 
--- ---- what stands
+-- ---- what is below `exports`
 
--- The files and links at or below `exports` are exactly those that the applications of the state
--- export that the image shows.
+-- The image shows a state, and the files and symlinks at or below `exports` are exactly those that
+-- the state's applications export
 pub record HasExports (disk : Disk) : Type 0 where
   pub state : State
   pub shown : Shows disk state
   pub are : ExportsAre (exported (store repo disk) state) disk
 
--- so it is at every stop
+-- Each crash leaves an image that shows a state and has exactly this state's exports
 abbrev pub LeavesExports : View → Type 0
 LeavesExports v = (disk : Disk) → Leaves v disk → HasExports disk
 
--- All is settled, and the exported files and links are those of the state.
+-- The installation is at rest: its image is settled and has exactly the exports of its state
 pub record IsAtRest (v : View) : Type 0 where
   pub settled : Settled (shows v)
   pub exports : HasExports (shows v)
 
--- Every stop leaves the exported files and links of the state; and where the remotes tell what they
--- hold, all is at rest: where this spares tidying, if all was settled before.
+-- Each crash at `v` leaves the exports of the state. If the remotes tell what they hold, `v` is at
+-- rest; for a command that may skip tidying (`Spares`), only if the image was settled at `u`.
 pub record IsInStep (Spares : Type 0) (holds : Option Holdings) (u v : View) : Type 0 where
   pub exports : LeavesExports v
   pub rests : (held : Holdings) → holds ≡ Some held → (Spares → Settled (shows u)) → IsAtRest v
 
--- Where all is at rest and nothing is done or pulled, no name changes and no new file has a byte.
+-- If the installation is at rest at `u`, and the answer has no operation and abandons no pull, then
+-- no name changes and each new file is empty
 abbrev pub StaysAtRest : Answer → View → View → Type 0
 StaysAtRest a u w = IsAtRest u → IsIdle a → IsStill u w
 
--- A refresh of the exported files for the state that is shown, if one is. Whether one is or not, only
--- names of exports and of work change, each file that was there keeps its mode and its bytes, nothing
--- is printed, and no file comes to a commit's folder.
+-- A refresh of `exports` at each moment, for the state that is shown, if one is. In any case only
+-- names of exports and of work change, each old file keeps its mode and bytes, nothing is printed,
+-- and no file gets into a commit's directory.
 pub record RefreshesShown (u w : View) : Type 0 where
   pub names : (q : Elements) → (w.names q ≡ u.names q) ⊎ MayRefresh q (w.names q)
   pub files : KeepsFiles u w
@@ -74,22 +77,23 @@ pub record RefreshesShown (u w : View) : Type 0 where
   pub printed : w.printed ≡ u.printed
   pub refreshes : (s : State) → Shows (shows u) s → Refreshes s u w
 
--- In the end it was refreshed.
+-- The end of a refresh of `exports` for the state that is shown, if one is
 abbrev pub RefreshedShown : View → View → Type 0
 RefreshedShown u w = (s : State) → Shows (shows u) s → WasRefreshed s u w
 
--- So it is where an operation was done; else nothing is.
+-- A refresh of `exports` at each moment, if an operation was done; else nothing changes
 abbrev pub RefreshesWhere : Bool → View → View → Type 0
 RefreshesWhere true u w = RefreshesShown u w
 RefreshesWhere false u w = w ≡ u
 
+-- The end of a refresh of `exports`, if an operation was done; else nothing changed
 abbrev pub RefreshedWhere : Bool → View → View → Type 0
 RefreshedWhere true u w = RefreshedShown u w
 RefreshedWhere false u w = w ≡ u
 
--- How exported files are brought in step with what changes left: by a refresh for the state that
--- these answered, or, where one was refused after an operation, for the state that is shown. Where
--- one was refused and no operation was done, and where they came to no end, nothing is done.
+-- The moments after changes that ended with this result: those of a refresh of `exports`, for the
+-- state that the changes answered, or, if one was refused after an operation, for the state that is
+-- shown. If one was refused before any operation, or the changes failed, nothing is done.
 abbrev pub StepsAfter : Result State RunEnd → Bool → View → View → Type 0
 StepsAfter (Ok s) acted u w = Refreshes s u w
 StepsAfter (Err (ends.Refused refusal)) acted u w = RefreshesWhere acted u w
@@ -97,6 +101,9 @@ StepsAfter (Err ends.Fault) acted u w = w ≡ u
 StepsAfter (Err ends.RemoteFault) acted u w = w ≡ u
 StepsAfter (Err ends.NoMemory) acted u w = w ≡ u
 
+-- The end after changes that ended with this result: `exports` was refreshed, for the state that
+-- the changes answered, or, if one was refused after an operation, for the state that is shown. If
+-- the changes failed, nothing is promised.
 abbrev pub InStepAfter : Result State RunEnd → Bool → View → View → Type 0
 InStepAfter (Ok s) acted u w = WasRefreshed s u w
 InStepAfter (Err (ends.Refused refusal)) acted u w = RefreshedWhere acted u w
@@ -104,7 +111,9 @@ InStepAfter (Err ends.Fault) acted u w = Unit {0}
 InStepAfter (Err ends.RemoteFault) acted u w = Unit {0}
 InStepAfter (Err ends.NoMemory) acted u w = Unit {0}
 
--- over what a fault in it has a cause
+-- The condition on the view after the changes under which a fault of the refresh comes only if the
+-- host's count of faults rose. If the changes were done, each crash leaves the state that they
+-- answered and a sound installation; if one was refused, a sound installation.
 abbrev pub StandsAfter : Result State RunEnd → View → Type 0
 StandsAfter (Ok s) v = Opens s v
 StandsAfter (Err (ends.Refused refusal)) v = IsSound v
@@ -112,11 +121,12 @@ StandsAfter (Err ends.Fault) v = Unit {0}
 StandsAfter (Err ends.RemoteFault) v = Unit {0}
 StandsAfter (Err ends.NoMemory) v = Unit {0}
 
--- the host failed, or there was no memory
+-- The host failed, or memory ran out
 abbrev pub IsHostEnd : Result (Unit {0}) RunEnd → Type 0
 IsHostEnd result = (result ≡ Err ends.Fault) ⊎ (result ≡ Err ends.NoMemory)
 
--- How the changes ended is passed on, unless the host fails or there is no memory.
+-- The result is that of the changes, unless they were done or refused and the host fails then, or
+-- memory runs out
 abbrev pub PassesOn : Result State RunEnd → Result (Unit {0}) RunEnd → Type 0
 PassesOn (Ok s) result = (result ≡ Ok tt) ⊎ IsHostEnd result
 PassesOn (Err (ends.Refused refusal)) result =
@@ -125,36 +135,39 @@ PassesOn (Err ends.Fault) result = result ≡ Err ends.Fault
 PassesOn (Err ends.RemoteFault) result = result ≡ Err ends.RemoteFault
 PassesOn (Err ends.NoMemory) result = result ≡ Err ends.NoMemory
 
--- ---- what changes
+-- ---- the names that change
 
--- Names may come to hold what these operations and tidying make of them, what a refresh of the
--- exported files does, and what Make says.
+-- The entries that names may get: those of these operations and of tidying, those of a refresh of
+-- `exports`, and those that `Make` allows
 pub data MayCome (May : Op → Type 0) (Make : Elements → Slot → Type 0) (q : Elements)
     (e : Slot) : Type 0 where
   changed : MayHold May q e → MayCome May Make q e
   refreshed : MayRefresh q e → MayCome May Make q e
   made_by : Make q e → MayCome May Make q e
 
--- Each name holds what it held, or what it may. Each file that was there keeps its mode and its
--- bytes: what is new is in new files. What came to a commit's folder is its record, or a file of
--- the store. Where something stood as the store's `config`, that stays.
+-- A command changed no more than it may. Each name has its old entry, or one that it may get. Each
+-- old file keeps its mode and bytes: new content is in new files. A file that got into a commit's
+-- directory is its `deploy` file or a file of the store. If the store's `config` existed, it is
+-- unchanged.
 pub record Alters (May : Op → Type 0) (Make : Elements → Slot → Type 0) (u w : View) : Type 0 where
   pub names : (q : Elements) → (w.names q ≡ u.names q) ⊎ MayCome May Make q (w.names q)
   pub config_stays : u.names repo_config ≢ absent → w.names repo_config ≡ u.names repo_config
   pub files : KeepsFiles u w
   pub links : Links u w
 
--- the answer is the line of a commit that was made, which no other command prints
+-- The answer is the line of a commit that was made, which only `export` prints
 pub record IsMadeLine (a : Answer) : Type 0 where
   pub commit : List ℕ
   pub is : a ≡ text_answer (made_text commit)
 
--- Where nothing is done, names may come to hold what tidying makes of them; where nothing is
--- refused, what a refresh does; and where a remote is made, what that does.
+-- The entries that names may get by a command without an operation: those of tidying; those of a
+-- refresh of `exports`, if nothing is refused; and those of making a remote, if the answer is the
+-- line of a commit
 pub data MayRest (a : Answer) (s : State) (q : Elements) (e : Slot) : Type 0 where
   tidied_at : MayTidy s q e → MayRest a s q e
   refreshed_at : a.refusal ≡ None → MayRefresh q e → MayRest a s q e
   made_at : (remote : List ℕ) (r : Ref) → IsMadeLine a → MayMake remote r q e → MayRest a s q e
 
+-- Each name has its old entry, or one that it may get by a command without an operation
 pub record OnlyRests (a : Answer) (s : State) (u w : View) : Type 0 where
   pub names : (q : Elements) → (w.names q ≡ u.names q) ⊎ MayRest a s q (w.names q)

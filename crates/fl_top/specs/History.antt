@@ -1,4 +1,4 @@
--- Runs one after another on one installation, with stops and without.
+-- Commands that are run one after another on one installation, with crashes and without.
 use Rattle.std.specs.Prelude.{◌≡◌, List, [], ◌∷◌, ◌++◌, ℕ, Result}
 use Rattle.fp_host.specs.Paths.{Elements}
 use Rattle.fp_host.specs.View.{View, IsTree}
@@ -9,14 +9,14 @@ use Rattle.dep_states.specs.After.{Done, after_all}
 use Rattle.fl_change.specs.World.{World}
 use Rattle.fl_top.specs.Answer.{answer, Given, IsOver}
 use Rattle.fl_change.specs.Answer.{ops_in, ops_of}
-use Rattle.fl_top.specs.Runs.{Runs}
+use Rattle.fl_top.specs.Moment.{Runs}
 
--- the operations of a run, and those that it acknowledged
+-- The operations of one command's answer, and those of them that it acknowledged
 pub record Stretch : Type 0 where
   pub ops : List Done
   pub acknowledged : List Done
 
--- what a stop at the view w left is opened again, as the view v
+-- The installation is opened again as the view `v` after a crash at the view `w`
 pub record Reopens (w v : View) : Type 0 where
   pub disk : Disk
   pub left : Leaves w disk
@@ -24,9 +24,9 @@ pub record Reopens (w v : View) : Type 0 where
   pub settled : IsSettled v
   pub same : (q : Elements) → shows v q ≡ disk q
 
--- From the view u on. A run, that of an answer that counts, goes on from where the last one was
--- left, at its return or at any moment before, or from what a stop left. The latest run comes
--- first.
+-- The view `v` is reached from the view `u` by these stretches, the latest one first. A command,
+-- whose answer is any answer that counts, starts from the view that the previous command left, at
+-- its return or at any moment before, or from what a crash left.
 pub data History (u : View) : List Stretch → View → Type 0 where
   begins : History u [] u
   runs : (stretches : List Stretch) (v w : View) (words : List (List ℕ)) (given : Given)
@@ -40,8 +40,8 @@ pub data History (u : View) : List Stretch → View → Type 0 where
   stops : (stretches : List Stretch) (v w : View) → History u stretches w → Reopens w v
       → History u stretches v
 
--- a prefix of a run's operations that holds the acknowledged ones leads from the one state to the
--- other
+-- The state `t` is `s` after a prefix of the stretch's operations that includes all acknowledged
+-- ones
 pub record Leads (stretch : Stretch) (s t : State) : Type 0 where
   pub done : List Done
   pub undone : List Done
@@ -50,12 +50,13 @@ pub record Leads (stretch : Stretch) (s t : State) : Type 0 where
   pub holds : done ≡ stretch.acknowledged ++ more
   pub after : t ≡ after_all s done
 
--- such a prefix of each run, one after another
+-- The state `t` is `s` after such prefixes of all stretches, in the order of time
 abbrev pub LeadsAll : List Stretch → State → State → Type 0
 LeadsAll [] s t = t ≡ s
 LeadsAll (stretch ∷ earlier) s t = (m : State) × LeadsAll earlier s m × Leads stretch m t
 
--- from a state that a stop at the start would have left to the one that the image shows
+-- The state `t`, which the image shows, is reached by these stretches from a state that a crash at
+-- the start could have left
 pub record IsReached (u : View) (stretches : List Stretch) (disk : Disk) (t : State) : Type 0 where
   pub before : Disk
   pub left : Leaves u before

@@ -1,40 +1,41 @@
--- What reading the input tells.
+-- Reading of the input.
 use Rattle.std.specs.Prelude.{◌≡◌, ◌≤◌, ◌<◌, ℕ, Bool, true, false, List, [], ◌++◌, length, Option, Some}
 use Rattle.fp_host.specs.Moments.{Rose}
 use Rattle.fl_top.specs.declared.input.TheConstants.{MOST_INPUT}
 use Rattle.fl_top.specs.declared.input.InputEnd.{InputEnd}
 use Rattle.fl_top.specs.declared.input.InputEnd.TheVariants.{TooLong, Fault, NoMemory}
 
--- 64 MiB
+-- The maximum length of the input in bytes: 64 MiB
 abbrev pub input_most : ℕ
 input_most = MOST_INPUT
 
--- The bytes are all that was left, and at most 64 MiB. Where the source doesn't tell what it has
--- left, nothing is said of them.
+-- The bytes are all that was left of the input, at most 64 MiB. Of a source that doesn't tell what
+-- is left, this says nothing.
 abbrev pub IsWhole : Option (List ℕ) → List ℕ → Type 0
 IsWhole left bytes = (all : List ℕ) → left ≡ Some all → (bytes ≡ all) × (length all ≤ input_most)
 
--- nothing is left of what was there
+-- All of the input was taken
 abbrev pub IsTaken : Option (List ℕ) → Option (List ℕ) → Type 0
 IsTaken old new = (all : List ℕ) → old ≡ Some all → new ≡ Some []
 
--- so it is for an input that isn't too long
+-- All of the input was taken, if it had at most 64 MiB
 abbrev pub IsDrained : Option (List ℕ) → Option (List ℕ) → Type 0
 IsDrained old new = (all : List ℕ) → old ≡ Some all → length all ≤ input_most → new ≡ Some []
 
--- more than 64 MiB were left
+-- More than 64 MiB were left of the input
 abbrev pub IsTooLong : Option (List ℕ) → Type 0
 IsTooLong left = (all : List ℕ) → left ≡ Some all → input_most < length all
 
--- `TooLong` comes only where more than 64 MiB were left, and `Fault` only where the count of faults
--- rose
+-- The cause of an end: `TooLong` comes only if more than 64 MiB were left, and `Fault` only if the
+-- count of faults rose
 abbrev pub InputStops : Option (List ℕ) → ℕ → ℕ → InputEnd → Type 0
 InputStops left before now TooLong = IsTooLong left
 InputStops left before now Fault = Rose before now
 InputStops left before now NoMemory = Unit {0}
 
--- One step of reading, from these bytes to those, which says whether it took some. Where the source
--- tells what it has left, nothing was lost, and where none was taken nothing is left.
+-- One step of reading, from the bytes `before` to the bytes `after`; `more` tells whether bytes
+-- were added. If the source tells what is left, no byte is lost, and nothing is left after a step
+-- that added none.
 pub record Adds (old new : Option (List ℕ)) (before after : List ℕ) (more : Bool) : Type 0 where
   pub told : (left : List ℕ) → old ≡ Some left
       → (rest : List ℕ) × (new ≡ Some rest) × (after ++ rest ≡ before ++ left)
@@ -42,7 +43,8 @@ pub record Adds (old new : Option (List ℕ)) (before after : List ℕ) (more : 
   pub grows : more ≡ true → length before < length after
   pub same : more ≡ false → after ≡ before
 
--- a step stops only at a failure of the source, or because memory ran out
+-- The cause of a step's end: `Fault` comes only if the count of faults rose, and a step never ends
+-- with `TooLong`
 abbrev pub StepStops : ℕ → ℕ → InputEnd → Type 0
 StepStops before now TooLong = ⊥
 StepStops before now Fault = Rose before now

@@ -5,9 +5,12 @@ pub mod Answer
 pub mod Kinds
 pub mod Status
 pub mod Asked
-pub mod Runs
+pub mod Told
+pub mod Counting
+pub mod Moment
+pub mod Return
+pub mod Taken
 pub mod Stored
-pub mod RunsOver
 pub mod Ends
 pub mod History
 pub mod Input
@@ -19,3 +22,4 @@ pub mod Exercising
 pub mod Sample
 pub mod Whole
 pub mod Updated
+pub mod Contract

@@ -1,4 +1,4 @@
--- A state with two applications and a runtime.
+-- A sample state with two applications and one runtime.
 use Rattle.std.specs.Prelude.{ℕ, List, [], ◌∷◌, replicate, None, codes}
 use Rattle.fp_name.specs.Refs.{ref_with}
 use Rattle.fp_name.specs.declared.kind.RefKind.{RefKind}
@@ -7,6 +7,7 @@ use Rattle.fp_small.specs.declared.state.Layout.TheVariants.{Two}
 use Rattle.fp_small.specs.declared.state.RefRow.{RefRow}
 use Rattle.fp_small.specs.declared.state.State.{State}
 
+-- The row of a deployed ref of this kind and ID
 abbrev row : RefKind → List ℕ → RefRow
 row kind id = record {
   name = ref_with kind id (codes "x86_64") (codes "1");
@@ -16,6 +17,7 @@ row kind id = record {
   previous = None;
 }
 
+-- The state with the refs of two applications and one runtime, and nothing else
 abbrev pub three_refs : State
 three_refs = record {
   layout = Two;

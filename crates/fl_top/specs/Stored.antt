@@ -1,4 +1,4 @@
--- What stands in the folders of deployed commits, over a sound installation.
+-- The directories of deployed commits in a sound installation.
 use Rattle.std.specs.Prelude.{◌≡◌, ℕ, List, true, Some}
 use Rattle.fp_host.specs.Outcome.{Disk}
 use Rattle.fp_name.specs.Refs.{Ref, is_ref}
@@ -14,19 +14,22 @@ use Rattle.fl_installed.specs.Launching.{launch_in}
 use Rattle.fl_change.specs.World.{World}
 use Rattle.fl_top.specs.Answer.{known_of}
 
--- each deployed file is the one that the store's objects give
+-- In a sound installation, the `metadata` file of each deployed ref is the one of its commit in the
+-- store
 abbrev pub FilesAreStored : Type 0
 FilesAreStored = (disk : Disk) (s : State) → Sound disk → Shows disk s → (name : Ref) (row : RefRow)
     → is_ref name ≡ true → row_at s name ≡ Some row
     → deployed_files disk name row.commit ≡ stored_files (store repo disk) name row.commit
 
--- so what is known of a ref is the same by both
+-- In a sound installation, `info` of a ref answers the same from the deployed files as from the
+-- store's objects
 abbrev pub KnownIsStored : Type 0
 KnownIsStored = (disk : Disk) (x : World) → Sound disk → Shows disk x.state → (name : Ref)
     → is_ref name ≡ true
     → known_of (deployed_files disk) name x ≡ known_of (stored_files (store repo disk)) name x
 
--- and so is a launch
+-- In a sound installation, `launch` of a ref gives the same result from the deployed files as from
+-- the store's objects
 abbrev pub LaunchIsStored : Type 0
 LaunchIsStored = (disk : Disk) (s : State) → Sound disk → Shows disk s → (name : Ref)
     (options : List (List ℕ)) → is_ref name ≡ true → launch_in (deployed_files disk) s name options

@@ -1,4 +1,4 @@
--- A run that nothing disturbs.
+-- Runs without a failure.
 use Rattle.std.specs.Prelude.{◌≡◌, ◌⊎◌, ℕ, List, Option, Some, Result}
 use Rattle.fp_host.specs.Paths.{Elements}
 use Rattle.fp_host.specs.View.{View}
@@ -17,25 +17,27 @@ use Rattle.fl_top.specs.Answer.{answer, Given, IsOver}
 use Rattle.fl_top.specs.Asked.{AsksFor}
 use Rattle.fl_top.specs.Exercises.{IsRunOver, IsUnmade}
 use Rattle.fl_top.specs.Fsck.{IsListable}
-use Rattle.fl_top.specs.Runs.{Answers, Stands, Told, IsGiven, Checks, IsFreeFor, told_start}
+use Rattle.fl_top.specs.Return.{Answers, Stands}
+use Rattle.fl_top.specs.Told.{Told, IsGiven, Checks, IsFreeFor, told_start}
 
--- Every stop leaves the installation sound. No path is too long for a command that looks at each
--- object of the store, and nothing is in the way of one that makes a remote.
+-- The start fits the command: each crash leaves the installation sound; no path of the store is too
+-- long, if the command checks the store; and nothing is in the way of a remote that it makes
 pub record IsFit (command : Option Command) (u : View) : Type 0 where
   pub sound : IsSound u
   pub listable : Checks command → IsListable u
   pub free : IsFreeFor command u
 
--- so it is at the start, where the host tells its content
+-- The start fits the command, if the host tells its content
 abbrev pub StartsFit : Option Command → Option Moments → Type 0
 StartsFit command start = (m : Moments) → start ≡ Some m → IsFit command m.now
 
--- The whole answer was given, with its status; or memory ran out, and every stop leaves the
--- installation after what was acknowledged.
+-- The whole answer was given, with its status; or memory ran out (status 6), and each crash leaves
+-- the state after the acknowledged operations and no others
 abbrev pub IsWhole : Holdings → Answer → ℕ → View → View → Type 0
 IsWhole held a status u w = Answers held a status u w ⊎ ((status ≡ 6) × Stands a u w)
 
--- So it was for each answer that counts; and there is one, whatever the command is given.
+-- Each answer that counts was given whole, or memory ran out; and there is such an answer, whatever
+-- the command is given
 pub record WasWhole (words : List (List ℕ)) (t : Told) (status : ℕ) (u w : View) : Type 0 where
   pub each : (given : Given) → IsGiven t (command_of words) given → (shown : Result World Elements)
       → IsOver (answer words given) (shows u) shown
@@ -43,8 +45,8 @@ pub record WasWhole (words : List (List ℕ)) (t : Told) (status : ℕ) (u w : V
   pub one : (given : Given) → (shown : Result World Elements)
       × IsOver (answer words given) (shows u) shown
 
--- So a run ended over the remotes that the command is run over; or there was no memory to make
--- those of an exercise.
+-- The run gave its answer over the remotes of its command, or memory ran out; for an exercise also
+-- while its remotes were generated
 abbrev pub EndsWhole : List (List ℕ) → Option (List ℕ) → Option Holdings → ℕ → Option Moments
     → Option Moments → Type 0
 EndsWhole words left given status a b =
@@ -52,8 +54,9 @@ EndsWhole words left given status a b =
     × AtEnd (WasWhole words (told_start left holds a) status) a b)
     ⊎ IsUnmade (command_of words) status a b
 
--- It ends so where the installation fits the command, the remotes tell what they are asked, and no
--- count of faults rises, the host's or the remotes'.
+-- If the start fits the command, the remotes tell what they hold where a commit may be brought, and
+-- no count of faults rises, neither the host's nor the remotes', then the whole answer was given,
+-- or memory ran out
 abbrev pub EndsUndisturbed : List (List ℕ) → Option (List ℕ) → ℕ → Outside → Outside → Type 0
 EndsUndisturbed words left status u w =
     StartsFit (command_of words) u.told → AreToldFor (AsksFor (command_of words) left) u.holdings

@@ -1,4 +1,4 @@
-//! What is found in the installation's store.
+//! Checking the installation's store.
 ghost use Rattle.std.specs.Prelude.{◌≡◌, ◌++◌, ◌≤◌, length, count_by, flat_map, IfOk, OnOk, IsErrOf, string_bytes};
 ghost use Rattle.fp_host.specs.OverHost.{AtReturn, ChangesNothing, FailsOnly};
 ghost use Rattle.fp_host.specs.Moments.{Goes};
@@ -6,7 +6,8 @@ ghost use Rattle.fp_host.specs.Outcome.{shows};
 ghost use Rattle.fp_small.specs.Places.{repo};
 ghost use Rattle.ost_store.specs.Names.{CanList};
 ghost use Rattle.fl_top.specs.Fsck.{finding_text as text_of_finding, is_bad as is_of_bad, report_text as text_of_report, IsReportText, IsListable};
-ghost use Rattle.fl_top.specs.RunsOver.{ChecksOver, CheckedOver};
+ghost use Rattle.fl_top.specs.Moment.{RunsCheck};
+ghost use Rattle.fl_top.specs.Return.{CheckHasEnded};
 
 use dep_open::read_state;
 use fl_change::RunEnd;
@@ -19,15 +20,17 @@ use par_digest::Gate;
 use std::alloc::{AllocError, Global};
 use std::thread::Threads;
 
-/// Prints what is wrong in the store, and how many objects it has.
+/// Prints a line for each bad object and each stray path in the store, and a last line with the
+/// numbers of objects and of bad objects. Refuses an installation that is damaged. Condition: no
+/// path below the store's `objects` has more than 128 elements.
 pub(crate) fn check<T: Threads + Sync, H: Host, G: Gate + Sync>(
     rt: &T,
     alloc: Global,
     host: &mut H,
     gate: &G,
 ) -> Result<(), RunEnd>
-    ensures any_moment { Goes (H.moments host.old) (H.moments host.new) ChecksOver
-        (CheckedOver result) }
+    ensures any_moment { Goes (H.moments host.old) (H.moments host.new) RunsCheck
+        (CheckHasEnded result) }
     ensures fault_has_cause { FailsOnly H.Host host.old host.new
         IsListable (IsErrOf result RunEnd.Fault) }
     ensures no_remote_fault { IsErrOf result RunEnd.RemoteFault → ⊥ }
@@ -38,7 +41,8 @@ pub(crate) fn check<T: Threads + Sync, H: Host, G: Gate + Sync>(
     Ok(())
 }
 
-/// The text of what is found in the store.
+/// Checks the store and returns the text of its report. Condition: no path below the store's
+/// `objects` has more than 128 elements.
 fn checked_text<T: Threads + Sync, H: Host, G: Gate + Sync>(
     rt: &T,
     alloc: Global,
@@ -57,7 +61,8 @@ fn checked_text<T: Threads + Sync, H: Host, G: Gate + Sync>(
     Ok(text)
 }
 
-/// The lines of a report.
+/// Returns the lines of a report: one for each finding, and a last one with the numbers of objects
+/// and of bad objects.
 fn report_text(alloc: Global, report: &Report) -> Result<Text, AllocError>
     ensures { IfOk result (λ t. t ≡ text_of_report report.now) }
 {
@@ -69,7 +74,7 @@ fn report_text(alloc: Global, report: &Report) -> Result<Text, AllocError>
     Ok(Text::from_string(text))
 }
 
-/// How many of the findings are bad objects.
+/// Returns the number of bad objects among findings.
 fn bad_count(findings: &[Finding]) -> u64
     ensures { result ≡ count_by is_of_bad findings.now }
 {
@@ -80,7 +85,7 @@ fn bad_count(findings: &[Finding]) -> u64
     count
 }
 
-/// Whether it is a bad object.
+/// Returns whether a finding is a bad object.
 fn is_bad(finding: &Finding) -> bool
     ensures { result ≡ is_of_bad finding.now }
 {
@@ -90,7 +95,7 @@ fn is_bad(finding: &Finding) -> bool
     }
 }
 
-/// Puts after a text a line for each finding.
+/// Appends a line for each finding.
 fn push_findings(alloc: Global, text: &mut String, findings: &[Finding]) -> Result<(), AllocError>
     ensures { OnOk result (string_bytes text.new ≡ string_bytes text.old
         ++ flat_map text_of_finding findings.now) }
@@ -101,7 +106,7 @@ fn push_findings(alloc: Global, text: &mut String, findings: &[Finding]) -> Resu
     Ok(())
 }
 
-/// Puts after a text the line of a finding.
+/// Appends the line of a finding.
 fn push_finding(alloc: Global, text: &mut String, finding: &Finding) -> Result<(), AllocError>
     ensures { OnOk result (string_bytes text.new ≡ string_bytes text.old
         ++ text_of_finding finding.now) }
@@ -110,7 +115,7 @@ fn push_finding(alloc: Global, text: &mut String, finding: &Finding) -> Result<(
     text.push_str(line.as_str())
 }
 
-/// The line of a finding.
+/// Returns the line of a finding.
 fn finding_line(alloc: Global, finding: &Finding) -> Result<Text, AllocError>
     ensures { IfOk result (λ t. t ≡ text_of_finding finding.now) }
 {

@@ -1,4 +1,4 @@
-//! How a command ends where it isn't done.
+//! The error of a command.
 ghost use Rattle.std.specs.Prelude.{◌≡◌};
 
 use crate::input::{InputEnd, TOO_LONG_INPUT};
@@ -9,16 +9,18 @@ use fp_base::What;
 use fp_host::HostEnd;
 use fp_small::Refusal;
 
-/// How a command ends where it isn't done.
+/// The error of a command.
 #[derive(Drop)]
 pub(crate) enum CommandEnd {
+    /// The command was refused.
     Refused(Refusal),
-    /// A call of the host failed.
+    /// A call of the host failed, or the host's content didn't meet the command's condition.
     Fault,
     /// A call of the remotes failed.
     RemoteFault,
-    /// The input failed.
+    /// The source of the input failed.
     InputFault,
+    /// Memory ran out.
     NoMemory,
 }
 

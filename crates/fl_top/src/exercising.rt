@@ -1,4 +1,4 @@
-//! An exercise: the changes of made remotes.
+//! Running an exercise: changes over generated remotes.
 ghost use Rattle.std.specs.Prelude.{◌≡◌, ◌≤◌, false, Option, Some, IfOk, IfErr, OnOk, IsErrOf};
 ghost use Rattle.fp_host.specs.OverHost.{AtReturn, FailsOnly};
 ghost use Rattle.fp_host.specs.Moments.{Goes};
@@ -12,8 +12,9 @@ ghost use Rattle.fl_top.specs.Asked.{AsksRemotes};
 ghost use Rattle.fl_change.specs.Performs.{AreToldFor};
 ghost use Rattle.fl_top.specs.Exercises.{is_exercise, IsExercised};
 ghost use Rattle.fl_top.specs.Exports.{IsInStep};
-ghost use Rattle.fl_top.specs.Runs.{IsReady, HasCauses};
-ghost use Rattle.fl_top.specs.RunsOver.{RunsOver, EndedOver};
+ghost use Rattle.fl_top.specs.Told.{IsReady, HasCauses};
+ghost use Rattle.fl_top.specs.Moment.{RunsChanges};
+ghost use Rattle.fl_top.specs.Return.{ChangesHaveEnded};
 ghost use Rattle.fl_top.specs.Status.{IsOfCommand};
 
 use crate::make_exercise;
@@ -28,7 +29,8 @@ use par_digest::Gate;
 use std::alloc::Global;
 use std::thread::Threads;
 
-/// How many applications an exercise has, or the command where it is none.
+/// Returns the number of applications of an exercise. Errs with the command itself if it isn't an
+/// exercise.
 pub(crate) fn exercise_in(command: Command) -> Result<AppCount, Command>
     ensures exercise { IfOk result (λ apps. command ≡ Exercising apps) }
     ensures other { IfErr result (λ other. other ≡ command) }
@@ -46,7 +48,8 @@ pub(crate) fn exercise_in(command: Command) -> Result<AppCount, Command>
     }
 }
 
-/// Runs an exercise over remotes that are made for it.
+/// Runs an exercise over remotes that are generated for it, and returns the exit status: 6 if
+/// memory runs out while they are generated.
 pub(crate) fn run_exercise<T: Threads + Sync, H: Host, I: Source, G: Gate + Sync>(
     rt: &T,
     alloc: Global,
@@ -75,9 +78,9 @@ pub(crate) fn run_exercise<T: Threads + Sync, H: Host, I: Source, G: Gate + Sync
     }
 }
 
-/// Opens the installation and makes the changes of an exercise, one after another up to the first
-/// refusal. Where none is refused, its last line is printed. Then the exported files are brought in
-/// step with the state; where one was refused, if an operation was done before.
+/// Opens the installation and makes the changes of an exercise one after another, up to the first
+/// refusal. If none is refused, prints the exercise's last line. Then refreshes `exports`; if a
+/// change was refused, only if an operation was done before.
 pub(crate) fn exercise<T: Threads + Sync, H: Host, R: Remotes>(
     rt: &T,
     alloc: Global,
@@ -86,8 +89,8 @@ pub(crate) fn exercise<T: Threads + Sync, H: Host, R: Remotes>(
     apps: &AppCount,
 ) -> Result<(), RunEnd>
     ensures any_moment { Goes (H.moments host.old) (H.moments host.new)
-        (RunsOver (R.holds remotes.old) (MayDo (exercise_changes apps.now)) (exercising apps.now))
-        (EndedOver (R.holds remotes.old) (exercising apps.now) result) }
+        (RunsChanges (R.holds remotes.old) (MayDo (exercise_changes apps.now)) (exercising apps.now))
+        (ChangesHaveEnded (R.holds remotes.old) (exercising apps.now) result) }
     ensures exports { OnOk result
         (AreToldFor (MayDo (exercise_changes apps.now)) (R.holds remotes.old)
         → AtReturn H.Host host.old host.new (λ u w. IsSound u

@@ -1,11 +1,12 @@
-//! A remote that is made of the input.
+//! Making a remote of the input.
 ghost use Rattle.std.specs.Prelude.{◌≤◌, Option, IsErrOf};
 ghost use Rattle.fp_host.specs.OverHost.{ChangesNothing, FailsOnly};
 ghost use Rattle.fp_host.specs.Moments.{Rose};
 ghost use Rattle.fp_host.specs.Remote.{Holdings};
 ghost use Rattle.fl_words.specs.declared.command.Command.TheVariants.{Export as Exporting};
 ghost use Rattle.fl_make.specs.Making.{CanMake};
-ghost use Rattle.fl_top.specs.RunsOver.{GoesOn, TakenBy};
+ghost use Rattle.fl_top.specs.Return.{GoesOn};
+ghost use Rattle.fl_top.specs.Taken.{TakenBy};
 
 use crate::command_end::CommandEnd;
 use crate::input::read_input;
@@ -16,8 +17,8 @@ use fp_name::{RefName, RemoteName};
 use std::alloc::Global;
 use std::thread::Threads;
 
-/// Makes the commit of the tree that the input describes, offers it under the ref in the store of
-/// the remote, and prints its line. The installation isn't opened.
+/// Makes the commit of the tree that the input describes, offers it under the ref in the remote's
+/// store `made/REMOTE`, and prints the commit's line. Doesn't open the installation.
 pub(crate) fn export<T: Threads + Sync, H: Host, I: Source>(
     rt: &T,
     alloc: Global,

@@ -1,4 +1,4 @@
-//! What `filter` forwards of its input.
+//! Filtering a recording of D-Bus messages.
 ghost use Rattle.std.specs.Prelude.{◌≡◌, IfOk, IsErrOf, IsTrue};
 ghost use Rattle.std.specs.Option.{ForSome};
 ghost use Rattle.fp_host.specs.OverHost.{FailsAlone};
@@ -10,9 +10,10 @@ ghost use Rattle.bus_stream.specs.Recordings.{recording_of as recording_in};
 ghost use Rattle.fl_filter.specs.Filtered.{filtered};
 ghost use Rattle.fl_words.specs.declared.command.PolicySource.TheVariants as sources;
 ghost use Rattle.fl_top.specs.Answer.{launch_over, rules_over, filter_by, forwarding};
-ghost use Rattle.fl_top.specs.Runs.{files_at};
-ghost use Rattle.fl_top.specs.RunsOver.{EndsAnyway};
-ghost use Rattle.fl_top.specs.Telling.{Tells, IsRecording, Finds, LooksBy, LookedBy, end_of_filter as run_end_of};
+ghost use Rattle.fl_top.specs.Told.{files_at};
+ghost use Rattle.fl_top.specs.Return.{EndsAnyway, LookHasEnded};
+ghost use Rattle.fl_top.specs.Moment.{RunsLook};
+ghost use Rattle.fl_top.specs.Telling.{Tells, IsRecording, Finds, end_of_filter as run_end_of};
 
 use bus_policy::Policy;
 use bus_stream::{RecordError, Recording};
@@ -28,7 +29,8 @@ use fp_name::RefName;
 use fp_small::Refusal;
 use std::alloc::Global;
 
-/// Filters a recording by the rules of a source, and prints what goes to each side.
+/// Filters a recording by the rules of a source, and prints the messages that are forwarded to each
+/// side.
 pub(crate) fn filter_bytes<H: Host>(
     alloc: Global,
     host: &mut H,
@@ -36,9 +38,9 @@ pub(crate) fn filter_bytes<H: Host>(
     bytes: &[u8],
 ) -> Result<(), RunEnd>
     ensures any_moment { Goes (H.moments host.old) (H.moments host.new)
-        (LooksBy (λ shown. filter_by (files_at (H.moments host.old)) source.now shown
+        (RunsLook (λ shown. filter_by (files_at (H.moments host.old)) source.now shown
         bytes.now))
-        (LookedBy (λ shown. filter_by (files_at (H.moments host.old)) source.now shown
+        (LookHasEnded (λ shown. filter_by (files_at (H.moments host.old)) source.now shown
         bytes.now) result) }
     ensures fault_has_cause { FailsAlone H.Host host.old host.new (IsErrOf result RunEnd.Fault) }
     ensures no_remote_fault { IsErrOf result RunEnd.RemoteFault → ⊥ }
@@ -48,7 +50,7 @@ pub(crate) fn filter_bytes<H: Host>(
     forward(alloc, host, policy, &recording)
 }
 
-/// The recording that bytes are.
+/// Parses a recording. Refuses its first bad line.
 fn read(alloc: Global, bytes: &[u8]) -> Result<Recording, RunEnd>
     ensures read { IsRecording (recording_in bytes.now) result }
     ensures client { IfOk result (λ recording. ForSome recording.client (λ name. IsTrue
@@ -61,7 +63,8 @@ fn read(alloc: Global, bytes: &[u8]) -> Result<Recording, RunEnd>
     }
 }
 
-/// The policy of a source.
+/// Returns the policy of a source of rules: the rules of the words, or those of an application's
+/// launch on one of the buses.
 fn find_policy<H: Host>(
     alloc: Global,
     host: &mut H,
@@ -80,7 +83,7 @@ fn find_policy<H: Host>(
     }
 }
 
-/// What an application is granted on the session bus.
+/// Returns the policy of an application on the session bus, by the grants of its launch.
 fn session_policy<H: Host>(alloc: Global, host: &mut H, name: &RefName) -> Result<Policy, RunEnd>
     ensures finds { Observes (λ v. Finds
         (rules_over (files_at (H.moments host.old)) (sources.Session name.now)) result (shows v))
@@ -93,7 +96,7 @@ fn session_policy<H: Host>(alloc: Global, host: &mut H, name: &RefName) -> Resul
     Ok(launch_policy(alloc, &launch, &id)?)
 }
 
-/// What an application is granted on the system bus.
+/// Returns the policy of an application on the system bus, by the grants of its launch.
 fn system_policy<H: Host>(alloc: Global, host: &mut H, name: &RefName) -> Result<Policy, RunEnd>
     ensures finds { Observes (λ v. Finds
         (rules_over (files_at (H.moments host.old)) (sources.System name.now)) result (shows v))
@@ -105,7 +108,7 @@ fn system_policy<H: Host>(alloc: Global, host: &mut H, name: &RefName) -> Result
     Ok(policy_of_system(alloc, &launch)?)
 }
 
-/// The launch of an application with no options.
+/// Returns the launch of an application without options, or refuses it.
 fn find_launch<H: Host>(alloc: Global, host: &mut H, name: &RefName) -> Result<LaunchText, RunEnd>
     ensures finds { Observes (λ v. Finds
         (launch_over (files_at (H.moments host.old)) name.now) result (shows v))
@@ -120,7 +123,7 @@ fn find_launch<H: Host>(alloc: Global, host: &mut H, name: &RefName) -> Result<L
     }
 }
 
-/// Prints what a policy forwards of a recording.
+/// Prints the messages of a recording that the policy forwards.
 fn forward<H: Host>(
     alloc: Global,
     host: &mut H,
@@ -140,7 +143,7 @@ fn forward<H: Host>(
     }
 }
 
-/// The end of a filter as one of a run.
+/// Converts the error of a filter to that of a command's work.
 fn end_of_filter(end: FilterEnd) -> RunEnd
     ensures { result ≡ run_end_of end }
 {

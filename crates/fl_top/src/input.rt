@@ -1,4 +1,4 @@
-//! The input of a command.
+//! Reading the input of a command.
 ghost use Rattle.std.specs.Prelude.{◌≡◌, ◌≤◌, ◌<◌, IfOk, IfErr, length};
 ghost use Rattle.fl_top.specs.Input.{input_most, IsWhole, IsTaken, InputStops, Adds, StepStops};
 
@@ -6,13 +6,14 @@ use fp_base::Blob;
 use fp_host::{PIECE_BYTES, Source, Taken};
 use std::alloc::{AllocError, Global};
 
-/// Why the input wasn't read.
+/// The error of reading the input.
 #[derive(Clone, Copy, Debug, PartialEq, Eq)]
 pub(crate) enum InputEnd {
-    /// There are more than 64 MiB.
+    /// The input has more than 64 MiB.
     TooLong,
-    /// The input failed.
+    /// The source failed.
     Fault,
+    /// Memory ran out.
     NoMemory,
 }
 
@@ -27,14 +28,14 @@ impl From<AllocError> for InputEnd {
     }
 }
 
-/// The most bytes that the input may have.
+/// The maximum length of the input, in bytes.
 const MOST_INPUT: usize = 64 * 1024 * 1024;
 
-/// The number that the refusal of more bytes tells.
+/// The number in the refusal of an input that is too long: the first one above the limit.
 pub(crate) const TOO_LONG_INPUT: u64 = MOST_INPUT as u64 + 1;
 
-/// All bytes that are left, at most 64 MiB. `TooLong` comes only where there are more, and `Fault`
-/// only where the source failed.
+/// Reads all bytes that are left, at most 64 MiB. Errs with `TooLong` only if there are more, and
+/// with `Fault` only if the source failed.
 pub(crate) fn read_input<I: Source>(alloc: Global, input: &mut I) -> Result<Blob, InputEnd>
     ensures ok { IfOk result (IsWhole (I.left input.old)) }
     ensures taken { IfOk result (λ bytes. IsTaken (I.left input.old) (I.left input.new)) }
@@ -54,7 +55,7 @@ pub(crate) fn read_input<I: Source>(alloc: Global, input: &mut I) -> Result<Blob
     }
 }
 
-/// Takes the next bytes after those that are there, and says whether there were some.
+/// Takes the next bytes of the input, appends them, and returns whether there were any.
 fn take_some<I: Source>(
     input: &mut I,
     buffer: &mut [u8],

@@ -1,4 +1,4 @@
-//! Laws of runs. Each is the contract of a function that does nothing.
+//! Laws of commands. Each law is the contract of a function with an empty body.
 ghost use Rattle.std.specs.Prelude.{◌≡◌, ◌∷◌, [], ℕ, List, Option, Some, None, Result};
 ghost use Rattle.fp_host.specs.Paths.{Elements, absent};
 ghost use Rattle.fp_host.specs.Remote.{Holdings};
@@ -21,12 +21,13 @@ ghost use Rattle.fl_top.specs.Exports.{IsAtRest, IsInStep};
 ghost use Rattle.fl_top.specs.ExportSample.{desktop_text, placed_disk, stale_disk, listed_text};
 ghost use Rattle.fl_change.specs.World.{World};
 ghost use Rattle.fl_top.specs.History.{Stretch, History, Reopens, IsReached};
-ghost use Rattle.fl_top.specs.Runs.{Told, RunsBy};
+ghost use Rattle.fl_top.specs.Told.{Told};
+ghost use Rattle.fl_top.specs.Moment.{RunsWords};
 ghost use Rattle.fl_top.specs.Stored.{FilesAreStored, KnownIsStored, LaunchIsStored};
 ghost use Rattle.fl_top.specs.Updated.{HasNothingToDo, WasUpdated};
 
-/// The answers to words that count are the same. There is one over a view that is sound; and to
-/// words that are no command there is one over each image.
+/// States that all answers of words that count (`IsOver`) are equal, and that one counts over each
+/// sound installation, and over any image if the words are no command.
 pub fn one_answer_counts()
     ensures same { (words : List (List ℕ)) (given : Given) (disk : Disk)
         (shown other : Result World Elements)
@@ -39,10 +40,10 @@ pub fn one_answer_counts()
         → (shown : Result World Elements) × IsOver (answer words given) disk shown }
 {}
 
-/// Runs join. Whatever list of commands runs, one after another, with a stop at any moment between
-/// or within them: where every stop at the start would have left a sound installation, every stop
-/// at the end does; and what it shows is reached from a state of the start by a prefix of each
-/// run's operations that holds those that the run acknowledged.
+/// States that commands that run one after another, with a crash at any moment between or within
+/// them, keep a sound installation sound. Each state that a crash may leave at the end is reached
+/// from one that a crash could have left at the start, by a prefix of each command's operations
+/// that includes those that the command acknowledged.
 pub fn runs_join()
     ensures sound { (u w : View) (stretches : List Stretch) → IsSound u → History u stretches w →
         IsSound w }
@@ -50,15 +51,15 @@ pub fn runs_join()
         (disk : Disk) → Leaves w disk → (t : State) → Shows disk t → IsReached u stretches disk t }
 {}
 
-/// That runs join is said of something: where every stop leaves what stands, what a stop leaves is
-/// opened again as what stood.
+/// States that an installation without changes that wait for a sync is opened again as itself after
+/// a crash. So `runs_join` isn't said of nothing.
 pub fn settled_views_reopen()
     ensures { (v : View) → IsTree v → IsSettled v → Reopens v v }
 {}
 
-/// What is promised of exported files can be met: where the root stands alone nothing is exported,
-/// and nothing stands there. The files and links of a small application may stand just so; with a
-/// link of another application they don't.
+/// States that the promise of exports can be met, and that it can be broken. An empty installation
+/// meets it. An image with just the exports of a small application has exactly its exports; one
+/// that also has another application's symlink doesn't.
 pub fn exports_can_stand()
     ensures bare { (holds : Option Holdings) (u v : View) → IsTree v → IsSettled v
         → ((x : List ℕ) (up : Elements) → v.names (x ∷ up) ≡ absent) → IsInStep ⊥ holds u v }
@@ -66,9 +67,10 @@ pub fn exports_can_stand()
     ensures stale { ExportsAre (sample.exports sample.stable desktop_text) stale_disk → ⊥ }
 {}
 
-/// An update of all that was done leaves nothing to do: another one, over what it left and with the
-/// same remotes, has no operation and is not refused; and where all is at rest, at every moment no
-/// name has changed, each file keeps its mode and its bytes, and no new file has a byte.
+/// States that an update of all refs that was done leaves nothing to do. Another one, over what the
+/// first left and with the same remotes, has no operation and no refusal. If the installation is at
+/// rest, at every moment of it no name has changed, each old file keeps its mode and bytes, and
+/// each new file is empty.
 pub fn idle_updates_write_nothing()
     ensures answer { (words : List (List ℕ)) (first : Told) (given : Given) (held : Holdings)
         (u v : View) (shown : Result World Elements) → WasUpdated words first held u v
@@ -76,19 +78,19 @@ pub fn idle_updates_write_nothing()
         → HasNothingToDo (answer words given shown) }
     ensures unwritten { (words : List (List ℕ)) (first second : Told) (held : Holdings)
         (u v w : View) → WasUpdated words first held u v → second.holds ≡ Some held
-        → IsAtRest v → RunsBy words second v w → IsStill v w × KeepsFiles v w }
+        → IsAtRest v → RunsWords words second v w → IsStill v w × KeepsFiles v w }
 {}
 
-/// Over a sound installation each deployed file `metadata` is the one that the store's objects give.
-/// So what is known of a deployed ref is the same by both, and so is a launch, with the rules of its
-/// filter.
+/// States that in a sound installation each deployed `metadata` file is the one of its commit in
+/// the store. So `info`, `launch` and the policies that `filter` takes of a launch give the same
+/// result from both.
 pub fn deployed_files_are_stored()
     ensures files { FilesAreStored }
     ensures known { KnownIsStored }
     ensures launch { LaunchIsStored }
 {}
 
-/// What `list --exports` prints of a small application.
+/// States what `list --exports` prints of a small application.
 pub fn exports_are_listed()
     ensures { (files : DeployedFiles) → listing_answer files listings.Exports (record {
       state = sample.state (sample.row sample.stable ∷ []);
@@ -96,7 +98,7 @@ pub fn exports_are_listed()
     }) ≡ text_answer listed_text }
 {}
 
-/// The most bytes of an input, as a number: 64 MiB.
+/// States the maximum length of the input as a number: 64 MiB.
 pub fn limits_as_numbers()
     ensures { MOST_INPUT ≡ 67108864 }
 {}

@@ -1,4 +1,4 @@
-//! Laws of exercises. Each is the contract of a function that does nothing.
+//! Laws of exercises. Each law is the contract of a function with an empty body.
 ghost use Rattle.std.specs.Prelude.{◌≡◌, ◌++◌, ◌∷◌, [], ℕ, Some, None, codes};
 ghost use Rattle.fp_host.specs.Remote.{Holdings};
 ghost use Rattle.fp_small.specs.declared.refusal.Refusal.{Refusal};
@@ -6,8 +6,8 @@ ghost use Rattle.fl_change.specs.World.{World};
 ghost use Rattle.fl_top.specs.Exercising.{changed_state, changes_answer, end_text, exercising};
 ghost use Rattle.fl_top.specs.Sample.{three_refs};
 
-/// Where one of its changes is refused, an exercise answers what its changes answer. Where none is,
-/// its own line comes last, over the state that they leave.
+/// States that an exercise answers what its changes answer, if one is refused; else its own line
+/// comes last, for the state that the changes leave.
 pub fn exercises_end_with_their_line()
     ensures refused { (apps : ℕ) (held : Holdings) (x : World) (r : Refusal)
         → (changes_answer apps held x).refusal ≡ Some r
@@ -23,7 +23,7 @@ pub fn exercises_end_with_their_line()
         } }
 {}
 
-/// The line over a state with two applications and a runtime.
+/// States the last line of an exercise that leaves two applications and a runtime.
 pub fn refs_are_counted()
     ensures { end_text 4 three_refs ≡ codes "exercise 4: 2 applications, 1 runtimes\n" }
 {}

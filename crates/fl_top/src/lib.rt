@@ -1,4 +1,4 @@
-//! The run of a command.
+//! Running a command: the program except for `main`.
 #![tactic(auto)]
 
 mod checking;

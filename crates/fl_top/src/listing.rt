@@ -1,4 +1,4 @@
-//! What is listed of an installation.
+//! Listing the content of an installation.
 ghost use Rattle.std.specs.Prelude.{◌≡◌, ◌++◌, Option, Some, IfOk, OnOk, IsErrOf, string_bytes};
 ghost use Rattle.fp_host.specs.OverHost.{ChangesNothing, FailsAlone};
 ghost use Rattle.fp_host.specs.Moments.{Goes};
@@ -10,11 +10,12 @@ ghost use Rattle.fl_export.specs.Exported.{exported};
 ghost use Rattle.fl_installed.specs.Deployed.{DeployedFiles, Deploys};
 ghost use Rattle.fl_installed.specs.Described.{info_in as info_of};
 ghost use Rattle.fl_installed.specs.Launching.{launch_in as launch_over};
-ghost use Rattle.fl_top.specs.Answer.{listing_answer, known_of, told_of, launched_of, override_text as text_of_override};
+ghost use Rattle.fl_top.specs.Answer.{listing_answer, shown_answer, known_of, told_of, launched_of, override_text as text_of_override};
 ghost use Rattle.fl_top.specs.Ends.{PrintsOf};
 ghost use Rattle.fl_top.specs.Exports.{exports_text as text_of_exports, row_line as line_of_row};
-ghost use Rattle.fl_top.specs.Runs.{files_at};
-ghost use Rattle.fl_top.specs.RunsOver.{LooksOver, LookedOver};
+ghost use Rattle.fl_top.specs.Told.{files_at};
+ghost use Rattle.fl_top.specs.Moment.{RunsLook};
+ghost use Rattle.fl_top.specs.Return.{LookHasEnded};
 
 use dep_open::read_state;
 use dep_switch::{find_override, find_ref};
@@ -30,11 +31,11 @@ use fp_name::RefName;
 use fp_small::{RefRow, Refusal, State};
 use std::alloc::{AllocError, Global};
 
-/// Prints what is listed.
+/// Prints a listing of the installation, and changes nothing.
 pub(crate) fn list<H: Host>(alloc: Global, host: &mut H, listing: Listing) -> Result<(), RunEnd>
     ensures any_moment { Goes (H.moments host.old) (H.moments host.new)
-        (LooksOver (listing_answer (files_at (H.moments host.old)) listing))
-        (LookedOver (listing_answer (files_at (H.moments host.old)) listing) result) }
+        (RunsLook (shown_answer (listing_answer (files_at (H.moments host.old)) listing)))
+        (LookHasEnded (shown_answer (listing_answer (files_at (H.moments host.old)) listing)) result) }
     ensures fault_has_cause { FailsAlone H.Host host.old host.new (IsErrOf result RunEnd.Fault) }
     ensures no_remote_fault { IsErrOf result RunEnd.RemoteFault → ⊥ }
 {
@@ -44,7 +45,8 @@ pub(crate) fn list<H: Host>(alloc: Global, host: &mut H, listing: Listing) -> Re
     Ok(())
 }
 
-/// What is listed of a state.
+/// Returns the text of a listing. Refuses a ref that isn't deployed, bad metadata, and a launch
+/// that isn't possible.
 fn listed_text<H: Host>(
     alloc: Global,
     host: &mut H,
@@ -72,7 +74,7 @@ fn listed_text<H: Host>(
     }
 }
 
-/// The exported files, a line each.
+/// Returns a line for each export of the state: its path and its ref.
 fn exports_text<H: Host>(alloc: Global, host: &mut H, state: &State) -> Result<Text, HostEnd>
     ensures unchanged { ChangesNothing H.Host host.old host.new }
     ensures tells { (have : Have) → Stores repo (H.moments host.old) have
@@ -83,7 +85,7 @@ fn exports_text<H: Host>(alloc: Global, host: &mut H, state: &State) -> Result<T
     Ok(rows_text(alloc, rows.as_slice())?)
 }
 
-/// A line for each row of what is exported.
+/// Returns a line for each row of exports.
 fn rows_text(alloc: Global, rows: &[ExportRow]) -> Result<Text, AllocError>
     ensures { IfOk result (λ t. t ≡ text_of_exports rows.now) }
 {
@@ -94,7 +96,7 @@ fn rows_text(alloc: Global, rows: &[ExportRow]) -> Result<Text, AllocError>
     Ok(Text::from_string(text))
 }
 
-/// Puts the line of a row of what is exported after a text.
+/// Appends the line of a row of exports.
 fn push_row(alloc: Global, text: &mut String, row: &ExportRow) -> Result<(), AllocError>
     ensures { OnOk result (string_bytes text.new ≡ string_bytes text.old ++ line_of_row row.now) }
 {
@@ -102,7 +104,7 @@ fn push_row(alloc: Global, text: &mut String, row: &ExportRow) -> Result<(), All
     text.push_str(line.as_str())
 }
 
-/// What is known of a deployed ref.
+/// Returns the lines of `info` for a ref. Refuses a ref that isn't deployed, and bad metadata.
 fn known_text<H: Host>(
     alloc: Global,
     host: &mut H,
@@ -121,7 +123,7 @@ fn known_text<H: Host>(
     }
 }
 
-/// What is known of the ref of a row.
+/// Returns the lines of `info` for a deployed ref. Refuses bad metadata.
 fn row_text<H: Host>(
     alloc: Global,
     host: &mut H,
@@ -138,7 +140,8 @@ fn row_text<H: Host>(
     told_text(alloc, row, info)
 }
 
-/// What is said of a row and of what was read of its metadata.
+/// Returns the lines of `info` for a row and the facts of its metadata. Errs with the refusal of
+/// the metadata.
 fn told_text(alloc: Global, row: &RefRow, info: Result<Info, Refusal>) -> Result<Text, RunEnd>
     ensures tells { PrintsOf (told_of row.now info) result }
     ensures no_fault { IsErrOf result RunEnd.Fault → ⊥ }
@@ -154,7 +157,7 @@ fn told_text(alloc: Global, row: &RefRow, info: Result<Info, Refusal>) -> Result
     }
 }
 
-/// The text of a launch.
+/// Returns the text of an application's launch with these options, or refuses it.
 fn launch_text<H: Host>(
     alloc: Global,
     host: &mut H,
@@ -172,7 +175,7 @@ fn launch_text<H: Host>(
     launched_text(launch)
 }
 
-/// The text of a launch that was worked out.
+/// Returns the text of a launch. Errs with the refusal of the launch.
 fn launched_text(launch: Result<LaunchText, Refusal>) -> Result<Text, RunEnd>
     ensures tells { PrintsOf (launched_of launch) result }
     ensures no_fault { IsErrOf result RunEnd.Fault → ⊥ }
@@ -183,7 +186,7 @@ fn launched_text(launch: Result<LaunchText, Refusal>) -> Result<Text, RunEnd>
     }
 }
 
-/// The key file of an override, nothing where there is none.
+/// Returns the text of an override's key file; empty if there is no such override.
 fn override_text(alloc: Global, state: &State, name: &Text) -> Result<Text, AllocError>
     ensures { IfOk result (λ t. t ≡ text_of_override state.now name.now) }
 {

@@ -1,9 +1,9 @@
-//! The exported files, brought in step with what changes left.
+//! Refreshing the exports after changes.
 ghost use Rattle.std.specs.Prelude.{◌≡◌, ◌≢◌, Err, OnOk, IsErrOf};
 ghost use Rattle.fp_host.specs.OverHost.{AtEachMoment, AtReturn, FailsOnly};
 ghost use Rattle.dep_states.specs.Sound.{IsSound};
 ghost use Rattle.fl_top.specs.Exports.{RefreshesShown, RefreshedShown, RefreshesWhere, RefreshedWhere, StepsAfter, InStepAfter, StandsAfter, PassesOn};
-ghost use Rattle.fl_top.specs.RunsOver.{IsGivenBy};
+ghost use Rattle.fl_top.specs.Return.{IsGivenBy};
 
 use dep_open::{OpenEnd, open};
 use dep_states::Opened;
@@ -12,10 +12,10 @@ use fl_export::refresh;
 use fp_host::{Host, HostEnd};
 use std::alloc::Global;
 
-/// Brings the exported files in step with what changes left, and passes on how these ended. That is
-/// the state that they answered or, where one was refused after an operation, the state that is
-/// shown. Where one was refused and no operation was done, and where they came to no end, nothing is
-/// done here.
+/// Refreshes `exports` after changes, and returns how the changes ended. If they were done, the
+/// exports are those of the state that they left; if one was refused after an operation, those of
+/// the state that the installation shows. Does nothing if a change was refused before any
+/// operation, or if the changes failed.
 pub(crate) fn bring_in_step<H: Host>(
     alloc: Global,
     host: &mut H,
@@ -41,7 +41,7 @@ pub(crate) fn bring_in_step<H: Host>(
     }
 }
 
-/// Brings the exported files in step with the state that is shown, where an operation was done.
+/// Refreshes `exports` for the state that the installation shows, if an operation was done.
 fn refresh_where<H: Host>(alloc: Global, host: &mut H, acted: bool) -> Result<(), HostEnd>
     ensures any_moment { AtEachMoment H.Host host.old host.new (RefreshesWhere acted) }
     ensures on_success { OnOk result (AtReturn H.Host host.old host.new (RefreshedWhere acted)) }
@@ -55,8 +55,8 @@ fn refresh_where<H: Host>(alloc: Global, host: &mut H, acted: bool) -> Result<()
     }
 }
 
-/// Opens the installation, and brings the exported files in step with the state that it shows. Where
-/// it shows none, nothing is done.
+/// Opens the installation and refreshes `exports` for the state that it shows. Changes nothing if
+/// it is damaged.
 fn refresh_shown<H: Host>(alloc: Global, host: &mut H) -> Result<(), HostEnd>
     ensures any_moment { AtEachMoment H.Host host.old host.new RefreshesShown }
     ensures on_success { OnOk result (AtReturn H.Host host.old host.new RefreshedShown) }

@@ -1,11 +1,11 @@
-//! The run of a command.
+//! Running a command.
 ghost use Rattle.std.specs.Prelude.{◌≡◌, ◌≢◌, ◌≤◌, ◌⊎◌, true, false, Option, Some, map, string_bytes, IfOk, OnOk, IsErrOf};
 ghost use Rattle.fp_host.specs.OverHost.{AtReturn, ChangesNothing, FailsAlone, FailsOnly};
 ghost use Rattle.fp_host.specs.Moments.{Goes, Rose};
 ghost use Rattle.fp_host.specs.Remote.{Holdings};
 ghost use Rattle.fp_small.specs.declared.refusal.Refusal.TheVariants.{BadWords};
+ghost use Rattle.ost_walk.specs.Ends.{around};
 ghost use Rattle.fl_lines.specs.Lines.{refusal_text};
-ghost use Rattle.fl_words.specs.Forms.{command_of};
 ghost use Rattle.fl_words.specs.declared.command.Command.TheVariants.{Show as Showing, Filter as Filtering, Batch};
 ghost use Rattle.fl_change.specs.Says.{Says, SaidBy, Refuses};
 ghost use Rattle.fl_change.specs.Turns.{changing, MayDo};
@@ -13,14 +13,15 @@ ghost use Rattle.fp_host.specs.Outcome.{shows};
 ghost use Rattle.dep_states.specs.Sound.{IsSound};
 ghost use Rattle.fl_top.specs.Fsck.{HasReport};
 ghost use Rattle.fl_top.specs.Exports.{IsInStep};
-ghost use Rattle.fl_top.specs.Asked.{OpsBy, AsksFor, AsksRemotes, UpdatesBy};
+ghost use Rattle.fl_top.specs.Asked.{OpsBy, AsksRemotes, UpdatesBy};
 ghost use Rattle.fl_change.specs.Current.{updates_all};
 ghost use Rattle.fl_change.specs.Performs.{AreToldFor};
-ghost use Rattle.fl_top.specs.Exercises.{IsRun};
-ghost use Rattle.fl_top.specs.RunsOver.{GoesOn, RunsOver, EndedOver, RunsOn, EndedOn, RanOn, Takes, TakenBy, IsClosedBy};
-ghost use Rattle.fl_top.specs.Updated.{EndsInStep, WhereDone};
-ghost use Rattle.fl_top.specs.Runs.{Checks, IsChange, told_start, WasTaken, ReadsInput, IsReady, HasCauses};
-ghost use Rattle.fl_top.specs.Status.{IsStatus, IsAnswered, IsOfWords, IsOfCommand, reads_input};
+ghost use Rattle.fl_top.specs.Contract.{RunsCommandLine, feed_of};
+ghost use Rattle.fl_top.specs.Return.{GoesOn, ChangesHaveEnded, CommandHasEnded, CommandWasRun, IsClosedBy};
+ghost use Rattle.fl_top.specs.Moment.{RunsChanges, RunsCommand};
+ghost use Rattle.fl_top.specs.Taken.{Takes, TakenBy, ReadsInput};
+ghost use Rattle.fl_top.specs.Told.{Checks, IsChange, told_start, IsReady, HasCauses};
+ghost use Rattle.fl_top.specs.Status.{IsAnswered, IsOfCommand, reads_input};
 
 use crate::checking::check;
 use crate::command_end::CommandEnd;
@@ -42,10 +43,11 @@ use par_digest::{Gate, NoGate};
 use std::alloc::{AllocError, Global};
 use std::thread::Threads;
 
-/// Runs the command of these words on the installation in the host, and prints what it answers
-/// there. The status is 0 where it was done, 1 where it was refused, 2 where the words are no
-/// command, 3 where the host failed, 4 where the remotes failed, 5 where the input failed, 6 where
-/// there was no memory.
+/// Runs the command of these words on the installation in the host, prints its answer on the host,
+/// and returns the exit status: 0 if it was done, 1 if it was refused, 2 if the words are no
+/// command, 3 if the host failed or its content didn't meet the command's condition (`HasCauses`),
+/// 4 if the remotes failed, 5 if the input failed, 6 if memory ran out. `docs/THEOREM.md` explains
+/// the contract.
 pub fn run<H: Host, R: Remotes, I: Source>(
     rt: &(impl Threads + Sync),
     alloc: Global,
@@ -54,48 +56,16 @@ pub fn run<H: Host, R: Remotes, I: Source>(
     host: &mut H,
     remotes: &mut R,
 ) -> u8
-    ensures status { IsStatus result }
-    ensures words { IsOfWords (command_of (map string_bytes words.now)) result }
-    // Wherever the host stops: what was printed are the first pieces of the answer, and the
-    // installation is the one after a prefix of its operations that holds each acknowledged one. At
-    // the return what was printed, the status and the state are the answer's; every stop leaves the
-    // acknowledged operations. An exercise answers over remotes that are made for it.
-    ensures runs { IsRun (map string_bytes words.now) (I.left input.old)
-        (R.holds remotes.old) result
-        (H.moments host.old) (H.moments host.new) }
-    ensures fault_has_cause { FailsOnly H.Host host.old host.new
-        (HasCauses (command_of (map string_bytes words.now))) (AreToldFor (AsksFor (command_of (map string_bytes words.now)) (I.left input.old))
-        (R.holds remotes.old) × (result ≡ 3)) }
-    // Where a command that looks at each object of the store gave its whole answer, the store has a
-    // report, or no state is shown (so that this isn't said of nothing).
-    ensures found { Checks (command_of (map string_bytes words.now)) → IsAnswered result
-        → AtReturn H.Host host.old host.new
-        (λ u w. HasReport (shows u)) }
-    // Where a command that changes something was done, every stop leaves as the files and links at
-    // or below `exports` exactly those that the applications of its state export; and all is
-    // settled, where the remotes tell what they hold: after the update of all, if it was before.
-    ensures exports { WhereDone (command_of (map string_bytes words.now)) (I.left input.old) result
-        (R.holds remotes.old) (AtReturn H.Host host.old host.new
-        (EndsInStep (command_of (map string_bytes words.now)) (I.left input.old)
-        (R.holds remotes.old))) }
-    // The remotes stay as they are. For an exercise, and where the command brings no commit, they
-    // aren't asked, and the status isn't 4; else it comes only where their count rose.
-    ensures remotes { AsksRemotes
-        (AsksFor (command_of (map string_bytes words.now)) (I.left input.old))
-        (result ≡ 4) (R.holds remotes.old) (R.holds remotes.new)
-        (R.faults remotes.old) (R.faults remotes.new) }
-    // The input is read before anything is done.
-    ensures input { result ≡ 5
-        → Rose (I.faults input.old) (I.faults input.new) × ChangesNothing H.Host host.old host.new }
-    ensures taken { WasTaken (command_of (map string_bytes words.now)) result (I.left input.old)
-        (I.left input.new) }
-    ensures later { I.faults input.old ≤ I.faults input.new }
+    ensures { RunsCommandLine (map string_bytes words.now) result
+        (around H.Host R.Remotes host.old remotes.old)
+        (around H.Host R.Remotes host.new remotes.new)
+        (feed_of I.Source input.old) (feed_of I.Source input.new) }
 {
     run_gated(rt, alloc, words, input, host, remotes, &NoGate)
 }
 
-/// Runs the command of these words as `run` does, whatever the gate does. `fsck` hands the gate to
-/// each of its batches of objects.
+/// Runs the command of these words as `run` does, whatever the gate does. Only `fsck` uses the
+/// gate: it calls the gate's hooks for each batch of objects whose digests it computes.
 pub fn run_gated<H: Host, R: Remotes, I: Source, G: Gate + Sync>(
     rt: &(impl Threads + Sync),
     alloc: Global,
@@ -105,28 +75,10 @@ pub fn run_gated<H: Host, R: Remotes, I: Source, G: Gate + Sync>(
     remotes: &mut R,
     gate: &G,
 ) -> u8
-    ensures status { IsStatus result }
-    ensures words { IsOfWords (command_of (map string_bytes words.now)) result }
-    ensures runs { IsRun (map string_bytes words.now) (I.left input.old)
-        (R.holds remotes.old) result
-        (H.moments host.old) (H.moments host.new) }
-    ensures fault_has_cause { FailsOnly H.Host host.old host.new
-        (HasCauses (command_of (map string_bytes words.now))) (AreToldFor (AsksFor (command_of (map string_bytes words.now)) (I.left input.old))
-        (R.holds remotes.old) × (result ≡ 3)) }
-    ensures found { Checks (command_of (map string_bytes words.now)) → IsAnswered result
-        → AtReturn H.Host host.old host.new
-        (λ u w. HasReport (shows u)) }
-    ensures exports { WhereDone (command_of (map string_bytes words.now)) (I.left input.old) result
-        (R.holds remotes.old) (AtReturn H.Host host.old host.new
-        (EndsInStep (command_of (map string_bytes words.now)) (I.left input.old)
-        (R.holds remotes.old))) }
-    ensures remotes { AsksRemotes
-        (AsksFor (command_of (map string_bytes words.now)) (I.left input.old))
-        (result ≡ 4) (R.holds remotes.old) (R.holds remotes.new)
-        (R.faults remotes.old) (R.faults remotes.new) }
-    ensures input { ReadsInput (command_of (map string_bytes words.now)) result
-        (ChangesNothing H.Host host.old host.new) (I.left input.old) (I.left input.new)
-        (I.faults input.old) (I.faults input.new) }
+    ensures { RunsCommandLine (map string_bytes words.now) result
+        (around H.Host R.Remotes host.old remotes.old)
+        (around H.Host R.Remotes host.new remotes.new)
+        (feed_of I.Source input.old) (feed_of I.Source input.new) }
 {
     match read_words(alloc, words) {
         Ok(command) => match exercise_in(command) {
@@ -138,7 +90,8 @@ pub fn run_gated<H: Host, R: Remotes, I: Source, G: Gate + Sync>(
     }
 }
 
-/// Runs a command over these remotes, and prints the line of its refusal.
+/// Runs a command over these remotes, prints the line of its refusal if it is refused, and returns
+/// the exit status. Condition: see `HasCauses`.
 pub(crate) fn run_command<T: Threads + Sync, H: Host, R: Remotes, I: Source, G: Gate + Sync>(
     rt: &T,
     alloc: Global,
@@ -150,8 +103,8 @@ pub(crate) fn run_command<T: Threads + Sync, H: Host, R: Remotes, I: Source, G: 
 ) -> u8
     ensures status { IsOfCommand command result }
     ensures any_moment { Goes (H.moments host.old) (H.moments host.new)
-        (RunsOn command (told_start (I.left input.old) (R.holds remotes.old) (H.moments host.old)))
-        (RanOn command (told_start (I.left input.old) (R.holds remotes.old) (H.moments host.old))
+        (RunsCommand command (told_start (I.left input.old) (R.holds remotes.old) (H.moments host.old)))
+        (CommandWasRun command (told_start (I.left input.old) (R.holds remotes.old) (H.moments host.old))
         result) }
     ensures fault_has_cause { FailsOnly H.Host host.old host.new
         (HasCauses (Some command)) (AreToldFor (OpsBy command (I.left input.old))
@@ -177,7 +130,7 @@ pub(crate) fn run_command<T: Threads + Sync, H: Host, R: Remotes, I: Source, G: 
     }
 }
 
-/// Does a command, up to the line of its refusal.
+/// Does the work of a command, and prints all of its answer except the line of a refusal.
 fn perform<T: Threads + Sync, H: Host, R: Remotes, I: Source, G: Gate + Sync>(
     rt: &T,
     alloc: Global,
@@ -188,8 +141,8 @@ fn perform<T: Threads + Sync, H: Host, R: Remotes, I: Source, G: Gate + Sync>(
     gate: &G,
 ) -> Result<(), CommandEnd>
     ensures any_moment { Goes (H.moments host.old) (H.moments host.new)
-        (RunsOn command (told_start (I.left input.old) (R.holds remotes.old) (H.moments host.old)))
-        (EndedOn command (told_start (I.left input.old) (R.holds remotes.old) (H.moments host.old))
+        (RunsCommand command (told_start (I.left input.old) (R.holds remotes.old) (H.moments host.old)))
+        (CommandHasEnded command (told_start (I.left input.old) (R.holds remotes.old) (H.moments host.old))
         result) }
     ensures fault_has_cause { FailsOnly H.Host host.old host.new
         (HasCauses (Some command)) (AreToldFor (OpsBy command (I.left input.old))
@@ -220,7 +173,7 @@ fn perform<T: Threads + Sync, H: Host, R: Remotes, I: Source, G: Gate + Sync>(
     }
 }
 
-/// Prints what the input is. The installation isn't looked at.
+/// Prints what `show` answers for the input. Doesn't look at the installation.
 fn show<H: Host, I: Source>(
     alloc: Global,
     input: &mut I,
@@ -242,7 +195,7 @@ fn show<H: Host, I: Source>(
     Ok(say(host, text.as_str().as_bytes())?)
 }
 
-/// Prints what the rules of a source forward of the recording that the input is.
+/// Prints the messages that the rules of a source forward. The input is the recording.
 fn filter<H: Host, I: Source>(
     alloc: Global,
     input: &mut I,
@@ -263,7 +216,7 @@ fn filter<H: Host, I: Source>(
     Ok(filter_bytes(alloc, host, source, bytes.as_slice())?)
 }
 
-/// Reads the changes that the input asks for, and makes them one after another.
+/// Reads all changes from the lines of the input, and then makes them one after another.
 fn batch<T: Threads + Sync, H: Host, R: Remotes, I: Source>(
     rt: &T,
     alloc: Global,
@@ -272,8 +225,8 @@ fn batch<T: Threads + Sync, H: Host, R: Remotes, I: Source>(
     remotes: &mut R,
 ) -> Result<(), CommandEnd>
     ensures any_moment { Goes (H.moments host.old) (H.moments host.new)
-        (RunsOn Batch (told_start (I.left input.old) (R.holds remotes.old) (H.moments host.old)))
-        (EndedOn Batch (told_start (I.left input.old) (R.holds remotes.old) (H.moments host.old))
+        (RunsCommand Batch (told_start (I.left input.old) (R.holds remotes.old) (H.moments host.old)))
+        (CommandHasEnded Batch (told_start (I.left input.old) (R.holds remotes.old) (H.moments host.old))
         result) }
     ensures exports { OnOk result (AreToldFor (OpsBy Batch (I.left input.old))
         (R.holds remotes.old) → AtReturn H.Host host.old host.new
@@ -295,9 +248,8 @@ fn batch<T: Threads + Sync, H: Host, R: Remotes, I: Source>(
     Ok(make_changes(rt, alloc, host, remotes, changes.as_slice())?)
 }
 
-/// Opens the installation and makes the changes, one after another up to the first refusal. Then the
-/// exported files are brought in step with the state; where one was refused, if an operation was done
-/// before.
+/// Opens the installation and makes the changes one after another, up to the first refusal. Then
+/// refreshes `exports`; if a change was refused, only if an operation was done before.
 fn make_changes<T: Threads + Sync, H: Host, R: Remotes>(
     rt: &T,
     alloc: Global,
@@ -306,8 +258,8 @@ fn make_changes<T: Threads + Sync, H: Host, R: Remotes>(
     changes: &[Change],
 ) -> Result<(), RunEnd>
     ensures any_moment { Goes (H.moments host.old) (H.moments host.new)
-        (RunsOver (R.holds remotes.old) (MayDo changes.now) (changing changes.now))
-        (EndedOver (R.holds remotes.old) (changing changes.now) result) }
+        (RunsChanges (R.holds remotes.old) (MayDo changes.now) (changing changes.now))
+        (ChangesHaveEnded (R.holds remotes.old) (changing changes.now) result) }
     ensures exports { OnOk result (AreToldFor (MayDo changes.now) (R.holds remotes.old)
         → AtReturn H.Host host.old host.new (λ u w. IsSound u
         → IsInStep (updates_all changes.now ≡ true) (R.holds remotes.old) u w)) }
@@ -323,7 +275,8 @@ fn make_changes<T: Threads + Sync, H: Host, R: Remotes>(
     bring_in_step(alloc, host, changed, acted)
 }
 
-/// Prints the line of words that are no command.
+/// Prints the line of words that are no command, and returns the exit status: 2, or 3 or 6 if that
+/// failed.
 fn refuse_words<H: Host>(alloc: Global, host: &mut H, index: u64) -> u8
     ensures status { (result ≡ 2) ⊎ ((result ≡ 3) ⊎ (result ≡ 6)) }
     ensures any_moment { Goes (H.moments host.old) (H.moments host.new)
@@ -333,7 +286,7 @@ fn refuse_words<H: Host>(alloc: Global, host: &mut H, index: u64) -> u8
     refuse(alloc, host, Refusal::BadWords { index }, 2)
 }
 
-/// Prints the line of a refusal. The status is the one that goes with it.
+/// Prints the line of a refusal, and returns this exit status, or 3 or 6 if that failed.
 fn refuse<H: Host>(alloc: Global, host: &mut H, refusal: Refusal, status: u8) -> u8
     requires { status ≢ 3 }
     ensures status { (result ≡ status) ⊎ ((result ≡ 3) ⊎ (result ≡ 6)) }
@@ -359,7 +312,7 @@ fn say_refusal<H: Host>(alloc: Global, host: &mut H, refusal: Refusal) -> Result
     Ok(())
 }
 
-/// The line of a refusal.
+/// Returns the line of a refusal.
 fn last_line(alloc: Global, refusal: Refusal) -> Result<Text, AllocError>
     ensures { IfOk result (λ t. t ≡ refusal_text refusal) }
 {

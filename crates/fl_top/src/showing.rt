@@ -1,4 +1,4 @@
-//! What `show` prints of its input.
+//! Showing the input as an object or a value.
 ghost use Rattle.std.specs.Prelude.{◌≡◌, ◌++◌, IfOk, OnOk, map, string_bytes, codes};
 ghost use Rattle.ost_model.specs.Contents.{meta_digest};
 ghost use Rattle.std.specs.Option.{is_some};
@@ -25,7 +25,7 @@ use ost_object::{
 };
 use std::alloc::{AllocError, Global};
 
-/// What is printed of bytes that are shown as this.
+/// Returns the text that `show` prints of these bytes, or refuses them.
 pub(crate) fn shown_text(alloc: Global, thing: &Shown, bytes: &[u8]) -> Result<Text, RunEnd>
     ensures { Prints (shown_by thing.now bytes.now) result }
 {
@@ -37,7 +37,7 @@ pub(crate) fn shown_text(alloc: Global, thing: &Shown, bytes: &[u8]) -> Result<T
     }
 }
 
-/// What a commit says.
+/// Returns the lines of a commit: its digest and its fields. Refuses bytes that aren't one.
 fn commit_text(alloc: Global, bytes: &[u8]) -> Result<Text, RunEnd>
     ensures { Prints (commit_shown bytes.now) result }
 {
@@ -47,7 +47,8 @@ fn commit_text(alloc: Global, bytes: &[u8]) -> Result<Text, RunEnd>
     }
 }
 
-/// The names in a dirtree.
+/// Returns the lines of a dirtree: its digest, its files and its directories. Refuses bytes that
+/// aren't one.
 fn tree_text(alloc: Global, bytes: &[u8]) -> Result<Text, RunEnd>
     ensures { Prints (tree_shown bytes.now) result }
 {
@@ -57,7 +58,7 @@ fn tree_text(alloc: Global, bytes: &[u8]) -> Result<Text, RunEnd>
     }
 }
 
-/// The mode of a dirmeta.
+/// Returns the lines of a dirmeta: its digest and its mode. Refuses bytes that aren't one.
 fn meta_text(alloc: Global, bytes: &[u8]) -> Result<Text, RunEnd>
     ensures { Prints (meta_shown bytes.now) result }
 {
@@ -67,7 +68,8 @@ fn meta_text(alloc: Global, bytes: &[u8]) -> Result<Text, RunEnd>
     }
 }
 
-/// The size of a value's normal form.
+/// Returns the line with the size in bytes of a value of this GVariant type in normal form. Refuses
+/// bytes that aren't one.
 fn value_text(alloc: Global, of: &ValueType, bytes: &[u8]) -> Result<Text, RunEnd>
     ensures { Prints (value_shown of.now bytes.now) result }
 {
@@ -80,7 +82,7 @@ fn value_text(alloc: Global, of: &ValueType, bytes: &[u8]) -> Result<Text, RunEn
     Err(RunEnd::Refused(Refusal::MalformedValue { digest }))
 }
 
-/// Whether bytes are the normal form of a value of a type.
+/// Returns whether bytes are the normal form of a value of this GVariant type.
 fn is_normal(alloc: Global, of: &GvType, bytes: &[u8]) -> Result<bool, AllocError>
     ensures { IfOk result (λ normal. normal ≡ is_some (value_of (shape_of of.now) bytes.now)) }
 {
@@ -92,7 +94,8 @@ fn is_normal(alloc: Global, of: &GvType, bytes: &[u8]) -> Result<bool, AllocErro
     }
 }
 
-/// How bytes end that aren't read as an object of a kind.
+/// Returns the error for bytes that can't be read as an object of this kind: a refusal with their
+/// digest and the rule that they break, or `NoMemory` if memory ran out.
 fn malformed(bytes: &[u8], kind: ObjKind, error: ObjectError) -> RunEnd
     ensures { result ≡ end_of_object (meta_digest bytes.now) kind error }
 {
@@ -105,7 +108,7 @@ fn malformed(bytes: &[u8], kind: ObjKind, error: ObjectError) -> RunEnd
     }
 }
 
-/// A commit's digest and its fields, a line each.
+/// Returns a line with the commit's digest, and a line for each field.
 fn said_of_commit(alloc: Global, bytes: &[u8], commit: &Commit) -> Result<Text, AllocError>
     ensures { IfOk result (λ t. t ≡ head (meta_digest bytes.now) (codes "commit") ++ commit_lines
         (commit_view commit.now)) }
@@ -116,7 +119,7 @@ fn said_of_commit(alloc: Global, bytes: &[u8], commit: &Commit) -> Result<Text, 
     Ok(Text::from_string(text))
 }
 
-/// The fields of a commit, a line each.
+/// Returns a line for each field of a commit.
 fn fields_of(alloc: Global, commit: &Commit) -> Result<String, AllocError>
     ensures { IfOk result (λ t. string_bytes t ≡ commit_lines (commit_view commit.now)) }
 {
@@ -127,7 +130,7 @@ fn fields_of(alloc: Global, commit: &Commit) -> Result<String, AllocError>
     format!(in alloc; "parent {parent}\ntimestamp {time}\nsubject {subject}\n{roots}")
 }
 
-/// The digests of a commit's root, a line each.
+/// Returns a line for each digest of the commit's root: of its dirtree and of its dirmeta.
 fn roots_of(alloc: Global, commit: &Commit) -> Result<String, AllocError>
     ensures { IfOk result (λ t. string_bytes t ≡ root_lines (commit_view commit.now)) }
 {
@@ -136,7 +139,7 @@ fn roots_of(alloc: Global, commit: &Commit) -> Result<String, AllocError>
     format!(in alloc; "tree {tree}\nmeta {meta}\n")
 }
 
-/// The digest of a parent, or `-`.
+/// Returns the digest of a parent as hexadecimal digits, or `-` if there is none.
 #[tactic(auto, using(crate::proofs::Shown::some_parent))]
 fn parent_of(alloc: Global, parent: &Option<Digest>) -> Result<String, AllocError>
     ensures { IfOk result (λ t. string_bytes t ≡ parent_text (parent_bytes parent.now)) }
@@ -147,7 +150,7 @@ fn parent_of(alloc: Global, parent: &Option<Digest>) -> Result<String, AllocErro
     }
 }
 
-/// A dirtree's digest and its names, a line each.
+/// Returns a line with the dirtree's digest, and a line for each file and each directory.
 fn said_of_tree(alloc: Global, bytes: &[u8], tree: &DirTree) -> Result<Text, AllocError>
     ensures { IfOk result (λ t. t ≡ head (meta_digest bytes.now) (codes "dirtree") ++ tree_lines
         (tree_view tree.now)) }
@@ -159,7 +162,7 @@ fn said_of_tree(alloc: Global, bytes: &[u8], tree: &DirTree) -> Result<Text, All
     Ok(Text::from_string(text))
 }
 
-/// A line for each file.
+/// Returns a line for each file.
 fn files_in(alloc: Global, files: &[FileEntry]) -> Result<String, AllocError>
     ensures { IfOk result (λ t. string_bytes t ≡ files_text (map file_row files.now)) }
 {
@@ -170,6 +173,7 @@ fn files_in(alloc: Global, files: &[FileEntry]) -> Result<String, AllocError>
     Ok(text)
 }
 
+/// Appends the line of a file.
 fn push_file(alloc: Global, out: &mut String, file: &FileEntry) -> Result<(), AllocError>
     ensures { OnOk result (string_bytes out.new ≡ string_bytes out.old ++ file_line
         (file_row file.now)) }
@@ -179,7 +183,7 @@ fn push_file(alloc: Global, out: &mut String, file: &FileEntry) -> Result<(), Al
     write!(out, "file {name} {digest}\n")
 }
 
-/// A line for each directory.
+/// Returns a line for each directory.
 fn dirs_in(alloc: Global, dirs: &[DirEntry]) -> Result<String, AllocError>
     ensures { IfOk result (λ t. string_bytes t ≡ dirs_text (map dir_row dirs.now)) }
 {
@@ -190,6 +194,7 @@ fn dirs_in(alloc: Global, dirs: &[DirEntry]) -> Result<String, AllocError>
     Ok(text)
 }
 
+/// Appends the line of a directory.
 fn push_dir(alloc: Global, out: &mut String, dir: &DirEntry) -> Result<(), AllocError>
     ensures { OnOk result (string_bytes out.new ≡ string_bytes out.old ++ dir_line
         (dir_row dir.now)) }
@@ -200,7 +205,7 @@ fn push_dir(alloc: Global, out: &mut String, dir: &DirEntry) -> Result<(), Alloc
     write!(out, "dir {name} {tree} {meta}\n")
 }
 
-/// A dirmeta's digest and its mode.
+/// Returns a line with the dirmeta's digest, and a line with its mode.
 fn said_of_meta(alloc: Global, bytes: &[u8], meta: DirMeta) -> Result<Text, AllocError>
     ensures { IfOk result (λ t. t ≡ head (meta_digest bytes.now) (codes "dirmeta") ++ meta_lines
         (meta_view meta)) }
@@ -211,7 +216,7 @@ fn said_of_meta(alloc: Global, bytes: &[u8], meta: DirMeta) -> Result<Text, Allo
     Ok(Text::from_string(text))
 }
 
-/// The line of a mode.
+/// Returns the line of a mode, which is printed in octal.
 fn mode_line(alloc: Global, mode: u32) -> Result<String, AllocError>
     ensures { IfOk result (λ t. string_bytes t ≡ line (codes "mode " ++ octal mode)) }
 {

@@ -23,8 +23,9 @@ use std::alloc::{AllocError, Global};
 use std::thread::Threads;
 
 /// Makes the changes of an exercise on an opened installation, one after another up to the first
-/// refusal, over these remotes. Where none is refused, it prints how many applications and runtimes
-/// are deployed then. `acted` is set once an operation was done. All is settled then.
+/// refusal, over these remotes. If none is refused, prints the numbers of deployed applications and
+/// runtimes. Sets `acted` once an operation was done. The installation is settled at the end, done
+/// or refused.
 pub fn make_exercise<H: Host, R: Remotes>(
     rt: &(impl Threads + Sync),
     alloc: Global,
@@ -47,7 +48,7 @@ pub fn make_exercise<H: Host, R: Remotes>(
     say_end(alloc, host, remotes, changed, apps)
 }
 
-/// Prints how many applications and runtimes are deployed. No operation is done.
+/// Prints the numbers of deployed applications and runtimes. Does no operation.
 fn say_end<H: Host, R: Remotes>(
     alloc: Global,
     host: &mut H,
@@ -65,7 +66,7 @@ fn say_end<H: Host, R: Remotes>(
     Ok(opened)
 }
 
-/// The last line of an exercise that leaves this state.
+/// Returns the last line of an exercise that leaves this state.
 fn end_line(alloc: Global, state: &State, apps: &AppCount) -> Result<Text, AllocError>
     ensures { IfOk result (λ t. t ≡ end_text apps.now state.now) }
 {
@@ -74,7 +75,7 @@ fn end_line(alloc: Global, state: &State, apps: &AppCount) -> Result<Text, Alloc
     exercise_line(alloc, apps.number(), applications, runtimes)
 }
 
-/// How many of the rows are of refs of this kind.
+/// Returns the number of rows with a ref of this kind.
 fn count_of(rows: &[RefRow], kind: RefKind) -> u64
     ensures { result ≡ count_by (is_of kind) rows.now }
 {
@@ -85,7 +86,7 @@ fn count_of(rows: &[RefRow], kind: RefKind) -> u64
     count
 }
 
-/// Whether a row is of a ref of this kind.
+/// Returns whether a row has a ref of this kind.
 fn is_of(row: &RefRow, kind: RefKind) -> bool
     ensures { result ≡ is_of kind row.now }
 {

@@ -1,4 +1,4 @@
-//! A run that nothing disturbs.
+//! Running a command without failures.
 ghost use Rattle.std.specs.Prelude.{map, string_bytes};
 ghost use Rattle.fp_host.specs.Moments.{Rose};
 ghost use Rattle.ost_walk.specs.Ends.{around};
@@ -9,10 +9,11 @@ use fp_host::{Host, Remotes, Source};
 use std::alloc::Global;
 use std::thread::Threads;
 
-/// Runs the command of these words as `run` does. Over an installation that every stop leaves
-/// sound, where no count of faults rises, the whole answer is given, and with its status; or memory
-/// runs out, which is status 6, and what was acknowledged stands. Of `fsck` it is said where no path
-/// of the store is too long, and of `export` where nothing is in the way of the remote that it makes.
+/// Runs the command of these words as `run` does. If the installation is sound after each crash at
+/// the start, and no count of faults rises, the whole answer is given, with its status; or memory
+/// runs out, which is status 6, and the acknowledged operations stay done. Condition: if a commit
+/// may be brought, the remotes tell what they hold; for `fsck`, no path below the store's `objects`
+/// has more than 128 elements; for `export`, nothing is in the way of the remote that it makes.
 pub fn run_undisturbed<H: Host, R: Remotes, I: Source>(
     rt: &(impl Threads + Sync),
     alloc: Global,

@@ -147,8 +147,8 @@ fn run_on(
 }
 
 /// Runs the words on this host and returns their exit status. Prints on standard error why the
-/// status is not 0, which options do less than they seem to, which installed ref needs a missing or
-/// damaged object, or that a command that only reads found no installation.
+/// status is not 0, what a successful command didn't do (`tell_done`), which installed ref needs a
+/// missing or damaged metadata object, or that a command that only reads found no installation.
 fn run_over<R: System + Print + Input + Clock + Threads + Sync>(
     rt: &R,
     alloc: Global,

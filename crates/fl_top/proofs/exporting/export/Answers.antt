@@ -7,7 +7,7 @@ use Rattle.fl_change.specs.Says.{Says, SaidBy}
 use Rattle.fl_make.specs.Making.{Makes, WasMade, IsMakeFault}
 use Rattle.fl_make.specs.declared.end.MakeEnd.{MakeEnd}
 use Rattle.fl_top.specs.Ends.{end_of_input}
-use Rattle.fl_top.specs.Runs.{told_start}
+use Rattle.fl_top.specs.Told.{told_start}
 use Rattle.fl_top.proofs.Finishing.{goes_none, input_ends, input_failed, input_remote, run_input, drained_by, not_taken, caused_after}
 use Rattle.fl_top.proofs.ShowInput.{said_fault, said_remote}
 use Rattle.fl_top.proofs.Making.{made_in, make_input, goes_not_made, goes_made, goes_not_said, make_fault, make_remote_fault, make_input_fault}

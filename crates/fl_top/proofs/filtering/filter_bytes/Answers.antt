@@ -1,4 +1,4 @@
-use Rattle.fl_top.specs.Runs.{files_at}
+use Rattle.fl_top.specs.Told.{files_at}
 use Rattle.fl_top.proofs.Forwarding.{goes_unread, goes_unfound, goes_found}
 use Rattle.fl_top.proofs.filtering.filter_bytes.Goals as goal
 

@@ -1,6 +1,6 @@
 use Rattle.std.proofs.Common.{Ok, Err, sym, ◌∙◌}
 use Rattle.fl_change.specs.declared.end.RunEnd.TheVariants.{Refused}
-use Rattle.fl_top.specs.Runs.{files_at}
+use Rattle.fl_top.specs.Told.{files_at}
 use Rattle.fl_top.proofs.Stored.{has_files}
 use Rattle.fl_top.proofs.Finding.{looks_unread, looks_failed, looks_launched}
 use Rattle.fl_top.proofs.filtering.find_launch.Goals as goal

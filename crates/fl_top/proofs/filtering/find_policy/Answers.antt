@@ -3,7 +3,7 @@ use Rattle.fp_host.specs.Frame.{Observes}
 use Rattle.fp_host.specs.Outcome.{shows}
 use Rattle.fl_words.specs.declared.command.PolicySource.{PolicySource}
 use Rattle.fl_top.specs.Answer.{rules_over}
-use Rattle.fl_top.specs.Runs.{files_at}
+use Rattle.fl_top.specs.Told.{files_at}
 use Rattle.fl_top.specs.Telling.{Finds}
 use Rattle.fl_top.proofs.filtering.find_policy.Goals as goal
 

@@ -3,7 +3,7 @@ use Rattle.fp_host.specs.Moments.{Goes}
 use Rattle.fl_filter.specs.Filtered.{filtered}
 use Rattle.fl_change.specs.declared.end.RunEnd.{RunEnd}
 use Rattle.fl_top.specs.Answer.{forwarding}
-use Rattle.fl_top.specs.RunsOver.{EndsAnyway}
+use Rattle.fl_top.specs.Return.{EndsAnyway}
 use Rattle.fl_top.specs.Telling.{Tells}
 use Rattle.fl_top.proofs.Forwarding.{goes_forwarded}
 use Rattle.fl_top.proofs.filtering.forward.Goals as goal

@@ -1,6 +1,6 @@
 use Rattle.std.proofs.Common.{rules, ◌≡◌, ℕ, List, Ok, sym, subst}
 use Rattle.fl_top.specs.Answer.{listing_answer}
-use Rattle.fl_top.specs.Runs.{files_at}
+use Rattle.fl_top.specs.Told.{files_at}
 use Rattle.fl_top.proofs.Stored.{has_files}
 use Rattle.fl_top.proofs.Listed.{TellsOver, goes_not_read, goes_not_listed, goes_not_told, goes_told}
 use Rattle.fl_top.proofs.listing.list.Goals as goal

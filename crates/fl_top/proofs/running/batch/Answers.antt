@@ -13,9 +13,10 @@ use Rattle.fl_change.specs.Turns.{changing, MayDo}
 use Rattle.fl_change.specs.declared.end.RunEnd.TheVariants as run
 use Rattle.fl_top.specs.Asked.{OpsBy, AsksRemotes}
 use Rattle.fl_change.specs.Performs.{AreToldFor}
-use Rattle.fl_top.specs.Runs.{told_start, IsReady}
+use Rattle.fl_top.specs.Told.{told_start, IsReady}
+use Rattle.fl_top.specs.Moment.{RunsChanges}
+use Rattle.fl_top.specs.Return.{ChangesHaveEnded}
 use Rattle.fl_top.specs.Ends.{end_of_input, end_of_batch}
-use Rattle.fl_top.specs.RunsOver.{RunsOver, EndedOver}
 use Rattle.fl_top.specs.declared.command_end.CommandEnd.TheVariants.{RemoteFault}
 use Rattle.fl_change.proofs.Working.{asks_to}
 use Rattle.fl_top.proofs.Asked.{not_asked, asks_more}
@@ -49,7 +50,7 @@ returns-in_err-make_changes-clause-any_moment g c =
     let t = told_start (g.I.Source.left c.args.input.now) holds (g.H.Host.moments c.args.host.now) in
     let commands : c.as_slice-2.result.now ≡ c.in_ok-changes.changes = c.as_slice-2.ensures in
     let read : batch_of c.in_ok-bytes.bytes ≡ Ok c.in_ok-changes.changes = subst (λ (b : List ℕ). batch_of b ≡ Ok c.in_ok-changes.changes) c.as_slice.ensures c.in_ok-changes.ensures.ok in
-    let changed = subst (λ (l : List Change). Goes (g.H.Host.moments c.args.host.now) (g.H.Host.moments c.make_changes.new.host) (RunsOver holds (MayDo l) (changing l)) (EndedOver holds (changing l) (Err c.in_err-make_changes.field-0.0))) commands c.in_err-make_changes.ensures.any_moment in
+    let changed = subst (λ (l : List Change). Goes (g.H.Host.moments c.args.host.now) (g.H.Host.moments c.make_changes.new.host) (RunsChanges holds (MayDo l) (changing l)) (ChangesHaveEnded holds (changing l) (Err c.in_err-make_changes.field-0.0))) commands c.in_err-make_changes.ensures.any_moment in
     goes_not_changed Batch t (MayDo c.in_ok-changes.changes) (changing c.in_ok-changes.changes) c.in_err-make_changes.field-0.0 c.from_residual-in_err-make_changes.result (g.met.H.Host.is_tree c.args.host.now) (batch_changes t c.in_ok-bytes.bytes c.in_ok-changes.changes c.in_ok-bytes.ensures.ok read) changed c.from_residual-in_err-make_changes.ensures.1
 
 pub returns-in_err-make_changes-clause-fault_has_cause : goal.returns-in_err-make_changes-clause-fault_has_cause
@@ -79,7 +80,7 @@ returns-clause-any_moment g c =
     let t = told_start (g.I.Source.left c.args.input.now) holds (g.H.Host.moments c.args.host.now) in
     let commands : c.as_slice-2.result.now ≡ c.in_ok-changes.changes = c.as_slice-2.ensures in
     let read : batch_of c.in_ok-bytes.bytes ≡ Ok c.in_ok-changes.changes = subst (λ (b : List ℕ). batch_of b ≡ Ok c.in_ok-changes.changes) c.as_slice.ensures c.in_ok-changes.ensures.ok in
-    let changed = subst (λ (l : List Change). Goes (g.H.Host.moments c.args.host.now) (g.H.Host.moments c.make_changes.new.host) (RunsOver holds (MayDo l) (changing l)) (EndedOver holds (changing l) (Ok tt))) commands c.in_ok-make_changes.ensures.any_moment in
+    let changed = subst (λ (l : List Change). Goes (g.H.Host.moments c.args.host.now) (g.H.Host.moments c.make_changes.new.host) (RunsChanges holds (MayDo l) (changing l)) (ChangesHaveEnded holds (changing l) (Ok tt))) commands c.in_ok-make_changes.ensures.any_moment in
     goes_change Batch t (MayDo c.in_ok-changes.changes) (changing c.in_ok-changes.changes) (g.met.H.Host.is_tree c.args.host.now) (batch_changes t c.in_ok-bytes.bytes c.in_ok-changes.changes c.in_ok-bytes.ensures.ok read) changed
 
 pub returns-clause-remotes : goal.returns-clause-remotes

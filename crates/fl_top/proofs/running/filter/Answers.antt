@@ -2,8 +2,9 @@ use Rattle.std.proofs.Common.{subst, List, ℕ, Ok, Err, refl}
 use Rattle.fp_host.specs.Moments.{Goes}
 use Rattle.fl_words.specs.declared.command.Command.TheVariants.{Filter as Filtering}
 use Rattle.fl_top.specs.Ends.{end_of_input}
-use Rattle.fl_top.specs.Runs.{told_start, files_at}
-use Rattle.fl_top.specs.Telling.{LooksBy, LookedBy}
+use Rattle.fl_top.specs.Told.{told_start, files_at}
+use Rattle.fl_top.specs.Moment.{RunsLook}
+use Rattle.fl_top.specs.Return.{LookHasEnded}
 use Rattle.fl_top.proofs.Finishing.{goes_none, input_failed, input_ends, run_input, run_fault, run_remote, drained_by, not_taken}
 use Rattle.fl_top.proofs.Forwarding.{answers, by_source, source_input, source_answer, goes_told, goes_not_told}
 use Rattle.fl_top.proofs.running.filter.Goals as goal
@@ -33,7 +34,7 @@ returns-in_err-filter_bytes-clause-any_moment g c = λ holds.
     let m = g.H.Host.moments c.args.host.now in
     let n = g.H.Host.moments c.filter_bytes.new.host in
     goes_not_told command t by e c.from_residual-in_err-filter_bytes.result (g.met.H.Host.is_tree c.args.host.now) refl (source_answer c.args.source.now t c.in_ok-bytes.bytes c.in_ok-bytes.ensures.ok) c.from_residual-in_err-filter_bytes.ensures.1
-    (subst (λ (l : List ℕ). Goes m n (LooksBy (answers files c.args.source.now l)) (LookedBy (answers files c.args.source.now l) (Err e))) c.as_slice.ensures c.in_err-filter_bytes.ensures.any_moment)
+    (subst (λ (l : List ℕ). Goes m n (RunsLook (answers files c.args.source.now l)) (LookHasEnded (answers files c.args.source.now l) (Err e))) c.as_slice.ensures c.in_err-filter_bytes.ensures.any_moment)
 
 pub returns-in_err-filter_bytes-clause-fault_has_cause : goal.returns-in_err-filter_bytes-clause-fault_has_cause
 returns-in_err-filter_bytes-clause-fault_has_cause g c = record {
@@ -60,7 +61,7 @@ returns-clause-any_moment g c = λ holds.
     let m = g.H.Host.moments c.args.host.now in
     let n = g.H.Host.moments c.filter_bytes.new.host in
     goes_told command t by (g.met.H.Host.is_tree c.args.host.now) refl (source_answer c.args.source.now t c.in_ok-bytes.bytes c.in_ok-bytes.ensures.ok)
-    (subst (λ (l : List ℕ). Goes m n (LooksBy (answers files c.args.source.now l)) (LookedBy (answers files c.args.source.now l) (Ok tt))) c.as_slice.ensures c.in_ok-filter_bytes.ensures.any_moment)
+    (subst (λ (l : List ℕ). Goes m n (RunsLook (answers files c.args.source.now l)) (LookHasEnded (answers files c.args.source.now l) (Ok tt))) c.as_slice.ensures c.in_ok-filter_bytes.ensures.any_moment)
 
 pub returns-clause-taken : goal.returns-clause-taken
 returns-clause-taken g c = drained_by (Ok tt) (g.I.Source.left c.args.input.now) (g.I.Source.left c.read_input.new.input) c.in_ok-bytes.ensures.taken

@@ -9,19 +9,19 @@ use Rattle.fl_words.specs.declared.command.Command.{Command}
 use Rattle.fl_words.specs.declared.command.Command.TheVariants.{Change as Changing, List as Listed, Show as Showing, Filter as Filtering, Batch, Fsck, Export as Exporting, Exercise as Exercising}
 use Rattle.fl_top.specs.Asked.{OpsBy, AsksRemotes, UpdatesBy}
 use Rattle.fl_change.specs.Performs.{AreToldFor}
-use Rattle.fl_top.specs.Runs.{told_start, files_at, HasCauses, IsFreeFor}
+use Rattle.fl_top.specs.Told.{told_start, files_at, HasCauses, IsFreeFor}
+use Rattle.fl_top.specs.Moment.{RunsCommand}
+use Rattle.fl_top.specs.Return.{CommandHasEnded, IsClosedBy}
 use Rattle.fl_gen.specs.Exercise.{exercise_changes}
 use Rattle.fl_change.specs.Turns.{changing, MayDo}
 use Rattle.fl_top.specs.Exercising.{exercising}
 use Rattle.fl_top.specs.Answer.{listing_answer}
-use Rattle.fl_top.specs.RunsOver.{RunsOn, EndedOn}
 use Rattle.fl_top.specs.Status.{checks_store}
 use Rattle.fl_top.specs.Ends.{end_of_run}
 use Rattle.fl_top.specs.declared.command_end.CommandEnd.TheVariants.{Fault, RemoteFault}
 use Rattle.fl_top.proofs.Asked.{asks_more}
 use Rattle.fl_top.proofs.Finishing.{goes_look, listing_look, goes_not_looked, change_changes, exercise_changing, goes_change, goes_not_changed, caused_change, run_fault, run_remote}
 use Rattle.fp_host.proofs.Ending.{ends_goes, ends_to}
-use Rattle.fl_top.specs.RunsOver.{IsClosedBy}
 use Rattle.fl_top.proofs.Finishing.{given_by, is_end}
 use Rattle.fl_top.proofs.Checked.{goes_check, goes_not_check, not_checks}
 use Rattle.fl_top.proofs.Finishing.{not_changes}
@@ -33,7 +33,7 @@ returns-in_err-make_changes-in-Change-clause-any_moment g c =
     let a = g.H.Host.moments c.args.host.now in
     let b = g.H.Host.moments c.make_changes.new.host in
     let r = c.from_residual.result in
-    subst (λ (k : Command). Goes a b (RunsOn k t) (EndedOn k t r)) (sym c.in-Change.is)
+    subst (λ (k : Command). Goes a b (RunsCommand k t) (CommandHasEnded k t r)) (sym c.in-Change.is)
     (goes_not_changed (Changing c.in-Change.change) t (MayDo (c.in-Change.change ∷ [])) (changing (c.in-Change.change ∷ [])) c.in_err-make_changes-in-Change.field-0.0 r (g.met.H.Host.is_tree c.args.host.now) (change_changes t c.in-Change.change) c.in_err-make_changes-in-Change.ensures.any_moment c.from_residual.ensures.1)
 
 pub returns-in_ok-make_changes-in-Change-clause-any_moment : goal.returns-in_ok-make_changes-in-Change-clause-any_moment
@@ -41,7 +41,7 @@ returns-in_ok-make_changes-in-Change-clause-any_moment g c =
     let t = told_start (g.I.Source.left c.args.input.now) (g.R.Remotes.holds c.args.remotes.now) (g.H.Host.moments c.args.host.now) in
     let a = g.H.Host.moments c.args.host.now in
     let b = g.H.Host.moments c.make_changes.new.host in
-    subst (λ (k : Command). Goes a b (RunsOn k t) (EndedOn k t (Ok tt))) (sym c.in-Change.is)
+    subst (λ (k : Command). Goes a b (RunsCommand k t) (CommandHasEnded k t (Ok tt))) (sym c.in-Change.is)
     (goes_change (Changing c.in-Change.change) t (MayDo (c.in-Change.change ∷ [])) (changing (c.in-Change.change ∷ [])) (g.met.H.Host.is_tree c.args.host.now) (change_changes t c.in-Change.change) c.in_ok-make_changes-in-Change.ensures.any_moment)
 
 pub returns-in_err-make_changes-in-Change-clause-fault_has_cause : goal.returns-in_err-make_changes-in-Change-clause-fault_has_cause
@@ -74,7 +74,7 @@ returns-in_err-list-in-List-clause-any_moment g c =
     let a = g.H.Host.moments c.args.host.now in
     let b = g.H.Host.moments c.list.new.host in
     let r = c.from_residual-in_err-list-in-List.result in
-    subst (λ (k : Command). Goes a b (RunsOn k t) (EndedOn k t r)) (sym c.in-List.is)
+    subst (λ (k : Command). Goes a b (RunsCommand k t) (CommandHasEnded k t r)) (sym c.in-List.is)
     (goes_not_looked (Listed c.in-List.listing) t (listing_answer (files_at a) c.in-List.listing) c.in_err-list-in-List.field-0.0 r (g.met.H.Host.is_tree c.args.host.now) refl (listing_look c.in-List.listing t) c.in_err-list-in-List.ensures.any_moment c.from_residual-in_err-list-in-List.ensures.1)
 
 pub returns-in_ok-list-in-List-clause-any_moment : goal.returns-in_ok-list-in-List-clause-any_moment
@@ -82,7 +82,7 @@ returns-in_ok-list-in-List-clause-any_moment g c =
     let t = told_start (g.I.Source.left c.args.input.now) (g.R.Remotes.holds c.args.remotes.now) (g.H.Host.moments c.args.host.now) in
     let a = g.H.Host.moments c.args.host.now in
     let b = g.H.Host.moments c.list.new.host in
-    subst (λ (k : Command). Goes a b (RunsOn k t) (EndedOn k t (Ok tt))) (sym c.in-List.is)
+    subst (λ (k : Command). Goes a b (RunsCommand k t) (CommandHasEnded k t (Ok tt))) (sym c.in-List.is)
     (goes_look (Listed c.in-List.listing) t (listing_answer (files_at a) c.in-List.listing) (g.met.H.Host.is_tree c.args.host.now) refl (listing_look c.in-List.listing t) c.in_ok-list-in-List.ensures.any_moment)
 
 pub returns-in-Batch-clause-fault_has_cause : goal.returns-in-Batch-clause-fault_has_cause
@@ -105,7 +105,7 @@ returns-in_err-check-in-Fsck-clause-any_moment g c =
     let a = g.H.Host.moments c.args.host.now in
     let b = g.H.Host.moments c.check.new.host in
     let r = c.from_residual-in_err-check-in-Fsck.result in
-    subst (λ (k : Command). Goes a b (RunsOn k t) (EndedOn k t r)) (sym c.in-Fsck.is)
+    subst (λ (k : Command). Goes a b (RunsCommand k t) (CommandHasEnded k t r)) (sym c.in-Fsck.is)
     (goes_not_check t c.in_err-check-in-Fsck.field-0.0 r refl c.in_err-check-in-Fsck.ensures.any_moment c.from_residual-in_err-check-in-Fsck.ensures.1)
 
 pub returns-in_ok-check-in-Fsck-clause-any_moment : goal.returns-in_ok-check-in-Fsck-clause-any_moment
@@ -113,7 +113,7 @@ returns-in_ok-check-in-Fsck-clause-any_moment g c =
     let t = told_start (g.I.Source.left c.args.input.now) (g.R.Remotes.holds c.args.remotes.now) (g.H.Host.moments c.args.host.now) in
     let a = g.H.Host.moments c.args.host.now in
     let b = g.H.Host.moments c.check.new.host in
-    subst (λ (k : Command). Goes a b (RunsOn k t) (EndedOn k t (Ok tt))) (sym c.in-Fsck.is) (goes_check t refl c.in_ok-check-in-Fsck.ensures.any_moment)
+    subst (λ (k : Command). Goes a b (RunsCommand k t) (CommandHasEnded k t (Ok tt))) (sym c.in-Fsck.is) (goes_check t refl c.in_ok-check-in-Fsck.ensures.any_moment)
 
 pub returns-in_err-check-in-Fsck-clause-fault_has_cause : goal.returns-in_err-check-in-Fsck-clause-fault_has_cause
 returns-in_err-check-in-Fsck-clause-fault_has_cause g c =
@@ -131,10 +131,10 @@ pub returns-in_err-check-in-Fsck-clause-found : goal.returns-in_err-check-in-Fsc
 returns-in_err-check-in-Fsck-clause-found g c checks by =
     let e = c.in_err-check-in-Fsck.field-0.0 in
     let r = c.from_residual-in_err-check-in-Fsck.result in
-    ends_to (ends_goes (g.met.H.Host.is_tree c.args.host.now) c.in_err-check-in-Fsck.ensures.any_moment) (λ u w q. q.found (given_by e (subst IsClosedBy (is_end r (end_of_run e) c.from_residual-in_err-check-in-Fsck.ensures.1) by)))
+    ends_to (ends_goes (g.met.H.Host.is_tree c.args.host.now) c.in_err-check-in-Fsck.ensures.any_moment) (λ u w q. (q.given (given_by e (subst IsClosedBy (is_end r (end_of_run e) c.from_residual-in_err-check-in-Fsck.ensures.1) by))).found)
 
 pub returns-in_ok-check-in-Fsck-clause-found : goal.returns-in_ok-check-in-Fsck-clause-found
-returns-in_ok-check-in-Fsck-clause-found g c checks by = ends_to (ends_goes (g.met.H.Host.is_tree c.args.host.now) c.in_ok-check-in-Fsck.ensures.any_moment) (λ u w q. q.found tt)
+returns-in_ok-check-in-Fsck-clause-found g c checks by = ends_to (ends_goes (g.met.H.Host.is_tree c.args.host.now) c.in_ok-check-in-Fsck.ensures.any_moment) (λ u w q. (q.given tt).found)
 
 pub returns-in_err-make_changes-in-Change-clause-found : goal.returns-in_err-make_changes-in-Change-clause-found
 returns-in_err-make_changes-in-Change-clause-found g c checks by = absurd (not_checks c.args.command (Changing c.in-Change.change) c.in-Change.is refl checks)
@@ -191,7 +191,7 @@ returns-in-Export-clause-any_moment g c =
     let t = told_start (g.I.Source.left c.args.input.now) holds (g.H.Host.moments c.args.host.now) in
     let a = g.H.Host.moments c.args.host.now in
     let b = g.H.Host.moments c.export.new.host in
-    subst (λ (k : Command). Goes a b (RunsOn k t) (EndedOn k t c.export.result)) (sym c.in-Export.is) (c.export.ensures.any_moment holds)
+    subst (λ (k : Command). Goes a b (RunsCommand k t) (CommandHasEnded k t c.export.result)) (sym c.in-Export.is) (c.export.ensures.any_moment holds)
 
 pub returns-in-Export-clause-fault_has_cause : goal.returns-in-Export-clause-fault_has_cause
 returns-in-Export-clause-fault_has_cause g c =
@@ -216,7 +216,7 @@ returns-in_err-exercise-in-Exercise-clause-any_moment g c =
     let b = g.H.Host.moments c.exercise.new.host in
     let r = c.from_residual-in_err-exercise-in-Exercise.result in
     let apps = c.in-Exercise.apps in
-    subst (λ (k : Command). Goes a b (RunsOn k t) (EndedOn k t r)) (sym c.in-Exercise.is)
+    subst (λ (k : Command). Goes a b (RunsCommand k t) (CommandHasEnded k t r)) (sym c.in-Exercise.is)
     (goes_not_changed (Exercising apps) t (MayDo (exercise_changes apps)) (exercising apps) c.in_err-exercise-in-Exercise.field-0.0 r (g.met.H.Host.is_tree c.args.host.now) (exercise_changing t apps) c.in_err-exercise-in-Exercise.ensures.any_moment c.from_residual-in_err-exercise-in-Exercise.ensures.1)
 
 pub returns-in_ok-exercise-in-Exercise-clause-any_moment : goal.returns-in_ok-exercise-in-Exercise-clause-any_moment
@@ -225,7 +225,7 @@ returns-in_ok-exercise-in-Exercise-clause-any_moment g c =
     let a = g.H.Host.moments c.args.host.now in
     let b = g.H.Host.moments c.exercise.new.host in
     let apps = c.in-Exercise.apps in
-    subst (λ (k : Command). Goes a b (RunsOn k t) (EndedOn k t (Ok tt))) (sym c.in-Exercise.is)
+    subst (λ (k : Command). Goes a b (RunsCommand k t) (CommandHasEnded k t (Ok tt))) (sym c.in-Exercise.is)
     (goes_change (Exercising apps) t (MayDo (exercise_changes apps)) (exercising apps) (g.met.H.Host.is_tree c.args.host.now) (exercise_changing t apps) c.in_ok-exercise-in-Exercise.ensures.any_moment)
 
 pub returns-in_err-exercise-in-Exercise-clause-fault_has_cause : goal.returns-in_err-exercise-in-Exercise-clause-fault_has_cause

@@ -1,8 +1,10 @@
 use Rattle.std.proofs.Common.{◌≡◌, ◌∙◌, inl, inr, Result, Ok, Err, refl, sym, subst, ap, arith}
 use Rattle.fp_host.specs.Moments.{Goes}
 use Rattle.fp_host.proofs.Ending.{ends_goes, ends_on}
-use Rattle.fl_top.specs.Runs.{told_start}
-use Rattle.fl_top.specs.RunsOver.{RunsOn, EndedOn, Takes, IsClosedBy}
+use Rattle.fl_top.specs.Told.{told_start}
+use Rattle.fl_top.specs.Moment.{RunsCommand}
+use Rattle.fl_top.specs.Return.{CommandHasEnded, IsClosedBy}
+use Rattle.fl_top.specs.Taken.{Takes}
 use Rattle.fl_top.specs.declared.command_end.CommandEnd.{CommandEnd}
 use Rattle.fl_top.specs.declared.command_end.CommandEnd.TheVariants.{Refused}
 use Rattle.fl_top.proofs.Finishing.{goes_done, goes_fault, goes_remote, goes_input, goes_memory, goes_refused, taken_at, caused_after}
@@ -16,13 +18,13 @@ returns-in-Ok-clause-any_moment g c = goes_done c.args.command (told_start (g.I.
 pub returns-in-Err-Refused-clause-any_moment : goal.returns-in-Err-Refused-clause-any_moment
 returns-in-Err-Refused-clause-any_moment g c =
     let t = told_start (g.I.Source.left c.args.input.now) (g.R.Remotes.holds c.args.remotes.now) (g.H.Host.moments c.args.host.now) in
-    let performed = subst (λ (e : CommandEnd). Goes (g.H.Host.moments c.args.host.now) (g.H.Host.moments c.perform.new.host) (RunsOn c.args.command t) (EndedOn c.args.command t (Err e))) c.in-Err-Refused.field-0-is c.in-Err-Refused.ensures.any_moment in
+    let performed = subst (λ (e : CommandEnd). Goes (g.H.Host.moments c.args.host.now) (g.H.Host.moments c.perform.new.host) (RunsCommand c.args.command t) (CommandHasEnded c.args.command t (Err e))) c.in-Err-Refused.field-0-is c.in-Err-Refused.ensures.any_moment in
     goes_refused c.args.command t c.in-Err-Refused.refusal c.refuse.result (g.met.H.Host.is_tree c.perform.new.host) performed c.refuse.ensures.any_moment
 
 pub returns-in-Err-Fault-clause-any_moment : goal.returns-in-Err-Fault-clause-any_moment
 returns-in-Err-Fault-clause-any_moment g c =
     let t = told_start (g.I.Source.left c.args.input.now) (g.R.Remotes.holds c.args.remotes.now) (g.H.Host.moments c.args.host.now) in
-    goes_fault c.args.command t (g.met.H.Host.is_tree c.args.host.now) (subst (λ (e : CommandEnd). Goes (g.H.Host.moments c.args.host.now) (g.H.Host.moments c.perform.new.host) (RunsOn c.args.command t) (EndedOn c.args.command t (Err e))) c.in-Err-Fault.field-0-is c.in-Err-Fault.ensures.any_moment)
+    goes_fault c.args.command t (g.met.H.Host.is_tree c.args.host.now) (subst (λ (e : CommandEnd). Goes (g.H.Host.moments c.args.host.now) (g.H.Host.moments c.perform.new.host) (RunsCommand c.args.command t) (CommandHasEnded c.args.command t (Err e))) c.in-Err-Fault.field-0-is c.in-Err-Fault.ensures.any_moment)
 
 pub returns-in-Err-Fault-clause-fault_has_cause : goal.returns-in-Err-Fault-clause-fault_has_cause
 returns-in-Err-Fault-clause-fault_has_cause g c = record {
@@ -33,7 +35,7 @@ returns-in-Err-Fault-clause-fault_has_cause g c = record {
 pub returns-in-Err-RemoteFault-clause-any_moment : goal.returns-in-Err-RemoteFault-clause-any_moment
 returns-in-Err-RemoteFault-clause-any_moment g c =
     let t = told_start (g.I.Source.left c.args.input.now) (g.R.Remotes.holds c.args.remotes.now) (g.H.Host.moments c.args.host.now) in
-    goes_remote c.args.command t (g.met.H.Host.is_tree c.args.host.now) (subst (λ (e : CommandEnd). Goes (g.H.Host.moments c.args.host.now) (g.H.Host.moments c.perform.new.host) (RunsOn c.args.command t) (EndedOn c.args.command t (Err e))) c.in-Err-RemoteFault.field-0-is c.in-Err-RemoteFault.ensures.any_moment)
+    goes_remote c.args.command t (g.met.H.Host.is_tree c.args.host.now) (subst (λ (e : CommandEnd). Goes (g.H.Host.moments c.args.host.now) (g.H.Host.moments c.perform.new.host) (RunsCommand c.args.command t) (CommandHasEnded c.args.command t (Err e))) c.in-Err-RemoteFault.field-0-is c.in-Err-RemoteFault.ensures.any_moment)
 
 pub returns-in-Err-RemoteFault-clause-status : goal.returns-in-Err-RemoteFault-clause-status
 returns-in-Err-RemoteFault-clause-status g c =
@@ -58,12 +60,12 @@ returns-in-Err-Refused-clause-remotes g c = asks_more (λ op may. may) (λ four.
 pub returns-in-Err-InputFault-clause-any_moment : goal.returns-in-Err-InputFault-clause-any_moment
 returns-in-Err-InputFault-clause-any_moment g c =
     let t = told_start (g.I.Source.left c.args.input.now) (g.R.Remotes.holds c.args.remotes.now) (g.H.Host.moments c.args.host.now) in
-    goes_input c.args.command t (g.met.H.Host.is_tree c.args.host.now) (subst (λ (e : CommandEnd). Goes (g.H.Host.moments c.args.host.now) (g.H.Host.moments c.perform.new.host) (RunsOn c.args.command t) (EndedOn c.args.command t (Err e))) c.in-Err-InputFault.field-0-is c.in-Err-InputFault.ensures.any_moment)
+    goes_input c.args.command t (g.met.H.Host.is_tree c.args.host.now) (subst (λ (e : CommandEnd). Goes (g.H.Host.moments c.args.host.now) (g.H.Host.moments c.perform.new.host) (RunsCommand c.args.command t) (CommandHasEnded c.args.command t (Err e))) c.in-Err-InputFault.field-0-is c.in-Err-InputFault.ensures.any_moment)
 
 pub returns-in-Err-NoMemory-clause-any_moment : goal.returns-in-Err-NoMemory-clause-any_moment
 returns-in-Err-NoMemory-clause-any_moment g c =
     let t = told_start (g.I.Source.left c.args.input.now) (g.R.Remotes.holds c.args.remotes.now) (g.H.Host.moments c.args.host.now) in
-    goes_memory c.args.command t (g.met.H.Host.is_tree c.args.host.now) (subst (λ (e : CommandEnd). Goes (g.H.Host.moments c.args.host.now) (g.H.Host.moments c.perform.new.host) (RunsOn c.args.command t) (EndedOn c.args.command t (Err e))) c.in-Err-NoMemory.field-0-is c.in-Err-NoMemory.ensures.any_moment)
+    goes_memory c.args.command t (g.met.H.Host.is_tree c.args.host.now) (subst (λ (e : CommandEnd). Goes (g.H.Host.moments c.args.host.now) (g.H.Host.moments c.perform.new.host) (RunsCommand c.args.command t) (CommandHasEnded c.args.command t (Err e))) c.in-Err-NoMemory.field-0-is c.in-Err-NoMemory.ensures.any_moment)
 
 pub returns-in-Ok-clause-input : goal.returns-in-Ok-clause-input
 returns-in-Ok-clause-input g c =

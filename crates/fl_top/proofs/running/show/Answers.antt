@@ -1,5 +1,5 @@
 use Rattle.std.proofs.Common.{◌≡◌, sym, subst, rules, arith, List, ℕ, Ok, Err}
-use Rattle.fl_top.specs.Runs.{told_start}
+use Rattle.fl_top.specs.Told.{told_start}
 use Rattle.fl_top.specs.Answer.{shown_by}
 use Rattle.fl_change.specs.Answer.{text_answer}
 use Rattle.fl_words.specs.declared.command.Command.TheVariants.{Show as Showing}
