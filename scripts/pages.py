@@ -1,8 +1,8 @@
 #!/usr/bin/env python3
 """Says where the pages don't hold: a crate without a README.md, one of more than 40 lines or with another name at its top; a
-path in backticks, or a link, that leads to nothing; and a name in backticks that stands in no crate. After the name of a crate,
-as in `fp_small::replace`, it has to stand in that one, and in the page of a crate so has each name after `laws` or another
-module. It prints nothing where all holds.
+path in backticks, or a link, that leads to nothing; a file of code that no crate has; and a name in backticks that stands
+in no crate. After the name of a crate, as in `fp_small::replace`, it has to stand in that one, and in the page of a crate so
+has each name after `laws` or another module. It prints nothing where all holds.
 
 usage: pages.py    (at the top of the repository)
 """
@@ -62,6 +62,19 @@ def lost_paths(page, text):
             yield f"there is no {path}"
 
 
+@functools.cache
+def files():
+    """The paths of all files of the crates, what was built left out."""
+    return [path.as_posix() for path in pathlib.Path("crates").rglob("*.*t") if "out" not in path.parts]
+
+
+def lost_files(text):
+    """Files of code, named without their crate, that no crate has."""
+    for name in sorted(set(re.findall(r"`((?:[a-z]+/)?\w+\.(?:rt|antt))`", text))):
+        if not any(path.endswith("/" + name) for path in files()):
+            yield f"no crate has {name}"
+
+
 def amiss(page, crate):
     text = page.read_text(encoding="utf-8")
     if crate and text.count("\n") > MOST_LINES:
@@ -73,6 +86,8 @@ def amiss(page, crate):
     yield from lost_paths(page, text)
     if crate or page.as_posix() in OF_CODE:
         yield from lost_names(text, crate)
+    if page.as_posix() in OF_CODE:
+        yield from lost_files(text)
 
 
 def main():

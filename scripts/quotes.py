@@ -1,7 +1,7 @@
 #!/usr/bin/env python3
 """Says which quotations of docs/THEOREM.md and docs/PROOFS.md don't stand in the tree. A quotation is a block of code below
-a line that is a path in backticks and a colon: its lines have to stand in that file, one after another. It prints nothing
-where all stand.
+a line that is a path in backticks and a colon: its lines have to stand in that file, one after another, those of a record
+up to its end. It prints nothing where all stand.
 
 usage: quotes.py    (at the top of the repository)
 """
@@ -20,8 +20,11 @@ def amiss(page):
         yield "a block of code has no path above it"
     for path, quote in quotes:
         with open(path, encoding="utf-8") as file:
-            if quote + "\n" not in file.read():
-                yield f"this doesn't stand in {path}:\n{quote}"
+            _, stands, rest = file.read().partition(quote + "\n")
+        if not stands:
+            yield f"this doesn't stand in {path}:\n{quote}"
+        elif "pub record " in quote and rest.startswith(" "):
+            yield f"this is cut off within its item in {path}:\n{quote}"
     for path in sorted(set(re.findall(r"`(crates/[\w/.]+)`", text))):
         try:
             open(path, encoding="utf-8").close()
